@@ -1,0 +1,3 @@
+pub mod OctetLaws
+pub mod SequenceLaws
+pub mod BeforeLaws

@@ -1,0 +1,3 @@
+pub mod Octets
+pub mod Sequence
+pub mod Before

@@ -1,0 +1,7 @@
+//! Lists read from the front, and lists read by what stood before: definitions and their laws alone.
+//!
+//! - `specs/Octets`: numbers in network byte order.
+//! - `specs/Sequence`: items that stand one after another in octets (`read_all` over a `Front`).
+//! - `specs/Before`: what each entry of a history gives, from the entries before it
+//!   (`each_with_before`), and the last value that something had (`last_of`).
+#![tactic(auto)]
