@@ -1,0 +1,3 @@
+pub use Rattle.sequences.specs.Octets
+pub use Rattle.sequences.specs.Sequence
+pub mod Variable
