@@ -1,0 +1,4 @@
+pub mod Element
+pub mod Registry
+pub mod Kinds
+pub mod Shown
