@@ -82,12 +82,12 @@ varlen_at-only text value rest (inr s) =
 -- ---- one reading
 
 -- a text ends in its value
-text_ends : (text value : List ℕ) → IsVarText text value → (head : List ℕ) × (text ≡ head ++ value)
+pub text_ends : (text value : List ℕ) → IsVarText text value → (head : List ℕ) × (text ≡ head ++ value)
 text_ends text value (inl s) = (length value ∷ [], s.1)
 text_ends text value (inr s) = (255 ∷ s.0, s.2)
 
 -- what is found in a text, with what follows it, is the value
-shows_value : (text value rest : List ℕ) → IsVarText text value → take (length value) (drop (length text - length value) (text ++ rest)) ≡ value
+pub shows_value : (text value rest : List ℕ) → IsVarText text value → take (length value) (drop (length text - length value) (text ++ rest)) ≡ value
 shows_value text value rest is =
     let e = text_ends text value is in
     let head = e.0 in

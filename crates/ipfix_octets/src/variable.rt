@@ -19,6 +19,7 @@ pub fn read_varlen(octets: &[u8]) -> Option<(usize, usize)>
     ensures found { IfSome result (λ f. IsVarText (take (f.0 + f.1) octets.now) (take f.1 (drop f.0 octets.now))) }
     ensures only { (text value rest : List ℕ) → octets.now ≡ text ++ rest → IsVarText text value
         → result ≡ Some (length text - length value, length value) }
+    ensures within { IfSome result (λ f. f.0 + f.1 ≤ length octets.now) }
     ensures exact { result ≡ varlen_at octets.now }
 {
     find_value(octets)
@@ -26,6 +27,7 @@ pub fn read_varlen(octets: &[u8]) -> Option<(usize, usize)>
 
 #[tactic(auto, unfolding(crate::specs::Variable::varlen_at))]
 fn find_value(octets: &[u8]) -> Option<(usize, usize)>
+    ensures within { IfSome result (λ f. f.0 + f.1 ≤ length octets.now) }
     ensures exact { result ≡ varlen_at octets.now }
 {
     let (first, rest) = octets.split_first()?;

@@ -1,13 +1,28 @@
-// A library with one function.
+//! Templates, and the records that they lay out (RFC 7011, sections 3.2 to 3.4).
+//!
+//! It knows no message and no session: what is refused, split and written here is one template or one
+//! record.
+//!
+//! - [`field`]: `FieldSpec`, one Field Specifier, and `Fields`, a template's list of them.
+//! - [`template`]: `Template` with `check` and `shortest`, and `Refused`, why a template is refused.
+//! - [`values`]: `split`, which finds a record's values at the front of octets.
+//! - [`spans`]: what it answers, `Split` and `Span`.
+//! - [`data_record`]: `Values`, and `Record`, a template and values that fit it.
+//! - [`encode`]: `encode_template` and `encode_record`.
+//! - [`laws`]: what is written is read as what it was, and as nothing else.
 #![tactic(auto)]
 
-ghost use Rattle.std.specs.Prelude.{◌≡◌};
-ghost use Rattle.ipfix_template.specs.Echo.{echo_of};
+pub mod data_record;
+pub mod encode;
+pub mod field;
+pub mod laws;
+pub mod spans;
+pub mod template;
+pub mod values;
 
-// The `ensures` clause is the contract: what `echo` returns is `echo_of` of its argument, a definition
-// in `specs/Echo.antt`, which a caller's clause can cite too.
-pub fn echo(x: usize) -> usize
-    ensures { result ≡ echo_of x }
-{
-    x
-}
+pub use data_record::{Record, RefusedRecord, Values};
+pub use encode::{encode_record, encode_template};
+pub use field::{FieldSpec, Fields};
+pub use spans::{Span, Split};
+pub use template::{Refused, Template};
+pub use values::split;

@@ -1,9 +1,11 @@
 -- Laws of numbers in network byte order.
-use Rattle.std.proofs.Common.{◌≡◌, ℕ, zero, suc, ◌+◌, ◌*◌, ◌/◌, ◌%◌, ◌^◌, ◌<◌, ◌≤◌, List, [], ◌∷◌, ◌++◌, length, refl, sym, ap, ◌∙◌, arith, length-append}
+use Rattle.std.proofs.Common.{inl, inr, take, drop, get_or, ◌≡◌, ℕ, zero, suc, ◌+◌, ◌*◌, ◌/◌, ◌%◌, ◌^◌, ◌<◌, ◌≤◌, List, [], ◌∷◌, ◌++◌, length, refl, sym, ap, ◌∙◌, arith, length-append}
 use Rattle.std.proofs.Math.Nat.{add-mul, mul_assoc, one-le-pow, pow-succ', mod-eq_of_lt, div-one, mul-le-mul_right}
 use Rattle.std.proofs.Math.Arith.{mod-mul}
 use Rattle.std.proofs.lemmas.Nat.{pow-add}
 use Rattle.std.specs.Int.{byte_at}
+use Rattle.std.proofs.lemmas.Bool.{cases_lt}
+use Rattle.std.proofs.lemmas.List.{length-take, get_or-drop, get_or-take, get_or_past}
 use Rattle.sequences.specs.Octets.{be_value, be_octets, AreOctets}
 
 pub length-be_octets : (width n : ℕ) → length (be_octets width n) ≡ width
@@ -50,3 +52,13 @@ be_value-below (x ∷ xs) h =
     let scaled : (x + 1) * 256 ^ length xs ≤ 256 * 256 ^ length xs = mul-le-mul_right (256 ^ length xs) (omega arith) in
     let expanded : (x + 1) * 256 ^ length xs ≡ x * 256 ^ length xs + 1 * 256 ^ length xs = add-mul x 1 (256 ^ length xs) in
     rw (pow-succ' 256 (length xs)) (omega arith)
+
+pub AreOctets-drop : (n : ℕ) (octets : List ℕ) → AreOctets octets → AreOctets (drop n octets)
+AreOctets-drop n octets h i = rw get_or-drop (h (n + i))
+
+pub AreOctets-take : (n : ℕ) (octets : List ℕ) → AreOctets octets → AreOctets (take n octets)
+AreOctets-take n octets h i =
+    elim (cases_lt i n) [
+      | inl lt ↦ rw (get_or-take n octets i 0 lt) (h i)
+      | inr le ↦ rw (get_or_past (take n octets) i 0 (omega (arith, length-take n octets))) (omega arith)
+    ]

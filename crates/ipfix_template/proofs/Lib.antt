@@ -1,0 +1,4 @@
+pub mod SplitSteps
+pub mod SplitLaws
+pub mod SplitClauses
+pub mod Encoding

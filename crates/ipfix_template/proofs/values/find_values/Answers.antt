@@ -1,0 +1,30 @@
+use Rattle.std.proofs.Common.{◌≡◌, ℕ, ◌+◌, ◌-◌, ◌<◌, ◌≤◌, length, length-drop, drop, take, get_or, Some, None, sym, ap, ◌∙◌, rules, arith}
+use Rattle.std.proofs.lemmas.Grind.{common_steps}
+use Rattle.std.proofs.lemmas.List.{take_rest}
+use Rattle.ipfix_template.specs.Values.{span_at}
+use Rattle.ipfix_template.specs.Shown.{values_shown}
+use Rattle.ipfix_template.proofs.SplitSteps.{one_found, none_more, all_found, none_found, within_more}
+use Rattle.ipfix_template.proofs.values.find_values.Goals as goal
+
+pub returns-in_default-clause-shown : goal.returns-in_default-clause-shown
+returns-in_default-clause-shown c =
+    let at : span_at c.field-item.result (drop c.loop-field.used c.args.octets.now) ≡ None = ap (span_at c.field-item.result) (sym (take_rest c.args.octets.now c.loop-field.used)) ∙ sym c.find_span.ensures.exact ∙ c.in_default.is in
+    sym (none_more c.args.fields.now c.field-item.result c.args.octets.now (values_shown c.args.octets.now c.loop-field.spans.items) c.loop-field.field-index c.loop-field.used _ c.loop-field-test.true c.field-item.is at c.loop-field.invariant.shown)
+
+pub loop-field-preserved : goal.loop-field-preserved
+loop-field-preserved c =
+    let start = c.in-Some.start in
+    let len = c.in-Some.length in
+    let octets = c.args.octets.now in
+    let found : start + len ≤ length (take (length octets - c.loop-field.used) (drop c.loop-field.used octets)) = c.in-Some.ensures.within in
+    let inside : c.loop-field.used + (start + len) ≤ length octets = omega (arith, ap length (take_rest octets c.loop-field.used), length-drop c.loop-field.used octets, c.loop-field.invariant.within) in
+    let at : span_at c.field-item.result (drop c.loop-field.used octets) ≡ Some (start, len) = ap (span_at c.field-item.result) (sym (take_rest octets c.loop-field.used)) ∙ sym c.in-Some.ensures.exact in
+    record {
+      within = inside;
+      spans = rw c.in_ok-push.ensures.items (within_more octets c.loop-field.spans.items _ (omega arith) c.loop-field.invariant.spans);
+      shown = rw c.in_ok-push.ensures.items (one_found c.args.fields.now c.field-item.result octets c.loop-field.spans.items c.loop-field.field-index c.loop-field.used start len _ c.loop-field-test.true c.field-item.is at c.loop-field.invariant.shown);
+    }
+
+pub returns-clause-shown : goal.returns-clause-shown
+returns-clause-shown c =
+    all_found c.args.fields.now c.args.octets.now (values_shown c.args.octets.now c.loop-field.spans.items) c.loop-field.field-index c.loop-field.used _ (omega arith) c.loop-field.invariant.shown

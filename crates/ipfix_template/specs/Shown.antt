@@ -1,0 +1,51 @@
+-- What a split shows of the octets that were split.
+use Rattle.std.specs.Prelude.{◌≡◌, ℕ, ◌+◌, ◌≤◌, List, [], ◌∷◌, length, take, drop, map, All, Option, Some, None}
+use Rattle.std.specs.Global.{Vec}
+use Rattle.ipfix_octets.specs.Sequence.{Front, End, Fault, Next}
+use Rattle.ipfix_template.specs.declared.field.FieldSpec.{FieldSpec}
+use Rattle.ipfix_template.specs.declared.spans.Span.{Span}
+use Rattle.ipfix_template.specs.declared.spans.Split.{Split}
+use Rattle.ipfix_template.specs.declared.spans.Split.TheVariants.{Record, Padding, Overrun}
+use Rattle.ipfix_template.specs.Values.{Splits}
+
+abbrev pub octets_of : List ℕ → Span → List ℕ
+octets_of octets span = take span.length (drop span.start octets)
+
+abbrev pub values_shown : List ℕ → List Span → List (List ℕ)
+values_shown octets spans = map (octets_of octets) spans
+
+-- each span lies within the octets
+abbrev pub AreWithin : List ℕ → List Span → Type 0
+AreWithin octets spans = All (λ span. span.start + span.length ≤ length octets) spans
+
+-- the answer is what stands at the front
+abbrev pub Shows : List ℕ → Front (List (List ℕ)) (Unit {0}) → Split → Type 0
+Shows octets front (Record spans used) = (front ≡ Next (values_shown octets spans.items ∷ []) (drop used octets)) × AreWithin octets spans.items × (used ≤ length octets)
+Shows octets front Padding = front ≡ End
+Shows octets front Overrun = front ≡ Fault tt
+
+-- a record that is found is split so by the fields
+abbrev pub IsSplitBy : List FieldSpec → List ℕ → Split → Type 0
+IsSplitBy fields octets (Record spans used) = Splits fields (take used octets) (values_shown octets spans.items)
+IsSplitBy fields octets Padding = Unit {0}
+IsSplitBy fields octets Overrun = Unit {0}
+
+-- a record of these values is found, of so many octets
+abbrev pub IsFound : List ℕ → List (List ℕ) → ℕ → Split → Type 0
+IsFound octets values size (Record spans used) = (values_shown octets spans.items ≡ values) × (used ≡ size)
+IsFound octets values size Padding = ⊥
+IsFound octets values size Overrun = ⊥
+
+abbrev pub IsPadding : Split → Type 0
+IsPadding (Record spans used) = ⊥
+IsPadding Padding = Unit {0}
+IsPadding Overrun = ⊥
+
+-- spans and the place after them, as the values and what follows
+abbrev pub spans_shown : List ℕ → Option (Vec Span × ℕ) → Option (List (List ℕ) × List ℕ)
+spans_shown octets None = None
+spans_shown octets (Some found) = Some (values_shown octets found.0.items, drop found.1 octets)
+
+abbrev pub AreFoundWithin : List ℕ → Option (Vec Span × ℕ) → Type 0
+AreFoundWithin octets None = Unit {0}
+AreFoundWithin octets (Some found) = AreWithin octets found.0.items × (found.1 ≤ length octets)

@@ -1,0 +1,133 @@
+//! What is written for a template and for a record.
+ghost use Rattle.std.specs.Prelude.{◌≡◌, ◌≤◌, ◌<◌, ◌^◌, ◌++◌, true, length, take, None, OnOk, OnErr};
+ghost use Rattle.std.specs.List.{flat_map};
+ghost use Rattle.ipfix_template.specs.Template.{refusal_of, is_options, specifier, record_head, template_record};
+ghost use Rattle.ipfix_template.specs.Values.{fits_field, fit_fields, value_text, record_text};
+ghost use Rattle.ipfix_template.specs.DataRecord.{IsSound};
+
+use crate::data_record::Record;
+use crate::field::FieldSpec;
+use crate::template::Template;
+use bytes::Bytes;
+use ipfix_octets::write_varlen;
+use std::alloc::AllocError;
+
+/// The enterprise bit of a Field Specifier's element number (RFC 7011, section 3.2).
+const ENTERPRISE_BIT: u16 = 0x8000;
+
+/// Appends the template as a record of a Template Set or, where it has scope fields, of an Options
+/// Template Set: ID, Field Count, Scope Field Count for an options template, and the Field Specifiers
+/// (RFC 7011, sections 3.2 and 3.4).
+///
+/// # Errors
+/// Want of memory, and then nothing is appended.
+pub fn encode_template(id: u16, template: &Template, out: &mut Vec<u8>) -> Result<(), AllocError>
+    requires { refusal_of id (is_options template.now) template.now ≡ None }
+    ensures ok { OnOk result (out.new.items
+        ≡ out.old.items ++ template_record id (is_options template.now) template.now) }
+    ensures err { OnErr result (out.new.items ≡ out.old.items) }
+{
+    let held = out.len();
+    let put = put_template(id, template, out);
+    if put.is_err() {
+        out.truncate(held);
+    }
+    put
+}
+
+/// Appends the record's values, each in its shortest text, as they stand in a Data Set (RFC 7011,
+/// sections 3.4.3 and 7).
+///
+/// # Errors
+/// Want of memory, and then nothing is appended.
+pub fn encode_record(whole: &Record, out: &mut Vec<u8>) -> Result<(), AllocError>
+    ensures ok { OnOk result (out.new.items ≡ out.old.items ++ record_text whole.now.template.fields whole.now.values) }
+    ensures err { OnErr result (out.new.items ≡ out.old.items) }
+{
+    let held = out.len();
+    let put = put_values(
+        whole.template().fields.as_slice(),
+        whole.values().as_slice(),
+        out,
+    );
+    if put.is_err() {
+        out.truncate(held);
+    }
+    put
+}
+
+#[tactic(auto, unfolding(crate::specs::Template::template_record))]
+fn put_template(id: u16, template: &Template, out: &mut Vec<u8>) -> Result<(), AllocError>
+    ensures ok { OnOk result (out.new.items
+        ≡ out.old.items ++ template_record id (is_options template.now) template.now) }
+    ensures err { OnErr result (take (length out.old.items) out.new.items ≡ out.old.items) }
+{
+    put_head(id, template, out)?;
+    put_specifiers(template.fields.as_slice(), out)
+}
+
+fn put_head(id: u16, template: &Template, out: &mut Vec<u8>) -> Result<(), AllocError>
+    ensures ok { OnOk result (out.new.items ≡ out.old.items ++ record_head id (is_options template.now) template.now) }
+    ensures err { OnErr result (out.new.items ≡ out.old.items) }
+{
+    let [a, b] = id.to_be_bytes();
+    let [c, d] = (template.fields.len() as u16).to_be_bytes();
+    if template.is_options() {
+        let [e, f] = template.scope.to_be_bytes();
+        out.extend_from_slice(&[a, b, c, d, e, f])
+    } else {
+        out.extend_from_slice(&[a, b, c, d])
+    }
+}
+
+fn put_specifiers(fields: &[FieldSpec], out: &mut Vec<u8>) -> Result<(), AllocError>
+    ensures ok { OnOk result (out.new.items ≡ out.old.items ++ flat_map specifier fields.now) }
+    ensures err { OnErr result (take (length out.old.items) out.new.items ≡ out.old.items) }
+{
+    for field in fields {
+        put_specifier(field, out)?;
+    }
+    Ok(())
+}
+
+fn put_specifier(field: &FieldSpec, out: &mut Vec<u8>) -> Result<(), AllocError>
+    ensures ok { OnOk result (out.new.items ≡ out.old.items ++ specifier field.now) }
+    ensures err { OnErr result (out.new.items ≡ out.old.items) }
+{
+    let number = field.element.number();
+    let [c, d] = field.length.to_be_bytes();
+    match field.element.pen() {
+        None => {
+            let [a, b] = number.to_be_bytes();
+            out.extend_from_slice(&[a, b, c, d])
+        }
+        Some(pen) => {
+            let [a, b] = (number + ENTERPRISE_BIT).to_be_bytes();
+            let [e, f, g, h] = pen.to_be_bytes();
+            out.extend_from_slice(&[a, b, c, d, e, f, g, h])
+        }
+    }
+}
+
+fn put_values(fields: &[FieldSpec], values: &[Bytes], out: &mut Vec<u8>) -> Result<(), AllocError>
+    requires { fit_fields fields.now values.now ≡ true }
+    ensures ok { OnOk result (out.new.items ≡ out.old.items ++ record_text fields.now values.now) }
+    ensures err { OnErr result (take (length out.old.items) out.new.items ≡ out.old.items) }
+{
+    for (field, value) in fields.iter().zip(values) {
+        put_value(field, value, out)?;
+    }
+    Ok(())
+}
+
+fn put_value(field: &FieldSpec, value: &[u8], out: &mut Vec<u8>) -> Result<(), AllocError>
+    requires { fits_field field.now value.now ≡ true }
+    ensures ok { OnOk result (out.new.items ≡ out.old.items ++ value_text field.now value.now) }
+    ensures err { OnErr result (out.new.items ≡ out.old.items) }
+{
+    if field.is_variable() {
+        write_varlen(value, out)
+    } else {
+        out.extend_from_slice(value)
+    }
+}

@@ -1,0 +1,109 @@
+//! A template's fields.
+ghost use Rattle.std.specs.Prelude.{◌≡◌, ◌<◌, ◌≤◌, ◌==◌, length, MatchResult};
+ghost use Rattle.ipfix_template.specs.declared.field.TheConstants.{MOST_FIELDS};
+
+use ipfix_element::{ElementId, allowed_length, kind_of};
+use std::marker::Model;
+
+/// The Field Length that marks values of variable length (RFC 7011, section 7).
+pub const VARIABLE: u16 = 65535;
+
+/// The most fields that a template can have: their number stands in two octets (RFC 7011, section 3.4.1).
+pub const MOST_FIELDS: usize = 65535;
+
+/// A Field Specifier: an element, and the length of its values in octets, or [`VARIABLE`] (RFC 7011,
+/// section 3.2).
+#[derive(Clone, Copy, Debug, PartialEq, Eq)]
+pub struct FieldSpec {
+    pub element: ElementId,
+    pub length: u16,
+}
+
+impl FieldSpec {
+    ghost use Rattle.ipfix_template.specs.Template.{is_variable, least_octets, has_allowed_length};
+
+    /// Whether each value brings its own length.
+    pub fn is_variable(self) -> bool
+        ensures { result ≡ is_variable self }
+    {
+        self.length == VARIABLE
+    }
+
+    /// The octets that the field takes at least in a record: its length, or the length octet of an
+    /// empty value.
+    pub fn least_octets(self) -> u16
+        ensures { result ≡ least_octets self }
+    {
+        let length = self.length;
+        if self.is_variable() { 1 } else { length }
+    }
+
+    /// Whether the element's type allows the length.
+    pub fn has_allowed_length(self) -> bool
+        ensures { result ≡ has_allowed_length self }
+    {
+        allowed_length(kind_of(self.element), self.length)
+    }
+}
+
+/// The fields of a template, in their order: at most 65,535. Contracts see the list.
+#[derive(Debug, Drop)]
+pub struct Fields {
+    specs: Vec<FieldSpec>,
+}
+
+impl Model for Fields {
+    ghost use Rattle.std.specs.Prelude.{List, length, ◌≤◌};
+    ghost use Rattle.ipfix_template.specs.declared.field.FieldSpec.{FieldSpec};
+
+    ghost Value = { List FieldSpec };
+
+    ghost view = { λ f. f.specs.items };
+
+    ghost invariant = { λ f. length f.specs.items ≤ 65535 };
+}
+
+impl Fields {
+    /// The fields of a list.
+    ///
+    /// # Errors
+    /// The list itself, exactly where it has more than 65,535 fields.
+    pub fn from_vec(specs: Vec<FieldSpec>) -> Result<Fields, Vec<FieldSpec>>
+        ensures { MatchResult result
+            (λ fields. (fields ≡ specs.items) × (length specs.items ≤ MOST_FIELDS))
+            (λ refused. (refused.items ≡ specs.items) × (MOST_FIELDS < length specs.items)) }
+    {
+        if specs.len() > MOST_FIELDS {
+            return Err(specs);
+        }
+        Ok(Fields { specs })
+    }
+
+    /// The list of the fields.
+    pub fn into_vec(self) -> Vec<FieldSpec>
+        ensures { result.items ≡ self }
+    {
+        self.specs
+    }
+
+    pub fn as_slice(&self) -> &[FieldSpec]
+        ensures value { result.now ≡ self.now }
+        ensures few { length self.now ≤ MOST_FIELDS }
+    {
+        self.specs.as_slice()
+    }
+
+    /// How many fields there are.
+    pub fn len(&self) -> usize
+        ensures value { result ≡ length self.now }
+        ensures few { result ≤ MOST_FIELDS }
+    {
+        self.specs.len()
+    }
+
+    pub fn is_empty(&self) -> bool
+        ensures { result ≡ (length self.now == 0) }
+    {
+        self.specs.is_empty()
+    }
+}

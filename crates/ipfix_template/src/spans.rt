@@ -1,0 +1,19 @@
+//! What is found where a record is looked for.
+
+/// Where a value lies in the octets that were split.
+#[derive(Clone, Copy, Debug, PartialEq, Eq)]
+pub struct Span {
+    pub start: usize,
+    pub length: usize,
+}
+
+/// What stands at the front of a Data Set's content (RFC 7011, section 3.3.1).
+#[derive(Debug, Drop)]
+pub enum Split {
+    /// A record: its values, field by field, and the octets that it takes.
+    Record { spans: Vec<Span>, used: usize },
+    /// Fewer octets than the shortest record has.
+    Padding,
+    /// The beginning of a record that runs past the end.
+    Overrun,
+}

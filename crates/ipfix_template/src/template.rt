@@ -1,0 +1,111 @@
+//! Templates, and why one is refused.
+ghost use Rattle.std.specs.Prelude.{◌≡◌, ◌≤◌, length, Some, None, MatchResult};
+ghost use Rattle.std.specs.List.{list_all, sum_by};
+
+use crate::field::{FieldSpec, Fields};
+use thiserror::Error;
+
+/// The least ID of a template, and so of a Data Set (RFC 7011, section 3.4.1).
+pub const LEAST_TEMPLATE_ID: u16 = 256;
+
+/// Why a template is refused. Where several reasons stand, the first of this list is named.
+#[derive(Clone, Copy, Debug, PartialEq, Eq, Error)]
+pub enum Refused {
+    /// The ID is below 256.
+    #[error("BadId")]
+    BadId,
+    /// An element of the profile has a length that its type does not allow.
+    #[error("BadLength")]
+    BadLength,
+    /// An options template without scope fields, or with more of them than fields; or a plain template
+    /// with scope fields.
+    #[error("BadScope")]
+    BadScope,
+    /// The shortest record has no octets.
+    #[error("EmptyRecord")]
+    EmptyRecord,
+}
+
+/// A template: its fields, of which the first `scope` are scope fields. A plain template has none, and an
+/// options template at least one (RFC 7011, sections 3.4.1 and 3.4.2).
+#[derive(Debug, Drop)]
+pub struct Template {
+    pub fields: Fields,
+    pub scope: u16,
+}
+
+impl Template {
+    ghost use Rattle.ipfix_template.specs.Template.{refusal_of, shortest_record, is_options};
+
+    /// Whether the template has scope fields.
+    pub fn is_options(&self) -> bool
+        ensures { result ≡ is_options self.now }
+    {
+        self.scope > 0
+    }
+
+    /// The octets of the template's shortest record: fixed lengths, and 1 for each variable field.
+    pub fn shortest(&self) -> u32
+        ensures { result ≡ shortest_record self.now }
+    {
+        least_octets_of(self.fields.as_slice())
+    }
+
+    /// Whether the template may be announced under this ID, as an options template or a plain one.
+    ///
+    /// # Errors
+    /// The first reason to refuse it.
+    #[tactic(auto, unfolding(crate::specs::Template::refusal_of))]
+    pub fn check(&self, id: u16, options: bool) -> Result<(), Refused>
+        ensures { MatchResult result
+            (λ _. refusal_of id options self.now ≡ None)
+            (λ why. refusal_of id options self.now ≡ Some why) }
+    {
+        if id < LEAST_TEMPLATE_ID {
+            return Err(Refused::BadId);
+        }
+        if !have_allowed_lengths(self.fields.as_slice()) {
+            return Err(Refused::BadLength);
+        }
+        if self.has_bad_scope(options) {
+            return Err(Refused::BadScope);
+        }
+        if self.shortest() == 0 {
+            return Err(Refused::EmptyRecord);
+        }
+        Ok(())
+    }
+}
+
+impl Template {
+    ghost use Rattle.ipfix_template.specs.Template.{has_bad_scope};
+
+    fn has_bad_scope(&self, options: bool) -> bool
+        ensures { result ≡ has_bad_scope options self.now }
+    {
+        if options {
+            self.scope == 0 || self.fields.len() < usize::from(self.scope)
+        } else {
+            self.scope > 0
+        }
+    }
+}
+
+ghost use Rattle.ipfix_template.specs.Template.{least_octets, has_allowed_length};
+
+fn have_allowed_lengths(fields: &[FieldSpec]) -> bool
+    ensures { result ≡ list_all has_allowed_length fields.now }
+{
+    fields.iter().all(|field| field.has_allowed_length())
+}
+
+fn least_octets_of(fields: &[FieldSpec]) -> u32
+    requires { length fields.now ≤ 65535 }
+    ensures { result ≡ sum_by least_octets fields.now }
+{
+    let mut octets = 0;
+    for field in fields {
+        octets += u32::from(field.least_octets());
+    }
+    octets
+}
