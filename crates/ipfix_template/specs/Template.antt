@@ -1,6 +1,6 @@
 -- Templates: their fields, why one is refused, and how one is written (RFC 7011, sections 3.2 and 3.4).
-use Rattle.std.specs.Prelude.{◌≡◌, ◌<◌, ◌^◌, ℕ, ◌+◌, Bool, true, false, List, ◌++◌, length, Option, Some, None, nat_lt, ◌==◌, ◌||◌, if◌then◌else◌}
-use Rattle.std.specs.List.{sum_by, list_all, flat_map}
+use Rattle.std.specs.Prelude.{◌≡◌, ◌<◌, ◌^◌, ℕ, ◌+◌, Bool, true, false, List, ◌++◌, length, Option, Some, None, IfSome, nat_lt, ◌==◌, ◌||◌, if◌then◌else◌}
+use Rattle.std.specs.List.{sum_by, list_all, flat_map, AllByRecursion}
 use Rattle.ipfix_octets.specs.Octets.{be_octets}
 use Rattle.ipfix_element.specs.Kinds.{kind_of, is_allowed_length}
 use Rattle.ipfix_template.specs.declared.field.FieldSpec.{FieldSpec}
@@ -58,5 +58,20 @@ abbrev pub record_head : ℕ → Bool → Template → List ℕ
 record_head id true t = be_octets 2 id ++ be_octets 2 (length t.fields) ++ be_octets 2 t.scope
 record_head id false t = be_octets 2 id ++ be_octets 2 (length t.fields)
 
+-- all parts of the record, one after another
 unfoldable pub template_record : ℕ → Bool → Template → List ℕ
 template_record id options t = record_head id options t ++ flat_map specifier t.fields
+
+-- numbers that their octets hold: 15 bits of element number, 4 octets of enterprise number, 2 of length
+pub record IsSpecifier (f : FieldSpec) : Type 0 where
+  pub number : f.element.number < 32768
+  pub pen : IfSome f.element.pen (λ n. n < 2 ^ 32)
+  pub len : f.length < 2 ^ 16
+
+-- a template that can be written under this ID in a set of this kind
+pub record IsWritable (id : ℕ) (options : Bool) (t : Template) : Type 0 where
+  pub id_fits : id < 2 ^ 16
+  pub count_fits : length t.fields < 2 ^ 16
+  pub scope_fits : t.scope < 2 ^ 16
+  pub scope_of_plain : options ≡ false → t.scope ≡ 0
+  pub fields : AllByRecursion IsSpecifier t.fields

@@ -1,10 +1,11 @@
 //! Records: a template, and values that fit it.
-ghost use Rattle.std.specs.Prelude.{◌≡◌, ◌==◌, length};
+ghost use Rattle.std.specs.Prelude.{◌≡◌, ◌==◌, ◌≤◌, ◌*◌, ◌↔◌, IsTrue, true, length, MatchResult};
 ghost use Rattle.std.specs.Arc.{arc_value};
 
 use crate::field::{FieldSpec, Fields};
 use crate::template::{LEAST_TEMPLATE_ID, Template};
 use bytes::Bytes;
+use ipfix_octets::variable::LONGEST_VALUE;
 use std::marker::Model;
 use std::sync::Arc;
 
@@ -90,6 +91,23 @@ pub struct RefusedRecord {
 impl Record {
     ghost use Rattle.ipfix_template.specs.DataRecord.{DataRecord, IsSound};
 
+    /// The record of a template and values.
+    ///
+    /// # Errors
+    /// Both of them again, exactly where they are no record.
+    pub fn try_new(template: Arc<Template>, values: Values) -> Result<Record, RefusedRecord>
+        ensures { MatchResult result
+            (λ r. (r ≡ record { template = arc_value template; values = values }) × IsSound r)
+            (λ refused. (arc_value refused.template ≡ arc_value template) × (refused.values ≡ values)
+            × (IsSound (record { template = arc_value template; values = values }) → ⊥)) }
+    {
+        if is_record(&template, values.as_slice()) {
+            Ok(Record { template, values })
+        } else {
+            Err(RefusedRecord { template, values })
+        }
+    }
+
     /// The record of a template and values of which it is known that they are one.
     pub fn new(template: Arc<Template>, values: Values) -> Record
         requires { IsSound (record { template = arc_value template; values = values }) }
@@ -113,4 +131,104 @@ impl Record {
     {
         &self.values
     }
+}
+
+ghost use Rattle.ipfix_template.specs.DataRecord.{IsSound};
+ghost use Rattle.std.specs.List.{flat_map};
+ghost use Rattle.ipfix_template.specs.Template.{is_options, specifier, template_record};
+ghost use Rattle.ipfix_template.specs.Values.{fits_field, fit_fields, value_text, record_text};
+
+/// Whether the values are a record of the template.
+fn is_record(template: &Template, values: &[Bytes]) -> bool
+    ensures { IsTrue result ↔ IsSound (record { template = template.now; values = values.now }) }
+{
+    let fields = template.fields.as_slice();
+    template
+        .check(LEAST_TEMPLATE_ID, template.is_options())
+        .is_ok()
+        && template_octets(template) <= RECORD_ROOM
+        && values_fit(fields, values)
+        && record_octets(fields, values) <= RECORD_ROOM
+}
+
+/// The octets of the template's record.
+#[tactic(auto, using(crate::proofs::Encoding::octets_of_record))]
+fn template_octets(template: &Template) -> usize
+    ensures { result ≡ length (template_record 256 (is_options template.now) template.now) }
+{
+    let specifiers = specifier_octets(template.fields.as_slice());
+    if template.is_options() {
+        6 + specifiers
+    } else {
+        4 + specifiers
+    }
+}
+
+fn specifier_octets(fields: &[FieldSpec]) -> usize
+    requires { length fields.now ≤ 65535 }
+    ensures exact { result ≡ length (flat_map specifier fields.now) }
+    ensures few { result ≤ 8 * length fields.now }
+{
+    let mut octets = 0;
+    for field in fields {
+        octets += if field.element.pen().is_some() { 8 } else { 4 };
+    }
+    octets
+}
+
+fn one_specifier_octets(field: &FieldSpec) -> usize
+    ensures exact { result ≡ length (specifier field.now) }
+    ensures few { result ≤ 8 }
+{
+    if field.element.pen().is_some() { 8 } else { 4 }
+}
+
+/// Whether there is a value for each field, and each fits its own.
+fn values_fit(fields: &[FieldSpec], values: &[Bytes]) -> bool
+    ensures { result ≡ fit_fields fields.now values.now }
+{
+    if fields.len() != values.len() {
+        return false;
+    }
+    for (field, value) in fields.iter().zip(values) {
+        if !value_fits(field, value) {
+            return false;
+        }
+    }
+    true
+}
+
+fn value_fits(field: &FieldSpec, value: &[u8]) -> bool
+    ensures { result ≡ fits_field field.now value.now }
+{
+    if field.is_variable() {
+        value.len() <= LONGEST_VALUE
+    } else {
+        value.len() == usize::from(field.length)
+    }
+}
+
+/// The octets of the record, each value in its shortest text.
+fn record_octets(fields: &[FieldSpec], values: &[Bytes]) -> usize
+    requires few { length fields.now ≤ 65535 }
+    requires fit { fit_fields fields.now values.now ≡ true }
+    ensures { result ≡ length (record_text fields.now values.now) }
+{
+    let mut octets = 0;
+    for (field, value) in fields.iter().zip(values) {
+        octets += value_octets(field, value);
+    }
+    octets
+}
+
+fn value_octets(field: &FieldSpec, value: &[u8]) -> usize
+    requires { fits_field field.now value.now ≡ true }
+    ensures exact { result ≡ length (value_text field.now value.now) }
+    ensures few { result ≤ 65538 }
+{
+    if !field.is_variable() {
+        return value.len();
+    }
+    let head = if value.len() < 255 { 1 } else { 3 };
+    head + value.len()
 }

@@ -23,6 +23,7 @@ pub mod values;
 pub use data_record::{Record, RefusedRecord, Values};
 pub use encode::{encode_record, encode_template};
 pub use field::{FieldSpec, Fields};
+pub use laws::{one_split, one_template, record_splits_back};
 pub use spans::{Span, Split};
 pub use template::{Refused, Template};
 pub use values::split;

@@ -1,7 +1,7 @@
-use Rattle.std.proofs.Common.{◌≡◌, ◌+◌, ◌++◌, length, take, min, true, arith, rules, sym, ap, ◌∙◌, append_assoc}
+use Rattle.std.proofs.Common.{length, take, arith, append_assoc}
 use Rattle.std.proofs.lemmas.List.{length_push, take_all}
 use Rattle.std.proofs.lemmas.Slice.Zip.{zip_turn, zip_end}
-use Rattle.ipfix_template.specs.Values.{fits_field, record_text, value_text}
+use Rattle.ipfix_template.specs.Values.{record_text, value_text}
 use Rattle.ipfix_template.proofs.Encoding.{fit_fields-length, fit_fields-at, record_text-more}
 use Rattle.ipfix_template.proofs.encode.put_values.Goals as goal
 

@@ -1,9 +1,8 @@
-use Rattle.std.proofs.Common.{◌≡◌, ℕ, ◌+◌, ◌-◌, ◌<◌, ◌≤◌, length, length-drop, drop, take, get_or, Some, None, sym, ap, ◌∙◌, rules, arith}
-use Rattle.std.proofs.lemmas.Grind.{common_steps}
+use Rattle.std.proofs.Common.{◌≡◌, ◌+◌, ◌-◌, ◌≤◌, length, length-drop, drop, take, Some, None, sym, ap, ◌∙◌, arith}
 use Rattle.std.proofs.lemmas.List.{take_rest}
 use Rattle.ipfix_template.specs.Values.{span_at}
 use Rattle.ipfix_template.specs.Shown.{values_shown}
-use Rattle.ipfix_template.proofs.SplitSteps.{one_found, none_more, all_found, none_found, within_more}
+use Rattle.ipfix_template.proofs.SplitSteps.{one_found, none_more, all_found, within_more}
 use Rattle.ipfix_template.proofs.values.find_values.Goals as goal
 
 pub returns-in_default-clause-shown : goal.returns-in_default-clause-shown

@@ -1,6 +1,6 @@
 use Rattle.std.proofs.Common.{arith}
 use Rattle.std.proofs.lemmas.Result.{IfOk-weaker}
-use Rattle.ipfix_template.specs.Shown.{Shows, IsSplitBy, IsFound, IsPadding}
+use Rattle.ipfix_template.specs.Shown.{Shows}
 use Rattle.ipfix_template.specs.Values.{record_front}
 use Rattle.ipfix_template.proofs.SplitClauses.{shows_split, shows_found, shows_padding}
 use Rattle.ipfix_template.proofs.values.split.Goals as goal
