@@ -1,0 +1,28 @@
+-- What a record of a Template or an Options Template Set says (RFC 7011, sections 3.4 and 8.1).
+use Rattle.std.specs.Prelude.{ℕ, Bool, true, false, Option, Some, None, nat_lt, ◌==◌, if◌then◌else◌}
+use Rattle.ipfix_template.specs.declared.template.Template.{Template}
+use Rattle.ipfix_template.specs.declared.template.Refused.{Refused}
+use Rattle.ipfix_template.specs.declared.template.Refused.TheVariants.{BadId}
+use Rattle.ipfix_template.specs.Template.{refusal_of}
+use Rattle.ipfix_message.specs.declared.item.Item.{Item}
+use Rattle.ipfix_message.specs.declared.item.Item.TheVariants as items
+
+-- the ID of the sets that define templates of a kind
+abbrev pub set_id : Bool → ℕ
+set_id false = 2
+set_id true = 3
+
+-- a record with no fields: a withdrawal of one ID, or of all templates of the set's kind
+abbrev pub bare_item : Bool → ℕ → Item
+bare_item options id =
+    if id == set_id options then items.WithdrawAll options
+    else if nat_lt id 256 then items.Refused id BadId
+    else items.Withdraw id
+
+abbrev pub judged_item : ℕ → Template → Option Refused → Item
+judged_item id t None = items.Define id t
+judged_item id t (Some why) = items.Refused id why
+
+-- a record with fields: a definition, or a refusal with its first reason
+abbrev pub template_item : Bool → ℕ → Template → Item
+template_item options id t = judged_item id t (refusal_of id options t)

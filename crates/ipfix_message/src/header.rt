@@ -1,0 +1,50 @@
+//! The header of a message.
+ghost use Rattle.std.specs.Prelude.{◌≡◌, ◌≤◌, length, OnOk};
+ghost use Rattle.ipfix_message.specs.Reading as reading;
+
+use crate::decode_error::DecodeError;
+use crate::octets::{u16_at, u32_at};
+
+/// The octets of a message header (RFC 7011, section 3.1).
+pub const HEADER_OCTETS: usize = 16;
+
+/// The version of IPFIX messages (RFC 7011, section 3.1).
+pub const VERSION: u16 = 10;
+
+/// What a message header says beside version and length (RFC 7011, section 3.1).
+#[derive(Clone, Copy, Debug, PartialEq, Eq)]
+pub struct Header {
+    /// When the message left the exporter, in seconds since 1970.
+    pub export_time: u32,
+    /// The Data Records sent before this message in the session and domain, modulo 2^32.
+    pub sequence: u32,
+    /// The Observation Domain ID.
+    pub domain: u32,
+}
+
+/// Reads the header of a message, of which these are all octets.
+///
+/// # Errors
+/// ShortHeader under 16 octets; BadVersion where the version is not 10; BadLength where the Length is
+/// not the number of octets.
+#[tactic(auto, unfolding(crate::specs::Reading::read_header))]
+pub fn read_header(octets: &[u8]) -> Result<Header, DecodeError>
+    ensures exact { result ≡ reading.read_header octets.now }
+    ensures least { OnOk result (16 ≤ length octets.now) }
+    ensures most { OnOk result (length octets.now ≤ 65535) }
+{
+    if octets.len() < HEADER_OCTETS {
+        return Err(DecodeError::ShortHeader);
+    }
+    if u16_at(octets, 0) != VERSION {
+        return Err(DecodeError::BadVersion);
+    }
+    if usize::from(u16_at(octets, 2)) != octets.len() {
+        return Err(DecodeError::BadLength);
+    }
+    Ok(Header {
+        export_time: u32_at(octets, 4),
+        sequence: u32_at(octets, 8),
+        domain: u32_at(octets, 12),
+    })
+}

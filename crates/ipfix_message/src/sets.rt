@@ -1,0 +1,137 @@
+//! The sets of a message, and all that it says.
+ghost use Rattle.std.specs.Prelude.{◌≡◌, ◌<◌, ◌≤◌, length, List, Ok, IfOk};
+ghost use Rattle.ipfix_template.specs.Sequence.{read_all, with_front};
+ghost use Rattle.ipfix_message.specs.declared.item.Item.{Item};
+ghost use Rattle.ipfix_message.specs.declared.header.Header.{Header};
+ghost use Rattle.ipfix_message.specs.Grammar.{IsMessage};
+ghost use Rattle.ipfix_message.specs.Reading.{Gives, template_front, set_items, set_front, items_of};
+ghost use Rattle.ipfix_message.specs.Shows.{AddsFront};
+
+use crate::decode_error::DecodeError;
+use crate::header::{HEADER_OCTETS, read_header};
+use crate::item::Item;
+use crate::octets::u16_at;
+use crate::templates::{LEAST_TEMPLATE_ID, OPTIONS_TEMPLATE_SET, TEMPLATE_SET, first_record};
+use std::alloc::Global;
+
+/// The octets of a set header (RFC 7011, section 3.3.2).
+const SET_HEADER: usize = 4;
+
+/// What a message says, in the order of its octets.
+///
+/// # Errors
+/// The first fault in reading order, or want of memory.
+pub fn items(alloc: Global, octets: &[u8]) -> Result<Vec<Item>, DecodeError>
+    // What is read is a message of the grammar.
+    ensures found { IfOk result (λ v. (h : Header) × IsMessage octets.now h v.items) }
+    // What is a message of the grammar is read, unless memory runs out.
+    ensures only { (h : Header) (said : List Item) → IsMessage octets.now h said → Gives (λ v. v.items) result (Ok said) }
+    // Which fault it is.
+    ensures exact { Gives (λ v. v.items) result (items_of octets.now) }
+{
+    read_items(alloc, octets)
+}
+
+#[tactic(auto, unfolding(crate::specs::Reading::items_of))]
+fn read_items(alloc: Global, octets: &[u8]) -> Result<Vec<Item>, DecodeError>
+    ensures exact { Gives (λ v. v.items) result (items_of octets.now) }
+{
+    read_header(octets)?;
+    let mut items = Vec::new(alloc);
+    put_sets(
+        alloc,
+        octets.len(),
+        octets.split_at(HEADER_OCTETS).1,
+        &mut items,
+    )?;
+    Ok(items)
+}
+
+/// Adds what the sets say that are left of a message of `total` octets.
+fn put_sets(
+    alloc: Global,
+    total: usize,
+    octets: &[u8],
+    items: &mut Vec<Item>,
+) -> Result<(), DecodeError>
+    requires { length octets.now ≤ total }
+    ensures { Gives (λ _. items.new.items) result (with_front items.old.items (read_all (set_front total) octets.now)) }
+{
+    let mut rest = octets;
+    'sets: while !rest.is_empty() {
+        rest = put_set(alloc, total, rest, items)?;
+    }
+    Ok(())
+}
+
+/// Adds what the set at the front says, and gives the octets after it.
+#[tactic(auto, unfolding(crate::specs::Reading::set_front))]
+fn put_set<'a>(
+    alloc: Global,
+    total: usize,
+    octets: &'a [u8],
+    items: &mut Vec<Item>,
+) -> Result<&'a [u8], DecodeError>
+    requires some { 0 < length octets.now }
+    requires within { length octets.now ≤ total }
+    ensures adds { AddsFront items.old.items items.new.items result (set_front total octets.now) }
+    ensures shorter { IfOk result (λ rest. length rest.now < length octets.now) }
+{
+    if octets.len() < SET_HEADER {
+        return Err(DecodeError::BadSetLength);
+    }
+    let id = u16_at(octets, 0);
+    let len = usize::from(u16_at(octets, 2));
+    if len < SET_HEADER || octets.len() < len {
+        return Err(DecodeError::BadSetLength);
+    }
+    let place = total - octets.len() + SET_HEADER;
+    put_content(alloc, id, place, &octets[SET_HEADER..len], items)?;
+    Ok(octets.split_at(len).1)
+}
+
+/// Adds what the content of a set says, which stands at this place of the message.
+#[tactic(auto, unfolding(crate::specs::Reading::set_items))]
+fn put_content(
+    alloc: Global,
+    id: u16,
+    place: usize,
+    content: &[u8],
+    items: &mut Vec<Item>,
+) -> Result<(), DecodeError>
+    ensures { Gives (λ _. items.new.items) result (with_front items.old.items (set_items id place content.now)) }
+{
+    if id == TEMPLATE_SET {
+        return put_templates(alloc, false, content, items);
+    }
+    if id == OPTIONS_TEMPLATE_SET {
+        return put_templates(alloc, true, content, items);
+    }
+    if id < LEAST_TEMPLATE_ID {
+        items.push(Item::Skipped { set: id })?;
+        return Ok(());
+    }
+    items.push(Item::DataSet {
+        id,
+        start: place,
+        len: content.len(),
+    })?;
+    Ok(())
+}
+
+/// Adds what the records of a set of templates say.
+fn put_templates(
+    alloc: Global,
+    options: bool,
+    content: &[u8],
+    items: &mut Vec<Item>,
+) -> Result<(), DecodeError>
+    ensures { Gives (λ _. items.new.items) result (with_front items.old.items (read_all (template_front options) content.now)) }
+{
+    let mut rest = content;
+    'records: while let Some((item, after)) = first_record(alloc, options, rest)? {
+        items.push(item)?;
+        rest = after;
+    }
+    Ok(())
+}
