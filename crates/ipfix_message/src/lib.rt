@@ -22,3 +22,6 @@ pub use header::{Header, read_header};
 pub use item::Item;
 pub use laws::{grammar_is_read, one_message};
 pub use sets::items;
+
+#[cfg(test)]
+mod tests;
