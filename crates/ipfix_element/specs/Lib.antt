@@ -1,4 +1,5 @@
 pub mod Element
 pub mod Registry
 pub mod Kinds
+pub mod Names
 pub mod Shown

@@ -11,9 +11,11 @@
 mod element_id;
 mod kind;
 mod length;
+mod name;
 mod registry;
 
 pub use element_id::{ElementId, GREATEST_NUMBER};
 pub use kind::Kind;
 pub use length::{allowed_length, full_width};
+pub use name::name_of;
 pub use registry::kind_of;
