@@ -2,4 +2,5 @@ pub mod Element
 pub mod Registry
 pub mod Kinds
 pub mod Names
-pub mod Shown
+pub mod Lines
+pub mod Numerals

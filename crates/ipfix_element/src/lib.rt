@@ -12,10 +12,11 @@ mod element_id;
 mod kind;
 mod length;
 mod name;
+mod numeral;
 mod registry;
 
 pub use element_id::{ElementId, GREATEST_NUMBER};
 pub use kind::Kind;
 pub use length::{allowed_length, full_width};
-pub use name::name_of;
+pub use name::{by_name, name_of, one_name};
 pub use registry::kind_of;

@@ -7,12 +7,13 @@ ghost use Rattle.std.specs.Prelude.{◌≡◌, ◌<◌, ◌^◌, ℕ, Some, IfSo
 ghost use Rattle.std.specs.Fmt.{decimal};
 ghost use Rattle.std.specs.String.{string_bytes};
 ghost use Rattle.ipfix_element.specs.Element.{Element, IsElement};
+ghost use Rattle.ipfix_element.specs.Lines.{IsLineName, is_named};
 ghost use Rattle.ipfix_element.specs.Names.{element_name, numbered_name, OneName};
 
-use std::alloc::{AllocError, Global};
-
 use crate::element_id::ElementId;
-use crate::registry::entry_for;
+use crate::numeral::read_decimal;
+use crate::registry::{NUMBERS, entry_for, entry_of};
+use std::alloc::{AllocError, Global};
 
 /// The name of an element.
 #[tactic(auto, unfolding(crate::specs::Names::element_name))]
@@ -27,4 +28,68 @@ pub fn name_of(alloc: Global, element: ElementId) -> Result<String, AllocError>
         Some(pen) => format!(in alloc; "e{pen}/{number}"),
         None => format!(in alloc; "e{number}"),
     }
+}
+
+/// The element of this name. `None` for every text that is no element's name, `e8` and `e08` among
+/// them, since 8 has a registry name and no number has a leading zero.
+#[tactic(auto, unfolding(crate::specs::Names::element_name))]
+pub fn by_name(text: &str) -> Option<ElementId>
+    // What is found has this name.
+    ensures found { IfSome result (λ e. IsElement e × (text.now ≡ element_name e)) }
+    // What has this name is found.
+    ensures only { (e : Element) → IsElement e → text.now ≡ element_name e → result ≡ Some e }
+{
+    if let Some(number) = registered_number(text) {
+        return Some(ElementId::registered(number));
+    }
+    let element = numbered(text)?;
+    match entry_for(element) {
+        Some(_) => None,
+        None => Some(element),
+    }
+}
+
+/// No two elements have one name.
+pub fn one_name()
+    ensures { OneName }
+{}
+
+/// The number that the registry has under this name.
+fn registered_number(text: &str) -> Option<u16>
+    ensures found { IfSome result (λ number. (number < 32768) × IsLineName number text.now) }
+    ensures only { (number : ℕ) → IsLineName number text.now → result ≡ Some number }
+{
+    NUMBERS
+        .iter()
+        .copied()
+        .find(|number| is_named(*number, text))
+}
+
+/// Whether the registry has the number under this name.
+fn is_named(number: u16, name: &str) -> bool
+    ensures { result ≡ is_named number name.now }
+{
+    entry_of(number).is_some_and(|entry| entry.name == name)
+}
+
+/// The element that `eN` or `ePEN/N` spells, whether or not it has a registry name.
+fn numbered(text: &str) -> Option<ElementId>
+    ensures found { IfSome result (λ e. IsElement e × (text.now ≡ numbered_name e.pen e.number)) }
+    ensures only { (e : Element) → IsElement e → text.now ≡ numbered_name e.pen e.number → result ≡ Some e }
+{
+    let numbers = text.strip_prefix('e')?;
+    match numbers.split_once('/') {
+        Some((pen, number)) => element_at(Some(read_decimal(pen)?), number),
+        None => element_at(None, numbers),
+    }
+}
+
+/// The element of the number that the text is.
+fn element_at(pen: Option<u32>, text: &str) -> Option<ElementId>
+    ensures found { IfSome result (λ e. (e.pen ≡ pen) × (e.number < 32768) × (text.now ≡ decimal e.number)) }
+    ensures only { (number : ℕ) → number < 32768 → text.now ≡ decimal number
+        → result ≡ Some (record { pen = pen; number = number }) }
+{
+    let number = u16::try_from(read_decimal(text)?).ok()?;
+    ElementId::new(pen, number)
 }

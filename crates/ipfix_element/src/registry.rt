@@ -2,7 +2,7 @@
 ghost use Rattle.std.specs.Prelude.{◌≡◌, option_map};
 ghost use Rattle.ipfix_element.specs.Kinds.{kind_of};
 ghost use Rattle.ipfix_element.specs.Registry.{line_of, line_for};
-ghost use Rattle.ipfix_element.specs.Shown.{shown};
+ghost use Rattle.ipfix_element.specs.Lines.{shown};
 
 use crate::element_id::ElementId;
 use crate::kind::Kind;
@@ -44,7 +44,8 @@ pub(crate) fn entry_for(element: ElementId) -> Option<Entry>
 
 /// The numbers that the registry has, in their order.
 pub(crate) static NUMBERS: [u16; 35] = [
-    1, 2, 3, 4, 5, 6, 7, 8, 9, 10, 11, 12, 13, 14, 15, 16, 17, 27, 28, 56, 58, 60, 61, 80, 82, 85, 86, 136, 148, 149, 150, 151, 152, 153, 210,
+    1, 2, 3, 4, 5, 6, 7, 8, 9, 10, 11, 12, 13, 14, 15, 16, 17, 27, 28, 56, 58, 60, 61, 80, 82, 85,
+    86, 136, 148, 149, 150, 151, 152, 153, 210,
 ];
 
 /// The registry's entry for a number.
