@@ -14,8 +14,10 @@ mod length;
 mod name;
 mod numeral;
 mod registry;
+#[cfg(test)]
+mod tests;
 
-pub use element_id::{ElementId, GREATEST_NUMBER};
+pub use element_id::ElementId;
 pub use kind::Kind;
 pub use length::{allowed_length, full_width};
 pub use name::{by_name, name_of, one_name};

@@ -75,7 +75,8 @@ fn is_named(number: u16, name: &str) -> bool
 /// The element that `eN` or `ePEN/N` spells, whether or not it has a registry name.
 fn numbered(text: &str) -> Option<ElementId>
     ensures found { IfSome result (λ e. IsElement e × (text.now ≡ numbered_name e.pen e.number)) }
-    ensures only { (e : Element) → IsElement e → text.now ≡ numbered_name e.pen e.number → result ≡ Some e }
+    ensures only { (e : Element) → IsElement e → text.now ≡ numbered_name e.pen e.number
+        → result ≡ Some e }
 {
     let numbers = text.strip_prefix('e')?;
     match numbers.split_once('/') {
@@ -86,7 +87,8 @@ fn numbered(text: &str) -> Option<ElementId>
 
 /// The element of the number that the text is.
 fn element_at(pen: Option<u32>, text: &str) -> Option<ElementId>
-    ensures found { IfSome result (λ e. (e.pen ≡ pen) × (e.number < 32768) × (text.now ≡ decimal e.number)) }
+    ensures found { IfSome result
+        (λ e. (e.pen ≡ pen) × (e.number < 32768) × (text.now ≡ decimal e.number)) }
     ensures only { (number : ℕ) → number < 32768 → text.now ≡ decimal number
         → result ≡ Some (record { pen = pen; number = number }) }
 {
