@@ -1,16 +1,19 @@
 -- Which texts are names, and that an element's name is its alone.
 use Rattle.std.proofs.Common.{◌≡◌, ◌≢◌, ℕ, suc, ◌^◌, ◌<◌, ◌≤◌, ◌⊎◌, le-leb, true, List, [], ◌∷◌, ◌++◌, length, get_or, Option, Some, None, IfSome, refl, ap, sym, ◌∙◌, subst, inl, inr, length-append, arith}
 use Rattle.std.specs.Fmt.{decimal}
+use Rattle.std.specs.List.{list_all}
+use Rattle.std.specs.Str.Parse.{AllDigits}
+use Rattle.std.proofs.lemmas.List.Folds.{list_all-append}
 use Rattle.std.proofs.Math.Seq.{get_or-append_seam}
 use Rattle.std.proofs.lemmas.List.{get_or_append_left}
 use Rattle.std.proofs.lemmas.Bool.{false≢true}
 use Rattle.std.proofs.lemmas.Fmt.{decimal_injective}
 use Rattle.ipfix_element.specs.Element.{Element, IsElement}
 use Rattle.ipfix_element.specs.Registry.{Registered, line_for}
-use Rattle.ipfix_element.specs.Names.{numbered_name, name_on, element_name, OneName}
+use Rattle.ipfix_element.specs.Names.{numbered_name, name_on, element_name, OneName, OneWord, is_name_octet}
 use Rattle.ipfix_element.specs.Lines.{IsLineName}
-use Rattle.ipfix_element.proofs.NumeralLaws.{no_slash-decimal, first_digit}
-use Rattle.ipfix_element.proofs.RegistryLaws.{looks_numbered, line_is, named_only}
+use Rattle.ipfix_element.proofs.NumeralLaws.{no_slash-decimal, first_digit, digit_passes, digits_of_decimal}
+use Rattle.ipfix_element.proofs.RegistryLaws.{looks_numbered, line_is, line_word, named_only}
 
 abbrev Lacks : ℕ → List ℕ → Type 0
 Lacks c xs = (i : ℕ) → i < length xs → get_or xs i 0 ≢ c
@@ -207,3 +210,33 @@ not_both a b line same has lacks =
     let moved = ap (λ (x : Element). line_for x.pen x.number) one in
     let clash : Some line ≡ None = has ∙ moved ∙ lacks in
     cc
+
+-- digits are octets of a name
+digits_pass : (ds : List ℕ) → AllDigits 10 ds → list_all is_name_octet ds ≡ true
+digits_pass [] h = refl
+digits_pass (d ∷ ds) h = rw (digit_passes d h.0, digits_pass ds h.1) refl
+
+decimal_pass : (n : ℕ) → n < 2 ^ 32 → list_all is_name_octet (decimal n) ≡ true
+decimal_pass n small = digits_pass (decimal n) (digits_of_decimal n small)
+
+word_at : (p : Option ℕ) (n : ℕ) → IfSome p (λ v. v < 2 ^ 32) → n < 32768 → list_all is_name_octet (101 ∷ numbers_of p n) ≡ true
+unfolding numbers_of
+word_at None n fits below = decimal_pass n (omega arith)
+word_at (Some v) n fits below =
+    rw (list_all-append is_name_octet (decimal v) (47 ∷ decimal n), decimal_pass v fits, decimal_pass n (omega arith)) refl
+
+numbered_word : (e : Element) → IsElement e → (0 < length (numbered_name e.pen e.number)) × (list_all is_name_octet (numbered_name e.pen e.number) ≡ true)
+numbered_word e ok =
+    let shape = numbered_name-is e.pen e.number in
+    (omega (arith, ap length shape), ap (list_all is_name_octet) shape ∙ word_at e.pen e.number ok.pen ok.number)
+
+word_of : (text : List ℕ) (e : Element) → IsElement e → Listed e text ⊎ Unlisted e text → (0 < length text) × (list_all is_name_octet text ≡ true)
+word_of text e ok (inl (none, (line, is, name))) =
+    let word = line_word e.number line is in
+    (omega (arith, ap length name, word.0), sym (ap (list_all is_name_octet) name) ∙ word.1)
+word_of text e ok (inr (none, is)) =
+    let word = numbered_word e ok in
+    (omega (arith, ap length is, word.0), ap (list_all is_name_octet) is ∙ word.1)
+
+pub one_word : OneWord
+one_word e ok = word_of (element_name e) e ok (named_how e (element_name e) refl)

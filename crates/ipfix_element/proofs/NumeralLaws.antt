@@ -1,11 +1,13 @@
 -- A decimal number has one form, and `parse` reads it.
-use Rattle.std.proofs.Common.{◌≡◌, ◌≢◌, ℕ, ◌^◌, ◌<◌, ◌≤◌, List, length, get_or, Option, Some, Result, Ok, Err, IfSome, ap, sym, ◌∙◌, inl, inr, arith}
+use Rattle.std.proofs.Common.{◌≡◌, true, le-leb, ◌≢◌, ℕ, ◌^◌, ◌<◌, ◌≤◌, List, length, get_or, Option, Some, Result, Ok, Err, IfSome, refl, ap, sym, ◌∙◌, inl, inr, arith}
 use Rattle.std.specs.Fmt.{decimal}
 use Rattle.std.specs.Result.{result_ok}
 use Rattle.std.specs.Str.Parse.{AllDigits, digits_value, ParsesUnsigned}
 use Rattle.std.proofs.lemmas.Bool.{cases_lt}
-use Rattle.std.proofs.lemmas.Str.Parse.{IsNumeralModel, numerals_by_value, tells_digits, parse_plain, not_in_digits, digit_at}
+use Rattle.std.proofs.lemmas.Str.Parse.{IsNumeralModel, numerals_by_value, tells_digits, parse_plain, not_in_digits, digit_at, digit_from_value}
 use Rattle.std.proofs.lemmas.Fmt.{decimal_digit, decimal_nonempty, first_decimal, digits_decimal, decimal-digits_value, parse-decimal}
+use Rattle.std.specs.Char.{digit_value}
+use Rattle.ipfix_element.specs.Names.{is_name_octet}
 use Rattle.ipfix_element.specs.Numerals.{BeginsAsDecimal}
 
 own : IsNumeralModel (AllDigits 10) (digits_value 10)
@@ -45,3 +47,10 @@ read_found text (Err x) o b h e = rw e tt
 pub read_only : {E : Type 0} (text : List ℕ) (r : Result ℕ E) (o : Option ℕ) → ParsesUnsigned 32 10 text r → o ≡ result_ok r → (n : ℕ) → n < 2 ^ 32 → text ≡ decimal n → o ≡ Some n
 read_only text r o h e n small is =
     e ∙ ap result_ok (parse-decimal 32 n text r small (omega arith) is h)
+
+pub digits_of_decimal : (n : ℕ) → n < 2 ^ 32 → AllDigits 10 (decimal n)
+digits_of_decimal n small = digits_decimal own n (omega arith)
+
+pub digit_passes : (d : ℕ) → digit_value d < 10 → is_name_octet d ≡ true
+digit_passes d h =
+    let range = digit_from_value d h in rw (le-leb 48 d range.0, le-leb d 57 range.1) refl

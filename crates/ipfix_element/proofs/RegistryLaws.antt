@@ -1,11 +1,12 @@
 -- The registry has each number once and each name once, and no name like that of an element by its number.
-use Rattle.std.proofs.Common.{◌≡◌, ℕ, ◌<◌, Bool, true, false, cond, not, ◌&&◌, eqb, ltb, leb, List, [], ◌∷◌, get_or, Option, Some, None, IfSome, refl, ap, sym, ◌∙◌, subst}
+use Rattle.std.proofs.Common.{◌≡◌, ℕ, ◌<◌, Bool, true, false, cond, not, ◌&&◌, eqb, ltb, leb, List, [], ◌∷◌, get_or, length, Option, Some, None, IfSome, refl, ap, sym, ◌∙◌, subst}
 use Rattle.std.specs.List.{find, list_all}
 use Rattle.std.proofs.lemmas.Bool.{false≢true}
 use Rattle.std.proofs.lemmas.Bool.Decides.{Decides-eqb, Decides-ltb}
 use Rattle.std.proofs.lemmas.Slice.Eq.{bytes_eq-Decides}
 use Rattle.ipfix_element.specs.declared.registry.TheConstants.{NUMBERS}
 use Rattle.ipfix_element.specs.Registry.{Registered, registry, line_of}
+use Rattle.ipfix_element.specs.Names.{is_name_octet}
 use Rattle.ipfix_element.specs.Lines.{IsLineName, has_name, is_named}
 
 step : {A : Type 0} (p q : A → Bool) (y : A) (ys : List A) (x : A) (b c : Bool) → p y ≡ b → q y ≡ c → (find p ys ≡ Some x → list_all q ys ≡ true → (p x ≡ true) × (q x ≡ true)) → cond b (Some y) (find p ys) ≡ Some x → (c && list_all q ys) ≡ true → (p x ≡ true) × (q x ≡ true)
@@ -78,3 +79,17 @@ found_is text number e =
 pub named_found : (text : List ℕ) (r : Option ℕ) → r ≡ find (λ n. is_named n text) NUMBERS → IfSome r (λ n. (n < 32768) × IsLineName n text)
 named_found text None e = tt
 named_found text (Some n) e = found_is text n (sym e)
+
+is_word : Registered → Bool
+is_word line = ltb 0 (length line.name) && list_all is_name_octet line.name
+
+all_words : list_all is_word registry ≡ true
+unfolding registry is_word
+all_words = refl
+
+pub line_word : (number : ℕ) (line : Registered) → line_of number ≡ Some line → (0 < length line.name) × (list_all is_name_octet line.name ≡ true)
+unfolding is_word
+line_word number line e =
+    let found = find_both (λ l. eqb l.number number) is_word registry line e all_words in
+    let parts = both (ltb 0 (length line.name)) _ found.1 in
+    ((Decides-ltb 0 (length line.name)).0 parts.0, parts.1)

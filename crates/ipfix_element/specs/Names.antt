@@ -1,6 +1,8 @@
 -- The names of elements in a policy.
-use Rattle.std.specs.Prelude.{◌≡◌, ℕ, List, ◌++◌, Option, Some, None, codes}
+use Rattle.std.specs.Prelude.{◌≡◌, ℕ, ◌<◌, Bool, true, ◌||◌, ◌==◌, List, ◌++◌, length, Option, Some, None, codes}
+use Rattle.std.specs.Char.{is_ascii_alphanumeric}
 use Rattle.std.specs.Fmt.{decimal}
+use Rattle.std.specs.List.{list_all}
 use Rattle.ipfix_element.specs.Element.{Element, IsElement}
 use Rattle.ipfix_element.specs.Registry.{Registered, line_for}
 
@@ -21,3 +23,11 @@ element_name e = name_on (line_for e.pen e.number) (numbered_name e.pen e.number
 -- no two elements have one name
 abbrev pub OneName : Type 0
 OneName = (a b : Element) → IsElement a → IsElement b → element_name a ≡ element_name b → a ≡ b
+
+-- a letter, a digit or `/`
+abbrev pub is_name_octet : ℕ → Bool
+is_name_octet octet = is_ascii_alphanumeric octet || octet == 47
+
+-- a name is one word of such octets
+abbrev pub OneWord : Type 0
+OneWord = (e : Element) → IsElement e → (0 < length (element_name e)) × (list_all is_name_octet (element_name e) ≡ true)

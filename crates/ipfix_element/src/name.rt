@@ -8,7 +8,7 @@ ghost use Rattle.std.specs.Fmt.{decimal};
 ghost use Rattle.std.specs.String.{string_bytes};
 ghost use Rattle.ipfix_element.specs.Element.{Element, IsElement};
 ghost use Rattle.ipfix_element.specs.Lines.{IsLineName, is_named};
-ghost use Rattle.ipfix_element.specs.Names.{element_name, numbered_name, OneName};
+ghost use Rattle.ipfix_element.specs.Names.{element_name, numbered_name, OneName, OneWord};
 
 use crate::element_id::ElementId;
 use crate::numeral::read_decimal;
@@ -52,6 +52,11 @@ pub fn by_name(text: &str) -> Option<ElementId>
 /// No two elements have one name.
 pub fn one_name()
     ensures { OneName }
+{}
+
+/// A name is one word of letters, digits and `/`.
+pub fn one_word()
+    ensures { OneWord }
 {}
 
 /// The number that the registry has under this name.

@@ -1,6 +1,8 @@
 //! What no clause says: the registry's own numbers, names and kinds, texts that name nothing, lengths
 //! at their edges, and that each call succeeds where memory is left.
-use crate::{ElementId, Kind, allowed_length, by_name, full_width, kind_of, name_of, one_name};
+use crate::{
+    ElementId, Kind, allowed_length, by_name, full_width, kind_of, name_of, one_name, one_word,
+};
 use std::process::Abort;
 use std::test::Fail;
 
@@ -133,6 +135,7 @@ fn prefix_and_element_names(rt: HostRuntime) -> Result<(), Fail> {
     );
     assert_eq!(rt; by_name("e8"), None);
     one_name();
+    one_word();
     Ok(())
 }
 
