@@ -1,5 +1,5 @@
 //! Which information element a field is of.
-ghost use Rattle.std.specs.Prelude.{◌≡◌, ◌<◌, ◌≤◌, Some, None, MatchOption};
+ghost use Rattle.std.specs.Prelude.{◌≡◌, ◌<◌, ◌≤◌, ◌^◌, Some, None, IfSome, MatchOption};
 
 use std::marker::Model;
 
@@ -63,7 +63,8 @@ impl ElementId {
 
     /// The number of the enterprise that defined the element, where one did.
     pub fn pen(self) -> Option<u32>
-        ensures { result ≡ self.pen }
+        ensures value { result ≡ self.pen }
+        ensures below { IfSome result (λ pen. pen < 2 ^ 32) }
     {
         self.pen
     }

@@ -15,16 +15,17 @@ use crate::numeral::read_decimal;
 use crate::registry::{NUMBERS, entry_for, entry_of};
 use std::alloc::{AllocError, Global};
 
-/// The name of an element.
+/// The name of an element. Each [`ElementId`] has one, and what the laws of names ask of it.
 #[tactic(auto, unfolding(crate::specs::Names::element_name))]
 pub fn name_of(alloc: Global, element: ElementId) -> Result<String, AllocError>
-    ensures { IfOk result (λ name. string_bytes name ≡ element_name element) }
+    ensures name { IfOk result (λ name. string_bytes name ≡ element_name element) }
+    ensures element { IsElement element }
 {
+    let (pen, number) = (element.pen(), element.number());
     if let Some(entry) = entry_for(element) {
         return String::from_str(alloc, entry.name);
     }
-    let number = element.number();
-    match element.pen() {
+    match pen {
         Some(pen) => format!(in alloc; "e{pen}/{number}"),
         None => format!(in alloc; "e{number}"),
     }

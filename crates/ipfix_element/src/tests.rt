@@ -7,7 +7,6 @@ use std::process::Abort;
 use std::test::Fail;
 
 // The registered elements by their kinds (IANA's registry of information elements).
-
 static SHORT_NUMBERS: [(Kind, u16, &str); 11] = [
     (Kind::U8, 4, "protocolIdentifier"),
     (Kind::U8, 5, "ipClassOfService"),
