@@ -3,21 +3,16 @@ use Rattle.std.specs.Prelude.{ℕ, Bool, true, Option, Some, None, nat_le, ◌==
 use Rattle.ipfix_element.specs.declared.kind.Kind.{Kind}
 use Rattle.ipfix_element.specs.declared.kind.Kind.TheVariants.{U8, U16, U32, U64, Ipv4, Ipv6, Mac, Seconds, Millis, Text, Octets}
 use Rattle.ipfix_element.specs.Element.{Element}
-use Rattle.ipfix_element.specs.Registry.{Registered, line_of}
+use Rattle.ipfix_element.specs.Registry.{Registered, line_for}
 
 -- the kind on the line, and bare octets where there is none
 abbrev pub kind_on : Option Registered → Kind
 kind_on None = Octets
 kind_on (Some line) = line.kind
 
--- an enterprise's element is bare octets too
-abbrev pub kind_by : Option ℕ → ℕ → Kind
-kind_by None number = kind_on (line_of number)
-kind_by (Some pen) number = Octets
-
 -- the kind of an element
 unfoldable pub kind_of : Element → Kind
-kind_of e = kind_by e.pen e.number
+kind_of e = kind_on (line_for e.pen e.number)
 
 -- the octets of a value at full width
 unfoldable pub full_width_of : Kind → Option ℕ

@@ -1,4 +1,6 @@
 pub mod Element
 pub mod Registry
 pub mod Kinds
-pub mod Shown
+pub mod Names
+pub mod Lines
+pub mod Numerals

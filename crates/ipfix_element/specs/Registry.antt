@@ -1,5 +1,5 @@
 -- The registered elements of the profile (IANA's registry of information elements; their types: RFC 7012, section 3.1).
-use Rattle.std.specs.Prelude.{ℕ, List, [], ◌∷◌, Option, ◌==◌, codes}
+use Rattle.std.specs.Prelude.{ℕ, List, [], ◌∷◌, Option, Some, None, ◌==◌, codes}
 use Rattle.std.specs.List.{find}
 use Rattle.ipfix_element.specs.declared.kind.Kind.{Kind}
 use Rattle.ipfix_element.specs.declared.kind.Kind.TheVariants.{U8, U16, U32, U64, Ipv4, Ipv6, Mac, Seconds, Millis, Text, Octets}
@@ -55,3 +55,8 @@ registry =
 -- the line of a number
 abbrev pub line_of : ℕ → Option Registered
 line_of number = find (λ line. line.number == number) registry
+
+-- the line of an element: an enterprise's has none, also where its number has
+abbrev pub line_for : Option ℕ → ℕ → Option Registered
+line_for None number = line_of number
+line_for (Some pen) number = None

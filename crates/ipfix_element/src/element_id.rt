@@ -1,10 +1,7 @@
 //! Which information element a field is of.
-ghost use Rattle.std.specs.Prelude.{◌≡◌, ◌<◌, ◌≤◌, Some, None, MatchOption};
+ghost use Rattle.std.specs.Prelude.{◌≡◌, ◌<◌, ◌≤◌, ◌^◌, Some, None, IfSome, MatchOption};
 
 use std::marker::Model;
-
-/// The greatest number of an element: it has 15 bits (RFC 7011, section 3.2).
-pub const GREATEST_NUMBER: u16 = 32767;
 
 /// An information element: its number, at most 32767, and the number of the enterprise that defined
 /// it, where one did (RFC 7011, section 3.2).
@@ -30,13 +27,16 @@ impl Model for ElementId {
 }
 
 impl ElementId {
+    /// The greatest number of an element, which has 15 bits (RFC 7011, section 3.2).
+    pub const GREATEST_NUMBER: u16 = 32767;
+
     /// The element of this number, of the enterprise `pen` or of the registry. `None` exactly where the
     /// number is above 32767.
     pub fn new(pen: Option<u32>, number: u16) -> Option<Self>
         ensures { MatchOption result (32768 ≤ number)
             (λ e. (number < 32768) × (e ≡ record { pen = pen; number = number })) }
     {
-        if number > GREATEST_NUMBER {
+        if number > Self::GREATEST_NUMBER {
             return None;
         }
         Some(ElementId { pen, number })
@@ -63,7 +63,8 @@ impl ElementId {
 
     /// The number of the enterprise that defined the element, where one did.
     pub fn pen(self) -> Option<u32>
-        ensures { result ≡ self.pen }
+        ensures value { result ≡ self.pen }
+        ensures below { IfSome result (λ pen. pen < 2 ^ 32) }
     {
         self.pen
     }

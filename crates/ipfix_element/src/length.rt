@@ -13,7 +13,7 @@ pub fn allowed_length(kind: Kind, length: u16) -> bool
 {
     match kind {
         Kind::U8 | Kind::U16 | Kind::U32 | Kind::U64 => {
-            full_width(kind).is_some_and(|width| 1 <= length && length <= width)
+            full_width(kind).is_some_and(|width| (1..=width).contains(&length))
         }
         Kind::Ipv4 | Kind::Ipv6 | Kind::Mac | Kind::Seconds | Kind::Millis => {
             full_width(kind) == Some(length)
