@@ -1,0 +1,4 @@
+pub use Rattle.sequences.specs.Octets
+pub mod Framing
+pub mod FramerState
+pub mod Fronts

@@ -1,0 +1,14 @@
+//! IPFIX messages (RFC 7011): a stream of octets cut into whole messages.
+//! Nothing here waits or reads: octets come in as slices, messages go out as `Bytes`.
+//! `specs/Framing` says what the messages of a stream are, `specs/FramerState` what a call of a `Framer` does.
+//!
+//! - `framer`: `Framer`, which is fed pieces of a stream and answers the messages that became whole;
+//!   `one_framing`, the law that a stream has one framing.
+//! - `frame_error`: `FrameError`, what is wrong with a stream, and want of memory.
+#![tactic(auto)]
+
+mod frame_error;
+mod framer;
+
+pub use frame_error::FrameError;
+pub use framer::{Framer, one_framing};
