@@ -26,7 +26,7 @@ partial_nothing : IsPartial []
 partial_nothing = record { version = λ h. absurd (omega (arith, h)); least = λ h. absurd (omega (arith, h)); short = λ h. absurd (omega (arith, h)) }
 
 -- octets that are whole messages, framed
-all_framed : (octets : List ℕ) (messages : List (List ℕ)) → All IsWhole messages → octets ≡ concat messages → IsFramed octets messages None []
+pub all_framed : (octets : List ℕ) (messages : List (List ℕ)) → All IsWhole messages → octets ≡ concat messages → IsFramed octets messages None []
 all_framed octets messages each e = record {
   tail = [];
   joined = e ∙ sym (append-nil (concat messages));

@@ -1,2 +1,3 @@
 pub mod FramingLaws
 pub mod FramerLaws
+pub mod FeedLaws

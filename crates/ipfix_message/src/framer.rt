@@ -1,6 +1,5 @@
 //! A stream of octets, cut into IPFIX messages as its octets come (RFC 7011, sections 3.1 and 10.4).
-ghost use Rattle.std.specs.Prelude.{◌≡◌, ◌≢◌, ℕ, ◌≤◌, List, [], length, drop, None, IsSome, IfOk, IfErr};
-ghost use Rattle.ipfix_message.specs.Framing.{IsFramedOnce};
+ghost use Rattle.std.specs.Prelude.{◌≡◌, ◌≢◌, ◌≤◌, [], length, drop, None, IsSome, IfOk, IfErr};
 ghost use Rattle.ipfix_message.specs.FramerState.{nothing_fed, Continues, FailsBy};
 
 use crate::FrameError;
@@ -111,9 +110,3 @@ fn drop_front(octets: &mut Vec<u8>, count: usize)
         octets.truncate(left);
     }
 }
-
-/// The law that the octets of a stream have one framing: one list of messages, one fault or none, and one
-/// rest. So what a `Framer` answered is the same however the stream was cut into pieces.
-pub fn one_framing()
-    ensures { (octets : List ℕ) → IsFramedOnce octets }
-{}
