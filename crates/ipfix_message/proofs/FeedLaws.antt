@@ -1,12 +1,11 @@
 -- Laws of a stream that comes in pieces.
-use Rattle.std.proofs.Common.{◌≡◌, ℕ, ◌+◌, ◌<◌, ◌≤◌, List, [], ◌∷◌, ◌++◌, length, Option, Some, None, Result, Ok, Err, refl, sym, ap, subst, ◌∙◌, inl, inr, append_assoc, append-nil, length-append, arith}
-use Rattle.std.specs.List.{concat, All}
-use Rattle.std.proofs.lemmas.List.{take-append-drop}
+use Rattle.std.proofs.Common.{◌≡◌, ℕ, ◌<◌, ◌≤◌, List, [], ◌∷◌, ◌++◌, length, Option, Some, Result, Ok, Err, refl, sym, ap, subst, ◌∙◌, inl, inr, append_assoc, append-nil, length-append, arith}
+use Rattle.std.specs.List.{concat}
 use Rattle.std.proofs.lemmas.List.Elements.{All-nil}
 use Rattle.ipfix_message.specs.declared.frame_error.FrameError.{FrameError}
 use Rattle.ipfix_message.specs.declared.frame_error.FrameError.TheVariants.{BadVersion, BadLength, OutOfMemory}
-use Rattle.ipfix_message.specs.Framing.{version_of, length_of, IsWhole, IsPartial, IsFaulty, EndsWith, IsFramed}
-use Rattle.ipfix_message.specs.FramerState.{FramerState, nothing_fed, Continues, FailsBy, HasFault}
+use Rattle.ipfix_message.specs.Framing.{IsWhole, IsFaulty, IsFramed}
+use Rattle.ipfix_message.specs.FramerState.{FramerState, nothing_fed, HasFault}
 use Rattle.ipfix_message.specs.Feeds.{Feed, IsFed, AreFed, octets_taken, stream_of, messages_in, messages_of, IsFramedByPieces, IsSameInAnyPieces}
 use Rattle.ipfix_message.proofs.FramingLaws.{number_at-append, framed_once}
 use Rattle.ipfix_message.proofs.FramerLaws.{all_framed}

@@ -1,5 +1,5 @@
 -- The steps of a Framer, over plain lists.
-use Rattle.std.proofs.Common.{◌≡◌, ℕ, ◌+◌, ◌-◌, ◌<◌, ◌≤◌, List, [], ◌∷◌, ◌++◌, length, take, drop, Option, Some, None, refl, sym, ap, subst, ◌∙◌, append_assoc, append-nil, arith, inr, length-drop}
+use Rattle.std.proofs.Common.{◌≡◌, ℕ, ◌+◌, ◌-◌, List, [], ◌∷◌, ◌++◌, length, take, drop, Option, Some, None, refl, sym, ap, subst, ◌∙◌, append_assoc, append-nil, arith, inr}
 use Rattle.std.specs.List.{concat, All}
 use Rattle.std.proofs.lemmas.List.{take-append-drop}
 use Rattle.std.proofs.Math.Seq.{take-add}
@@ -73,12 +73,6 @@ messages_all octets left found messages (Faulty fault) e each front none others 
 
 pub cut_all : (octets left : List ℕ) (found : List (List ℕ)) (f : Front) → octets ≡ concat found ++ left → All IsWhole found → IsFront left f → ((n : ℕ) → f ≡ Whole n → ⊥) → AreCut octets found
 cut_all octets left found f e each front none = record { same = λ messages. messages_all octets left found messages f e each front none }
-
--- no octets are no messages
-pub cut_nothing : (octets : List ℕ) → length octets ≡ 0 → AreCut octets []
-cut_nothing octets e =
-    let nothing : octets ≡ [] = grind (arith, common_steps) in
-    cut_all octets [] [] Partial nothing (All-nil IsWhole) partial_nothing (λ n h. cc)
 
 -- octets, framed by their extent
 pub extent_framed : (octets left : List ℕ) (e : Extent) (out : List (List ℕ)) → IsExtent octets e → AreCut (take e.whole octets) out → EndsWith e.fault left (drop e.whole octets) → IsFramed octets out e.fault left

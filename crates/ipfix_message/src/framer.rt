@@ -17,11 +17,13 @@ use scan::extent_of;
 
 /// Cuts a stream of octets into whole messages, whatever the pieces that it comes in.
 ///
-/// `held` has the octets of a message that isn't whole yet. `fault` is what ended the stream: once it is
-/// there, no octet is looked at any more, since where the next message begins can't be known.
-#[derive(Drop)]
+/// A message begins directly where the one before it ends, and its header says its length (RFC 7011,
+/// sections 3.1 and 10.4). So after a fault nobody knows where the next message begins: the stream is over.
+#[derive(Debug, Drop)]
 pub struct Framer {
+    /// The octets of a message that isn't whole yet; none after a fault.
     held: Vec<u8>,
+    /// What ended the stream. Want of memory ends none.
     fault: Option<FrameError>,
 }
 
@@ -48,9 +50,12 @@ impl Framer {
 
     /// The messages that become whole with the next octets of the stream, in their order.
     ///
-    /// A piece that brings a fault is answered by its messages, if some became whole before the fault, and
-    /// else by the fault; `fault` shows it at once, and every later call answers it. A piece that is
-    /// refused for want of memory is no part of the stream, and changes nothing.
+    /// A fault is judged once 4 octets of a header are there: `BadVersion` for a version other than 10, else
+    /// `BadLength` for a length under 16 octets. Where messages became whole before the fault, the answer is
+    /// these messages, and else the fault; `fault` shows it at once, and every later call answers it. After
+    /// `OutOfMemory` the piece is no part of the stream, and nothing has changed.
+    ///
+    /// The messages of one call share one block of memory. A call takes time in proportion to its octets.
     pub fn feed(&mut self, piece: &[u8]) -> Result<Vec<Bytes>, FrameError>
         ensures ok { IfOk result (λ out. (self.old.fault ≡ None)
             × Continues self.old piece.now out.items self.new) }

@@ -11,7 +11,7 @@ const IPFIX_VERSION: u16 = 10;
 /// The octets of a message header.
 const HEADER_OCTETS: usize = 16;
 
-/// The octets of a header that hold its version and its length.
+/// The octets at the front of a header that hold its version and its length.
 const JUDGED_OCTETS: usize = 4;
 
 /// What stands where a message should begin.

@@ -1,7 +1,6 @@
-use Rattle.std.proofs.Common.{◌≡◌, List, [], length, drop, take, Some, None, ◌++◌, subst, refl, arith}
+use Rattle.std.proofs.Common.{◌≡◌, [], take, refl, arith}
 use Rattle.std.proofs.lemmas.Grind.{common_steps}
 use Rattle.ipfix_message.specs.Fronts.{IsExtent, AreCut}
-use Rattle.ipfix_message.specs.FramerState.{FramerState, Continues, FailsBy}
 use Rattle.ipfix_message.proofs.FramerLaws.{goes_on, stops, stops_at_once}
 use Rattle.ipfix_message.proofs.framer.Framer.feed.Goals as goal
 

@@ -1,7 +1,6 @@
-use Rattle.std.proofs.Common.{◌≡◌, List, [], ◌∷◌, ◌++◌, take, drop, sym, ap, subst, ◌∙◌}
-use Rattle.std.specs.List.{concat, All}
+use Rattle.std.proofs.Common.{◌≡◌, [], ◌∷◌, ◌++◌, take, sym, subst}
+use Rattle.std.specs.List.{All}
 use Rattle.ipfix_message.specs.Framing.{IsWhole}
-use Rattle.ipfix_message.specs.Fronts.{IsFront}
 use Rattle.ipfix_message.proofs.FramerLaws.{each_more, joined_more, cut_all}
 use Rattle.ipfix_message.proofs.framer.cut.cut_messages.Goals as goal
 

@@ -1,5 +1,4 @@
-use Rattle.std.proofs.Common.{◌≡◌, ◌-◌, ◌≤◌, length, List, take, drop, arith, length-drop}
-use Rattle.ipfix_message.specs.Framing.{IsWhole}
+use Rattle.std.proofs.Common.{arith, length-drop}
 use Rattle.ipfix_message.proofs.FramerLaws.{rest_from, AreMessages-more}
 use Rattle.ipfix_message.proofs.framer.scan.extent_of.Goals as goal
 
