@@ -4,3 +4,6 @@ pub mod ReadingSteps
 pub mod GrammarOnly
 pub mod GrammarFound
 pub mod Answering
+pub mod FramingLaws
+pub mod FramerLaws
+pub mod FeedLaws

@@ -11,3 +11,7 @@ pub mod Records
 pub mod Grammar
 pub mod Reading
 pub mod Shows
+pub mod Framing
+pub mod FramerState
+pub mod Feeds
+pub mod Fronts

@@ -1,27 +1,36 @@
 //! IPFIX messages: what one says, and where they stand in a stream of octets (RFC 7011).
 //!
-//! It keeps no template and no sequence number: those are a session's.
+//! Nothing here waits or reads: octets come in as slices. It keeps no template and no sequence number:
+//! those are a session's.
 //!
 //! - [`header`]: `Header` and `read_header`.
 //! - [`item`]: `Item`, what a message defines, withdraws, refuses or brings.
 //! - [`sets`]: `items`, all items of a message.
-//! - [`laws`]: the grammar of messages and their reading are one.
 //! - [`decode_error`]: `DecodeError`, why octets are no message.
+//! - [`laws`]: the grammar of messages and their reading are one (`grammar_is_read`, `one_message`).
+//! - `framer`: `Framer`, which is fed pieces of a stream and answers the messages that became whole.
+//! - `frame_error`: `FrameError`, what is wrong with a stream, and want of memory.
+//! - `framing_laws`: `one_framing` and `any_pieces`, why the answers don't depend on the pieces.
 #![tactic(auto)]
 
 pub mod decode_error;
+mod frame_error;
+mod framer;
+mod framing_laws;
 pub mod header;
 pub mod item;
 pub mod laws;
 mod octets;
 pub mod sets;
 mod templates;
+#[cfg(test)]
+mod tests;
 
 pub use decode_error::DecodeError;
+pub use frame_error::FrameError;
+pub use framer::Framer;
+pub use framing_laws::{any_pieces, one_framing};
 pub use header::{Header, read_header};
 pub use item::Item;
 pub use laws::{grammar_is_read, one_message};
 pub use sets::items;
-
-#[cfg(test)]
-mod tests;

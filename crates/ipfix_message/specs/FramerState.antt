@@ -1,0 +1,34 @@
+-- What a Framer is seen as, and what a call does to it.
+use Rattle.std.specs.Prelude.{◌≡◌, ◌≢◌, ◌⊎◌, ℕ, List, [], ◌++◌, Option, Some, None, IsSome}
+use Rattle.ipfix_message.specs.declared.frame_error.FrameError.{FrameError}
+use Rattle.ipfix_message.specs.declared.frame_error.FrameError.TheVariants.{BadVersion, BadLength, OutOfMemory}
+use Rattle.ipfix_message.specs.Framing.{IsFramed}
+
+-- the fault that the stream had, and the octets of a message that isn't whole yet
+pub record FramerState : Type 0 where
+  pub fault : Option FrameError
+  pub pending : List ℕ
+
+-- before any octet
+abbrev pub nothing_fed : FramerState
+nothing_fed = record { fault = None; pending = [] }
+
+-- want of memory is no fault of a stream, and after a fault nothing is pending
+pub record IsFramerState (s : FramerState) : Type 0 where
+  pub of_stream : s.fault ≢ Some OutOfMemory
+  pub emptied : IsSome s.fault → s.pending ≡ []
+
+-- whatever came before, with whichever messages: with the piece it is those messages and then these, and new says how it ends
+pub record Continues (old : FramerState) (piece : List ℕ) (out : List (List ℕ)) (new : FramerState) : Type 0 where
+  pub after : (fed : List ℕ) (messages : List (List ℕ)) → IsFramed fed messages old.fault old.pending → IsFramed (fed ++ piece) (messages ++ out) new.fault new.pending
+
+-- a fault that was there, and stays; or one that this piece brings before any message is whole
+abbrev pub HasFault : FrameError → FramerState → List ℕ → FramerState → Type 0
+HasFault fault old piece new =
+    ((old.fault ≡ Some fault) × (new ≡ old)) ⊎ ((old.fault ≡ None) × (new.fault ≡ Some fault) × Continues old piece [] new)
+
+-- what stands after a piece that is answered by an error; one that is refused for memory changes nothing
+abbrev pub FailsBy : FrameError → FramerState → List ℕ → FramerState → Type 0
+FailsBy BadVersion old piece new = HasFault BadVersion old piece new
+FailsBy BadLength old piece new = HasFault BadLength old piece new
+FailsBy OutOfMemory old piece new = (old.fault ≡ None) × (new ≡ old)

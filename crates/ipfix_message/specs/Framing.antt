@@ -1,0 +1,49 @@
+-- A stream of messages, one directly after another, as TCP carries it (RFC 7011, sections 3.1 and 10.4).
+use Rattle.std.specs.Prelude.{◌≡◌, ◌≢◌, ℕ, ◌<◌, ◌≤◌, List, [], ◌++◌, length, Option, Some, None}
+use Rattle.std.specs.List.{concat, All}
+use Rattle.sequences.specs.Octets.{number_at}
+use Rattle.ipfix_message.specs.declared.frame_error.FrameError.{FrameError}
+use Rattle.ipfix_message.specs.declared.frame_error.FrameError.TheVariants.{BadVersion, BadLength, OutOfMemory}
+
+-- the version that a header says: its first two octets (section 3.1)
+abbrev pub version_of : List ℕ → ℕ
+version_of octets = number_at 0 2 octets
+
+-- the length of the whole message that a header says: its next two octets (section 3.1)
+abbrev pub length_of : List ℕ → ℕ
+length_of octets = number_at 2 2 octets
+
+-- a whole message, no octet less or more: version 10, at least a header, and the length that it says
+pub record IsWhole (octets : List ℕ) : Type 0 where
+  pub version : version_of octets ≡ 10
+  pub least : 16 ≤ length octets
+  pub whole : length_of octets ≡ length octets
+
+-- less than a whole message; what 4 octets of its header say is right
+pub record IsPartial (octets : List ℕ) : Type 0 where
+  pub version : 4 ≤ length octets → version_of octets ≡ 10
+  pub least : 4 ≤ length octets → 16 ≤ length_of octets
+  pub short : 4 ≤ length octets → length octets < length_of octets
+
+-- what stands where a message should is this fault, as 4 octets of its header show; the version is judged first
+abbrev pub IsFaulty : FrameError → List ℕ → Type 0
+IsFaulty BadVersion octets = (4 ≤ length octets) × (version_of octets ≢ 10)
+IsFaulty BadLength octets = (4 ≤ length octets) × (version_of octets ≡ 10) × (length_of octets < 16)
+IsFaulty OutOfMemory octets = ⊥
+
+-- how a stream ends after its whole messages: with no fault, and octets that are pending; or with a fault, and none
+abbrev pub EndsWith : Option FrameError → List ℕ → List ℕ → Type 0
+EndsWith None pending tail = (tail ≡ pending) × IsPartial tail
+EndsWith (Some fault) pending tail = (pending ≡ []) × IsFaulty fault tail
+
+-- the octets are these messages, and then this fault or these octets that are pending
+pub record IsFramed (octets : List ℕ) (messages : List (List ℕ)) (fault : Option FrameError) (pending : List ℕ) : Type 0 where
+  pub tail : List ℕ
+  pub joined : octets ≡ concat messages ++ tail
+  pub each : All IsWhole messages
+  pub ends : EndsWith fault pending tail
+
+-- octets are framed in one way alone
+abbrev pub IsFramedOnce : List ℕ → Type 0
+IsFramedOnce octets =
+    (messages others : List (List ℕ)) (fault other : Option FrameError) (pending left : List ℕ) → IsFramed octets messages fault pending → IsFramed octets others other left → (messages ≡ others) × (fault ≡ other) × (pending ≡ left)

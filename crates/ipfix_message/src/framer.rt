@@ -1,0 +1,117 @@
+//! A stream of octets, cut into IPFIX messages as its octets come (RFC 7011, sections 3.1 and 10.4).
+ghost use Rattle.std.specs.Prelude.{◌≡◌, ◌≢◌, ◌≤◌, [], length, drop, None, IsSome, IfOk, IfErr};
+ghost use Rattle.ipfix_message.specs.FramerState.{nothing_fed, Continues, FailsBy};
+
+use crate::FrameError;
+use bytes::Bytes;
+use std::alloc::Global;
+use std::marker::Model;
+
+mod cut;
+mod scan;
+#[cfg(test)]
+mod tests;
+
+use cut::cut_messages;
+use scan::extent_of;
+
+/// Cuts a stream of octets into whole messages, whatever the pieces that it comes in.
+///
+/// A message begins directly where the one before it ends, and its header says its length (RFC 7011,
+/// sections 3.1 and 10.4). So after a fault nobody knows where the next message begins: the stream is over.
+#[derive(Debug, Drop)]
+pub struct Framer {
+    /// The octets of a message that isn't whole yet; none after a fault.
+    held: Vec<u8>,
+    /// What ended the stream. Want of memory ends none.
+    fault: Option<FrameError>,
+}
+
+impl Model for Framer {
+    ghost use Rattle.ipfix_message.specs.FramerState.{FramerState, IsFramerState};
+
+    ghost Value = { FramerState };
+
+    ghost view = { λ f. record { fault = f.fault; pending = f.held.items } };
+
+    ghost invariant = { λ f. IsFramerState (record { fault = f.fault; pending = f.held.items }) };
+}
+
+impl Framer {
+    /// A framer at the start of a stream. It takes memory from `alloc` as pieces are fed.
+    pub fn new(alloc: Global) -> Framer
+        ensures { result ≡ nothing_fed }
+    {
+        Framer {
+            held: Vec::new(alloc),
+            fault: None,
+        }
+    }
+
+    /// The messages that become whole with the next octets of the stream, in their order.
+    ///
+    /// A fault is judged once 4 octets of a header are there: `BadVersion` for a version other than 10, else
+    /// `BadLength` for a length under 16 octets. Where messages became whole before the fault, the answer is
+    /// these messages, and else the fault; `fault` shows it at once, and every later call answers it. After
+    /// `OutOfMemory` the piece is no part of the stream, and nothing has changed.
+    ///
+    /// The messages of one call share one block of memory. A call takes time in proportion to its octets.
+    pub fn feed(&mut self, piece: &[u8]) -> Result<Vec<Bytes>, FrameError>
+        ensures ok { IfOk result (λ out. (self.old.fault ≡ None)
+            × Continues self.old piece.now out.items self.new) }
+        // No answer without messages hides a fault.
+        ensures clear { IfOk result (λ out. out.items ≡ [] → self.new.fault ≡ None) }
+        ensures err { IfErr result (λ e. FailsBy e self.old piece.now self.new) }
+    {
+        if let Some(fault) = self.fault {
+            return Err(fault);
+        }
+        let before = self.held.len();
+        self.held.extend_from_slice(piece)?;
+        let extent = extent_of(self.held.as_slice());
+        let alloc = *self.held.allocator();
+        let Ok(messages) = cut_messages(alloc, &self.held[..extent.whole]) else {
+            self.held.truncate(before);
+            return Err(FrameError::OutOfMemory);
+        };
+        if let Some(fault) = extent.fault {
+            self.fault = Some(fault);
+            self.held.clear();
+            if messages.is_empty() {
+                return Err(fault);
+            }
+            return Ok(messages);
+        }
+        drop_front(&mut self.held, extent.whole);
+        Ok(messages)
+    }
+
+    /// The fault that ended the stream, once it is there. Want of memory is none.
+    pub fn fault(&self) -> Option<FrameError>
+        ensures value { result ≡ self.now.fault }
+        ensures of_stream { result ≢ Some FrameError.OutOfMemory }
+    {
+        self.fault
+    }
+
+    /// How many octets of a message that isn't whole yet were fed; after a fault 0.
+    pub fn pending(&self) -> usize
+        ensures value { result ≡ length self.now.pending }
+        ensures emptied { IsSome self.now.fault → result ≡ 0 }
+    {
+        self.held.len()
+    }
+}
+
+/// Moves the octets from `count` on to the front. It touches none where there is nothing to take away, so
+/// that small pieces of a long message cost no more than themselves.
+fn drop_front(octets: &mut Vec<u8>, count: usize)
+    requires { count ≤ length octets.old.items }
+    ensures { octets.new.items ≡ drop count octets.old.items }
+{
+    if count > 0 {
+        let left = octets.len() - count;
+        octets.copy_within(count.., 0);
+        octets.truncate(left);
+    }
+}

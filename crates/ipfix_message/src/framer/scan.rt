@@ -1,0 +1,80 @@
+//! What stands at the front of a stream, by the first 4 octets of each header (RFC 7011, section 3.1).
+ghost use Rattle.std.specs.Prelude.{◌≡◌, ◌+◌, ◌≤◌, length};
+ghost use Rattle.sequences.specs.Octets.{number_at};
+ghost use Rattle.ipfix_message.specs.Fronts.{IsFront, IsExtent};
+
+use crate::FrameError;
+
+/// The version of IPFIX.
+const IPFIX_VERSION: u16 = 10;
+
+/// The octets of a message header.
+const HEADER_OCTETS: usize = 16;
+
+/// The octets at the front of a header that hold its version and its length.
+const JUDGED_OCTETS: usize = 4;
+
+/// What stands where a message should begin.
+#[derive(Clone, Copy)]
+pub enum Front {
+    /// Less than a message.
+    Partial,
+    /// A whole message of so many octets.
+    Whole(usize),
+    /// Octets that begin no message.
+    Faulty(FrameError),
+}
+
+/// How many octets at the front are whole messages, and the fault that follows them.
+#[derive(Clone, Copy)]
+pub struct Extent {
+    pub whole: usize,
+    pub fault: Option<FrameError>,
+}
+
+/// The number in the two octets at `place`.
+fn number_in_two(octets: &[u8], place: usize) -> u16
+    requires { place + 2 ≤ length octets.now }
+    ensures { result ≡ number_at place 2 octets.now }
+{
+    u16::from_be_bytes([octets[place], octets[place + 1]])
+}
+
+/// Judges the first 4 octets, as soon as they are there: the version, and then the length.
+pub fn front_of(octets: &[u8]) -> Front
+    ensures { IsFront octets.now result }
+{
+    if octets.len() < JUDGED_OCTETS {
+        return Front::Partial;
+    }
+    if number_in_two(octets, 0) != IPFIX_VERSION {
+        return Front::Faulty(FrameError::BadVersion);
+    }
+    let length = usize::from(number_in_two(octets, 2));
+    if length < HEADER_OCTETS {
+        return Front::Faulty(FrameError::BadLength);
+    }
+    if octets.len() < length {
+        return Front::Partial;
+    }
+    Front::Whole(length)
+}
+
+/// Goes from header to header, as far as messages are whole.
+pub fn extent_of(octets: &[u8]) -> Extent
+    ensures { IsExtent octets.now result }
+{
+    let mut whole = 0;
+    'messages: loop {
+        match front_of(&octets[whole..]) {
+            Front::Whole(length) => whole += length,
+            Front::Partial => return Extent { whole, fault: None },
+            Front::Faulty(fault) => {
+                return Extent {
+                    whole,
+                    fault: Some(fault),
+                };
+            }
+        }
+    }
+}
