@@ -184,3 +184,21 @@ fn every_prefix_of_one_record(rt: HostRuntime) -> Result<(), Fail> {
     }
     Ok(())
 }
+
+#[test]
+fn cut_off_and_malformed(rt: HostRuntime) -> Result<(), Fail> {
+    let alloc = rt.alloc();
+    let mut framer = Framer::new(alloc);
+    let mut stream = Vec::from_slice(alloc, &ONE_RECORD)?;
+    let malformed = message(alloc, &[1, 0, 0, 3])?;
+    stream.extend_from_slice(malformed.as_slice())?;
+    let messages = framer.feed(stream.as_slice())?;
+    assert_eq!(rt; messages.len(), 2);
+    let first = said(&rt, alloc, &messages[0])?;
+    assert_eq!(rt; first.as_str(), "define 256 of 3 scope 0;data 256 40 10;");
+    let second = said(&rt, alloc, &messages[1])?;
+    assert_eq!(rt; second.as_str(), "BadSetLength");
+    assert_eq!(rt; framer.fault(), None);
+    assert_eq!(rt; framer.pending(), 0);
+    Ok(())
+}
