@@ -202,3 +202,29 @@ fn cut_off_and_malformed(rt: HostRuntime) -> Result<(), Fail> {
     assert_eq!(rt; framer.pending(), 0);
     Ok(())
 }
+
+/// Every request for memory of `items` may be refused: then the same call with memory answers in full.
+#[test]
+fn refused_memory_says_nothing(rt: HostRuntime) {
+    let alloc = rt.alloc();
+    let mut answer = items(alloc, &ONE_RECORD);
+    if let Err(fault) = answer {
+        assert_eq!(rt; fault, DecodeError::OutOfMemory);
+        answer = items(alloc, &ONE_RECORD);
+    }
+    match answer {
+        Ok(found) => {
+            assert_eq!(rt; found.len(), 2);
+            let Item::Define { id, template } = &found[0] else {
+                panic!(rt; "no definition")
+            };
+            assert_eq!(rt; *id, 256);
+            assert_eq!(rt; template.fields.len(), 3);
+            let Item::DataSet { id, start, len } = &found[1] else {
+                panic!(rt; "no data")
+            };
+            assert_eq!(rt; (*id, *start, *len), (256, 40, 10));
+        }
+        Err(fault) => panic!(rt; "{fault}"),
+    }
+}
