@@ -27,3 +27,6 @@ pub use laws::{one_split, one_template, record_splits_back};
 pub use spans::{Span, Split};
 pub use template::{Refused, Template};
 pub use values::split;
+
+#[cfg(test)]
+mod tests;
