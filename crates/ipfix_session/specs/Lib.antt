@@ -1,0 +1,16 @@
+pub use Rattle.ipfix_message.specs.Octets
+pub use Rattle.ipfix_message.specs.Sequence
+pub use Rattle.ipfix_message.specs.Variable
+pub use Rattle.ipfix_message.specs.Element
+pub use Rattle.ipfix_message.specs.Kinds
+pub use Rattle.ipfix_message.specs.Template
+pub use Rattle.ipfix_message.specs.Values
+pub use Rattle.ipfix_message.specs.DataRecord
+pub use Rattle.ipfix_message.specs.Records
+pub use Rattle.ipfix_message.specs.Reading
+pub mod InForce
+pub mod Contents
+pub mod Meaning
+pub mod Keeping
+pub mod Standing
+pub mod Answers
