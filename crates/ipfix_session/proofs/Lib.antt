@@ -1,1 +1,4 @@
 pub mod TableSteps
+pub mod Soundness
+pub mod ItemsStand
+pub mod SetSteps

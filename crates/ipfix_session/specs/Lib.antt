@@ -13,4 +13,5 @@ pub mod Contents
 pub mod Meaning
 pub mod Keeping
 pub mod Standing
+pub mod DataSets
 pub mod Answers

@@ -1,6 +1,7 @@
 //! Sessions.
 #![tactic(auto)]
 
+mod data_set;
 pub mod domain;
 pub mod read;
 pub mod read_error;
