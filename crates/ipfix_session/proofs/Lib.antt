@@ -2,3 +2,4 @@ pub mod TableSteps
 pub mod Soundness
 pub mod ItemsStand
 pub mod SetSteps
+pub mod WalkSteps

@@ -15,3 +15,4 @@ pub mod Keeping
 pub mod Standing
 pub mod DataSets
 pub mod Answers
+pub mod Walking

@@ -6,3 +6,4 @@ pub mod domain;
 pub mod read;
 pub mod read_error;
 pub mod table;
+mod walk;
