@@ -3,3 +3,4 @@ pub mod Soundness
 pub mod ItemsStand
 pub mod SetSteps
 pub mod WalkSteps
+pub mod SessionSteps

@@ -1,10 +1,20 @@
 -- What `apply` answers.
 use Rattle.std.specs.Prelude.{◌≡◌, List, Result, Ok, Err}
 use Rattle.ipfix_message.specs.declared.decode_error.DecodeError.{DecodeError}
+use Rattle.ipfix_message.specs.declared.decode_error.DecodeError.TheVariants as decode
 use Rattle.ipfix_session.specs.declared.read.Read.{Read}
 use Rattle.ipfix_session.specs.declared.read_error.ReadError.{ReadError}
 use Rattle.ipfix_session.specs.declared.read_error.ReadError.TheVariants.{Malformed, RecordOverrun, OutOfMemory}
 use Rattle.ipfix_session.specs.Meaning.{Meaning}
+
+-- the fault of octets that are no message, as a session names it
+abbrev pub read_fault : DecodeError → ReadError
+read_fault decode.OutOfMemory = OutOfMemory
+read_fault decode.ShortHeader = Malformed decode.ShortHeader
+read_fault decode.BadVersion = Malformed decode.BadVersion
+read_fault decode.BadLength = Malformed decode.BadLength
+read_fault decode.BadSetLength = Malformed decode.BadSetLength
+read_fault decode.TemplateOverrun = Malformed decode.TemplateOverrun
 
 -- the answer, with its records as a list
 abbrev pub shown : Read → Meaning

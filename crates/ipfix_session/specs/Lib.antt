@@ -16,3 +16,4 @@ pub mod Standing
 pub mod DataSets
 pub mod Answers
 pub mod Walking
+pub mod Settling

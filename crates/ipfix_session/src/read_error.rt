@@ -39,3 +39,21 @@ impl<T: Drop> From<AllocFailed<T>> for ReadError {
         ReadError::OutOfMemory
     }
 }
+
+impl From<DecodeError> for ReadError {
+    ghost use Rattle.std.specs.Prelude.{◌≡◌};
+    ghost use Rattle.ipfix_session.specs.Answers.{read_fault};
+
+    ghost from_gives = { λ d e. e ≡ read_fault d };
+
+    fn from(fault: DecodeError) -> ReadError {
+        match fault {
+            DecodeError::OutOfMemory => ReadError::OutOfMemory,
+            DecodeError::ShortHeader
+            | DecodeError::BadVersion
+            | DecodeError::BadLength
+            | DecodeError::BadSetLength
+            | DecodeError::TemplateOverrun => ReadError::Malformed(fault),
+        }
+    }
+}

@@ -1,6 +1,6 @@
 //! The templates of one domain.
 ghost use Rattle.std.specs.Prelude.{◌≡◌, ℕ, [], Some, None, ◌==◌, if◌then◌else◌, IfSome, OnOk};
-ghost use Rattle.std.specs.Option.{option_map};
+ghost use Rattle.std.specs.Option.{option_map, option_copied};
 ghost use Rattle.std.specs.Arc.{arc_value};
 ghost use Rattle.ipfix_session.specs.InForce.{unless_of_kind, is_other_kind};
 ghost use Rattle.ipfix_session.specs.Keeping.{at_key, IsKeepable};
@@ -61,6 +61,16 @@ impl Table {
         ensures keepable { IfSome result (λ t. IsKeepable (arc_value t.now)) }
     {
         self.templates.get(&id)
+    }
+
+    /// The template of an ID, without the share in it.
+    pub fn template(&self, id: u16) -> Option<&Template>
+        ensures { option_copied result ≡ at_key id self.now }
+    {
+        match self.get(id) {
+            Some(shared) => Some(shared),
+            None => None,
+        }
     }
 
     /// Sets the template of an ID.
