@@ -4,3 +4,4 @@ pub mod ItemsStand
 pub mod SetSteps
 pub mod WalkSteps
 pub mod SessionSteps
+pub mod MeaningLaws

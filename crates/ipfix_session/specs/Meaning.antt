@@ -82,3 +82,14 @@ records_after older (message ∷ messages) = do
 -- the meaning of a stream: the records of messages that are the whole of a session
 abbrev pub records_of : List (List ℕ) → Result (List (ℕ × DataRecord)) ReadError
 records_of messages = records_after [] messages
+
+-- records, and those of further messages, unless one of the two has a fault
+abbrev pub joined : Result (List (ℕ × DataRecord)) ReadError → Result (List (ℕ × DataRecord)) ReadError → Result (List (ℕ × DataRecord)) ReadError
+joined (Ok records) (Ok others) = Ok (records ++ others)
+joined (Ok records) (Err e) = Err e
+joined (Err e) others = Err e
+
+-- the records that a message of this domain brings
+abbrev pub records_meant : ℕ → Result Meaning ReadError → Result (List (ℕ × DataRecord)) ReadError
+records_meant domain (Ok m) = Ok (map (with_domain domain) m.records)
+records_meant domain (Err e) = Err e

@@ -5,9 +5,9 @@ use std::alloc::AllocError;
 
 /// The templates in force, and the sequence number that the next message is to have, where it is known.
 #[derive(Drop)]
-pub struct Domain {
-    pub templates: Table,
-    pub expected: Option<u32>,
+pub(crate) struct Domain {
+    pub(crate) templates: Table,
+    pub(crate) expected: Option<u32>,
 }
 
 impl Clone for Domain {

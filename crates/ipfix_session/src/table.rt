@@ -14,7 +14,7 @@ use std::sync::Arc;
 /// The templates of one domain by their IDs, each of which is accepted and fits one message. Records share
 /// them. Contracts see the list of IDs and templates.
 #[derive(Drop)]
-pub struct Table {
+pub(crate) struct Table {
     templates: BTreeMap<u16, Arc<Template>>,
 }
 
@@ -47,7 +47,7 @@ impl Clone for Table {
 
 impl Table {
     /// A table without a template.
-    pub fn new(alloc: Global) -> Table
+    pub(crate) fn new(alloc: Global) -> Table
         ensures { result ≡ [] }
     {
         Table {
@@ -56,7 +56,7 @@ impl Table {
     }
 
     /// The template of an ID.
-    pub fn get(&self, id: u16) -> Option<&Arc<Template>>
+    pub(crate) fn get(&self, id: u16) -> Option<&Arc<Template>>
         ensures value { option_map (λ t. arc_value t.now) result ≡ at_key id self.now }
         ensures keepable { IfSome result (λ t. IsKeepable (arc_value t.now)) }
     {
@@ -64,7 +64,7 @@ impl Table {
     }
 
     /// The template of an ID, without the share in it.
-    pub fn template(&self, id: u16) -> Option<&Template>
+    pub(crate) fn template(&self, id: u16) -> Option<&Template>
         ensures { option_copied result ≡ at_key id self.now }
     {
         match self.get(id) {
@@ -77,7 +77,7 @@ impl Table {
     ///
     /// # Errors
     /// Want of memory, and then the table is as it was.
-    pub fn define(
+    pub(crate) fn define(
         &mut self,
         alloc: Global,
         id: u16,
@@ -92,14 +92,14 @@ impl Table {
     }
 
     /// Takes out the template of an ID.
-    pub fn withdraw(&mut self, id: u16)
+    pub(crate) fn withdraw(&mut self, id: u16)
         ensures { (q : ℕ) → at_key q self.new ≡ (if q == id then None else at_key q self.old) }
     {
         let _ = self.templates.remove(&id);
     }
 
     /// Takes out all options templates, or all plain ones.
-    pub fn withdraw_all(&mut self, options: bool)
+    pub(crate) fn withdraw_all(&mut self, options: bool)
         ensures { (q : ℕ) → at_key q self.new ≡ unless_of_kind options (at_key q self.old) }
     {
         self.templates
