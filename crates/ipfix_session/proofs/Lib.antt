@@ -1,0 +1,7 @@
+pub mod TableSteps
+pub mod Soundness
+pub mod ItemsStand
+pub mod SetSteps
+pub mod WalkSteps
+pub mod SessionSteps
+pub mod MeaningLaws

@@ -1,0 +1,18 @@
+use Rattle.std.proofs.Common.{◌≡◌, ◌+◌, ◌≤◌, ◌<◌, ◌^◌, ℕ, List, length}
+use Rattle.std.specs.Vec.Iter.{into_iter_items}
+use Rattle.ipfix_message.specs.declared.item.Item.{Item}
+use Rattle.ipfix_session.specs.Keeping.{Keeps, StandIn}
+use Rattle.ipfix_session.specs.Walking.{table_of, contents_in, IsCopy, IsCounted}
+use Rattle.ipfix_session.proofs.WalkSteps.{Walks, HasRoom}
+use Rattle.ipfix_session.proofs.walk.walk_items.Given as goal
+
+abbrev pub invariant-items : goal.invariant-items
+invariant-items l = record {
+  stand : StandIn (length l.message) (into_iter_items l.rest);
+  copy : IsCopy l.message l.state.block;
+  room : HasRoom l.state.skips (length (into_iter_items l.rest)) l.total;
+  walks : (older : List Item) → Keeps l.base older → Walks l.message (table_of l.base l.state.changed) (into_iter_items l.rest) (contents_in l.state) older l.fn.said.items;
+}
+
+abbrev pub decreases-items : goal.decreases-items
+decreases-items l = length (into_iter_items l.rest)

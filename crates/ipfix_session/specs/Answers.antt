@@ -1,0 +1,32 @@
+-- What `apply` answers.
+use Rattle.std.specs.Prelude.{◌≡◌, List, Result, Ok, Err}
+use Rattle.ipfix_message.specs.declared.decode_error.DecodeError.{DecodeError}
+use Rattle.ipfix_message.specs.declared.decode_error.DecodeError.TheVariants as decode
+use Rattle.ipfix_session.specs.declared.read.Read.{Read}
+use Rattle.ipfix_session.specs.declared.read_error.ReadError.{ReadError}
+use Rattle.ipfix_session.specs.declared.read_error.ReadError.TheVariants.{Malformed, RecordOverrun, OutOfMemory}
+use Rattle.ipfix_session.specs.Meaning.{Meaning}
+
+-- the fault of octets that are no message, as a session names it
+abbrev pub read_fault : DecodeError → ReadError
+read_fault decode.OutOfMemory = OutOfMemory
+read_fault decode.ShortHeader = Malformed decode.ShortHeader
+read_fault decode.BadVersion = Malformed decode.BadVersion
+read_fault decode.BadLength = Malformed decode.BadLength
+read_fault decode.BadSetLength = Malformed decode.BadSetLength
+read_fault decode.TemplateOverrun = Malformed decode.TemplateOverrun
+
+-- the answer, with its records as a list
+abbrev pub shown : Read → Meaning
+shown r = record { header = r.header; records = r.records.items; skips = r.skips; gap = r.gap }
+
+-- a fault is the one that is read; only want of memory says nothing
+abbrev pub Fails : {Y : Type 0} → ReadError → Result Y ReadError → Type 0
+Fails OutOfMemory read = Unit {0}
+Fails (Malformed why) read = read ≡ Err (Malformed why)
+Fails RecordOverrun read = read ≡ Err RecordOverrun
+
+-- what is read is answered
+abbrev pub Gives : {X Y : Type 0} → (X → Y) → Result X ReadError → Result Y ReadError → Type 0
+Gives view (Ok x) read = read ≡ Ok (view x)
+Gives view (Err e) read = Fails e read

@@ -1,0 +1,95 @@
+-- What the messages of one session mean (RFC 7011, sections 3.1, 8 and 10.3).
+use Rattle.std.specs.Prelude.{ℕ, ◌+◌, ◌%◌, ◌^◌, List, [], ◌∷◌, ◌++◌, length, reverse, map, Option, Some, None, Result, Ok, Err, ◌==◌, if◌then◌else◌}
+use Rattle.ipfix_template.specs.DataRecord.{DataRecord}
+use Rattle.ipfix_message.specs.declared.header.Header.{Header}
+use Rattle.ipfix_message.specs.declared.decode_error.DecodeError.{DecodeError}
+use Rattle.ipfix_message.specs.declared.item.Item.{Item}
+use Rattle.ipfix_message.specs.Reading.{header_of, items_of}
+use Rattle.ipfix_session.specs.Contents.{Contents, contents_after, ◌>>=◌}
+use Rattle.ipfix_session.specs.declared.read.Skips.{Skips}
+use Rattle.ipfix_session.specs.declared.read.Gap.{Gap}
+use Rattle.ipfix_session.specs.declared.read_error.ReadError.{ReadError}
+use Rattle.ipfix_session.specs.declared.read_error.ReadError.TheVariants.{Malformed}
+
+-- The messages of a session stand newest first.
+
+abbrev pub domain_of : List ℕ → ℕ
+domain_of message = (header_of message).domain
+
+abbrev pub items_or_none : Result (List Item) DecodeError → List Item
+items_or_none (Ok items) = items
+items_or_none (Err e) = []
+
+-- the items of the messages of a domain, newest first
+unfoldable pub items_of_domain : ℕ → List (List ℕ) → List Item
+items_of_domain domain [] = []
+items_of_domain domain (message ∷ older) =
+    (if domain == domain_of message then reverse (items_or_none (items_of message)) else []) ++ items_of_domain domain older
+
+abbrev pub read_items : List Item → List ℕ → Result (List Item) DecodeError → Result Contents ReadError
+read_items older message (Ok items) = contents_after older message items
+read_items older message (Err e) = Err (Malformed e)
+
+-- what a message holds after older messages of its session
+unfoldable pub contents_of : List (List ℕ) → List ℕ → Result Contents ReadError
+contents_of older message = read_items (items_of_domain (domain_of message) older) message (items_of message)
+
+-- the number of the message after one with this header and contents: the records are counted modulo 2^32; after a
+-- Data Set that was skipped for want of a template nobody knows it
+abbrev pub number_after : Header → Contents → Option ℕ
+number_after h c = if c.skips.unknown == 0 then Some ((h.sequence + length c.records) % 2 ^ 32) else None
+
+abbrev pub next_number : Header → Result Contents ReadError → Option ℕ
+next_number h (Ok c) = number_after h c
+next_number h (Err e) = None
+
+-- the number that a domain's next message is to have: that after the domain's last message
+unfoldable pub expected_number : ℕ → List (List ℕ) → Option ℕ
+expected_number domain [] = None
+expected_number domain (message ∷ older) =
+    if domain == domain_of message then next_number (header_of message) (contents_of older message) else expected_number domain older
+
+abbrev pub gap_between : Option ℕ → ℕ → Option Gap
+gap_between None got = None
+gap_between (Some expected) got = if expected == got then None else Some (record { expected = expected; got = got })
+
+-- what a message means after older messages of its session
+pub record Meaning : Type 0 where
+  pub header : Header
+  pub records : List DataRecord
+  pub skips : Skips
+  pub gap : Option Gap
+
+abbrev pub gap_of : List (List ℕ) → List ℕ → Option Gap
+gap_of older message = gap_between (expected_number (domain_of message) older) (header_of message).sequence
+
+unfoldable pub meaning_of : List (List ℕ) → List ℕ → Result Meaning ReadError
+meaning_of older message = do
+  contents ← contents_of older message
+  Ok (record { header = header_of message; records = contents.records; skips = contents.skips; gap = gap_of older message })
+
+abbrev pub with_domain : ℕ → DataRecord → ℕ × DataRecord
+with_domain domain r = (domain, r)
+
+-- the records of further messages of a session, oldest first, each with its domain
+unfoldable pub records_after : List (List ℕ) → List (List ℕ) → Result (List (ℕ × DataRecord)) ReadError
+records_after older [] = Ok []
+records_after older (message ∷ messages) = do
+  contents ← contents_of older message
+  others ← records_after (message ∷ older) messages
+  Ok (map (with_domain (domain_of message)) contents.records ++ others)
+
+-- the meaning of a stream: the records of messages that are the whole of a session
+abbrev pub records_of : List (List ℕ) → Result (List (ℕ × DataRecord)) ReadError
+records_of messages = records_after [] messages
+
+-- records, and those of further messages, unless one of the two has a fault
+abbrev pub joined : Result (List (ℕ × DataRecord)) ReadError → Result (List (ℕ × DataRecord)) ReadError → Result (List (ℕ × DataRecord)) ReadError
+joined (Ok records) (Ok others) = Ok (records ++ others)
+joined (Ok records) (Err e) = Err e
+joined (Err e) others = Err e
+
+-- the records that a message of this domain brings
+abbrev pub records_meant : ℕ → Result Meaning ReadError → Result (List (ℕ × DataRecord)) ReadError
+records_meant domain (Ok m) = Ok (map (with_domain domain) m.records)
+records_meant domain (Err e) = Err e

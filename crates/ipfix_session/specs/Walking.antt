@@ -1,0 +1,32 @@
+-- What the functions that walk over a message's items answer.
+use Rattle.std.specs.Prelude.{◌≡◌, ◌+◌, ◌≤◌, ◌<◌, ◌^◌, ℕ, List, Option, Some, None, Result, Ok, Err, IfSome}
+use Rattle.ipfix_template.specs.declared.template.Template.{Template}
+use Rattle.ipfix_session.specs.declared.read.Skips.{Skips}
+use Rattle.ipfix_session.specs.declared.read_error.ReadError.{ReadError}
+use Rattle.ipfix_session.specs.declared.walk.Walk.{Walk}
+use Rattle.ipfix_session.specs.Contents.{Contents, both}
+use Rattle.ipfix_session.specs.Answers.{Fails}
+
+-- the templates of a domain after a message that changed them or not
+abbrev pub table_of : List (ℕ × Template) → Option (List (ℕ × Template)) → List (ℕ × Template)
+table_of base None = base
+table_of base (Some changed) = changed
+
+-- what was read so far
+abbrev pub contents_in : Walk → Contents
+contents_in w = record { records = w.records.items; skips = w.skips }
+
+-- what is read is added to what was read before
+abbrev pub Adds : Contents → Contents → Result Contents ReadError → Result (Unit {0}) ReadError → Type 0
+Adds old new read (Ok _) = (first : Contents) × (read ≡ Ok first) × (new ≡ both old first)
+Adds old new read (Err e) = Fails e read
+
+-- a copy of the message, if there is one
+abbrev pub IsCopy : List ℕ → Option (List ℕ) → Type 0
+IsCopy message block = IfSome block (λ b. b ≡ message)
+
+-- after so many items no count is above their number
+pub record IsCounted (s : Skips) (n : ℕ) : Type 0 where
+  pub unknown : s.unknown ≤ n
+  pub reserved : s.reserved ≤ n
+  pub refused : s.refused ≤ n

@@ -1,0 +1,26 @@
+//! Sessions: what the messages of one exporter mean, one after another (RFC 7011).
+//!
+//! It keeps, of each Observation Domain, the templates in force and the sequence number that comes next;
+//! where messages begin and end in a stream is known before.
+//!
+//! - [`session`]: `Session`, which reads message after message.
+//! - [`read`]: `Read`, what a message brings, with `Skips` and `Gap`.
+//! - [`read_error`]: `ReadError`, why a message is refused.
+//! - [`laws`]: messages mean what the first of them mean, and then the others.
+#![tactic(auto)]
+
+mod data_set;
+mod domain;
+pub mod laws;
+pub mod read;
+pub mod read_error;
+pub mod session;
+mod table;
+#[cfg(test)]
+mod tests;
+mod walk;
+
+pub use laws::messages_join;
+pub use read::{Gap, Read, Skips};
+pub use read_error::ReadError;
+pub use session::Session;
