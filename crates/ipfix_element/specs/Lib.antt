@@ -1,0 +1,6 @@
+pub mod Element
+pub mod Registry
+pub mod Kinds
+pub mod Names
+pub mod Lines
+pub mod Numerals

@@ -1,0 +1,26 @@
+//! The information elements of the mediator's profile: which there are, of what kind their values are,
+//! how long these may be, and by what names a policy calls them (RFC 7011, RFC 7012, IANA's registry of
+//! information elements). It reads no octets, and only a name takes memory.
+//!
+//! - `element_id`: [`ElementId`], an element's number and enterprise.
+//! - `kind`: [`Kind`], what an element's values are.
+//! - `length`: [`allowed_length`] and [`full_width`], by kind.
+//! - `registry`: [`kind_of`], over the registry's lines.
+//! - `name`: [`name_of`] and [`by_name`], with their laws [`one_name`] and [`one_word`].
+//! - `numeral`: decimal numbers without leading zeros, for names.
+#![tactic(auto)]
+
+mod element_id;
+mod kind;
+mod length;
+mod name;
+mod numeral;
+mod registry;
+#[cfg(test)]
+mod tests;
+
+pub use element_id::ElementId;
+pub use kind::Kind;
+pub use length::{allowed_length, full_width};
+pub use name::{by_name, name_of, one_name, one_word};
+pub use registry::kind_of;
