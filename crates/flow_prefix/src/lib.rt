@@ -7,6 +7,7 @@
 //! - `net`: [`Prefix4`] and [`Prefix6`], what the two kinds of prefix hold.
 //! - `fault`: [`PrefixFault`], why a text is no prefix.
 //! - `numeral`: [`read_number`], decimal numbers without leading zeros.
+//! - `scan`: [`cut_at`], the two sides of an octet.
 //! - `bits`: [`keep_bits`], truncation of a value to its first bits.
 //! - `laws`: [`print_then_parse`] and [`kept_bits_are_truncated`], proved over the definitions.
 #![tactic(auto)]
@@ -31,3 +32,4 @@ pub use laws::{kept_bits_are_truncated, print_then_parse};
 pub use net::{Prefix4, Prefix6};
 pub use numeral::read_number;
 pub use prefix::Prefix;
+pub use scan::cut_at;

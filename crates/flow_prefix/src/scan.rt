@@ -4,7 +4,7 @@ ghost use Rattle.flow_prefix.specs.Reading.{cut_at, at_double};
 
 /// What stands before the first such byte, and behind it.
 #[tactic(auto, unfolding(crate::specs::Reading::cut_at))]
-pub(crate) fn cut_at(text: &[u8], byte: u8) -> Option<(&[u8], &[u8])>
+pub fn cut_at(text: &[u8], byte: u8) -> Option<(&[u8], &[u8])>
     ensures { option_map (λ sides. (sides.0.now, sides.1.now)) result ≡ cut_at byte text.now }
 {
     let at = place_of(text, byte)?;

@@ -1,0 +1,5 @@
+pub mod WordLaws
+pub mod ElementLaws
+pub mod ResultLaws
+pub mod KeyLaws
+pub mod ParsingLaws

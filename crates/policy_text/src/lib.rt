@@ -1,0 +1,26 @@
+//! The policy language of an IPFIX mediator: which texts are policies, and which policy each of them
+//! is. A policy is an ordered list of rules on records and fields, with the aggregates that rules name.
+//! It judges no record.
+//!
+//! - `policy`: [`Policy`], read by `parse`.
+//! - `rule`: [`Rule`] and [`Action`], plain data.
+//! - `aggregate`: [`AggregateDef`], whose ranges its type keeps.
+//! - `name`: [`Name`] of a subscriber or an aggregate, and the test [`is_name`].
+//! - `fault`: [`PolicyFault`] and [`FaultKind`], why a text is no policy.
+//! - `words`, `classes`, `lines`: how a line is read, word by word.
+#![tactic(auto)]
+
+mod aggregate;
+mod classes;
+mod fault;
+mod lines;
+mod name;
+mod policy;
+mod rule;
+mod words;
+
+pub use aggregate::AggregateDef;
+pub use fault::{FaultKind, PolicyFault};
+pub use name::{Name, is_name};
+pub use policy::Policy;
+pub use rule::{Action, Rule};
