@@ -3,3 +3,5 @@ pub mod ElementLaws
 pub mod ResultLaws
 pub mod KeyLaws
 pub mod ParsingLaws
+pub mod NameLaws
+pub mod PrintLaws

@@ -2,7 +2,7 @@
 //! is. A policy is an ordered list of rules on records and fields, with the aggregates that rules name.
 //! It judges no record.
 //!
-//! - `policy`: [`Policy`], read by `parse`.
+//! - `policy`: [`Policy`], read by `parse` and written by `print`.
 //! - `rule`: [`Rule`] and [`Action`], plain data.
 //! - `aggregate`: [`AggregateDef`], whose ranges its type keeps.
 //! - `name`: [`Name`] of a subscriber or an aggregate, and the test [`is_name`].
@@ -16,7 +16,10 @@ mod fault;
 mod lines;
 mod name;
 mod policy;
+mod print;
 mod rule;
+#[cfg(test)]
+mod tests;
 mod words;
 
 pub use aggregate::AggregateDef;

@@ -3,6 +3,7 @@ ghost use Rattle.policy_text.specs.Naming.{is_name};
 
 use std::alloc::{AllocError, Global};
 use std::marker::Model;
+use std::str::from_utf8;
 
 const LONGEST_NAME: usize = 32;
 
@@ -63,6 +64,16 @@ impl Name {
         Ok(Name {
             octets: Vec::from_slice(alloc, word)?,
         })
+    }
+
+    /// The name as a text.
+    pub fn as_str(&self) -> &str
+        ensures { result.now ≡ self.now }
+    {
+        match from_utf8(self.octets.as_slice()) {
+            Ok(text) => text,
+            Err(_) => unreachable!(),
+        }
     }
 
     /// The octets of the name, all ASCII.

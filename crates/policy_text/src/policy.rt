@@ -1,4 +1,5 @@
-ghost use Rattle.std.specs.Prelude.{◌≡◌};
+ghost use Rattle.std.specs.Prelude.{◌≡◌, IfOk, string_bytes};
+ghost use Rattle.policy_text.specs.Printing.{policy_text};
 ghost use Rattle.policy_text.specs.Results.{Gives, Parses, fault_at};
 ghost use Rattle.policy_text.specs.Lines.{rule_line, aggregate_line, line_of};
 ghost use Rattle.policy_text.specs.Words.{words_of, is_skipped};
@@ -7,10 +8,11 @@ ghost use Rattle.policy_text.specs.Parsing.{is_header, line_step, policy_of};
 use crate::aggregate::AggregateDef;
 use crate::fault::{FaultKind, PolicyFault};
 use crate::lines::{read_aggregate, read_rule};
+use crate::print::policy_to_text;
 use crate::rule::Rule;
 use crate::words::{Words, first_word, is_word};
 use flow_prefix::cut_at;
-use std::alloc::Global;
+use std::alloc::{AllocError, Global};
 use std::marker::Model;
 
 const MOST_RULES: usize = 4096;
@@ -73,6 +75,14 @@ impl Policy {
         ensures { result.now ≡ self.now.rules }
     {
         self.rules.as_slice()
+    }
+
+    /// The one printed text: `policy 1`, the aggregates and the rules, each in their order, one space
+    /// between words and a line feed behind each line. Fails only for want of memory.
+    pub fn print(&self, alloc: Global) -> Result<String, AllocError>
+        ensures { IfOk result (λ text. string_bytes text ≡ policy_text self.now) }
+    {
+        policy_to_text(alloc, self)
     }
 
     /// Reads a line, and says whether the header was read by then.
