@@ -1,5 +1,5 @@
 -- Lines as they are printed, piece by piece.
-use Rattle.std.proofs.Common.{◌≡◌, ℕ, zero, suc, ◌+◌, ◌<◌, cond, eqb, List, [], ◌∷◌, ◌++◌, length, get_or, take, map, Option, Result, Ok, Err, is_ok, OnOk, refl, sym, ap, ◌∙◌, arith, append_assoc, append-nil, length-take-le}
+use Rattle.std.proofs.Common.{◌≡◌, ℕ, zero, suc, ◌+◌, ◌<◌, cond, eqb, List, [], ◌∷◌, ◌++◌, length, get_or, take, map, Option, Result, Ok, Err, is_ok, OnOk, refl, sym, ap, ◌∙◌, arith, append_assoc, append-nil, length-take-le, codes}
 use Rattle.std.specs.List.{join_with_byte, flat_map}
 use Rattle.std.proofs.lemmas.List.{take_more}
 use Rattle.std.proofs.lemmas.List.Concat.{flat_map-append}
@@ -10,7 +10,10 @@ use Rattle.policy_text.specs.declared.rule.Action.TheVariants.{Pass, Withhold, A
 use Rattle.policy_text.specs.Words.{Word}
 use Rattle.policy_text.specs.Policies.{Aggregate as Definition}
 use Rattle.policy_text.specs.Grammar.{name_at}
-use Rattle.policy_text.specs.Printing.{action_words, key_text, line_text}
+use Rattle.policy_text.specs.Printing.{action_words, key_text, line_text, rule_words, word_or_star, itself}
+use Rattle.flow_prefix.specs.Printing.{prefix_text}
+use Rattle.std.specs.Fmt.{decimal}
+use Rattle.policy_text.specs.declared.rule.Rule.{Rule}
 
 -- an action has words
 pub action_join : (aggregates : List Definition) (element : Option Element) (action : Action) (word : Word) → join_with_byte 32 (word ∷ action_words aggregates element action) ≡ word ++ 32 ∷ join_with_byte 32 (action_words aggregates element action)
@@ -82,3 +85,17 @@ lines_turn {A} f xs i x low is =
 pub last_push : {E : Type 0} (r : Result (Unit {0}) E) (new old piece want : List ℕ) → new ≡ cond (is_ok r) (old ++ piece) old → old ++ piece ≡ want → OnOk r (new ≡ want)
 last_push (Ok u) new old piece want e same = e ∙ same
 last_push (Err x) new old piece want e same = tt
+
+abbrev in_row : List Definition → Rule → List ℕ → List ℕ
+in_row aggregates r old =
+    old ++ codes "rule for " ++ word_or_star itself r.who ++ codes " in " ++ word_or_star decimal r.domain ++ codes " from " ++ word_or_star prefix_text r.from ++ codes " to " ++ word_or_star prefix_text r.to ++ codes " " ++ join_with_byte 32 (action_words aggregates r.element r.action) ++ 10 ∷ []
+
+row_is : (old who domain from to rest whole : List ℕ) → whole ≡ to ++ 32 ∷ rest → old ++ codes "rule for " ++ who ++ codes " in " ++ domain ++ codes " from " ++ from ++ codes " to " ++ to ++ codes " " ++ rest ++ 10 ∷ []
+    ≡ old ++ (codes "rule for " ++ (who ++ (codes " in " ++ (domain ++ (codes " from " ++ (from ++ (codes " to " ++ whole))))))) ++ 10 ∷ []
+row_is old who domain from to rest whole e = rw e (simp append_assoc)
+
+-- the pieces of a rule's line
+pub rule_row : (aggregates : List Definition) (r : Rule) (old : List ℕ) → in_row aggregates r old ≡ old ++ line_text (rule_words aggregates r)
+rule_row aggregates r old =
+    row_is old (word_or_star itself r.who) (word_or_star decimal r.domain) (word_or_star prefix_text r.from) (word_or_star prefix_text r.to) (join_with_byte 32 (action_words aggregates r.element r.action)) (join_with_byte 32 (word_or_star prefix_text r.to ∷ action_words aggregates r.element r.action)) (action_join aggregates r.element r.action (word_or_star prefix_text r.to))
+    ∙ append_assoc old (codes "rule for " ++ (word_or_star itself r.who ++ (codes " in " ++ (word_or_star decimal r.domain ++ (codes " from " ++ (word_or_star prefix_text r.from ++ (codes " to " ++ join_with_byte 32 (word_or_star prefix_text r.to ∷ action_words aggregates r.element r.action)))))))) (10 ∷ [])
