@@ -120,7 +120,7 @@ shortened_lacks byte other apart text parts h =
     let P : List ℕ → Type 0 = λ t. Lacks byte t in
     subst P (sym h.text_is) (Lacks-append byte h.before (58 ∷ 58 ∷ h.after) (parts_lack Ipv6 byte other apart h.before h.left h.before_is) (apart, (apart, parts_lack Ipv6 byte other apart h.after h.right h.after_is)))
 
-written_lacks : (family : Family) (byte : ℕ) → digit_value byte ≡ 36 → eqb (separator family) byte ≡ false → (text parts : List ℕ) → WritesParts family text parts → Lacks byte text
+pub written_lacks : (family : Family) (byte : ℕ) → digit_value byte ≡ 36 → eqb (separator family) byte ≡ false → (text parts : List ℕ) → WritesParts family text parts → Lacks byte text
 written_lacks Ipv4 byte other apart text parts h = parts_lack Ipv4 byte other apart text parts h
 written_lacks Ipv6 byte other apart text parts h =
     ⊎_elim (λ (groups : AreParts Ipv6 text parts). parts_lack Ipv6 byte other apart text parts groups)

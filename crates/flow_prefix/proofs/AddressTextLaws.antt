@@ -67,7 +67,7 @@ each_part_of-only family (word ∷ words) (n ∷ ns) h = rw (part_of-only family
 abbrev pub IsDigit : ℕ → Type 0
 IsDigit c = digit_value c < 16
 
-AllDigits-wider : (ds : List ℕ) → AllDigits 10 ds → AllDigits 16 ds
+pub AllDigits-wider : (ds : List ℕ) → AllDigits 10 ds → AllDigits 16 ds
 AllDigits-wider [] h = tt
 AllDigits-wider (c ∷ cs) h = let low = h.0 in (omega arith, AllDigits-wider cs h.1)
 

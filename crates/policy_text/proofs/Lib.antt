@@ -5,3 +5,6 @@ pub mod KeyLaws
 pub mod ParsingLaws
 pub mod NameLaws
 pub mod PrintLaws
+pub mod PlainLaws
+pub mod PrintedClassLaws
+pub mod RoundLaws

@@ -7,12 +7,14 @@
 //! - `aggregate`: [`AggregateDef`], whose ranges its type keeps.
 //! - `name`: [`Name`] of a subscriber or an aggregate, and the test [`is_name`].
 //! - `fault`: [`PolicyFault`] and [`FaultKind`], why a text is no policy.
+//! - `laws`: [`print_then_parse`], proved over the definitions.
 //! - `words`, `classes`, `lines`: how a line is read, word by word.
 #![tactic(auto)]
 
 mod aggregate;
 mod classes;
 mod fault;
+mod laws;
 mod lines;
 mod name;
 mod policy;
@@ -24,6 +26,7 @@ mod words;
 
 pub use aggregate::AggregateDef;
 pub use fault::{FaultKind, PolicyFault};
+pub use laws::print_then_parse;
 pub use name::{Name, is_name};
 pub use policy::Policy;
 pub use rule::{Action, Rule};
