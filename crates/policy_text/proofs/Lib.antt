@@ -8,3 +8,4 @@ pub mod PrintLaws
 pub mod PlainLaws
 pub mod PrintedClassLaws
 pub mod RoundLaws
+pub mod SoundLaws
