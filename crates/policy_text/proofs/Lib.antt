@@ -9,3 +9,4 @@ pub mod PlainLaws
 pub mod PrintedClassLaws
 pub mod RoundLaws
 pub mod SoundLaws
+pub mod KeptLaws

@@ -1,4 +1,5 @@
-ghost use Rattle.std.specs.Prelude.{◌≡◌, IfOk, string_bytes};
+ghost use Rattle.std.specs.Prelude.{◌≡◌, Ok, IfOk, string_bytes};
+ghost use Rattle.policy_text.specs.Grammar.{IsPolicy};
 ghost use Rattle.policy_text.specs.Printing.{policy_text};
 ghost use Rattle.policy_text.specs.Results.{Gives, Parses, fault_at};
 ghost use Rattle.policy_text.specs.Lines.{rule_line, aggregate_line, line_of};
@@ -27,10 +28,13 @@ pub struct Policy {
 
 impl Model for Policy {
     ghost use Rattle.policy_text.specs.Policies.{Meaning};
+    ghost use Rattle.policy_text.specs.Grammar.{IsPolicy};
 
     ghost Value = { Meaning };
 
     ghost view = { λ p. record { aggregates = p.aggregates.items; rules = p.rules.items } };
+
+    ghost invariant = { λ p. IsPolicy (record { aggregates = p.aggregates.items; rules = p.rules.items }) };
 }
 
 impl Policy {
@@ -72,7 +76,8 @@ impl Policy {
 
     /// The rules, in the order of the text.
     pub fn rules(&self) -> &[Rule]
-        ensures { result.now ≡ self.now.rules }
+        ensures value { result.now ≡ self.now.rules }
+        ensures sound { IsPolicy self.now }
     {
         self.rules.as_slice()
     }
@@ -80,8 +85,10 @@ impl Policy {
     /// The one printed text: `policy 1`, the aggregates and the rules, each in their order, one space
     /// between words and a line feed behind each line. Fails only for want of memory.
     pub fn print(&self, alloc: Global) -> Result<String, AllocError>
-        ensures { IfOk result (λ text. string_bytes text ≡ policy_text self.now) }
+        ensures text { IfOk result (λ text. string_bytes text ≡ policy_text self.now) }
+        ensures reads_back { IfOk result (λ text. policy_of (string_bytes text) ≡ Ok self.now) }
     {
+        let _rules = &self.rules;
         policy_to_text(alloc, self)
     }
 

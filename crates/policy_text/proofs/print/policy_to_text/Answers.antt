@@ -6,5 +6,5 @@ use Rattle.policy_text.proofs.print.policy_to_text.Goals as goal
 pub returns : goal.returns
 unfolding policy_text
 returns c =
-    rw (c.in_ok-put_rules.ensures, c.in_ok-put_aggregates.ensures, c.in_ok-push_str.ensures.bytes, c.new-text.ensures.bytes, c.rules.ensures, c.aggregates.ensures, c.aggregates-2.ensures)
+    rw (c.in_ok-put_rules.ensures, c.in_ok-put_aggregates.ensures, c.in_ok-push_str.ensures.bytes, c.new-text.ensures.bytes, c.rules.ensures.value, c.aggregates.ensures, c.aggregates-2.ensures)
     (simp (flat_map-append, append_assoc))
