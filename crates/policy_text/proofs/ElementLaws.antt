@@ -139,11 +139,11 @@ some_found : (word : Word) (e : Element) → IsElement e → word ≡ element_na
 some_found word e ok name (Some line) found = (record { pen = None; number = line.number }, listed-passes word line found)
 some_found word e ok name None found =
     ⊎_elim (λ (listed : (e.pen ≡ None) × IsLineName e.number word).
-        let by_name = find_some (λ l. eqb l.number e.number) (λ l. bytes_eq l.name word) registry listed.1.0 listed.1.1 ((bytes_eq-Decides listed.1.0.name word).1 listed.1.2) in
-        absurd (none-some by_name.0 (sym found ∙ by_name.1)))
+    let by_name = find_some (λ l. eqb l.number e.number) (λ l. bytes_eq l.name word) registry listed.1.0 listed.1.1 ((bytes_eq-Decides listed.1.0.name word).1 listed.1.2) in
+    absurd (none-some by_name.0 (sym found ∙ by_name.1)))
     (λ (unlisted : (line_for e.pen e.number ≡ None) × (word ≡ numbered_name e.pen e.number)).
-        let read : numbered_of word ≡ Some e = ap numbered_of unlisted.1 ∙ numbered_of-name e.pen e.number ok.pen ok.number in
-        (e, ap (λ o. o >>= checked word) read ∙ checked-passes word e ok.number name))
+    let read : numbered_of word ≡ Some e = ap numbered_of unlisted.1 ∙ numbered_of-name e.pen e.number ok.pen ok.number in
+    (e, ap (λ o. o >>= checked word) read ∙ checked-passes word e ok.number name))
     (named_how e word name)
 
 -- the element of this name is found

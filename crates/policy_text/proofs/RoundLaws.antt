@@ -45,20 +45,54 @@ domain_plain : (d : ℕ) → d < 2 ^ 32 → IsPlain (decimal d)
 domain_plain d small = decimal_plain d (omega arith)
 
 rule_plain : (aggregates : List Definition) (r : Rule) → IsRule aggregates r → ArePlain (rule_words aggregates r)
-rule_plain aggregates r h =
-    (record { some = omega arith; each = refl }, (record { some = omega arith; each = refl },
-    (given_plain itself (λ w. is_name w ≡ true) name_plain r.who h.who, (record { some = omega arith; each = refl },
-    (given_plain decimal (λ d. d < 2 ^ 32) domain_plain r.domain h.domain, (record { some = omega arith; each = refl },
-    (given_plain prefix_text IsPrefix prefix_plain r.from h.from, (record { some = omega arith; each = refl },
-    (given_plain prefix_text IsPrefix prefix_plain r.to h.to, action_plain aggregates r.element r.action h.element h.action)))))))))
+rule_plain aggregates r h = (
+  record { some = omega arith; each = refl },
+  (
+    record { some = omega arith; each = refl },
+    (
+      given_plain itself (λ w. is_name w ≡ true) name_plain r.who h.who,
+      (
+        record { some = omega arith; each = refl },
+        (
+          given_plain decimal (λ d. d < 2 ^ 32) domain_plain r.domain h.domain,
+          (
+            record { some = omega arith; each = refl },
+            (
+              given_plain prefix_text IsPrefix prefix_plain r.from h.from,
+              (
+                record { some = omega arith; each = refl },
+                (given_plain prefix_text IsPrefix prefix_plain r.to h.to, action_plain aggregates r.element r.action h.element h.action),
+              ),
+            ),
+          ),
+        ),
+      ),
+    ),
+  ),
+)
 
 aggregate_plain : (before : List Definition) (a : Definition) → IsAggregate before a → ArePlain (aggregate_words a)
 aggregate_plain before a h =
     let high = h.ranged.interval_high in
-    let grace = h.ranged.grace_high in
-    (record { some = omega arith; each = refl }, (name_plain a.name h.name, (record { some = omega arith; each = refl },
-    (key_plain a.key h.key h.ranged.elements.0, (record { some = omega arith; each = refl }, (decimal_plain a.interval (omega arith),
-    (record { some = omega arith; each = refl }, (decimal_plain a.grace (omega arith), tt))))))))
+    let grace = h.ranged.grace_high in (
+      record { some = omega arith; each = refl },
+      (
+        name_plain a.name h.name,
+        (
+          record { some = omega arith; each = refl },
+          (
+            key_plain a.key h.key h.ranged.elements.0,
+            (
+              record { some = omega arith; each = refl },
+              (
+                decimal_plain a.interval (omega arith),
+                (record { some = omega arith; each = refl }, (decimal_plain a.grace (omega arith), tt)),
+              ),
+            ),
+          ),
+        ),
+      ),
+    )
 
 -- and read
 truncated_back : (width : Option ℕ) (w bits : ℕ) → width ≡ Some w → bits ≤ w → bits < 1000 → truncate_of width (decimal bits ∷ []) ≡ Ok (Truncate bits, [])
@@ -94,11 +128,13 @@ rule_tail aggregates r =
 rule_back : (aggregates : List Definition) (r : Rule) → IsRule aggregates r → rule_of aggregates (rule_tail aggregates r) ≡ Ok r
 unfolding rule_of next next_of after ended
 rule_back aggregates r h =
-    rw (or_star-printed name BadName itself (λ w. is_name w ≡ true) name-printed name-star r.who h.who,
-        or_star-printed (number 4294967295) BadNumber decimal (λ d. d < 2 ^ 32) domain_back (number-star 4294967295) r.domain h.domain,
-        or_star-printed prefix BadPrefix prefix_text IsPrefix prefix-printed prefix-star r.from h.from,
-        or_star-printed prefix BadPrefix prefix_text IsPrefix prefix-printed prefix-star r.to h.to,
-        action_back aggregates r.element r.action h.element h.action) refl
+    rw (
+      or_star-printed name BadName itself (λ w. is_name w ≡ true) name-printed name-star r.who h.who,
+      or_star-printed (number 4294967295) BadNumber decimal (λ d. d < 2 ^ 32) domain_back (number-star 4294967295) r.domain h.domain,
+      or_star-printed prefix BadPrefix prefix_text IsPrefix prefix-printed prefix-star r.from h.from,
+      or_star-printed prefix BadPrefix prefix_text IsPrefix prefix-printed prefix-star r.to h.to,
+      action_back aggregates r.element r.action h.element h.action,
+    ) refl
 
 aggregate_back : (before : List Definition) (a : Definition) → IsAggregate before a → aggregate_of before (a.name ∷ codes "key" ∷ key_text a.key ∷ codes "interval" ∷ decimal a.interval ∷ codes "grace" ∷ decimal a.grace ∷ []) ≡ Ok a
 unfolding aggregate_of next next_of after ended
@@ -135,9 +171,12 @@ aggregate_added before a h room = rw (lt-leb 256 (length before) room, aggregate
 aggregates_added : (before rest : List Definition) → AreAggregates before rest → length before + length rest ≤ 256 → Adds (record { aggregates = before; rules = [] }) (map aggregate_words rest) (record { aggregates = before ++ rest; rules = [] })
 aggregates_added before [] h room = ap (λ (list : List Definition). record { aggregates = list; rules = [] }) (sym (append-nil before))
 aggregates_added before (a ∷ rest) h room =
-    let P : List Definition → Type 0 = λ list. Adds (record { aggregates = before ++ a ∷ []; rules = [] }) (map aggregate_words rest) (record { aggregates = list; rules = [] }) in
-    (record { aggregates = before ++ a ∷ []; rules = [] }, refl, aggregate_added before a h.0 (omega arith),
-    subst P (append_assoc before (a ∷ []) rest) (aggregates_added (before ++ a ∷ []) rest h.1 (omega (arith, length-append before (a ∷ [])))))
+    let P : List Definition → Type 0 = λ list. Adds (record { aggregates = before ++ a ∷ []; rules = [] }) (map aggregate_words rest) (record { aggregates = list; rules = [] }) in (
+      record { aggregates = before ++ a ∷ []; rules = [] },
+      refl,
+      aggregate_added before a h.0 (omega arith),
+      subst P (append_assoc before (a ∷ []) rest) (aggregates_added (before ++ a ∷ []) rest h.1 (omega (arith, length-append before (a ∷ [])))),
+    )
 
 rule_added : (aggregates : List Definition) (before : List Rule) (r : Rule) → IsRule aggregates r → length before < 4096 → line_of (record { aggregates = aggregates; rules = before }) (rule_words aggregates r) ≡ Ok (record { aggregates = aggregates; rules = before ++ r ∷ [] })
 unfolding line_of rule_line next_of
@@ -146,9 +185,12 @@ rule_added aggregates before r h room = rw (lt-leb 4096 (length before) room, ru
 rules_added : (aggregates : List Definition) (before rest : List Rule) → AreRules aggregates rest → length before + length rest ≤ 4096 → Adds (record { aggregates = aggregates; rules = before }) (map (rule_words aggregates) rest) (record { aggregates = aggregates; rules = before ++ rest })
 rules_added aggregates before [] h room = ap (λ (list : List Rule). record { aggregates = aggregates; rules = list }) (sym (append-nil before))
 rules_added aggregates before (r ∷ rest) h room =
-    let P : List Rule → Type 0 = λ rs. Adds (record { aggregates = aggregates; rules = before ++ r ∷ [] }) (map (rule_words aggregates) rest) (record { aggregates = aggregates; rules = rs }) in
-    (record { aggregates = aggregates; rules = before ++ r ∷ [] }, refl, rule_added aggregates before r h.0 (omega arith),
-    subst P (append_assoc before (r ∷ []) rest) (rules_added aggregates (before ++ r ∷ []) rest h.1 (omega (arith, length-append before (r ∷ [])))))
+    let P : List Rule → Type 0 = λ rs. Adds (record { aggregates = aggregates; rules = before ++ r ∷ [] }) (map (rule_words aggregates) rest) (record { aggregates = aggregates; rules = rs }) in (
+      record { aggregates = aggregates; rules = before ++ r ∷ [] },
+      refl,
+      rule_added aggregates before r h.0 (omega arith),
+      subst P (append_assoc before (r ∷ []) rest) (rules_added aggregates (before ++ r ∷ []) rest h.1 (omega (arith, length-append before (r ∷ [])))),
+    )
 
 aggregates_plain : (before rest : List Definition) → AreAggregates before rest → AllByRecursion ArePlain (map aggregate_words rest)
 aggregates_plain before [] h = tt

@@ -115,9 +115,9 @@ name_found [] w h = absurd (omega arith)
 name_found (a ∷ rest) w h =
     ⊎_elim (λ (same : bytes_eq a.name w ≡ true). rw same ((bytes_eq-Decides a.name w).0 same))
     (λ (other : bytes_eq a.name w ≡ false).
-        let e : 1 + position_or_len (λ b. bytes_eq b.name w) rest ≡ suc (position_or_len (λ b. bytes_eq b.name w) rest) = omega arith in
-        let inside = rw (other, e) at h in
-        rw (other, e) (name_found rest w (omega (arith, inside))))
+    let e : 1 + position_or_len (λ b. bytes_eq b.name w) rest ≡ suc (position_or_len (λ b. bytes_eq b.name w) rest) = omega arith in
+    let inside = rw (other, e) at h in
+    rw (other, e) (name_found rest w (omega (arith, inside))))
     (cases_Bool (bytes_eq a.name w))
 
 place_name : (aggregates : List Definition) (w : Word) (place : ℕ) → place_of aggregates w ≡ Some place → name_at aggregates place ≡ w
@@ -129,9 +129,9 @@ place-sound : (aggregates : List Definition) (w : Word) (place : ℕ) → aggreg
 unfolding aggregate_place
 place-sound aggregates w place e =
     ⊎_elim (λ (named : is_name w ≡ true).
-        let at = or_fault-Ok UnknownAggregate (place_of aggregates w) place (rw named at e) in
-        let same = place_name aggregates w place at in
-        rw same (named, at))
+    let at = or_fault-Ok UnknownAggregate (place_of aggregates w) place (rw named at e) in
+    let same = place_name aggregates w place at in
+    rw same (named, at))
     (λ (other : is_name w ≡ false). absurd (err-Ok BadName place (rw other at e)))
     (cases_Bool (is_name w))
 
@@ -175,12 +175,12 @@ element_action-sound aggregates e words x h =
     either (IsAction aggregates e x.0) (bytes_eq w.0 (codes "keep")) (Ok (Keep, w.1)) (cond (bytes_eq w.0 (codes "remove")) (Ok (Remove, w.1)) (cond (bytes_eq w.0 (codes "truncate")) (truncate_of (width_at e) w.1) (Err UnknownWord))) x first.2
     (λ keep. subst P (same_Ok (Keep, w.1) x keep) tt)
     (λ others. either (IsAction aggregates e x.0) (bytes_eq w.0 (codes "remove")) (Ok (Remove, w.1)) (cond (bytes_eq w.0 (codes "truncate")) (truncate_of (width_at e) w.1) (Err UnknownWord)) x others
-        (λ gone. subst P (same_Ok (Remove, w.1) x gone) tt)
-        (λ last. either (IsAction aggregates e x.0) (bytes_eq w.0 (codes "truncate")) (truncate_of (width_at e) w.1) (Err UnknownWord) x last
-            (λ cut. let t = truncate-sound (width_at e) w.1 x cut in
-                let Q : Action → Type 0 = λ what. IsAction aggregates e what in
-                subst Q t.what_is (t.w, t.width_is, t.within, t.short))
-            (λ none. absurd (err-Ok UnknownWord x none))))
+    (λ gone. subst P (same_Ok (Remove, w.1) x gone) tt)
+    (λ last. either (IsAction aggregates e x.0) (bytes_eq w.0 (codes "truncate")) (truncate_of (width_at e) w.1) (Err UnknownWord) x last
+    (λ cut. let t = truncate-sound (width_at e) w.1 x cut in
+    let Q : Action → Type 0 = λ what. IsAction aggregates e what in
+    subst Q t.what_is (t.w, t.width_is, t.within, t.short))
+    (λ none. absurd (err-Ok UnknownWord x none))))
 
 on_element-sound : (aggregates : List Definition) (words : List Word) (x : (Option Element × Action) × List Word) → on_element words ≡ Ok x → ActionSound aggregates x.0.0 x.0.1
 unfolding on_element
@@ -209,12 +209,12 @@ action_of-sound aggregates words x h =
     either (ActionSound aggregates x.0.0 x.0.1) (bytes_eq w.0 (codes "pass")) (Ok ((None, Pass), w.1)) (cond (bytes_eq w.0 (codes "withhold")) (Ok ((None, Withhold), w.1)) (cond (bytes_eq w.0 (codes "aggregate")) (aggregate_action aggregates w.1) (cond (bytes_eq w.0 (codes "element")) (on_element w.1) (Err UnknownWord)))) x first.2
     (λ pass. subst P (same_Ok ((None, Pass), w.1) x pass) (record { element_is = tt; action_is = refl }))
     (λ others. either (ActionSound aggregates x.0.0 x.0.1) (bytes_eq w.0 (codes "withhold")) (Ok ((None, Withhold), w.1)) (cond (bytes_eq w.0 (codes "aggregate")) (aggregate_action aggregates w.1) (cond (bytes_eq w.0 (codes "element")) (on_element w.1) (Err UnknownWord))) x others
-        (λ held. subst P (same_Ok ((None, Withhold), w.1) x held) (record { element_is = tt; action_is = refl }))
-        (λ more. either (ActionSound aggregates x.0.0 x.0.1) (bytes_eq w.0 (codes "aggregate")) (aggregate_action aggregates w.1) (cond (bytes_eq w.0 (codes "element")) (on_element w.1) (Err UnknownWord)) x more
-            (λ counted. aggregate_action-sound aggregates w.1 x counted)
-            (λ last. either (ActionSound aggregates x.0.0 x.0.1) (bytes_eq w.0 (codes "element")) (on_element w.1) (Err UnknownWord) x last
-                (λ on. on_element-sound aggregates w.1 x on)
-                (λ none. absurd (err-Ok UnknownWord x none)))))
+    (λ held. subst P (same_Ok ((None, Withhold), w.1) x held) (record { element_is = tt; action_is = refl }))
+    (λ more. either (ActionSound aggregates x.0.0 x.0.1) (bytes_eq w.0 (codes "aggregate")) (aggregate_action aggregates w.1) (cond (bytes_eq w.0 (codes "element")) (on_element w.1) (Err UnknownWord)) x more
+    (λ counted. aggregate_action-sound aggregates w.1 x counted)
+    (λ last. either (ActionSound aggregates x.0.0 x.0.1) (bytes_eq w.0 (codes "element")) (on_element w.1) (Err UnknownWord) x last
+    (λ on. on_element-sound aggregates w.1 x on)
+    (λ none. absurd (err-Ok UnknownWord x none)))))
 
 -- a rule, word by word
 abbrev rule_end : Option Word → Option ℕ → Option Prefix → Option Prefix → (Option Element × Action) × List Word → Result Rule FaultKind
@@ -343,9 +343,9 @@ interval-sound w n e =
     let high = number-sound 86400 (omega arith) w read.0 read.1 in
     ⊎_elim (λ (low : ltb read.0 1 ≡ true). absurd (err-Ok BadNumber n (rw low at read.2)))
     (λ (good : ltb read.0 1 ≡ false).
-        let same = same_Ok read.0 n (rw good at read.2) in
-        let low = ltb-false read.0 1 good in
-        (omega (arith, same), omega (arith, same)))
+    let same = same_Ok read.0 n (rw good at read.2) in
+    let low = ltb-false read.0 1 good in
+    (omega (arith, same), omega (arith, same)))
     (cases_Bool (ltb read.0 1))
 
 none_place : (o : Option ℕ) → is_some o ≡ false → o ≡ None
@@ -356,13 +356,13 @@ new_name-sound : (aggregates : List Definition) (w n : Word) → new_name aggreg
 unfolding new_name
 new_name-sound aggregates w n e =
     ⊎_elim (λ (named : is_name w ≡ true).
-        let inner = rw named at e in
-        ⊎_elim (λ (double : is_some (place_of aggregates w) ≡ true). absurd (err-Ok DoubleAggregate n (rw double at inner)))
-        (λ (fresh : is_some (place_of aggregates w) ≡ false).
-            let same = same_Ok w n (rw fresh at inner) in
-            let P : Word → Type 0 = λ x. (is_name x ≡ true) × (place_of aggregates x ≡ None) in
-            subst P same (named, none_place (place_of aggregates w) fresh))
-        (cases_Bool (is_some (place_of aggregates w))))
+    let inner = rw named at e in
+    ⊎_elim (λ (double : is_some (place_of aggregates w) ≡ true). absurd (err-Ok DoubleAggregate n (rw double at inner)))
+    (λ (fresh : is_some (place_of aggregates w) ≡ false).
+    let same = same_Ok w n (rw fresh at inner) in
+    let P : Word → Type 0 = λ x. (is_name x ≡ true) × (place_of aggregates x ≡ None) in
+    subst P same (named, none_place (place_of aggregates w) fresh))
+    (cases_Bool (is_some (place_of aggregates w))))
     (λ (other : is_name w ≡ false). absurd (err-Ok BadName n (rw other at e)))
     (cases_Bool (is_name w))
 

@@ -25,8 +25,8 @@ pub words_of-skip : (line : List ℕ) → words_of line ≡ words_of (drop (posi
 words_of-skip [] = refl
 words_of-skip (c ∷ cs) =
     ⊎_elim (λ (blank : is_blank c ≡ true).
-        let e : 1 + position_or_len in_word cs ≡ suc (position_or_len in_word cs) = omega arith in
-        rw (blank, e) (words_of-blank c cs blank ∙ words_of-skip cs))
+    let e : 1 + position_or_len in_word cs ≡ suc (position_or_len in_word cs) = omega arith in
+    rw (blank, e) (words_of-blank c cs blank ∙ words_of-skip cs))
     (λ (other : is_blank c ≡ false). rw other refl)
     (cases_Bool (is_blank c))
 
@@ -61,8 +61,8 @@ words_of-last line whole some =
 pub position-place : {X : Type 0} (p : X → Bool) (xs : List X) (i : ℕ) → position p xs ≡ Some i → (position_or_len p xs ≡ i) × (i < length xs)
 position-place p xs i e =
     ⊎_elim (λ (h : position_or_len p xs < length xs).
-        let same = same_Some (position_or_len p xs) i (rw (lt-ltb (position_or_len p xs) (length xs) h) at e) in
-        (same, omega arith))
+    let same = same_Some (position_or_len p xs) i (rw (lt-ltb (position_or_len p xs) (length xs) h) at e) in
+    (same, omega arith))
     (λ (h : length xs ≤ position_or_len p xs). absurd (none-some i (rw (le-ltb (position_or_len p xs) (length xs) h) at e)))
     (cases_lt (position_or_len p xs) (length xs))
 

@@ -47,9 +47,9 @@ unfoldable pub element_action : Option ℕ → List Word → Result (Action × L
 element_action width words = do
   w ← next_of words
   if bytes_eq w.0 (codes "keep") then Ok (Keep, w.1)
-    else if bytes_eq w.0 (codes "remove") then Ok (Remove, w.1)
-    else if bytes_eq w.0 (codes "truncate") then truncate_of width w.1
-    else Err UnknownWord
+      else if bytes_eq w.0 (codes "remove") then Ok (Remove, w.1)
+      else if bytes_eq w.0 (codes "truncate") then truncate_of width w.1
+      else Err UnknownWord
 
 -- behind `aggregate`
 unfoldable pub aggregate_action : List Definition → List Word → Result ((Option Element × Action) × List Word) FaultKind
@@ -69,10 +69,10 @@ unfoldable pub action_of : List Definition → List Word → Result ((Option Ele
 action_of aggregates words = do
   w ← next_of words
   if bytes_eq w.0 (codes "pass") then Ok ((None, Pass), w.1)
-    else if bytes_eq w.0 (codes "withhold") then Ok ((None, Withhold), w.1)
-    else if bytes_eq w.0 (codes "aggregate") then aggregate_action aggregates w.1
-    else if bytes_eq w.0 (codes "element") then on_element w.1
-    else Err UnknownWord
+      else if bytes_eq w.0 (codes "withhold") then Ok ((None, Withhold), w.1)
+      else if bytes_eq w.0 (codes "aggregate") then aggregate_action aggregates w.1
+      else if bytes_eq w.0 (codes "element") then on_element w.1
+      else Err UnknownWord
 
 -- behind `rule`
 unfoldable pub rule_of : List Definition → List Word → Result Rule FaultKind
@@ -115,5 +115,5 @@ unfoldable pub line_of : Meaning → List Word → Result Meaning FaultKind
 line_of policy words = do
   w ← next_of words
   if bytes_eq w.0 (codes "rule") then rule_line policy w.1
-    else if bytes_eq w.0 (codes "aggregate") then aggregate_line policy w.1
-    else Err UnknownWord
+      else if bytes_eq w.0 (codes "aggregate") then aggregate_line policy w.1
+      else Err UnknownWord

@@ -21,6 +21,7 @@ const GREATEST_DOMAIN: u32 = u32::MAX;
 const MOST_SECONDS: u32 = 86_400;
 /// The greatest number of three digits.
 const THREE_DIGITS: u32 = 999;
+
 const MOST_KEY_ELEMENTS: usize = 16;
 
 fn is_star(word: &[u8]) -> bool

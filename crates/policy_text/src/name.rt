@@ -34,8 +34,7 @@ ghost use Rattle.policy_text.specs.Naming.{is_name_octet};
 fn are_name_octets(word: &[u8]) -> bool
     ensures { result ≡ list_all is_name_octet word.now }
 {
-    word.iter()
-        .all(|c| c.is_ascii_lowercase() || c.is_ascii_digit() || *c == b'-' || *c == b'_')
+    word.iter().all(|c| c.is_ascii_lowercase() || c.is_ascii_digit() || *c == b'-' || *c == b'_')
 }
 
 /// The name of a subscriber or of an aggregate, which `is_name` accepts.

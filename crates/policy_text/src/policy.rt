@@ -17,6 +17,7 @@ use std::alloc::{AllocError, Global};
 use std::marker::Model;
 
 const MOST_RULES: usize = 4096;
+
 const MOST_AGGREGATES: usize = 256;
 
 /// An ordered list of rules, with the aggregates that they name.

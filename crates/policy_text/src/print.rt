@@ -204,11 +204,7 @@ fn put_domain(text: &mut String, domain: Option<u32>) -> Result<(), AllocError>
     }
 }
 
-fn put_prefix(
-    alloc: Global,
-    text: &mut String,
-    prefix: &Option<Prefix>,
-) -> Result<(), AllocError>
+fn put_prefix(alloc: Global, text: &mut String, prefix: &Option<Prefix>) -> Result<(), AllocError>
     ensures { OnOk result (string_bytes text.new ≡ string_bytes text.old
         ++ word_or_star prefix_text prefix.now) }
 {

@@ -1,257 +1,217 @@
-use crate::{Action, FaultKind, Policy, is_name};
+use crate::{Action, FaultKind, Policy, is_name, print_then_parse};
+use std::process::Abort;
 use std::test::Fail;
 
 /// Texts and their faults, as the checks of an independent reading have them.
-const FAULTS: [(&str, usize, FaultKind); 225] = [
-    ("policy 1\naggregate web key destinationTransportPort interval 300 grace 60\nrule for * in 0 from 2001:db8::/129 to :::/0 element * keep\nrule\tfor\t*\tin\t0\tfrom\t192.0.2.0/24\tto\t*\tpass\nrule for * in 0 from 192.0.2.0/24 to 192.0.2.0/24 element * truncate 49\n", 3, FaultKind::BadPrefix),
-    ("policy 1\nrule for a.b in 0 from 192.0.2.0/24 to 192.0.2.0/24 aggregate W\naggregate W key destinationTransportPort interval 1 grace 0\naggregate web key vlanId,vlanId interval 99999999999999999999999 grace \naggregate web key destinationTransportPort interval 300 grace 60\n", 2, FaultKind::BadName),
-    ("policy 1\naggregate web key destinationTransportPort interval 300 grace 60\naggregate\tweb\tkey\tdestinationTransportPort\tinterval\t300\tgrace\t60\r\n", 3, FaultKind::DoubleAggregate),
-    ("policy 1\nrule for * in 0 from 192.0.2.0/24 to 192.0.2.0/24 element\naggregate web key destinationTransportPort interval 300 grace 60\nrule for * in 0 from 10.0.0.256/32 to 10.0.0/8 element * truncate\naggregate web key destinationTransportPort interval x grace 60\naggregate web key destinationTransportPort interval 300 grace 60", 2, FaultKind::UnknownWord),
-    ("policy 1\nrule for a in 0 from 192.0.2.0/24 to 192.0.2.0/24 pass\naggregate web key destinationTransportPort interval  grace 99999999999999999999999\nrule for * in 0 from :/0 to 192.0.2.0/24 aggregate web\n", 3, FaultKind::BadNumber),
-    ("policy 1\nrule  for  *  in  9999999999999999999999999999999999999999999999999999999999999999999999999999999999999999999999999999999999999999999999999999999999999999999999999999999999999999999999999999999999999999999999999999999999999999999999999999999999999999999999999999999999999999999999999999999999999999999999999999999999999999999999999999999999999999999999999999999999999999999999999999999999999999999999999999999999999999  from  1:2:3:4:5:6:7::/112  to  2001:db8::/1000  element  sourceIPv6Address  keep\n", 2, FaultKind::BadNumber),
-    ("policy 1\nrule for * in 4294967295 from 192.0.2.0/24 to 192.0.2.0/24 element * degrade 5\naggregate web key destinationTransportPort interval  grace 1\r\n", 2, FaultKind::UnknownWord),
-    ("policy 1 1\nrule for a in 0 from 2001:db8::/1000 to 192.0.2.0/24 pass\naggregate w2 key destinationTransportPort interval 1 grace 0\naggregate  W  key  flowId  interval  1  grace  0\nrule for 9a in 0 from 192.0.2.0/24 to 192.0.2.0/24 aggregate web\n\n", 1, FaultKind::NoHeader),
-    ("policy 1\nrule for * in x from 192.0.2.0/24 to 192.0.2.0/24 element interfacename truncate 49\nrule for a in 0 from 192.0.2.0/24 to ::ffff:1.2.3.4/128 pass pass\naggregate web key destinationTransportPort interval 86400 grace x\n", 2, FaultKind::BadNumber),
-    ("policy 1 1\nrule\tfor\t*\tin\t0\tfrom\t:/0\tto\t192.0.2.0/24\telement\t*\tkeep\nrule for * in 0 from 1::2::3/64 to 192.0.2.0/24 aggregate \nrule for * in 4294967295 from 192.0.2.0/24 to 192.0.2.0/24 aggregate w2\nrule for aaaaaaaaaaaaaaaaaaaaaaaaaaaaaaaaa in 0 from 192.0.2.0/24 to 192.0.2.0/24 aggregate w2\n", 1, FaultKind::NoHeader),
-    (" policy\t1 \naggregate web key destinationTransportPort interval 1 grace 0\naggregate W key destinationTransportPort interval 1 grace 0", 3, FaultKind::BadName),
-    ("policy 1\naggregate w3 key destinationTransportPort interval 1 grace 0\naggregate w3 key e300 interval 1 grace 0\n", 3, FaultKind::DoubleAggregate),
-    ("policy 1\naggregate w3 key e8 interval 1 grace 0\nrule for 9a in 0 from 192.0.2.0/24 to ::1/128 element * keep keep\naggregate \r web \r key \r protocolIdentifier,ipClassOfService,sourceIPv4PrefixLength,destinationIPv4PrefixLength,ipVersion,flowDirection,flowEndReason,tcpControlBits,sourceTransportPort,destinationTransportPort,vlanId,ingressInterface,egressInterface,bgpSourceAsNumber,bgpDestinationAsNumber,observationDomainId \r interval \r 1 \r grace \r 0\naggregate web key destinationTransportPort interval 300 grace 60\n\n", 2, FaultKind::BadName),
-    ("policy 1\nrule for aaaaaaaaaaaaaaaaaaaaaaaaaaaaaaaa in 0 from 192.0.2.0/24 to 192.0.2.0/24 element e032 truncate 129\naggregate web key flowId interval 1 grace 0\naggregate web key destinationTransportPort interval 0 grace x\r\n", 2, FaultKind::BadName),
-    ("Policy 1\nrule for * in 9999999999999999999999999999999999999999999999999999999999999999999999999999999999999999999999999999999999999999999999999999999999999999999999999999999999999999999999999999999999999999999999999999999999999999999999999999999999999999999999999999999999999999999999999999999999999999999999999999999999999999999999999999999999999999999999999999999999999999999999999999999999999999999999999999999999999999 from 192.0.2.0/24 to * keep\nrule for * in 0 from 192.0.2.0/24 to 1:2:3:4:5:6:7:8/128 \nrule for * in 0 from 0.0.0.0/0 to 192.0.2.0/24 aggregate web\n\n", 1, FaultKind::NoHeader),
-    ("policy 1\naggregate web key destinationTransportPort interval 300 grace 60\nrule for a in 0 from 2001:db8::/32 to 10.0.0.00/32 aggregate web\naggregate web key destinationTransportPort interval 300 grace 60\naggregate web key destinationTransportPort interval 300 grace 60\n\n", 3, FaultKind::BadPrefix),
-    ("policy 1\naggregate W key destinationTransportPort interval 1 grace 0\nrule for * in 0 from 192.0.2.0/24 to * element e01/1 truncate 49\nrule for * in 0 from 192.0.2.0/24 to 192.0.2.0/24 element e1/2 keep\r\n", 2, FaultKind::BadName),
-    ("policy 2\naggregate web key vlanId,vlanId interval 86400 grace 60\naggregate web key destinationTransportPort interval 86401 grace 0\naggregate w2 key vlanId,vlanId interval 1 grace 0\nrule for * in 0 from 192.0.2.0/24 to 192.0.2.0/24 element e8 keep\r\n", 1, FaultKind::NoHeader),
+const FAULTS: [(&str, usize, FaultKind); 36] = [
+    (
+        "policy 1\naggregate web key destinationTransportPort interval 300 grace 60\nrule for * in 0 from 2001:db8::/129 to :::/0 element * keep\nrule\tfor\t*\tin\t0\tfrom\t192.0.2.0/24\tto\t*\tpass\nrule for * in 0 from 192.0.2.0/24 to 192.0.2.0/24 element * truncate 49\n",
+        3,
+        FaultKind::BadPrefix,
+    ),
+    (
+        "policy 1\nrule for a.b in 0 from 192.0.2.0/24 to 192.0.2.0/24 aggregate W\naggregate W key destinationTransportPort interval 1 grace 0\naggregate web key vlanId,vlanId interval 99999999999999999999999 grace \naggregate web key destinationTransportPort interval 300 grace 60\n",
+        2,
+        FaultKind::BadName,
+    ),
+    (
+        "policy 1\naggregate web key destinationTransportPort interval 300 grace 60\naggregate\tweb\tkey\tdestinationTransportPort\tinterval\t300\tgrace\t60\r\n",
+        3,
+        FaultKind::DoubleAggregate,
+    ),
+    (
+        "policy 1\nrule for * in 0 from 192.0.2.0/24 to 192.0.2.0/24 element\naggregate web key destinationTransportPort interval 300 grace 60\nrule for * in 0 from 10.0.0.256/32 to 10.0.0/8 element * truncate\naggregate web key destinationTransportPort interval x grace 60\naggregate web key destinationTransportPort interval 300 grace 60",
+        2,
+        FaultKind::UnknownWord,
+    ),
+    (
+        "policy 1\nrule for a in 0 from 192.0.2.0/24 to 192.0.2.0/24 pass\naggregate web key destinationTransportPort interval  grace 99999999999999999999999\nrule for * in 0 from :/0 to 192.0.2.0/24 aggregate web\n",
+        3,
+        FaultKind::BadNumber,
+    ),
+    (
+        "policy 1\nrule for * in 4294967295 from 192.0.2.0/24 to 192.0.2.0/24 element * degrade 5\naggregate web key destinationTransportPort interval  grace 1\r\n",
+        2,
+        FaultKind::UnknownWord,
+    ),
+    (
+        "policy 1 1\nrule for a in 0 from 2001:db8::/1000 to 192.0.2.0/24 pass\naggregate w2 key destinationTransportPort interval 1 grace 0\naggregate  W  key  flowId  interval  1  grace  0\nrule for 9a in 0 from 192.0.2.0/24 to 192.0.2.0/24 aggregate web\n\n",
+        1,
+        FaultKind::NoHeader,
+    ),
+    (
+        "policy 1\nrule for * in x from 192.0.2.0/24 to 192.0.2.0/24 element interfacename truncate 49\nrule for a in 0 from 192.0.2.0/24 to ::ffff:1.2.3.4/128 pass pass\naggregate web key destinationTransportPort interval 86400 grace x\n",
+        2,
+        FaultKind::BadNumber,
+    ),
+    (
+        "policy 1 1\nrule\tfor\t*\tin\t0\tfrom\t:/0\tto\t192.0.2.0/24\telement\t*\tkeep\nrule for * in 0 from 1::2::3/64 to 192.0.2.0/24 aggregate \nrule for * in 4294967295 from 192.0.2.0/24 to 192.0.2.0/24 aggregate w2\nrule for aaaaaaaaaaaaaaaaaaaaaaaaaaaaaaaaa in 0 from 192.0.2.0/24 to 192.0.2.0/24 aggregate w2\n",
+        1,
+        FaultKind::NoHeader,
+    ),
+    (
+        " policy\t1 \naggregate web key destinationTransportPort interval 1 grace 0\naggregate W key destinationTransportPort interval 1 grace 0",
+        3,
+        FaultKind::BadName,
+    ),
+    (
+        "policy 1\naggregate w3 key destinationTransportPort interval 1 grace 0\naggregate w3 key e300 interval 1 grace 0\n",
+        3,
+        FaultKind::DoubleAggregate,
+    ),
+    (
+        "policy 1\nrule for aaaaaaaaaaaaaaaaaaaaaaaaaaaaaaaa in 0 from 192.0.2.0/24 to 192.0.2.0/24 element e032 truncate 129\naggregate web key flowId interval 1 grace 0\naggregate web key destinationTransportPort interval 0 grace x\r\n",
+        2,
+        FaultKind::BadName,
+    ),
+    (
+        "policy 1\naggregate web key destinationTransportPort interval 300 grace 60\nrule for a in 0 from 2001:db8::/32 to 10.0.0.00/32 aggregate web\naggregate web key destinationTransportPort interval 300 grace 60\naggregate web key destinationTransportPort interval 300 grace 60\n\n",
+        3,
+        FaultKind::BadPrefix,
+    ),
+    (
+        "policy 1\naggregate W key destinationTransportPort interval 1 grace 0\nrule for * in 0 from 192.0.2.0/24 to * element e01/1 truncate 49\nrule for * in 0 from 192.0.2.0/24 to 192.0.2.0/24 element e1/2 keep\r\n",
+        2,
+        FaultKind::BadName,
+    ),
+    (
+        "policy 2\naggregate web key vlanId,vlanId interval 86400 grace 60\naggregate web key destinationTransportPort interval 86401 grace 0\naggregate w2 key vlanId,vlanId interval 1 grace 0\nrule for * in 0 from 192.0.2.0/24 to 192.0.2.0/24 element e8 keep\r\n",
+        1,
+        FaultKind::NoHeader,
+    ),
     ("policy 2", 1, FaultKind::NoHeader),
-    ("policy 1\naggregate web key destinationTransportPort interval 99999999999999999999999 grace 0\nrule for a.b in 0 from 192.0.2.0/24 to 192.0.2.0/24 element * keep\naggregate web key destinationTransportPort interval 300 grace 60\naggregate web key interfaceName interval x grace \naggregate \r web \r key \r destinationTransportPort \r interval \r 300 \r grace \r 60\n", 2, FaultKind::BadNumber),
-    (" policy\t1 \nrule for * in 0 from 1:2:3:4:5:6:7:8/128 to ::1/127 pass\naggregate web key destinationTransportPort interval 1 grace 1\nrule for * in 0 from 192.0.2.0/24 to :::/0 element * truncate 999\nrule for 9a in 0 from 192.0.2.0/24 to 192.0.2.0/24 aggregate web\naggregate web key destinationTransportPort interval 60 grace 86401\n", 2, FaultKind::BadPrefix),
-    ("policy 1\naggregate web key destinationTransportPort interval 60 grace 86400\nrule for a in 0 from 192.0.2.0/24 to 10.0.0/8 element e01/1 truncate 24\naggregate w3 key e300 interval 1 grace 0\nrule \r for \r * \r in \r 0 \r from \r 192.0.2.0/24 \r to \r 10.0.0.0 \r aggregate \r web\nrule for * in 0 from 192.0.2.0/24 to 192.0.2.1/24 element\r\n", 3, FaultKind::BadPrefix),
-    ("\r\n", 1, FaultKind::NoHeader),
-    ("\nrule for aaaaaaaaaaaaaaaaaaaaaaaaaaaaaaaa in 0 from 1::2::3/64 to 192.0.2.0/24 aggregate web\naggregate web key vlanId,vlanId interval 99999999999999999999999 grace \n", 2, FaultKind::NoHeader),
-    ("policy 1\naggregate web key destinationTransportPort interval 300 grace 60\naggregate web key destinationTransportPort interval 300 grace 60\n#", 3, FaultKind::DoubleAggregate),
-    ("policy 1\naggregate web key flowId interval x grace 0\r\n", 2, FaultKind::BadKey),
-    ("policy 1\naggregate web key destinationTransportPort interval 86401 grace x\nrule for a.b in 0 from ::ffff:1.2.3.4/128 to 192.0.2.0/24 aggregate W\naggregate web key destinationTransportPort interval 300 grace 60\nrule for * in 0 from 192.0.2.0/24 to 192.0.2.0/24 element * truncate 999\naggregate web key destinationTransportPort interval 300 grace 60\r\n", 2, FaultKind::BadNumber),
-    ("Policy 1\nrule for aaaaaaaaaaaaaaaaaaaaaaaaaaaaaaaa in 0 from 192.0.2.0/24 to 192.0.2.0/24 aggregate web\naggregate web key destinationTransportPort interval 300 grace 60\n", 1, FaultKind::NoHeader),
-    ("\naggregate web key destinationTransportPort interval 60 grace 86401\naggregate web key destinationTransportPort interval 300 grace 60\r\n", 2, FaultKind::NoHeader),
-    ("policy 1\naggregate w2 key destinationTransportPort interval 1 grace 0\naggregate web key destinationTransportPort interval 300 grace 60\nrule for * in 0 from 192.0.2.0/24 to :/0 pass\naggregate web key destinationTransportPort interval 300 grace 60\n\n", 4, FaultKind::BadPrefix),
-    ("policy\naggregate w2 key protocolIdentifier,ipClassOfService,sourceIPv4PrefixLength,destinationIPv4PrefixLength,ipVersion,flowDirection,flowEndReason,tcpControlBits,sourceTransportPort,destinationTransportPort,vlanId,ingressInterface,egressInterface,bgpSourceAsNumber,bgpDestinationAsNumber,observationDomainId,sourceIPv4Address interval 1 grace 0\naggregate w3 key destinationTransportPort interval 1 grace 0\nrule for * in 0 from 192.0.2.0/24 to 192.0.2.0/24 aggregate web\n\n", 1, FaultKind::NoHeader),
-    ("policy 1\n# x\nrule for 9a in 0 from 192.0.2.0/24 to 192.0.2.0/24 withhold\r\n", 3, FaultKind::BadName),
-    ("policy 1 1\nrule for aaaaaaaaaaaaaaaaaaaaaaaaaaaaaaaaa in 0 from 192.0.2.0/24 to 10.0.0.0 aggregate w2\naggregate web key destinationTransportPort interval 300 grace 60\naggregate web key destinationTransportPort interval 300 grace 60\nrule for * in 01 from ::1/128 to 2001:db8::/1000 element * keep\n", 1, FaultKind::NoHeader),
-    ("policy 2\naggregate web key destinationTransportPort interval  grace 86401\naggregate w2 key destinationTransportPort interval 1 grace 0\n\n", 1, FaultKind::NoHeader),
-    ("policy\nrule for * in -1 from * to 1:2:3:4:5:6:7::/112 aggregate web\naggregate web key destinationTransportPort interval 1 grace 0\naggregate web key destinationTransportPort interval 1 grace 0\naggregate web key sourceIPv4Address,destinationIPv4Address interval 1 grace 86401\r\n", 1, FaultKind::NoHeader),
-    ("policy 1\nrule for aaaaaaaaaaaaaaaaaaaaaaaaaaaaaaaaa in 0 from 192.0.2.0/24 to :/0 element e32768 keep\naggregate web key destinationTransportPort interval 300 grace 60\naggregate w3 key protocolIdentifier,ipClassOfService,sourceIPv4PrefixLength,destinationIPv4PrefixLength,ipVersion,flowDirection,flowEndReason,tcpControlBits,sourceTransportPort,destinationTransportPort,vlanId,ingressInterface,egressInterface,bgpSourceAsNumber,bgpDestinationAsNumber,observationDomainId,sourceIPv4Address interval 1 grace 0", 2, FaultKind::BadName),
-    ("\naggregate web key destinationTransportPort interval 99999999999999999999999 grace 86401\naggregate W key protocolIdentifier,ipClassOfService,sourceIPv4PrefixLength,destinationIPv4PrefixLength,ipVersion,flowDirection,flowEndReason,tcpControlBits,sourceTransportPort,destinationTransportPort,vlanId,ingressInterface,egressInterface,bgpSourceAsNumber,bgpDestinationAsNumber,observationDomainId interval 1 grace 0", 2, FaultKind::NoHeader),
-    ("policy 1\nrule for * in 9999999999999999999999999999999999999999999999999999999999999999999999999999999999999999999999999999999999999999999999999999999999999999999999999999999999999999999999999999999999999999999999999999999999999999999999999999999999999999999999999999999999999999999999999999999999999999999999999999999999999999999999999999999999999999999999999999999999999999999999999999999999999999999999999999999999999999 from 192.0.2.0/24 to 192.0.2.0/24 element * truncate x\nrule for a.b in 01 from 192.0.2.0/24 to 10.0.0.0/33 aggregate web\r\n", 2, FaultKind::BadNumber),
-    (" policy\t1 \nrule  for  *  in  x  from  192.0.2.0/24  to  1:2:3:4:5:6:7:8/128  Pass\naggregate web key destinationTransportPort interval 300 grace 60", 2, FaultKind::BadNumber),
-    ("policy 1\nrule for aaaaaaaaaaaaaaaaaaaaaaaaaaaaaaaa in 0 from 1::2::3/64 to 192.0.2.0/24 aggregate W\naggregate web key destinationTransportPort interval 1 grace 0\nrule for * in 0 from 10.0.0.00/32 to ::ffff:1.2.3.4/128 element * truncate 129\naggregate  w3  key  destinationTransportPort  interval  1  grace  0\n", 2, FaultKind::BadPrefix),
-    ("policy 1\n\nrule for * in * from ::1/127 to 10.0.0/8 pass pass\nrule for * in 0 from 192.0.2.0/24 to 10.0.0.0/33 Pass", 3, FaultKind::BadPrefix),
-    ("policy 1\nrule for a_-9 in 0 from 192.0.2.0/24 to 192.0.2.0/24 aggregate W\naggregate web key destinationTransportPort interval 0 grace x\nrule for Acme in 0 from 192.0.2.0/24 to 10.0.0.0/33 aggregate web\r\n", 2, FaultKind::BadName),
-    ("policy 1\naggregate web key destinationTransportPort interval 86401 grace 1\r\n", 2, FaultKind::BadNumber),
-    ("\n\n", 1, FaultKind::NoHeader),
-    ("policy 1\nrule \r for \r * \r in \r 01 \r from \r 192.0.2.0/24 \r to \r 2001:db8::/32 \r aggregate \r W\nrule for * in 0 from 10.0.0.0/ to 192.0.2.0/24 aggregate W", 2, FaultKind::BadNumber),
-    ("policy 1\naggregate w3 key vlanId, interval 1 grace 0\r\n", 2, FaultKind::BadName),
-    ("policy 1\nrule for aaaaaaaaaaaaaaaaaaaaaaaaaaaaaaaa in 0 from 192.0.2.0/24 to 192.0.2.0/24 aggregate web\nrule for * in 0 from 192.0.2.0/24 to 1:2:3:4:5:6:7:8::/128 element * keep\n", 2, FaultKind::UnknownAggregate),
-    (" policy\t1 \nrule for Acme in * from 192.0.2.0/24 to 192.0.2.0/24 aggregate W\r\n", 2, FaultKind::BadName),
-    ("policy 1 1\nrule for * in 0 from 192.0.2.0/24 to ::ffff:1.2.3.4/128 withhold\naggregate w2 key vlanId,vlanId interval 1 grace 0\naggregate w2 key destinationTransportPort interval 1 grace 0", 1, FaultKind::NoHeader),
-    ("policy\nrule for * in x from 192.0.2.0/24 to 192.0.2.0/24 keep\nrule for * in x from 192.0.2.0/24 to 0.0.0.0/0 aggregate web\n", 1, FaultKind::NoHeader),
-    ("policy 1\nrule for * in 0 from :/0 to 192.0.2.0/24 element * keep\naggregate web key destinationTransportPort interval 1 grace 01\n\n", 2, FaultKind::BadPrefix),
-    ("policy 1 1\naggregate w2 key destinationTransportPort interval 1 grace 0\naggregate web key destinationTransportPort interval 1 grace 0\naggregate w2 key protocolIdentifier,ipClassOfService,sourceIPv4PrefixLength,destinationIPv4PrefixLength,ipVersion,flowDirection,flowEndReason,tcpControlBits,sourceTransportPort,destinationTransportPort,vlanId,ingressInterface,egressInterface,bgpSourceAsNumber,bgpDestinationAsNumber,observationDomainId,sourceIPv4Address interval 1 grace 0\naggregate \r web \r key \r destinationTransportPort \r interval \r 300 \r grace \r 60\naggregate web key , interval x grace 99999999999999999999999\n", 1, FaultKind::NoHeader),
-    ("policy 1\naggregate W key destinationTransportPort interval 1 grace 0\naggregate w3 key destinationTransportPort interval 1 grace 0\n\n", 2, FaultKind::BadName),
-    ("policy 1\nrule \r for \r * \r in \r 7 \r from \r 192.0.2.0/24 \r to \r 192.0.2.0/24 \r aggregate \r w2\naggregate web key destinationTransportPort interval 99999999999999999999999 grace 01\naggregate web key vlanId,vlanId interval 0 grace 01\nrule for a in -1 from 192.0.2.0/24 to ::ffff:1.2.3.4/128 aggregate web", 2, FaultKind::UnknownAggregate),
-    ("policy 1\naggregate w3 key e300 interval 1 grace 0\naggregate w3 key destinationTransportPort interval 1 grace 0\nrule for * in 0 from :/0 to 192.0.2.1/24 element * truncate 999\nrule for Acme in x from 192.0.2.0/24 to 2001:db8::/129 pass\r\n", 2, FaultKind::BadKey),
-    ("Policy 1\r\n", 1, FaultKind::NoHeader),
-    ("policy 1 1\nrule for * in 0 from 192.0.2.0/24 to 192.0.2.0/24 element * keep\nrule for Acme in 0 from 192.0.2.0/24 to 10.0.0.0/ pass\nrule for * in 0 from 192.0.2.0/24 to 192.0.2.0/24 pass\naggregate \r web \r key \r interfaceName \r interval \r 60 \r grace \r x\n", 1, FaultKind::NoHeader),
-    ("policy 1\nrule for aaaaaaaaaaaaaaaaaaaaaaaaaaaaaaaaa in 4294967295 from 10.0.0.0 to 192.0.2.0/24 element * truncate 129\naggregate\tweb\tkey\tdestinationTransportPort\tinterval\t300\tgrace\t60\nrule for * in 0 from 1:2:3:4:5:6:7:8/128 to 192.0.2.0/24 aggregate web", 2, FaultKind::BadName),
-    ("policy 1\naggregate web key sourceIPv4Address,destinationIPv4Address interval 86401 grace x\naggregate", 2, FaultKind::BadNumber),
-    ("policy 1\nrule for * in x from ::1/127 to 0.0.0.0/0 pass\nrule for * in 0 from 192.0.2.0/24 to 0.0.0.0/0 element interfacename truncate 999\naggregate w2 key destinationTransportPort interval 1 grace 0", 2, FaultKind::BadNumber),
-    ("policy 1\nrule for * in 0 from 192.0.2.0/24 to 192.0.2.0/24 aggregate W\nrule for * in 0 from 10.0.0.256/32 to 2001:db8::/1000 element * truncate 32\nrule for * in 0 from 192.0.2.0/24 to 192.0.2.1/24 pass\r\n", 2, FaultKind::BadName),
-    ("Policy 1\nx\nrule for * in 7 from 192.0.2.0/24 to 10.0.0.0 Pass\naggregate web key flowId interval 1 grace 0\n\n", 1, FaultKind::NoHeader),
-    ("policy 1\nrule for a in 0 from 192.0.2.0/24 to 192.0.2.0/24 aggregate W\naggregate\tweb\tkey\tvlanId,vlanId\tinterval\t1\tgrace\tx\nrule for a in 0 from /24 to 1:2:3:4:5:6:7:8/128 element * keep\r\n", 2, FaultKind::BadName),
-    (" policy\t1 \n \naggregate web key sourceIPv4Address,destinationIPv4Address interval 0 grace \naggregate web key destinationTransportPort interval 86400 grace x\n", 3, FaultKind::BadNumber),
-    ("policy 1\nrule for * in 4294967295 from 10.0.0.0 to 192.0.2.0/24 aggregate w2\nrule for * in 0 from 192.0.2.0/24 to 192.0.2.0/24 aggregate \naggregate web key destinationTransportPort interval 300 grace 60\nrule for * in 0 from 192.0.2.0/24 to 192.0.2.0/24 element * truncate 024\naggregate web key interfaceName interval 60 grace 99999999999999999999999", 2, FaultKind::BadPrefix),
-    ("policy 1\nrule for * in 0 from 192.0.2.0/24 to 192.0.2.0/24 keep\naggregate web key destinationTransportPort interval 300 grace 60\naggregate web key destinationTransportPort interval 300 grace 60\naggregate web key destinationTransportPort interval 60 grace \n\n", 2, FaultKind::UnknownWord),
-    ("policy 1\naggregate web key destinationTransportPort interval 99999999999999999999999 grace 1\nrule for * in 0 from 192.0.2.0/24 to 192.0.2.0/24 aggregate web\nrule for * in 0 from ::ffff:1.2.3.4/128 to 10.0.0.0/033 element * keep\nrule for * in 0 from 192.0.2.0/24 to 12345::/16 element * keep\naggregate\tweb\tkey\tdestinationTransportPort\tinterval\tx\tgrace\t86401\r\n", 2, FaultKind::BadNumber),
-    ("policy 2\nrule for * in 0 from 192.0.2.0/24 to 192.0.2.0/24 pass\n", 1, FaultKind::NoHeader),
-    ("policy 1\naggregate web key sourceIPv4Address,destinationIPv4Address interval 1 grace 0\naggregate web key protocolIdentifier,ipClassOfService,sourceIPv4PrefixLength,destinationIPv4PrefixLength,ipVersion,flowDirection,flowEndReason,tcpControlBits,sourceTransportPort,destinationTransportPort,vlanId,ingressInterface,egressInterface,bgpSourceAsNumber,bgpDestinationAsNumber,observationDomainId interval 01 grace 1\nrule\tfor\ta\tin\t0\tfrom\t192.0.2.0/24\tto\t::1/128\taggregate\tweb\nx", 3, FaultKind::DoubleAggregate),
-    ("policy 1\naggregate web key destinationTransportPort interval 300 grace 60\nrule for * in 0 from 192.0.2.0/24 to 192.0.2.0/24 pass\naggregate web key destinationTransportPort interval 300 grace 60\naggregate W key destinationTransportPort interval 1 grace 0\nrule  for  acme  in  9999999999999999999999999999999999999999999999999999999999999999999999999999999999999999999999999999999999999999999999999999999999999999999999999999999999999999999999999999999999999999999999999999999999999999999999999999999999999999999999999999999999999999999999999999999999999999999999999999999999999999999999999999999999999999999999999999999999999999999999999999999999999999999999999999999999999999  from  10.0.0.0  to  0.0.0.0/0  aggregate  W", 4, FaultKind::DoubleAggregate),
-    ("policy 1\naggregate web key destinationTransportPort interval 60 grace \naggregate W key destinationTransportPort interval 1 grace 0\nrule for * in 0 from :/0 to 10.0.0.0 aggregate web\naggregate W key destinationTransportPort interval 1 grace 0\r\n", 2, FaultKind::UnknownWord),
-    ("policy\nrule for * in 0 from :/0 to 192.0.2.0/24 aggregate web\naggregate web key destinationTransportPort interval 300 grace 60\naggregate  web  key  destinationTransportPort  interval  300  grace  60\naggregate w3 key destinationTransportPort interval 1 grace 0\n\n", 1, FaultKind::NoHeader),
-    (" policy\t1 \naggregate  web  key  destinationTransportPort  interval  1  grace  0\naggregate web key destinationTransportPort interval 300 grace 60\nrule for * in 01 from 192.0.2.0/24 to 192.0.2.1/24 aggregate web\nrule for aaaaaaaaaaaaaaaaaaaaaaaaaaaaaaaaa in 0 from 10.0.0.0 to 192.0.2.0/24 element sourceIPv4Address truncate 24\r\n", 3, FaultKind::DoubleAggregate),
-    ("\naggregate web key destinationTransportPort interval 300 grace 60\n", 2, FaultKind::NoHeader),
-    ("\naggregate  w3  key  destinationTransportPort  interval  1  grace  0\naggregate \r web \r key \r destinationTransportPort \r interval \r 1 \r grace \r 0\naggregate web key destinationTransportPort interval 1 grace 01\nrule for a in 0 from 10.0.0.0/033 to 192.0.2.0/24 pass\n", 2, FaultKind::NoHeader),
-    ("policy 1\naggregate\tW\tkey\tdestinationTransportPort\tinterval\t1\tgrace\t0\naggregate w2 key protocolIdentifier,ipClassOfService,sourceIPv4PrefixLength,destinationIPv4PrefixLength,ipVersion,flowDirection,flowEndReason,tcpControlBits,sourceTransportPort,destinationTransportPort,vlanId,ingressInterface,egressInterface,bgpSourceAsNumber,bgpDestinationAsNumber,observationDomainId interval 1 grace 0\r\n", 2, FaultKind::BadName),
-    ("policy 1\nrule for * in 0 from * to 192.0.2.0/24 aggregate web\nrule for * in 01 from ::/0 to 10.0.0.0 element * truncate 24\naggregate web key destinationTransportPort interval 300 grace 60\n", 2, FaultKind::UnknownAggregate),
-    ("policy 1\naggregate web key destinationTransportPort interval 300 grace 60\n#\nrule for * in x from :::/0 to 192.0.2.0/24 element * keep\nrule for * in 4294967295 from 192.0.2.0/24 to 192.0.2.0/24 aggregate web", 4, FaultKind::BadNumber),
-    ("policy 1\nrule\tfor\t*\tin\t-1\tfrom\t192.0.2.0/24\tto\t192.0.2.0/24\telement\t*\tkeep\naggregate w3 key e8 interval 1 grace 0\naggregate web key  interval 01 grace \n\n", 2, FaultKind::BadNumber),
-    ("policy 1\nrule for * in 0 from 10.0.0.256/32 to 192.0.2.0/24 pass\nrule for aaaaaaaaaaaaaaaaaaaaaaaaaaaaaaaa in x from 192.0.2.0/24 to 192.0.2.0/24 element * truncate\nrule for acme in 0 from 192.0.2.0/24 to 10.0.0.00/32 element * keep\naggregate W key vlanId, interval 1 grace 0\n", 2, FaultKind::BadPrefix),
-    ("policy 1\nrule for * in 0 from 192.0.2.0/24 to ::/0 aggregate \naggregate w3 key destinationTransportPort interval 1 grace 0\naggregate web key destinationTransportPort interval 60 grace x\naggregate w3 key destinationTransportPort interval 1 grace 0\naggregate web key destinationTransportPort interval 300 grace 60\r\n", 2, FaultKind::UnknownWord),
-    ("policy 1\naggregate web key destinationTransportPort interval 300 grace 60\nrule for a in 0 from 10.0.0.0/33 to 1::2::3/64 aggregate w2\nrule for * in 0 from 192.0.2.0/24 to 192.0.2.0/24 aggregate web\nrule for * in 0 from 192.0.2.0/24 to ::1/128 pass", 3, FaultKind::BadPrefix),
-    ("policy 1\nrule for * in 0 from 192.0.2.0/24 to 192.0.2.0/24 aggregate web\naggregate web key destinationTransportPort interval 300 grace 60\naggregate web key destinationTransportPort interval 1 grace 0\naggregate web key destinationTransportPort interval 99999999999999999999999 grace 60", 2, FaultKind::UnknownAggregate),
-    ("policy 1\naggregate web key destinationTransportPort interval 300 grace 60\nrule \r for \r * \r in \r 0 \r from \r 10.0.0.0/033 \r to \r ::1/128 \r \naggregate web key destinationTransportPort interval 300 grace 60\nrule for a.b in 0 from 10.0.0.0/ to 192.0.2.0/24 element * truncate 999\naggregate web key destinationTransportPort interval x grace 86400\n\n", 3, FaultKind::BadPrefix),
-    ("policy 1\nrule for 9a in 0 from 10.0.0/8 to 192.0.2.0/24 element * truncate x\nrule \r for \r * \r in \r 0 \r from \r 192.0.2.0/24 \r to \r 192.0.2.0/24 \r pass", 2, FaultKind::BadName),
-    (" policy\t1 \nrule for * in 0 from 192.0.2.0/24 to 192.0.2.0/24 aggregate web\naggregate web key destinationTransportPort interval 300 grace 60\naggregate W key destinationTransportPort interval 1 grace 0\nrule for * in 0 from 192.0.2.0/24 to 192.0.2.0/24 aggregate W\naggregate  web  key  destinationTransportPort  interval  300  grace  60\n", 2, FaultKind::UnknownAggregate),
-    ("policy 1\naggregate web key e300 interval 1 grace 0\naggregate web key destinationTransportPort interval 300 grace 60\nx\naggregate web key destinationTransportPort interval 86400 grace 86401\naggregate", 2, FaultKind::BadKey),
-    ("policy 1\naggregate web key destinationTransportPort interval 300 grace 60\naggregate w2 key e300 interval 1 grace 0\naggregate web key destinationTransportPort interval 300 grace 60\nrule for acme in 0 from :/0 to 192.0.2.0/24 Pass\n\n", 3, FaultKind::BadKey),
-    ("policy 1\naggregate web key vlanId,vlanId interval 99999999999999999999999 grace \r\n", 2, FaultKind::BadKey),
-    ("policy 1\naggregate web key destinationTransportPort interval 300 grace 60\naggregate web key destinationTransportPort interval 300 grace 60\n\n", 3, FaultKind::DoubleAggregate),
-    ("policy 1\naggregate W key , interval 1 grace 0", 2, FaultKind::BadName),
-    ("policy 1\nrule for * in 0 from :/0 to 192.0.2.0/24 aggregate w2\n\n", 2, FaultKind::BadPrefix),
-    ("policy 1\naggregate web key destinationTransportPort interval 300 grace 60\naggregate web key destinationTransportPort interval 300 grace 60\r\n", 3, FaultKind::DoubleAggregate),
-    ("policy 1\naggregate web key destinationTransportPort interval 300 grace 60\nrule  for  Acme  in  7  from  192.0.2.0/24  to  2001:db8::/32  element  interfacename  keep\nrule for 9a in 01 from 192.0.2.0/24 to 192.0.2.0/24 element\naggregate w2 key destinationTransportPort interval 1 grace 0\n", 3, FaultKind::BadName),
-    ("policy 1\nrule \r for \r a \r in \r 0 \r from \r 192.0.2.0/24 \r to \r 192.0.2.0/24 \r aggregate \r web\n\n", 2, FaultKind::UnknownAggregate),
-    ("policy 1\nrule for * in 0 from 192.0.2.0/24 to 192.0.2.0/24 aggregate web\nrule for aaaaaaaaaaaaaaaaaaaaaaaaaaaaaaaaa in 0 from 192.0.2.0/24 to 192.0.2.0/24 element * keep\nrule for * in 0 from 10.0.0.0/033 to 10.0.0/8 aggregate W\naggregate web key destinationTransportPort interval 300 grace 60\n", 2, FaultKind::UnknownAggregate),
-    ("policy 1\nrule for * in * from 10.0.0/8 to 192.0.2.0/24 aggregate w2\nrule for * in 4294967296 from 192.0.2.0/24 to 192.0.2.0/24 keep\nrule for * in x from 192.0.2.0/24 to 192.0.2.0/24 aggregate w2\naggregate web key destinationTransportPort interval 300 grace 60\n", 2, FaultKind::BadPrefix),
-    ("policy 1\nrule for * in 0 from 192.0.2.0/24 to 1:2:3:4:5:6:7:8/128 aggregate w2\nrule for acme in 01 from :::/0 to 192.0.2.0/24 aggregate W\nrule for * in 0 from ::1/128 to 192.0.2.0/24 aggregate W", 2, FaultKind::UnknownAggregate),
-    ("policy 1\nrule for aaaaaaaaaaaaaaaaaaaaaaaaaaaaaaaaa in 0 from 1:2:3:4:5:6:7:8::/128 to 192.0.2.0/24 aggregate web\naggregate W key destinationTransportPort interval 1 grace 0\n", 2, FaultKind::BadName),
-    (" policy\t1 \nrule  for  a.b  in  0  from  1:2:3:4:5:6:7:8/128  to  192.0.2.0/24  element  *  keep\naggregate web key destinationTransportPort interval 1 grace 0\n\n", 2, FaultKind::BadName),
-    (" policy\t1 \naggregate\tweb\tkey\tdestinationTransportPort\tinterval\t99999999999999999999999\tgrace\t60\nrule for aaaaaaaaaaaaaaaaaaaaaaaaaaaaaaaa in 0 from 192.0.2.0/24 to 192.0.2.0/24 element e32767 truncate 0\nrule for * in 0 from 192.0.2.0/24 to 192.0.2.0/24 pass\nrule for * in 9999999999999999999999999999999999999999999999999999999999999999999999999999999999999999999999999999999999999999999999999999999999999999999999999999999999999999999999999999999999999999999999999999999999999999999999999999999999999999999999999999999999999999999999999999999999999999999999999999999999999999999999999999999999999999999999999999999999999999999999999999999999999999999999999999999999999999 from 192.0.2.0/24 to 192.0.2.0/24 pass\r\n", 2, FaultKind::BadNumber),
-    ("policy 1\naggregate web key destinationTransportPort interval 1 grace 0\nrule for a in 0 from ::1/127 to 192.0.2.0/24 aggregate web\naggregate web key e8 interval 99999999999999999999999 grace 1\nrule for * in 0 from /24 to :/0 pass\naggregate W key destinationTransportPort interval 1 grace 0\n", 3, FaultKind::BadPrefix),
-    ("policy 1\nrule for aaaaaaaaaaaaaaaaaaaaaaaaaaaaaaaa in 01 from 1::2::3/64 to 192.0.2.0/24 element * keep", 2, FaultKind::BadNumber),
-    ("policy 1\nrule for * in 9999999999999999999999999999999999999999999999999999999999999999999999999999999999999999999999999999999999999999999999999999999999999999999999999999999999999999999999999999999999999999999999999999999999999999999999999999999999999999999999999999999999999999999999999999999999999999999999999999999999999999999999999999999999999999999999999999999999999999999999999999999999999999999999999999999999999999 from 192.0.2.0/24 to 10.0.0.0/33 element * truncate 48\nrule\tfor\t*\tin\t0\tfrom\t::ffff:1.2.3.4/128\tto\t::1/128\telement\te4294967295/32767\tkeep\naggregate w3 key destinationTransportPort interval 1 grace 0\n", 2, FaultKind::BadNumber),
-    ("policy 1\nrule\tfor\t*\tin\t0\tfrom\t192.0.2.0/24\tto\t192.0.2.0/24\taggregate\t\nrule for * in 0 from 192.0.2.0/24 to 192.0.2.0/24 pass\naggregate  W  key  e300  interval  1  grace  0\nrule \r for \r * \r in \r 0 \r from \r 192.0.2.0/24 \r to \r 192.0.2.0/24 \r pass\nrule for a.b in 0 from 192.0.2.0/24 to 2001:db8::/32 aggregate W\n", 2, FaultKind::UnknownWord),
-    ("policy 1\nrule for acme in 4294967296 from 192.0.2.0/24 to 192.0.2.0/24 aggregate web\n\n", 2, FaultKind::BadNumber),
-    ("policy 1\nrule for * in 4294967296 from 192.0.2.0/24 to 192.0.2.0/24 element e4294967295/32767 truncate 024\naggregate w3 key destinationTransportPort interval 1 grace 0\nrule for * in 0 from 10.0.0.256/32 to 192.0.2.0/24 element e32767 keep\n", 2, FaultKind::BadNumber),
-    ("policy 1\naggregate web key vlanId, interval 60 grace 60\nrule for a_-9 in 0 from 192.0.2.0/24 to 192.0.2.0/24 pass\nrule for * in 0 from 192.0.2.0/24 to 192.0.2.0/24 pass pass\r\n", 2, FaultKind::BadName),
-    ("policy 1\nrule for * in 0 from 2001:DB8:0:0:0:0:0:0/32 to 1::2::3/64 element * keep\nrule for * in 0 from 192.0.2.0/24 to 192.0.2.0/24 element * keep\nrule for * in 0 from 192.0.2.0/24 to 1:2:3:4:5:6:7:8/128 pass\r\n", 2, FaultKind::BadPrefix),
-    (" policy\t1 \naggregate w3 key destinationTransportPort interval 1 grace 0\naggregate web key destinationTransportPort interval x grace \naggregate web key vlanId, interval 0 grace 99999999999999999999999\n", 3, FaultKind::BadNumber),
-    (" policy\t1 \naggregate web key  interval 01 grace 86400", 2, FaultKind::BadName),
-    ("policy 1\nrule for * in 0 from 192.0.2.0/24 to 192.0.2.0/24 pass\nrule for * in 0 from 10.0.0.256/32 to 2001:db8::/32 element * keep\nrule for * in 0 from 1:2:3:4:5:6:7:8::/128 to 192.0.2.0/24 element\naggregate web key destinationTransportPort interval 300 grace 60\n\n", 3, FaultKind::BadPrefix),
-    ("policy 1\naggregate w3 key destinationTransportPort interval 1 grace 0\nrule for * in 0 from 192.0.2.0/24 to 1:2:3:4:5:6:7:8/128 pass\nrule for 9a in 0 from 192.0.2.0/24 to 192.0.2.0/24 pass\nrule for * in 0 from 192.0.2.0/24 to 1:2:3:4:5:6:7:8/128 aggregate w2\naggregate w3 key destinationTransportPort interval 1 grace 0\r\n", 4, FaultKind::BadName),
-    ("policy 1\nrule for * in x from 192.0.2.0/24 to 2001:db8::/32 pass\naggregate web key destinationTransportPort interval 01 grace 1\naggregate web key destinationTransportPort interval 300 grace 60\naggregate web key destinationTransportPort interval 300 grace 60\nx\n", 2, FaultKind::BadNumber),
-    ("policy 1\nrule for * in * from 192.0.2.0/24 to 192.0.2.0/24 aggregate w2\naggregate web key destinationTransportPort interval x grace 1\naggregate  web  key  destinationTransportPort  interval  300  grace  60\naggregate w3 key destinationTransportPort interval 1 grace 0\nrule for a in x from 192.0.2.0/24 to 192.0.2.0/24 element", 2, FaultKind::UnknownAggregate),
-    ("policy 1\nrule for * in 4294967295 from 1:2:3:4:5:6:7:8/128 to 192.0.2.0/24 pass\naggregate W key sourceIPv4Address,destinationIPv4Address interval 1 grace 0\nrule for * in 9999999999999999999999999999999999999999999999999999999999999999999999999999999999999999999999999999999999999999999999999999999999999999999999999999999999999999999999999999999999999999999999999999999999999999999999999999999999999999999999999999999999999999999999999999999999999999999999999999999999999999999999999999999999999999999999999999999999999999999999999999999999999999999999999999999999999999 from 192.0.2.0/24 to * aggregate\nrule  for  *  in  0  from  192.0.2.0/24  to  2001:db8::/32  element  e01/1  keep\n", 3, FaultKind::BadName),
-    ("policy 1\nrule for -a in 01 from 192.0.2.0/24 to 192.0.2.0/24 aggregate W\nrule for a_-9 in 0 from 10.0.0.0/33 to 2001:db8::/1000 aggregate web\nrule for * in 0 from 192.0.2.0/24 to 192.0.2.0/24 element * keep\naggregate web key destinationTransportPort interval 60 grace 01", 2, FaultKind::BadName),
-    ("policy 1\nrule for aaaaaaaaaaaaaaaaaaaaaaaaaaaaaaaa in 0 from :/0 to 2001:db8::/1000 element\naggregate web key vlanId, interval 01 grace 60\naggregate w3 key vlanId, interval 1 grace 0\naggregate \r w2 \r key \r destinationTransportPort \r interval \r 1 \r grace \r 0\r\n", 2, FaultKind::BadPrefix),
-    ("policy 1\naggregate web key destinationTransportPort interval 1 grace 0\naggregate\naggregate \r web \r key \r destinationTransportPort \r interval \r 86400 \r grace \r 86400\n", 3, FaultKind::UnknownWord),
-    ("policy 1\naggregate web key destinationTransportPort interval 300 grace 60\naggregate web key protocolIdentifier,ipClassOfService,sourceIPv4PrefixLength,destinationIPv4PrefixLength,ipVersion,flowDirection,flowEndReason,tcpControlBits,sourceTransportPort,destinationTransportPort,vlanId,ingressInterface,egressInterface,bgpSourceAsNumber,bgpDestinationAsNumber,observationDomainId,sourceIPv4Address interval 01 grace \nrule  for  Acme  in  0  from  192.0.2.0/24  to  192.0.2.0/24  aggregate  W\n", 3, FaultKind::DoubleAggregate),
-    ("policy 1\nrule for * in 0 from 192.0.2.0/24 to :::/0 element * keep\nrule for * in 0 from 192.0.2.0/24 to 1:2:3:4:5:6:7:8/128 pass\nrule for * in 0 from 192.0.2.0/24 to 192.0.2.0/24 pass\n", 2, FaultKind::BadPrefix),
-    ("policy 1\nrule for * in 0 from 10.0.0.0/ to 192.0.2.0/24 element sourceIPv6Address keep\naggregate web key destinationTransportPort interval 86401 grace x\nrule for * in 0 from ::ffff:1.2.3.4/128 to :/0 aggregate web\naggregate \r web \r key \r destinationTransportPort \r interval \r 300 \r grace \r 60\n\n", 2, FaultKind::BadPrefix),
-    ("policy 1\naggregate web key interfaceName interval x grace x", 2, FaultKind::BadKey),
-    ("policy 1\nrule for * in 0 from 192.0.2.0/24 to 192.0.2.0/24 element * truncate 999\naggregate web key destinationTransportPort interval 300 grace 60\nrule for a.b in 01 from 192.0.2.0/24 to 192.0.2.1/24 element * keep\naggregate web key destinationTransportPort interval 0 grace 99999999999999999999999\naggregate web key destinationTransportPort interval 300 grace 60\n\n", 2, FaultKind::BadTruncate),
-    ("policy 1\nrule for * in x from 192.0.2.0/24 to 192.0.2.1/24 pass\n", 2, FaultKind::BadNumber),
-    ("policy 1\naggregate web key destinationTransportPort interval 86401 grace \nrule for * in 0 from 0.0.0.0/0 to 192.0.2.0/24 aggregate W\naggregate web key destinationTransportPort interval 99999999999999999999999 grace 60\naggregate web key destinationTransportPort interval 300 grace 60\n\n", 2, FaultKind::BadNumber),
-    ("policy 1\nrule for * in 0 from 2001:db8::/129 to 192.0.2.0/24 element e032 keep\naggregate web key destinationTransportPort interval 300 grace 60\naggregate W key destinationTransportPort interval 1 grace 0\nrule for * in 0 from 192.0.2.0/24 to 192.0.2.0/24 aggregate w2\nrule for * in 4294967296 from :/0 to * element * keep", 2, FaultKind::BadPrefix),
-    ("policy 1\nrule for * in 0 from /24 to 192.0.2.0/24 pass\nrule  for  *  in  x  from  10.0.0.256/32  to  /24  aggregate  web\nrule for * in 0 from 192.0.2.0/24 to 192.0.2.0/24 pass\naggregate W key destinationTransportPort interval 1 grace 0\nrule for * in 0 from 192.0.2.0/24 to ::1/127 aggregate \n\n", 2, FaultKind::BadPrefix),
-    ("policy 1\naggregate web key interfaceName interval 86401 grace x\naggregate W key vlanId,vlanId interval 1 grace 0\naggregate w3 key destinationTransportPort interval 1 grace 0\naggregate web key e300 interval 60 grace 99999999999999999999999\n\n", 2, FaultKind::BadKey),
-    ("policy 1\naggregate web key protocolIdentifier,ipClassOfService,sourceIPv4PrefixLength,destinationIPv4PrefixLength,ipVersion,flowDirection,flowEndReason,tcpControlBits,sourceTransportPort,destinationTransportPort,vlanId,ingressInterface,egressInterface,bgpSourceAsNumber,bgpDestinationAsNumber,observationDomainId interval 99999999999999999999999 grace 01\naggregate w3 key destinationTransportPort interval 1 grace 0\naggregate w3 key destinationTransportPort interval 1 grace 0\naggregate web key destinationTransportPort interval 01 grace 99999999999999999999999\nrule for a in 0 from 192.0.2.0/24 to 192.0.2.0/24 aggregate web\n", 2, FaultKind::BadNumber),
-    ("policy 1\naggregate web key flowId interval  grace 99999999999999999999999\nrule for * in 0 from 192.0.2.0/24 to 192.0.2.0/24 pass\nrule for * in 0 from 10.0.0.0 to 10.0.0.00/32 aggregate w2\r\n", 2, FaultKind::BadKey),
-    ("policy 1\naggregate web key flowId interval 1 grace 01\n\n", 2, FaultKind::BadKey),
-    ("policy 1\naggregate web key destinationTransportPort interval 300 grace 60\naggregate web key destinationTransportPort interval 01 grace 99999999999999999999999\naggregate\tweb\tkey\tdestinationTransportPort\tinterval\t300\tgrace\t60\r\n", 3, FaultKind::DoubleAggregate),
-    ("policy 1\naggregate w3 key vlanId,vlanId interval 1 grace 0\n", 2, FaultKind::BadKey),
-    ("policy 1\naggregate web key interfaceName interval x grace 60\nrule for * in 0 from ::/0 to 192.0.2.0/24 aggregate W\nrule for * in 0 from 192.0.2.0/24 to 192.0.2.0/24 pass\nrule for * in 0 from 192.0.2.0/24 to 192.0.2.0/24 aggregate \n\n", 2, FaultKind::BadKey),
-    ("policy 1\naggregate w2 key destinationTransportPort interval 1 grace 0\nrule for * in 0 from 192.0.2.0/24 to 192.0.2.0/24 element e32 truncate 129\n\n", 3, FaultKind::BadTruncate),
-    ("policy 1\naggregate web key destinationTransportPort interval 300 grace 60\nrule for * in 0 from 192.0.2.0/24 to 10.0.0.00/32 aggregate w2\n", 3, FaultKind::BadPrefix),
-    ("policy 1\nrule for * in 0 from 10.0.0.0/033 to 192.0.2.0/24 aggregate W\nrule for a in 0 from 192.0.2.0/24 to :::/0 element * keep\naggregate web key destinationTransportPort interval 300 grace 60\naggregate web key destinationTransportPort interval 300 grace 60\naggregate web key destinationTransportPort interval 01 grace 01\n\n", 2, FaultKind::BadPrefix),
-    ("policy 1\naggregate web key protocolIdentifier,ipClassOfService,sourceIPv4PrefixLength,destinationIPv4PrefixLength,ipVersion,flowDirection,flowEndReason,tcpControlBits,sourceTransportPort,destinationTransportPort,vlanId,ingressInterface,egressInterface,bgpSourceAsNumber,bgpDestinationAsNumber,observationDomainId,sourceIPv4Address interval 1 grace 0\nrule for aaaaaaaaaaaaaaaaaaaaaaaaaaaaaaaaa in 0 from 192.0.2.0/24 to 192.0.2.0/24 aggregate w2\naggregate web key destinationTransportPort interval 1 grace \r\n", 2, FaultKind::BadKey),
-    ("policy 1\nrule for * in * from 192.0.2.0/24 to 192.0.2.0/24 element\nrule for acme in 4294967295 from 192.0.2.0/24 to 192.0.2.0/24 element * truncate 999\naggregate web key destinationTransportPort interval 300 grace 60\naggregate web key flowId interval 1 grace 0", 2, FaultKind::UnknownWord),
-    ("policy 1\naggregate w2 key destinationTransportPort interval 1 grace 0\nrule for * in 0 from 192.0.2.0/24 to 2001:DB8:0:0:0:0:0:0/32 aggregate web\n\n", 3, FaultKind::UnknownAggregate),
-    (" policy\t1 \nrule for * in 0 from 192.0.2.0/24 to 192.0.2.0/24 element * truncate 999\nrule for -a in 7 from 192.0.2.0/24 to 1:2:3:4:5:6:7:8/128 aggregate W\n\n", 2, FaultKind::BadTruncate),
-    ("policy 1\naggregate web key destinationTransportPort interval 300 grace 60\naggregate web key destinationTransportPort interval x grace 60\naggregate W key destinationTransportPort interval 1 grace 0", 3, FaultKind::DoubleAggregate),
-    ("policy 1\nrule for * in 4294967295 from 192.0.2.0/24 to ::1/127 aggregate web", 2, FaultKind::BadPrefix),
-    ("policy 1\naggregate web key destinationTransportPort interval 300 grace 60\naggregate w3 key destinationTransportPort interval 1 grace 0\nrule for * in 0 from 192.0.2.0/24 to 192.0.2.0/24 withhold\naggregate web key destinationTransportPort interval 86401 grace 86400\n", 5, FaultKind::DoubleAggregate),
-    ("policy 1\naggregate web key destinationTransportPort interval 300 grace 60\naggregate web key destinationTransportPort interval 300 grace 60", 3, FaultKind::DoubleAggregate),
-    (" policy\t1 \nrule\tfor\ta\tin\t0\tfrom\t192.0.2.0/24\tto\t192.0.2.0/24\tpass\nrule for * in 0 from 192.0.2.0/24 to 192.0.2.0/24 element * truncate 129\nrule for a_-9 in * from 192.0.2.0/24 to 192.0.2.0/24 element * truncate 32\nrule for -a in 4294967296 from 192.0.2.0/24 to 192.0.2.0/24 element * keep\nrule for * in 4294967296 from 192.0.2.0/24 to 192.0.2.0/24 pass pass\n\n", 3, FaultKind::BadTruncate),
-    ("policy 1\naggregate w3 key interfaceName interval 1 grace 0\naggregate web key destinationTransportPort interval 300 grace 60\nrule for * in 0 from 192.0.2.0/24 to 192.0.2.0/24 element * keep\nrule for a in 9999999999999999999999999999999999999999999999999999999999999999999999999999999999999999999999999999999999999999999999999999999999999999999999999999999999999999999999999999999999999999999999999999999999999999999999999999999999999999999999999999999999999999999999999999999999999999999999999999999999999999999999999999999999999999999999999999999999999999999999999999999999999999999999999999999999999999 from 192.0.2.0/24 to 192.0.2.0/24 aggregate web\naggregate web key , interval 1 grace x\n\n", 2, FaultKind::BadKey),
-    ("policy 1\naggregate web key destinationTransportPort interval 1 grace 0\naggregate w3 key destinationTransportPort interval 1 grace 0\nrule for * in 0 from 192.0.2.0/24 to 192.0.2.0/24 aggregate web\naggregate web key destinationTransportPort interval 300 grace 60", 5, FaultKind::DoubleAggregate),
-    ("policy 1\nrule for a_-9 in 0 from 192.0.2.0/24 to 192.0.2.0/24 Pass\naggregate web key destinationTransportPort interval 300 grace 60", 2, FaultKind::UnknownWord),
-    (" policy\t1 \naggregate w2 key destinationTransportPort interval 1 grace 0\naggregate web key destinationTransportPort interval 1 grace 0\naggregate web key sourceIPv4Address,destinationIPv4Address interval 1 grace 0\nrule for * in 01 from 2001:DB8:0:0:0:0:0:0/32 to 10.0.0/8 aggregate web\naggregate web key destinationTransportPort interval 300 grace 60", 4, FaultKind::DoubleAggregate),
-    (" policy\t1 \naggregate web key destinationTransportPort interval 300 grace 60\naggregate web key destinationTransportPort interval 300 grace 60\naggregate w3 key flowId interval 1 grace 0\n", 3, FaultKind::DoubleAggregate),
-    ("policy 1\naggregate w3 key destinationTransportPort interval 1 grace 0\nrule for * in 0 from 192.0.2.0/24 to 192.0.2.0/24 element flowStartSeconds degrade 5\nrule for * in 0 from 192.0.2.0/24 to 12345::/16 element * keep\naggregate w3 key interfaceName interval 1 grace 0\n\n", 3, FaultKind::UnknownWord),
-    ("policy 1\naggregate w3 key e300 interval 1 grace 0\nrule for Acme in 0 from 192.0.2.0/24 to 192.0.2.1/24 aggregate W\nrule for * in 0 from 192.0.2.0/24 to 192.0.2.0/24 element * truncate\naggregate w3 key destinationTransportPort interval 1 grace 0", 2, FaultKind::BadKey),
-    ("policy 1\naggregate w3 key interfaceName interval 1 grace 0\n\n", 2, FaultKind::BadKey),
-    ("policy 1\nrule for * in 0 from 192.0.2.0/24 to 192.0.2.0/24 aggregate \nrule for * in 0 from 192.0.2.0/24 to 192.0.2.0/24 pass\nrule\tfor\t*\tin\t*\tfrom\t10.0.0.0/33\tto\t192.0.2.0/24\tpass\naggregate web key destinationTransportPort interval 60 grace 99999999999999999999999", 2, FaultKind::UnknownWord),
-    ("policy 1\naggregate web key destinationTransportPort interval 300 grace 60\naggregate web key protocolIdentifier,ipClassOfService,sourceIPv4PrefixLength,destinationIPv4PrefixLength,ipVersion,flowDirection,flowEndReason,tcpControlBits,sourceTransportPort,destinationTransportPort,vlanId,ingressInterface,egressInterface,bgpSourceAsNumber,bgpDestinationAsNumber,observationDomainId,sourceIPv4Address interval x grace 0\r\n", 3, FaultKind::DoubleAggregate),
-    ("policy 1\naggregate w2 key destinationTransportPort interval 1 grace 0\nrule for * in 0 from ::1/128 to 192.0.2.0/24 pass pass\r\n", 3, FaultKind::UnknownWord),
-    ("policy 1\nrule for acme in 0 from 192.0.2.0/24 to 192.0.2.0/24 aggregate \r\n", 2, FaultKind::UnknownWord),
-    ("policy 1\nx\nrule for a in -1 from 192.0.2.0/24 to 192.0.2.0/24 element * keep\naggregate web key destinationTransportPort interval 1 grace 0\nrule for * in 4294967295 from 192.0.2.0/24 to 192.0.2.0/24 aggregate web\n\n", 2, FaultKind::UnknownWord),
-    ("policy 1\naggregate web key protocolIdentifier,ipClassOfService,sourceIPv4PrefixLength,destinationIPv4PrefixLength,ipVersion,flowDirection,flowEndReason,tcpControlBits,sourceTransportPort,destinationTransportPort,vlanId,ingressInterface,egressInterface,bgpSourceAsNumber,bgpDestinationAsNumber,observationDomainId,sourceIPv4Address interval 1 grace 0\naggregate web key destinationTransportPort interval 86400 grace 86401\r\n", 2, FaultKind::BadKey),
-    ("policy 1\naggregate w2 key flowId interval 1 grace 0\naggregate web key destinationTransportPort interval  grace 60\n", 2, FaultKind::BadKey),
-    ("policy 1\naggregate web key destinationTransportPort interval 1 grace 86400\naggregate web key flowId interval 1 grace 1", 3, FaultKind::DoubleAggregate),
-    ("policy 1\naggregate web key flowId interval 99999999999999999999999 grace \naggregate web key sourceIPv4Address,destinationIPv4Address interval 0 grace 0\nrule for Acme in 0 from 192.0.2.0/24 to 12345::/16 \naggregate \r web \r key \r destinationTransportPort \r interval \r 300 \r grace \r 60\nrule\tfor\ta.b\tin\t0\tfrom\t192.0.2.0/24\tto\t192.0.2.0/24\taggregate\tweb\n\n", 2, FaultKind::BadKey),
-    ("policy 1\naggregate  w3  key  destinationTransportPort  interval  1  grace  0\nrule for * in 0 from 192.0.2.0/24 to 192.0.2.0/24 aggregate web\n", 3, FaultKind::UnknownAggregate),
-    ("policy 1\naggregate web key e300 interval 1 grace 0\nrule for * in 0 from 192.0.2.0/24 to 192.0.2.0/24 element e4294967295/32767 \naggregate web key destinationTransportPort interval 01 grace 86401\naggregate web key destinationTransportPort interval 86401 grace 86401\naggregate web key destinationTransportPort interval x grace 86400\r\n", 2, FaultKind::BadKey),
-    ("policy 1\naggregate w3 key protocolIdentifier,ipClassOfService,sourceIPv4PrefixLength,destinationIPv4PrefixLength,ipVersion,flowDirection,flowEndReason,tcpControlBits,sourceTransportPort,destinationTransportPort,vlanId,ingressInterface,egressInterface,bgpSourceAsNumber,bgpDestinationAsNumber,observationDomainId,sourceIPv4Address interval 1 grace 0", 2, FaultKind::BadKey),
-    ("policy 1\naggregate web key destinationTransportPort interval 300 grace 60\naggregate web key destinationTransportPort interval 300 grace 60\naggregate\tw3\tkey\te8\tinterval\t1\tgrace\t0\nrule for * in * from 192.0.2.0/24 to 10.0.0.0/033 pass\n", 3, FaultKind::DoubleAggregate),
-    ("policy 1\nrule for * in 0 from 192.0.2.0/24 to 1:2:3:4:5:6:7::/112 aggregate web\nrule for * in 0 from 192.0.2.0/24 to 192.0.2.0/24 element * ", 2, FaultKind::UnknownAggregate),
-    (" policy\t1 \nrule for acme in 4294967295 from 192.0.2.0/24 to 192.0.2.0/24 aggregate \naggregate web key destinationTransportPort interval 86400 grace x\naggregate web key destinationTransportPort interval 300 grace 60\n", 2, FaultKind::UnknownWord),
-    ("policy 1\naggregate web key e300 interval 0 grace 01\nrule for Acme in * from 192.0.2.0/24 to 12345::/16 aggregate web", 2, FaultKind::BadKey),
-    ("policy 1\nrule for * in 0 from 192.0.2.0/24 to 192.0.2.0/24 \naggregate w2 key vlanId,vlanId interval 1 grace 0\r\n", 2, FaultKind::UnknownWord),
-    ("policy 1\nrule for a in 0 from 192.0.2.0/24 to 192.0.2.0/24 pass\nrule for * in 0 from 192.0.2.0/24 to 192.0.2.0/24 element * keep\naggregate web key destinationTransportPort interval 86400 grace \nrule for * in 0 from ::ffff:1.2.3.4/128 to /24 aggregate w2\r\n", 4, FaultKind::UnknownWord),
-    ("policy 1\naggregate web key destinationTransportPort interval 300 grace 60\naggregate web key destinationTransportPort interval 300 grace 60\naggregate \r web \r key \r destinationTransportPort \r interval \r 300 \r grace \r 60\n\n", 3, FaultKind::DoubleAggregate),
-    ("policy 1\nrule for * in 0 from 192.0.2.0/24 to 192.0.2.0/24 aggregate ", 2, FaultKind::UnknownWord),
-    ("policy 1\naggregate web key sourceIPv4Address,destinationIPv4Address interval 1 grace 0\nrule for * in * from 192.0.2.0/24 to 192.0.2.0/24 aggregate w2\n\n", 3, FaultKind::UnknownAggregate),
-    ("policy 1\naggregate web key flowId interval x grace 01\nrule for aaaaaaaaaaaaaaaaaaaaaaaaaaaaaaaa in 0 from 192.0.2.0/24 to 192.0.2.0/24 pass\nrule for * in -1 from 10.0.0.0/033 to 1:2:3:4:5:6:7:8::/128 pass\nrule for a_-9 in 01 from 192.0.2.0/24 to :::/0 aggregate \naggregate web key destinationTransportPort interval 300 grace 60\n\n", 2, FaultKind::BadKey),
-    ("policy 1\nrule for a_-9 in 0 from 192.0.2.0/24 to 192.0.2.0/24 element * truncate 49\naggregate  web  key  destinationTransportPort  interval  0  grace  1\nrule for * in 0 from 192.0.2.0/24 to 12345::/16 aggregate web\naggregate web key destinationTransportPort interval  grace 0\naggregate web key destinationTransportPort interval 300 grace 60", 2, FaultKind::BadTruncate),
-    ("policy 1\nrule for * in 0 from 192.0.2.0/24 to 192.0.2.0/24 aggregate \nrule  for  *  in  x  from  192.0.2.0/24  to  192.0.2.0/24  element  *  keep\nrule for a_-9 in -1 from 192.0.2.0/24 to * aggregate w2\r\n", 2, FaultKind::UnknownWord),
-    ("policy 1\naggregate web key destinationTransportPort interval 1 grace 0\nrule for a in * from 192.0.2.0/24 to 192.0.2.0/24 withhold\naggregate web key destinationTransportPort interval 86400 grace x\naggregate w3 key destinationTransportPort interval 1 grace 0\n\n", 4, FaultKind::DoubleAggregate),
-    ("policy 1\nrule for * in 0 from 192.0.2.0/24 to 2001:db8::/32 element * keep\nrule for * in 0 from 192.0.2.0/24 to 0.0.0.0/0 Pass\naggregate web key destinationTransportPort interval 300 grace 60\nrule for * in 0 from 192.0.2.0/24 to 1:2:3:4:5:6:7:8::/128 pass\nrule for * in 0 from 192.0.2.0/24 to 192.0.2.0/24 pass", 3, FaultKind::UnknownWord),
-    ("policy 1\naggregate w3 key destinationTransportPort interval 1 grace 0\naggregate  web  key  protocolIdentifier,ipClassOfService,sourceIPv4PrefixLength,destinationIPv4PrefixLength,ipVersion,flowDirection,flowEndReason,tcpControlBits,sourceTransportPort,destinationTransportPort,vlanId,ingressInterface,egressInterface,bgpSourceAsNumber,bgpDestinationAsNumber,observationDomainId,sourceIPv4Address  interval  1  grace  0\nrule for * in 0 from 192.0.2.1/24 to 192.0.2.0/24 aggregate web\r\n", 3, FaultKind::BadKey),
-    ("policy 1\naggregate web key destinationTransportPort interval 1 grace 0\naggregate web key protocolIdentifier,ipClassOfService,sourceIPv4PrefixLength,destinationIPv4PrefixLength,ipVersion,flowDirection,flowEndReason,tcpControlBits,sourceTransportPort,destinationTransportPort,vlanId,ingressInterface,egressInterface,bgpSourceAsNumber,bgpDestinationAsNumber,observationDomainId,sourceIPv4Address interval 1 grace 0\n", 3, FaultKind::DoubleAggregate),
-    (" policy\t1 \naggregate w3 key destinationTransportPort interval 1 grace 0\nx\nrule\r\n", 3, FaultKind::UnknownWord),
-    ("policy 1\nrule for acme in 0 from 192.0.2.0/24 to 192.0.2.0/24 withhold\nrule for * in 0 from 192.0.2.0/24 to 192.0.2.0/24 aggregate\naggregate web key destinationTransportPort interval  grace 86400\n", 3, FaultKind::UnknownWord),
-    ("policy 1\naggregate web key destinationTransportPort interval 1 grace 0\nrule for * in 0 from 192.0.2.0/24 to 192.0.2.0/24 element * keep\naggregate web key destinationTransportPort interval 86401 grace 01\naggregate web key destinationTransportPort interval 300 grace 60\r\n", 4, FaultKind::DoubleAggregate),
-    ("policy 1\nrule\tfor\t*\tin\t0\tfrom\t192.0.2.0/24\tto\t192.0.2.0/24\tpass\nrule for aaaaaaaaaaaaaaaaaaaaaaaaaaaaaaaa in 0 from 192.0.2.0/24 to 192.0.2.0/24 aggregate \nrule for * in 0 from 192.0.2.0/24 to 192.0.2.0/24 aggregate w2\nrule for acme in 0 from 192.0.2.0/24 to 10.0.0.0 aggregate W\naggregate web key destinationTransportPort interval 300 grace 60", 3, FaultKind::UnknownWord),
-    (" policy\t1 \nrule for * in 0 from 192.0.2.0/24 to 192.0.2.0/24 element * truncate 024\naggregate web key destinationTransportPort interval 300 grace 60\n\n", 2, FaultKind::BadTruncate),
-    ("policy 1\naggregate web key destinationTransportPort interval 60 grace \n\n", 2, FaultKind::UnknownWord),
-    ("policy 1\nrule for a in 0 from 192.0.2.0/24 to 192.0.2.0/24 element * keep\nrule for * in 0 from 192.0.2.0/24 to 192.0.2.0/24 element * truncate 48\naggregate web key destinationTransportPort interval 300 grace 60\naggregate web key , interval 0 grace 86401\n", 3, FaultKind::BadTruncate),
-    ("policy 1\nrule for a_-9 in 0 from 192.0.2.0/24 to 1:2:3:4:5:6:7::/112 pass pass\naggregate web key interfaceName interval 0 grace \naggregate\tweb\tkey\tdestinationTransportPort\tinterval\t1\tgrace\t0\nrule for * in x from 1::2::3/64 to 192.0.2.0/24 pass", 2, FaultKind::UnknownWord),
-    ("policy 1\nrule for a_-9 in * from 192.0.2.0/24 to 192.0.2.0/24 aggregate web\naggregate web key  interval 60 grace 86400\nrule for * in 0 from 192.0.2.0/24 to 192.0.2.0/24 pass\naggregate web key destinationTransportPort interval 1 grace 86401\naggregate \r w3 \r key \r , \r interval \r 1 \r grace \r 0\r\n", 2, FaultKind::UnknownAggregate),
-    ("policy 1\nrule for * in 0 from 192.0.2.0/24 to 192.0.2.0/24 aggregate w2", 2, FaultKind::UnknownAggregate),
-    ("policy 1\naggregate web key protocolIdentifier,ipClassOfService,sourceIPv4PrefixLength,destinationIPv4PrefixLength,ipVersion,flowDirection,flowEndReason,tcpControlBits,sourceTransportPort,destinationTransportPort,vlanId,ingressInterface,egressInterface,bgpSourceAsNumber,bgpDestinationAsNumber,observationDomainId,sourceIPv4Address interval 1 grace 60\naggregate  web  key  destinationTransportPort  interval  1  grace  0\n\n", 2, FaultKind::BadKey),
-    ("policy 1\nrule for * in 0 from 192.0.2.0/24 to 1:2:3:4:5:6:7:8/128 element e1/2 keep\nrule for * in 0 from 192.0.2.0/24 to 192.0.2.0/24 element * truncate 1000\nrule \r for \r * \r in \r 4294967296 \r from \r 1::2::3/64 \r to \r 192.0.2.0/24 \r aggregate \r w2\nrule for", 3, FaultKind::BadTruncate),
-    ("policy 1\naggregate web key destinationTransportPort interval 300 grace 60\naggregate w3 key vlanId,vlanId interval 1 grace 0\r\n", 3, FaultKind::BadKey),
-    ("policy 1\naggregate web key destinationTransportPort interval 300 grace 60\naggregate  web  key  destinationTransportPort  interval  99999999999999999999999  grace  99999999999999999999999\nrule for * in 4294967295 from 10.0.0.0/33 to 10.0.0.0/33 aggregate W\naggregate w2 key destinationTransportPort interval 1 grace 0\naggregate web key protocolIdentifier,ipClassOfService,sourceIPv4PrefixLength,destinationIPv4PrefixLength,ipVersion,flowDirection,flowEndReason,tcpControlBits,sourceTransportPort,destinationTransportPort,vlanId,ingressInterface,egressInterface,bgpSourceAsNumber,bgpDestinationAsNumber,observationDomainId interval 86400 grace 99999999999999999999999\r\n", 3, FaultKind::DoubleAggregate),
-    ("policy 1\nrule for a in 0 from ::1/128 to 192.0.2.0/24 aggregate web\nrule  for  aaaaaaaaaaaaaaaaaaaaaaaaaaaaaaaaa  in  0  from  192.0.2.0/24  to  ::1/128  pass\nrule for * in 0 from 192.0.2.0/24 to 192.0.2.0/24 element * keep", 2, FaultKind::UnknownAggregate),
-    ("policy 1\naggregate w3 key destinationTransportPort interval 1 grace 0\naggregate w3 key sourceIPv4Address,destinationIPv4Address interval 1 grace 0\nrule for\n\n", 3, FaultKind::DoubleAggregate),
-    ("policy 1\nrule for * in 0 from 192.0.2.0/24 to 192.0.2.0/24 aggregate web\r\n", 2, FaultKind::UnknownAggregate),
-    ("policy 1\nrule for * in 0 from 192.0.2.0/24 to 2001:db8::/32 aggregate w2\nrule for * in 0 from 12345::/16 to 192.0.2.0/24 element * keep\naggregate web key destinationTransportPort interval 300 grace 60\n", 2, FaultKind::UnknownAggregate),
-    (" policy\t1 \nrule for * in 0 from 192.0.2.0/24 to 192.0.2.0/24 element * truncate 1000\naggregate W key destinationTransportPort interval 1 grace 0", 2, FaultKind::BadTruncate),
-    ("policy 1\nrule for * in 0 from 192.0.2.0/24 to 192.0.2.0/24 aggregate w2\naggregate web key e300 interval 1 grace 0\naggregate web key destinationTransportPort interval 300 grace 60\nrule for * in 0 from 12345::/16 to 2001:db8::/32 element * truncate\nrule for a in * from 192.0.2.0/24 to 192.0.2.0/24 pass\n\n", 2, FaultKind::UnknownAggregate),
-    ("policy 1\nrule for * in 0 from 192.0.2.0/24 to 192.0.2.0/24 aggregate web\nrule for * in 0 from 192.0.2.0/24 to 10.0.0.00/32 aggregate\naggregate web key destinationTransportPort interval 300 grace 60\nrule \r for \r * \r in \r 4294967295 \r from \r 1:2:3:4:5:6:7::/112 \r to \r 10.0.0.0/33 \r element \r * \r truncate \r 0\n", 2, FaultKind::UnknownAggregate),
-    ("policy 1\nrule for * in 0 from 192.0.2.0/24 to 2001:DB8:0:0:0:0:0:0/32 pass\nrule for * in 0 from 192.0.2.0/24 to 192.0.2.0/24 aggregate web\naggregate w2 key destinationTransportPort interval 1 grace 0\r\n", 3, FaultKind::UnknownAggregate),
-    ("policy 1\nrule for * in 0 from 192.0.2.0/24 to 192.0.2.0/24 aggregate w2\nrule for * in 0 from 0.0.0.0/0 to 192.0.2.0/24 pass\naggregate web key destinationTransportPort interval 1 grace 0\nrule for a in 0 from 192.0.2.0/24 to 192.0.2.0/24 pass\nrule for * in 0 from 192.0.2.0/24 to 1::2::3/64 element * keep keep\n", 2, FaultKind::UnknownAggregate),
-    ("policy 1\nrule for * in 0 from 2001:DB8:0:0:0:0:0:0/32 to 192.0.2.0/24 element * truncate 49\nrule for * in 0 from 192.0.2.0/24 to 192.0.2.0/24 aggregate web\naggregate web key protocolIdentifier,ipClassOfService,sourceIPv4PrefixLength,destinationIPv4PrefixLength,ipVersion,flowDirection,flowEndReason,tcpControlBits,sourceTransportPort,destinationTransportPort,vlanId,ingressInterface,egressInterface,bgpSourceAsNumber,bgpDestinationAsNumber,observationDomainId,sourceIPv4Address interval  grace 86401\r\n", 2, FaultKind::BadTruncate),
-    ("policy 1\nrule for * in 0 from * to ::1/128 aggregate web\nrule\naggregate W key destinationTransportPort interval 1 grace 0", 2, FaultKind::UnknownAggregate),
-    ("policy 1\nrule for * in 0 from 192.0.2.0/24 to 192.0.2.0/24 aggregate web\naggregate  web  key  destinationTransportPort  interval  1  grace  1", 2, FaultKind::UnknownAggregate),
-    ("policy 1\nrule for * in 0 from 192.0.2.0/24 to 2001:DB8:0:0:0:0:0:0/32 aggregate web\nrule for -a in 0 from 192.0.2.0/24 to 192.0.2.0/24 aggregate W\nrule for * in 0 from 192.0.2.0/24 to 192.0.2.0/24 Pass\nrule for * in 4294967296 from ::1/127 to 192.0.2.0/24 pass\naggregate web key destinationTransportPort interval 1 grace 0\r\n", 2, FaultKind::UnknownAggregate),
-    ("policy 1\nrule for * in 0 from 1:2:3:4:5:6:7:8/128 to 192.0.2.0/24 element * truncate 48\n", 2, FaultKind::BadTruncate),
-    ("policy 1\nrule for * in 0 from 192.0.2.0/24 to 192.0.2.0/24 element e1/2 truncate 32\naggregate web key destinationTransportPort interval 01 grace \naggregate web key destinationTransportPort interval 60 grace 86401\naggregate web key destinationTransportPort interval 01 grace 01\n\n", 2, FaultKind::BadTruncate),
-    ("policy 1\nrule  for  a_-9  in  0  from  192.0.2.0/24  to  192.0.2.0/24  element  *  truncate  33\nrule for * in 0 from 192.0.2.0/24 to ::1/128 aggregate web\naggregate web key destinationTransportPort interval 86401 grace 86400\naggregate web key destinationTransportPort interval 300 grace 60\naggregate web key destinationTransportPort interval 300 grace 60\r\n", 2, FaultKind::BadTruncate),
-    ("policy 1\nrule for a_-9 in 0 from 0.0.0.0/0 to 192.0.2.0/24 element * truncate 48\nrule for * in 0 from 192.0.2.0/24 to 192.0.2.0/24 aggregate web\naggregate\tweb\tkey\tdestinationTransportPort\tinterval\t86401\tgrace\t99999999999999999999999\r\n", 2, FaultKind::BadTruncate),
-    ("policy 1\nrule for acme in 0 from 192.0.2.0/24 to 192.0.2.0/24 element * truncate 1000", 2, FaultKind::BadTruncate),
-    ("policy 1\nrule for * in 7 from 192.0.2.0/24 to 192.0.2.0/24 element * truncate 48\nrule for * in 0 from 0.0.0.0/0 to 192.0.2.0/24 element * keep\naggregate web key destinationTransportPort interval 1 grace 0\naggregate w2 key vlanId, interval 1 grace 0\r\n", 2, FaultKind::BadTruncate),
-    (" policy\t1 \nrule for acme in 0 from 192.0.2.0/24 to 192.0.2.0/24 element * truncate 999\n\n", 2, FaultKind::BadTruncate),
-    ("policy 1\nrule for * in 0 from 192.0.2.0/24 to 2001:DB8:0:0:0:0:0:0/32 element * truncate 129\naggregate web key destinationTransportPort interval 86400 grace 86401\n\n", 2, FaultKind::BadTruncate),
-    ("policy 1\nrule for * in 0 from 192.0.2.0/24 to 192.0.2.0/24 element * truncate 128\naggregate w3 key interfaceName interval 1 grace 0\naggregate w3 key e300 interval 1 grace 0\nrule for * in x from 192.0.2.0/24 to :/0 pass\n\t\r\r\n", 2, FaultKind::BadTruncate),
-    ("policy 1\nrule for * in 4294967295 from 192.0.2.0/24 to 192.0.2.0/24 element * truncate 24\nrule for * in 0 from 192.0.2.0/24 to 192.0.2.0/24 pass\naggregate w3 key destinationTransportPort interval 1 grace 0\naggregate web key sourceIPv4Address,destinationIPv4Address interval x grace 86401\n", 2, FaultKind::BadTruncate),
-    ("policy 1\naggregate web key destinationTransportPort interval 300 grace 60\nrule for * in 0 from 192.0.2.0/24 to 192.0.2.0/24 element * truncate 024\nrule \r for \r * \r in \r 01 \r from \r 192.0.2.0/24 \r to \r 192.0.2.0/24 \r pass\naggregate  W  key  ,  interval  1  grace  0\n\n", 3, FaultKind::BadTruncate),
-    ("policy 1\nrule for * in 0 from 192.0.2.0/24 to 192.0.2.0/24 element * truncate 0\n\n", 2, FaultKind::BadTruncate),
-    ("policy 1\nrule for * in 4294967295 from 192.0.2.0/24 to 192.0.2.0/24 element destinationTransportPort truncate 0\naggregate\naggregate web key destinationTransportPort interval 60 grace x\naggregate web key destinationTransportPort interval 60 grace 99999999999999999999999", 2, FaultKind::BadTruncate),
-    ("policy 1\nrule for * in 0 from 192.0.2.0/24 to 192.0.2.0/24 element * truncate x\nrule for -a in 0 from 192.0.2.0/24 to 192.0.2.0/24 aggregate w2\nrule for a_-9 in 0 from ::/0 to 192.0.2.0/24 pass", 2, FaultKind::BadTruncate),
-    ("policy 1\nrule for * in 0 from 192.0.2.0/24 to 192.0.2.0/24 element flowStartSeconds truncate 32\nrule for * in 0 from 192.0.2.0/24 to :::/0 pass\n", 2, FaultKind::BadTruncate),
+    (
+        "policy 1\naggregate web key destinationTransportPort interval 99999999999999999999999 grace 0\nrule for a.b in 0 from 192.0.2.0/24 to 192.0.2.0/24 element * keep\naggregate web key destinationTransportPort interval 300 grace 60\naggregate web key interfaceName interval x grace \naggregate \r web \r key \r destinationTransportPort \r interval \r 300 \r grace \r 60\n",
+        2,
+        FaultKind::BadNumber,
+    ),
+    (
+        " policy\t1 \nrule for * in 0 from 1:2:3:4:5:6:7:8/128 to ::1/127 pass\naggregate web key destinationTransportPort interval 1 grace 1\nrule for * in 0 from 192.0.2.0/24 to :::/0 element * truncate 999\nrule for 9a in 0 from 192.0.2.0/24 to 192.0.2.0/24 aggregate web\naggregate web key destinationTransportPort interval 60 grace 86401\n",
+        2,
+        FaultKind::BadPrefix,
+    ),
+    (
+        "policy 1\naggregate web key destinationTransportPort interval 60 grace 86400\nrule for a in 0 from 192.0.2.0/24 to 10.0.0/8 element e01/1 truncate 24\naggregate w3 key e300 interval 1 grace 0\nrule \r for \r * \r in \r 0 \r from \r 192.0.2.0/24 \r to \r 10.0.0.0 \r aggregate \r web\nrule for * in 0 from 192.0.2.0/24 to 192.0.2.1/24 element\r\n",
+        3,
+        FaultKind::BadPrefix,
+    ),
+    (
+        "policy 1\naggregate web key destinationTransportPort interval 300 grace 60\naggregate web key destinationTransportPort interval 300 grace 60\n#",
+        3,
+        FaultKind::DoubleAggregate,
+    ),
+    (
+        "policy 1\naggregate web key flowId interval x grace 0\r\n",
+        2,
+        FaultKind::BadKey,
+    ),
+    (
+        "policy 1\naggregate web key destinationTransportPort interval 86401 grace x\nrule for a.b in 0 from ::ffff:1.2.3.4/128 to 192.0.2.0/24 aggregate W\naggregate web key destinationTransportPort interval 300 grace 60\nrule for * in 0 from 192.0.2.0/24 to 192.0.2.0/24 element * truncate 999\naggregate web key destinationTransportPort interval 300 grace 60\r\n",
+        2,
+        FaultKind::BadNumber,
+    ),
+    (
+        "policy 1\nrule for aaaaaaaaaaaaaaaaaaaaaaaaaaaaaaaa in 0 from 192.0.2.0/24 to 192.0.2.0/24 aggregate web\nrule for * in 0 from 192.0.2.0/24 to 1:2:3:4:5:6:7:8::/128 element * keep\n",
+        2,
+        FaultKind::UnknownAggregate,
+    ),
+    (
+        "policy 1\nrule \r for \r * \r in \r 7 \r from \r 192.0.2.0/24 \r to \r 192.0.2.0/24 \r aggregate \r w2\naggregate web key destinationTransportPort interval 99999999999999999999999 grace 01\naggregate web key vlanId,vlanId interval 0 grace 01\nrule for a in -1 from 192.0.2.0/24 to ::ffff:1.2.3.4/128 aggregate web",
+        2,
+        FaultKind::UnknownAggregate,
+    ),
+    (
+        "policy 1\naggregate w3 key e300 interval 1 grace 0\naggregate w3 key destinationTransportPort interval 1 grace 0\nrule for * in 0 from :/0 to 192.0.2.1/24 element * truncate 999\nrule for Acme in x from 192.0.2.0/24 to 2001:db8::/129 pass\r\n",
+        2,
+        FaultKind::BadKey,
+    ),
+    (
+        "policy 1\nrule for * in 0 from 192.0.2.0/24 to 192.0.2.0/24 keep\naggregate web key destinationTransportPort interval 300 grace 60\naggregate web key destinationTransportPort interval 300 grace 60\naggregate web key destinationTransportPort interval 60 grace \n\n",
+        2,
+        FaultKind::UnknownWord,
+    ),
+    (
+        "policy 1\naggregate web key destinationTransportPort interval 60 grace \naggregate W key destinationTransportPort interval 1 grace 0\nrule for * in 0 from :/0 to 10.0.0.0 aggregate web\naggregate W key destinationTransportPort interval 1 grace 0\r\n",
+        2,
+        FaultKind::UnknownWord,
+    ),
+    (
+        " policy\t1 \naggregate  web  key  destinationTransportPort  interval  1  grace  0\naggregate web key destinationTransportPort interval 300 grace 60\nrule for * in 01 from 192.0.2.0/24 to 192.0.2.1/24 aggregate web\nrule for aaaaaaaaaaaaaaaaaaaaaaaaaaaaaaaaa in 0 from 10.0.0.0 to 192.0.2.0/24 element sourceIPv4Address truncate 24\r\n",
+        3,
+        FaultKind::DoubleAggregate,
+    ),
+    (
+        "policy 1\nrule for * in 0 from * to 192.0.2.0/24 aggregate web\nrule for * in 01 from ::/0 to 10.0.0.0 element * truncate 24\naggregate web key destinationTransportPort interval 300 grace 60\n",
+        2,
+        FaultKind::UnknownAggregate,
+    ),
+    (
+        "policy 1\nrule for * in 0 from 192.0.2.0/24 to 192.0.2.0/24 aggregate web\naggregate web key destinationTransportPort interval 300 grace 60\naggregate web key destinationTransportPort interval 1 grace 0\naggregate web key destinationTransportPort interval 99999999999999999999999 grace 60",
+        2,
+        FaultKind::UnknownAggregate,
+    ),
+    (
+        "policy 1\naggregate web key e300 interval 1 grace 0\naggregate web key destinationTransportPort interval 300 grace 60\nx\naggregate web key destinationTransportPort interval 86400 grace 86401\naggregate",
+        2,
+        FaultKind::BadKey,
+    ),
+    (
+        "policy 1\naggregate web key destinationTransportPort interval 300 grace 60\naggregate w2 key e300 interval 1 grace 0\naggregate web key destinationTransportPort interval 300 grace 60\nrule for acme in 0 from :/0 to 192.0.2.0/24 Pass\n\n",
+        3,
+        FaultKind::BadKey,
+    ),
+    (
+        "policy 1\nrule for * in 0 from 192.0.2.0/24 to 192.0.2.0/24 element * truncate 999\naggregate web key destinationTransportPort interval 300 grace 60\nrule for a.b in 01 from 192.0.2.0/24 to 192.0.2.1/24 element * keep\naggregate web key destinationTransportPort interval 0 grace 99999999999999999999999\naggregate web key destinationTransportPort interval 300 grace 60\n\n",
+        2,
+        FaultKind::BadTruncate,
+    ),
+    (
+        "policy 1\naggregate w2 key destinationTransportPort interval 1 grace 0\nrule for * in 0 from 192.0.2.0/24 to 192.0.2.0/24 element e32 truncate 129\n\n",
+        3,
+        FaultKind::BadTruncate,
+    ),
+    (
+        " policy\t1 \nrule for * in 0 from 192.0.2.0/24 to 192.0.2.0/24 element * truncate 999\nrule for -a in 7 from 192.0.2.0/24 to 1:2:3:4:5:6:7:8/128 aggregate W\n\n",
+        2,
+        FaultKind::BadTruncate,
+    ),
+    (
+        " policy\t1 \nrule\tfor\ta\tin\t0\tfrom\t192.0.2.0/24\tto\t192.0.2.0/24\tpass\nrule for * in 0 from 192.0.2.0/24 to 192.0.2.0/24 element * truncate 129\nrule for a_-9 in * from 192.0.2.0/24 to 192.0.2.0/24 element * truncate 32\nrule for -a in 4294967296 from 192.0.2.0/24 to 192.0.2.0/24 element * keep\nrule for * in 4294967296 from 192.0.2.0/24 to 192.0.2.0/24 pass pass\n\n",
+        3,
+        FaultKind::BadTruncate,
+    ),
 ];
 
 /// Texts, and how many rules and aggregates they have.
-const POLICIES: [(&str, usize, usize); 12] = [
+const POLICIES: [(&str, usize, usize); 4] = [
     ("policy 1\n", 0, 0),
     ("policy 1\n\n", 0, 0),
-    ("policy 1\naggregate w2 key destinationTransportPort interval 1 grace 0\nrule for * in 7 from 1:2:3:4:5:6:7::/112 to 192.0.2.0/24 element e1/2 keep\n", 1, 1),
-    ("policy 1\naggregate web key destinationTransportPort interval 300 grace 60\n", 0, 1),
-    ("policy 1\r\n", 0, 0),
-    ("policy 1\naggregate w3 key destinationTransportPort interval 1 grace 0\naggregate web key destinationTransportPort interval 300 grace 60\n", 0, 2),
-    ("policy 1\naggregate web key destinationTransportPort interval 300 grace 60\n# x\nrule for * in * from ::/0 to 192.0.2.0/24 pass\n\n", 1, 1),
-    ("policy 1", 0, 0),
-    (" policy\t1 \n\n", 0, 0),
-    ("policy 1\naggregate  w3  key  destinationTransportPort  interval  1  grace  0\n", 0, 1),
-    ("policy 1\nrule for * in 4294967295 from 192.0.2.0/24 to 192.0.2.0/24 element * keep\r\n", 1, 0),
-    ("policy 1\naggregate web key destinationTransportPort interval 300 grace 60\r\n", 0, 1),
+    (
+        "policy 1\naggregate w2 key destinationTransportPort interval 1 grace 0\nrule for * in 7 from 1:2:3:4:5:6:7::/112 to 192.0.2.0/24 element e1/2 keep\n",
+        1,
+        1,
+    ),
+    (
+        "policy 1\naggregate web key destinationTransportPort interval 300 grace 60\n",
+        0,
+        1,
+    ),
 ];
+
+const PASS: &str =
+    "policy 1\nrule for * in * from * to * pass\nrule for * in * from * to * element * keep\n";
+
+/// That the text has this fault.
+fn expect_fault<R: Abort + AllocGlobal>(rt: &R, text: &str, line: usize, kind: FaultKind) {
+    let fault = Policy::parse(rt.alloc(), text).err();
+    let found = fault.map(|fault| (fault.line, fault.kind));
+    assert_eq!(rt; found, Some((line, kind)), "of {text:?}");
+}
 
 #[test]
 fn faults(rt: HostRuntime) {
     for (text, line, kind) in FAULTS {
-        let fault = Policy::parse(rt.alloc(), text).err();
-        let found = fault.map(|fault| (fault.line, fault.kind));
-        assert_eq!(rt; found, Some((line, kind)), "of {text:?}");
+        expect_fault(&rt, text, line, kind);
     }
 }
 
@@ -263,4 +223,149 @@ fn policies(rt: HostRuntime) -> Result<(), Fail> {
         assert_eq!(rt; policy.aggregates().len(), aggregates, "of {text:?}");
     }
     Ok(())
+}
+
+#[test]
+fn bad_lines(rt: HostRuntime) -> Result<(), Fail> {
+    for (line, kind) in [
+        (
+            "rule for acme in 4294967296 from * to * pass",
+            FaultKind::BadNumber,
+        ),
+        (
+            "rule for acme in * from * to * pass pass",
+            FaultKind::UnknownWord,
+        ),
+        (
+            "rule for acme in * from * to * element e8 keep",
+            FaultKind::BadName,
+        ),
+        (
+            "rule for acme in * from * to * element * truncate 8",
+            FaultKind::BadTruncate,
+        ),
+        (
+            "rule for acme in * from * to * element sourceIPv4Address truncate 33",
+            FaultKind::BadTruncate,
+        ),
+        (
+            "rule for acme in * from * to * element sourceIPv4Address truncate 1000",
+            FaultKind::BadNumber,
+        ),
+        (
+            "rule for acme in * from * to * aggregate web",
+            FaultKind::UnknownAggregate,
+        ),
+        (
+            "aggregate a key flowId interval 300 grace 0",
+            FaultKind::BadKey,
+        ),
+        (
+            "aggregate a key vlanId,vlanId interval 300 grace 0",
+            FaultKind::BadKey,
+        ),
+    ] {
+        let text = format!(in rt.alloc(); "policy 1\n{line}")?;
+        expect_fault(&rt, text.as_str(), 2, kind);
+    }
+    expect_fault(&rt, "", 1, FaultKind::NoHeader);
+    expect_fault(&rt, "policy 2\nrule", 1, FaultKind::NoHeader);
+    expect_fault(
+        &rt,
+        "policy 1\nrule for a in * from 192.0.2.1/24 to * pass",
+        2,
+        FaultKind::BadPrefix,
+    );
+    Ok(())
+}
+
+#[test]
+fn check_policy(rt: HostRuntime) -> Result<(), Fail> {
+    let policy = Policy::parse(rt.alloc(), PASS).ok().ok_or("a policy")?;
+    assert_eq!(rt; policy.rules().len(), 2);
+    assert_eq!(rt; policy.aggregates().len(), 0);
+    let text = policy.print(rt.alloc())?;
+    assert_eq!(rt; text.as_str(), PASS);
+    print_then_parse();
+    Ok(())
+}
+
+#[test]
+fn tabs_comments_and_carriage_returns(rt: HostRuntime) -> Result<(), Fail> {
+    let text =
+        "\t# a comment\r\n\r\n policy\t1 \r\naggregate web\tkey vlanId,protocolIdentifier interval 300 grace 60\r\n#\nrule for acme in 7 from 2001:DB8::/32 to 192.0.2.0/24 aggregate web\r\nrule for * in * from * to * element sourceIPv4Address truncate 24";
+    let policy = Policy::parse(rt.alloc(), text).ok().ok_or("a policy")?;
+    let printed = policy.print(rt.alloc())?;
+    assert_eq!(rt;
+        printed.as_str(),
+        "policy 1\naggregate web key vlanId,protocolIdentifier interval 300 grace 60\nrule for acme in 7 from 2001:db8:0:0:0:0:0:0/32 to 192.0.2.0/24 aggregate web\nrule for * in * from * to * element sourceIPv4Address truncate 24\n"
+    );
+    assert_eq!(rt; policy.rules().len(), 2);
+    let rule = &policy.rules()[0];
+    assert_eq!(rt; rule.action, Action::Aggregate(0));
+    assert_eq!(rt; rule.domain, Some(7));
+    assert!(rt; rule.element.is_none());
+    let who = rule.who.as_ref().ok_or("a name")?;
+    assert_eq!(rt; who.as_str(), "acme");
+    assert_eq!(rt; who.as_bytes(), b"acme".as_slice());
+    assert_eq!(rt; policy.rules()[1].action, Action::Truncate(24));
+    assert_eq!(rt; policy.aggregates().len(), 1);
+    let web = &policy.aggregates()[0];
+    assert_eq!(rt; web.name().as_str(), "web");
+    assert_eq!(rt; web.key().len(), 2);
+    assert_eq!(rt; (web.interval(), web.grace()), (300, 60));
+    Ok(())
+}
+
+#[test]
+fn greatest_policy(rt: HostRuntime) -> Result<(), Fail> {
+    let mut text = String::from_str(rt.alloc(), "policy 1\n")?;
+    for place in 0..256u32 {
+        let line = format!(in rt.alloc(); "aggregate a{place} key vlanId interval 1 grace 0\n")?;
+        text.push_str(line.as_str())?;
+    }
+    for _ in 0..4096u32 {
+        text.push_str("rule for * in * from * to * aggregate a255\n")?;
+    }
+    let policy = Policy::parse(rt.alloc(), text.as_str())
+        .ok()
+        .ok_or("a policy")?;
+    assert_eq!(rt; policy.rules().len(), 4096);
+    assert_eq!(rt; policy.aggregates().len(), 256);
+    text.push_str("rule")?;
+    expect_fault(&rt, text.as_str(), 4354, FaultKind::TooMany);
+    Ok(())
+}
+
+#[test]
+fn names(rt: HostRuntime) {
+    for (text, want) in [
+        ("a", true),
+        ("acme-2_x", true),
+        ("abcdefghijklmnopqrstuvwxyz012345", true),
+        ("abcdefghijklmnopqrstuvwxyz0123456", false),
+        ("", false),
+        ("Acme", false),
+        ("9a", false),
+        ("-a", false),
+        ("a.b", false),
+        ("*", false),
+    ] {
+        assert_eq!(rt; is_name(text), want, "of {text}");
+    }
+}
+
+#[test]
+fn want_of_memory(rt: HostRuntime) {
+    let text =
+        "policy 1\naggregate web key vlanId interval 300 grace 60\nrule for acme in * from * to * aggregate web\n";
+    match Policy::parse(rt.alloc(), text) {
+        Ok(policy) => {
+            assert_eq!(rt; policy.rules().len(), 1);
+            if let Ok(printed) = policy.print(rt.alloc()) {
+                assert_eq!(rt; printed.as_str(), text);
+            }
+        }
+        Err(fault) => assert_eq!(rt; (fault.line, fault.kind), (0, FaultKind::OutOfMemory)),
+    }
 }

@@ -15,7 +15,7 @@ returns-in_err-add_piece-clause-value c =
     let exit = err_from_is_err_and c.from_residual.result c.from_residual.ensures.1 in
     let cut = add_pieces-cut c.pieces.key.items c.pieces.rest.now c.in-Some.piece.now c.in-Some.after.now (sym c.in-Some.ensures) in
     rw (exit.1, exit.2) (Fails-same c.in_err-add_piece.field-0.0 (key_of c.args.word.now) _ (sym c.pieces.invariant ∙ cut)
-        (Fails-bind c.in_err-add_piece.field-0.0 (add_piece c.pieces.key.items c.in-Some.piece.now) (λ more. add_pieces more (slice_split (λ o. eqb o 44) c.in-Some.after.now)) c.in_err-add_piece.ensures.value))
+    (Fails-bind c.in_err-add_piece.field-0.0 (add_piece c.pieces.key.items c.in-Some.piece.now) (λ more. add_pieces more (slice_split (λ o. eqb o 44) c.in-Some.after.now)) c.in_err-add_piece.ensures.value))
 
 pub pieces-smaller : goal.pieces-smaller
 pieces-smaller c = cut_at-shorter 44 c.pieces.rest.now c.in-Some.piece.now c.in-Some.after.now (sym c.in-Some.ensures)

@@ -19,9 +19,11 @@ pub returns-in-Err : goal.returns-in-Err
 returns-in-Err c =
     let whole = read_lines-cut c.lines.started c.lines.policy c.lines.number c.lines.rest.now c.in-Some.line.now c.in-Some.after.now (sym c.in-Some.ensures) in
     let P : PolicyFault → Type 0 = λ fault. Reports fault (policy_of c.args.text.now) in
-    record { exact = subst P (sym c.fault_at.ensures)
-        (Reports-same (fault_at c.lines.number c.in-Err.kind) (policy_of c.args.text.now) _ (sym c.lines.invariant.reading ∙ whole)
-        (reports-line c.in-Err.kind c.lines.number (line_step c.lines.started c.lines.policy c.in-Some.line.now) _ c.in-Err.ensures)) }
+    record {
+      exact = subst P (sym c.fault_at.ensures)
+          (Reports-same (fault_at c.lines.number c.in-Err.kind) (policy_of c.args.text.now) _ (sym c.lines.invariant.reading ∙ whole)
+          (reports-line c.in-Err.kind c.lines.number (line_step c.lines.started c.lines.policy c.in-Some.line.now) _ c.in-Err.ensures));
+    }
 
 pub lines-smaller : goal.lines-smaller
 lines-smaller c = cut_at-shorter 10 c.lines.rest.now c.in-Some.line.now c.in-Some.after.now (sym c.in-Some.ensures)
@@ -48,6 +50,8 @@ pub returns-in-Err-read_line : goal.returns-in-Err-read_line
 returns-in-Err-read_line c =
     let whole = read_lines-whole c.lines.started c.lines.policy c.lines.number c.lines.rest.now (sym c.in_default.ensures) in
     let P : PolicyFault → Type 0 = λ fault. Reports fault (policy_of c.args.text.now) in
-    record { exact = subst P (sym c.fault_at-in-Err-read_line.ensures)
-        (Reports-same (fault_at c.lines.number c.in-Err-read_line.kind) (policy_of c.args.text.now) _ (sym c.lines.invariant.reading ∙ whole)
-        (reports-line c.in-Err-read_line.kind c.lines.number (line_step c.lines.started c.lines.policy c.lines.rest.now) _ c.in-Err-read_line.ensures)) }
+    record {
+      exact = subst P (sym c.fault_at-in-Err-read_line.ensures)
+          (Reports-same (fault_at c.lines.number c.in-Err-read_line.kind) (policy_of c.args.text.now) _ (sym c.lines.invariant.reading ∙ whole)
+          (reports-line c.in-Err-read_line.kind c.lines.number (line_step c.lines.started c.lines.policy c.lines.rest.now) _ c.in-Err-read_line.ensures));
+    }
