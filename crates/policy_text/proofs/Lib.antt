@@ -10,3 +10,4 @@ pub mod PrintedClassLaws
 pub mod RoundLaws
 pub mod SoundLaws
 pub mod KeptLaws
+pub mod SpellLaws

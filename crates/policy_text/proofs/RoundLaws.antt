@@ -105,7 +105,7 @@ element_back e h = or_star-printed element BadName element_name IsElement elemen
 no_element : {A : Type 0} (e : Option Element) (action : Action) (rest : A) → e ≡ None → ◌≡◌ {A = Result ((Option Element × Action) × A) FaultKind} (Ok ((None, action), rest)) (Ok ((e, action), rest))
 no_element e action rest none = ap (λ (x : Option Element). Ok ((x, action), rest)) (sym none)
 
-action_back : (aggregates : List Definition) (e : Option Element) (action : Action) → IfGiven IsElement e → IsAction aggregates e action → action_of aggregates (action_words aggregates e action) ≡ Ok ((e, action), [])
+pub action_back : (aggregates : List Definition) (e : Option Element) (action : Action) → IfGiven IsElement e → IsAction aggregates e action → action_of aggregates (action_words aggregates e action) ≡ Ok ((e, action), [])
 unfolding action_of aggregate_action on_element element_action next next_of
 action_back aggregates e Pass ok h = no_element e Pass [] h
 action_back aggregates e Withhold ok h = no_element e Withhold [] h
@@ -115,7 +115,7 @@ action_back aggregates e Keep ok h = rw (element_back e ok) refl
 action_back aggregates e Remove ok h = rw (element_back e ok) refl
 action_back aggregates e (Truncate bits) ok h = rw (element_back e ok, truncated_back (width_at e) h.0 bits h.1 h.2 h.3) refl
 
-domain_back : (d : ℕ) → d < 2 ^ 32 → number 4294967295 (decimal d) ≡ Ok d
+pub domain_back : (d : ℕ) → d < 2 ^ 32 → number 4294967295 (decimal d) ≡ Ok d
 domain_back d small = number-printed 4294967295 d (omega arith) (omega arith)
 
 -- behind `rule`
@@ -136,7 +136,7 @@ rule_back aggregates r h =
       action_back aggregates r.element r.action h.element h.action,
     ) refl
 
-aggregate_back : (before : List Definition) (a : Definition) → IsAggregate before a → aggregate_of before (a.name ∷ codes "key" ∷ key_text a.key ∷ codes "interval" ∷ decimal a.interval ∷ codes "grace" ∷ decimal a.grace ∷ []) ≡ Ok a
+pub aggregate_back : (before : List Definition) (a : Definition) → IsAggregate before a → aggregate_of before (a.name ∷ codes "key" ∷ key_text a.key ∷ codes "interval" ∷ decimal a.interval ∷ codes "grace" ∷ decimal a.grace ∷ []) ≡ Ok a
 unfolding aggregate_of next next_of after ended
 aggregate_back before a h =
     rw (new_name-printed before a.name h.name h.other, key-printed a.key h.key h.ranged.elements.0, interval-printed a.interval h.ranged.interval_low h.ranged.interval_high, number-printed 86400 a.grace (omega arith) h.ranged.grace_high) refl

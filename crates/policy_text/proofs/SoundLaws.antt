@@ -33,28 +33,28 @@ use Rattle.policy_text.specs.declared.fault.FaultKind.TheVariants.{UnknownWord, 
 use Rattle.policy_text.proofs.ElementLaws.{element_of-found}
 use Rattle.policy_text.proofs.WordLaws.{position-place}
 
-err-Ok : {A : Type 0} (kind : FaultKind) (y : A) → ◌≡◌ {A = Result A FaultKind} (Err kind) (Ok y) → ⊥
+pub err-Ok : {A : Type 0} (kind : FaultKind) (y : A) → ◌≡◌ {A = Result A FaultKind} (Err kind) (Ok y) → ⊥
 err-Ok kind y e = cc
 
-same_Ok : {A : Type 0} (x y : A) → ◌≡◌ {A = Result A FaultKind} (Ok x) (Ok y) → x ≡ y
+pub same_Ok : {A : Type 0} (x y : A) → ◌≡◌ {A = Result A FaultKind} (Ok x) (Ok y) → x ≡ y
 same_Ok x y e = cc
 
 -- what a step that gave a value was given
-bound : {A B : Type 0} (r : Result A FaultKind) (f : A → Result B FaultKind) (y : B) → (r >>= f) ≡ Ok y → (x : A) × (r ≡ Ok x) × (f x ≡ Ok y)
+pub bound : {A B : Type 0} (r : Result A FaultKind) (f : A → Result B FaultKind) (y : B) → (r >>= f) ≡ Ok y → (x : A) × (r ≡ Ok x) × (f x ≡ Ok y)
 bound (Ok x) f y e = (x, refl, e)
 bound (Err kind) f y e = absurd (err-Ok kind y e)
 
 -- a test that refuses
-guarded : {A : Type 0} (b : Bool) (kind : FaultKind) (x y : A) → cond b (Ok x) (Err kind) ≡ Ok y → (b ≡ true) × (x ≡ y)
+pub guarded : {A : Type 0} (b : Bool) (kind : FaultKind) (x y : A) → cond b (Ok x) (Err kind) ≡ Ok y → (b ≡ true) × (x ≡ y)
 guarded true kind x y e = (refl, same_Ok x y e)
 guarded false kind x y e = absurd (err-Ok kind y e)
 
 -- a word that is one of two
-either : {A : Type 0} (P : Type 0) (b : Bool) (r s : Result A FaultKind) (y : A) → cond b r s ≡ Ok y → (r ≡ Ok y → P) → (s ≡ Ok y → P) → P
+pub either : {A : Type 0} (P : Type 0) (b : Bool) (r s : Result A FaultKind) (y : A) → cond b r s ≡ Ok y → (r ≡ Ok y → P) → (s ≡ Ok y → P) → P
 either P true r s y e yes_case no_case = yes_case e
 either P false r s y e yes_case no_case = no_case e
 
-or_fault-Ok : {A : Type 0} (kind : FaultKind) (o : Option A) (y : A) → or_fault kind o ≡ Ok y → o ≡ Some y
+pub or_fault-Ok : {A : Type 0} (kind : FaultKind) (o : Option A) (y : A) → or_fault kind o ≡ Ok y → o ≡ Some y
 or_fault-Ok kind None y e = absurd (err-Ok kind y e)
 or_fault-Ok kind (Some x) y e = ap (λ z. Some z) (same_Ok x y e)
 
@@ -120,7 +120,7 @@ name_found (a ∷ rest) w h =
     rw (other, e) (name_found rest w (omega (arith, inside))))
     (cases_Bool (bytes_eq a.name w))
 
-place_name : (aggregates : List Definition) (w : Word) (place : ℕ) → place_of aggregates w ≡ Some place → name_at aggregates place ≡ w
+pub place_name : (aggregates : List Definition) (w : Word) (place : ℕ) → place_of aggregates w ≡ Some place → name_at aggregates place ≡ w
 place_name aggregates w place e =
     let found = position-place (λ (a : Definition). bytes_eq a.name w) aggregates place e in
     ap (name_at aggregates) (sym found.0) ∙ name_found aggregates w (omega (arith, found.0, found.1))
@@ -217,31 +217,31 @@ action_of-sound aggregates words x h =
     (λ none. absurd (err-Ok UnknownWord x none)))))
 
 -- a rule, word by word
-abbrev rule_end : Option Word → Option ℕ → Option Prefix → Option Prefix → (Option Element × Action) × List Word → Result Rule FaultKind
+abbrev pub rule_end : Option Word → Option ℕ → Option Prefix → Option Prefix → (Option Element × Action) × List Word → Result Rule FaultKind
 rule_end who domain from to done = ended done.1 >>= λ nothing_more. Ok (record { who = who; domain = domain; from = from; to = to; element = done.0.0; action = done.0.1 })
 
-abbrev rule_action : List Definition → Option Word → Option ℕ → Option Prefix → Option Prefix × List Word → Result Rule FaultKind
+abbrev pub rule_action : List Definition → Option Word → Option ℕ → Option Prefix → Option Prefix × List Word → Result Rule FaultKind
 rule_action aggregates who domain from to = action_of aggregates to.1 >>= λ done. rule_end who domain from to.0 done
 
-abbrev rule_to : List Definition → Option Word → Option ℕ → Option Prefix → List Word → Result Rule FaultKind
+abbrev pub rule_to : List Definition → Option Word → Option ℕ → Option Prefix → List Word → Result Rule FaultKind
 rule_to aggregates who domain from d = next (or_star prefix) d >>= λ to. rule_action aggregates who domain from to
 
-abbrev rule_behind_from : List Definition → Option Word → Option ℕ → Option Prefix × List Word → Result Rule FaultKind
+abbrev pub rule_behind_from : List Definition → Option Word → Option ℕ → Option Prefix × List Word → Result Rule FaultKind
 rule_behind_from aggregates who domain from = after (codes "to") from.1 >>= λ d. rule_to aggregates who domain from.0 d
 
-abbrev rule_from : List Definition → Option Word → Option ℕ → List Word → Result Rule FaultKind
+abbrev pub rule_from : List Definition → Option Word → Option ℕ → List Word → Result Rule FaultKind
 rule_from aggregates who domain c = next (or_star prefix) c >>= λ from. rule_behind_from aggregates who domain from
 
-abbrev rule_behind_domain : List Definition → Option Word → Option ℕ × List Word → Result Rule FaultKind
+abbrev pub rule_behind_domain : List Definition → Option Word → Option ℕ × List Word → Result Rule FaultKind
 rule_behind_domain aggregates who domain = after (codes "from") domain.1 >>= λ c. rule_from aggregates who domain.0 c
 
-abbrev rule_domain : List Definition → Option Word → List Word → Result Rule FaultKind
+abbrev pub rule_domain : List Definition → Option Word → List Word → Result Rule FaultKind
 rule_domain aggregates who b = next (or_star (number 4294967295)) b >>= λ domain. rule_behind_domain aggregates who domain
 
-abbrev rule_behind_who : List Definition → Option Word × List Word → Result Rule FaultKind
+abbrev pub rule_behind_who : List Definition → Option Word × List Word → Result Rule FaultKind
 rule_behind_who aggregates who = after (codes "in") who.1 >>= λ b. rule_domain aggregates who.0 b
 
-abbrev rule_who : List Definition → List Word → Result Rule FaultKind
+abbrev pub rule_who : List Definition → List Word → Result Rule FaultKind
 rule_who aggregates a = next (or_star name) a >>= λ who. rule_behind_who aggregates who
 
 pub rule_of-sound : (aggregates : List Definition) (words : List Word) (r : Rule) → rule_of aggregates words ≡ Ok r → IsRule aggregates r
@@ -280,12 +280,12 @@ key_push before (k ∷ key) e h ok next =
     let P : List Element → Type 0 = λ l. with_key l e ≡ Ok (l ++ e ∷ []) in
     (h.0, h.1, key_push (before ++ k ∷ []) key e h.2 ok (subst P same next))
 
-record AddsKey (key more : List Element) (e : Element) : Type 0 where
-  more_is : key ++ e ∷ [] ≡ more
-  room : length key < 16
-  again : with_key key e ≡ Ok (key ++ e ∷ [])
+pub record AddsKey (key more : List Element) (e : Element) : Type 0 where
+  pub more_is : key ++ e ∷ [] ≡ more
+  pub room : length key < 16
+  pub again : with_key key e ≡ Ok (key ++ e ∷ [])
 
-with_key-sound : (key more : List Element) (e : Element) → with_key key e ≡ Ok more → AddsKey key more e
+pub with_key-sound : (key more : List Element) (e : Element) → with_key key e ≡ Ok more → AddsKey key more e
 unfolding with_key
 with_key-sound key more e h =
     let test = is_key_kind (kind_of e) && (not (list_any (λ k. eqb k.number e.number) key) && ltb (length key) 16) in
@@ -367,25 +367,25 @@ new_name-sound aggregates w n e =
     (cases_Bool (is_name w))
 
 -- an aggregate, word by word
-abbrev aggregate_end : Word → List Element → ℕ → ℕ × List Word → Result Definition FaultKind
+abbrev pub aggregate_end : Word → List Element → ℕ → ℕ × List Word → Result Definition FaultKind
 aggregate_end named key seconds grace = ended grace.1 >>= λ nothing_more. Ok (record { name = named; key = key; interval = seconds; grace = grace.0 })
 
-abbrev aggregate_grace : Word → List Element → ℕ → List Word → Result Definition FaultKind
+abbrev pub aggregate_grace : Word → List Element → ℕ → List Word → Result Definition FaultKind
 aggregate_grace named key seconds c = next (number 86400) c >>= λ grace. aggregate_end named key seconds grace
 
-abbrev aggregate_behind_interval : Word → List Element → ℕ × List Word → Result Definition FaultKind
+abbrev pub aggregate_behind_interval : Word → List Element → ℕ × List Word → Result Definition FaultKind
 aggregate_behind_interval named key seconds = after (codes "grace") seconds.1 >>= λ c. aggregate_grace named key seconds.0 c
 
-abbrev aggregate_interval : Word → List Element → List Word → Result Definition FaultKind
+abbrev pub aggregate_interval : Word → List Element → List Word → Result Definition FaultKind
 aggregate_interval named key b = next interval b >>= λ seconds. aggregate_behind_interval named key seconds
 
-abbrev aggregate_behind_key : Word → List Element × List Word → Result Definition FaultKind
+abbrev pub aggregate_behind_key : Word → List Element × List Word → Result Definition FaultKind
 aggregate_behind_key named key = after (codes "interval") key.1 >>= λ b. aggregate_interval named key.0 b
 
-abbrev aggregate_key : Word → List Word → Result Definition FaultKind
+abbrev pub aggregate_key : Word → List Word → Result Definition FaultKind
 aggregate_key named a = next key_of a >>= λ key. aggregate_behind_key named key
 
-abbrev aggregate_behind_name : Word × List Word → Result Definition FaultKind
+abbrev pub aggregate_behind_name : Word × List Word → Result Definition FaultKind
 aggregate_behind_name named = after (codes "key") named.1 >>= λ a. aggregate_key named.0 a
 
 pub aggregate_of-sound : (before : List Definition) (words : List Word) (a : Definition) → aggregate_of before words ≡ Ok a → IsAggregate before a

@@ -16,3 +16,4 @@ pub mod Lines
 pub mod Parsing
 pub mod Grammar
 pub mod Printing
+pub mod Spelling
