@@ -1,15 +1,14 @@
 -- The element that a word names is the one whose name it is.
-use Rattle.std.proofs.Common.{◌≡◌, ◌⊎◌, ℕ, zero, suc, ◌+◌, ◌^◌, ◌<◌, ◌≤◌, Bool, true, false, ◌&&◌, cond, eqb, ltb, leb, List, [], ◌∷◌, ◌++◌, length, get_or, Option, Some, None, IfSome, refl, sym, ap, ◌∙◌, subst, arith, ⊎_elim}
+use Rattle.std.proofs.Common.{◌≡◌, ℕ, zero, suc, ◌^◌, ◌<◌, Bool, true, false, ◌&&◌, cond, eqb, ltb, List, [], ◌∷◌, length, Option, Some, None, IfSome, refl, sym, ap, ◌∙◌, subst, arith, ⊎_elim}
 use Rattle.std.specs.List.{find, list_all, position_or_len}
 use Rattle.std.specs.Str.{bytes_eq, IsUtf8, IsAscii}
 use Rattle.std.specs.Fmt.{decimal}
 use Rattle.std.specs.Str.Parse.{AllDigits}
-use Rattle.std.specs.Char.{digit_value}
 use Rattle.std.proofs.lemmas.Str.{IsUtf8-from_ascii}
 use Rattle.std.proofs.lemmas.Fmt.{decimal_is_IsNumeral}
 use Rattle.std.proofs.lemmas.Slice.Eq.{bytes_eq-Decides}
 use Rattle.std.proofs.lemmas.Option.{cond_some, none-some, same_Some}
-use Rattle.std.proofs.lemmas.Bool.{and_parts, and_from, ltb-true, lt-ltb, le-ltb, false≢true}
+use Rattle.std.proofs.lemmas.Bool.{and_parts, ltb-true, lt-ltb, le-ltb, false≢true}
 use Rattle.std.proofs.lemmas.Bool.Decides.{nat_tests}
 use Rattle.ipfix_element.specs.Element.{Element, IsElement}
 use Rattle.ipfix_element.specs.Registry.{Registered, registry, line_of, line_for}
@@ -17,7 +16,7 @@ use Rattle.ipfix_element.specs.Lines.{IsLineName}
 use Rattle.ipfix_element.specs.Names.{element_name, numbered_name, name_on, is_name_octet}
 use Rattle.ipfix_element.proofs.RegistryLaws.{find_both}
 use Rattle.ipfix_element.proofs.NameLaws.{named_how, one_name, one_word}
-use Rattle.flow_prefix.specs.Numerals.{number_of, IsNumber}
+use Rattle.flow_prefix.specs.Numerals.{number_of}
 use Rattle.flow_prefix.specs.Reading.{◌>>=◌, cut_at}
 use Rattle.flow_prefix.proofs.NumeralLaws.{number_of-found, number_of-only}
 use Rattle.flow_prefix.proofs.AddressTextLaws.{bind-some, Lacks, digit_other}

@@ -1,5 +1,5 @@
 -- The pieces of a key, from the left.
-use Rattle.std.proofs.Common.{◌≡◌, List, [], ◌∷◌, Option, Some, None, Result, Ok, refl, ap, ◌∙◌, eqb}
+use Rattle.std.proofs.Common.{◌≡◌, List, [], Some, None, Ok, refl, ap, ◌∙◌, eqb}
 use Rattle.std.specs.List.{slice_split}
 use Rattle.ipfix_element.specs.Element.{Element}
 use Rattle.flow_prefix.specs.Reading.{cut_at}

@@ -1,7 +1,5 @@
 -- The lines of a policy's text, one after another.
-use Rattle.std.proofs.Common.{◌≡◌, ℕ, ◌+◌, Bool, true, false, cond, List, [], ◌∷◌, Option, Some, None, Result, Ok, Err, MatchBool, refl, sym, ap, ◌∙◌, ⊎_elim, eqb}
-use Rattle.std.specs.List.{slice_split}
-use Rattle.std.proofs.lemmas.Bool.{cases_Bool}
+use Rattle.std.proofs.Common.{◌≡◌, ℕ, ◌+◌, Bool, true, false, cond, List, [], ◌∷◌, Some, None, Result, Ok, Err, MatchBool, refl, ap, ◌∙◌}
 use Rattle.flow_prefix.specs.Reading.{cut_at}
 use Rattle.flow_prefix.proofs.PartsLaws.{slice_split-cut, slice_split-whole}
 use Rattle.policy_text.specs.declared.fault.FaultKind.{FaultKind}

@@ -1,7 +1,7 @@
 -- Words without blanks and line feeds, and the lines of such words.
-use Rattle.std.proofs.Common.{◌≡◌, ℕ, zero, suc, ◌+◌, ◌^◌, ◌<◌, ◌≤◌, Bool, true, false, cond, not, ◌&&◌, ◌||◌, eqb, List, [], ◌∷◌, ◌++◌, length, get_or, filter, map, refl, sym, ap, ◌∙◌, arith, append_assoc, length-append}
+use Rattle.std.proofs.Common.{◌≡◌, ℕ, zero, suc, ◌^◌, ◌<◌, Bool, true, false, not, ◌&&◌, eqb, List, [], ◌∷◌, ◌++◌, length, filter, map, refl, sym, ap, ◌∙◌, arith, append_assoc, length-append}
 use Rattle.std.specs.List.{All, AllByRecursion, list_all, slice_split, join_with_byte, flat_map}
-use Rattle.std.specs.Char.{is_digit, digit_value}
+use Rattle.std.specs.Char.{is_digit}
 use Rattle.std.specs.Fmt.{decimal}
 use Rattle.std.proofs.lemmas.Fmt.{decimal_is_IsNumeral}
 use Rattle.std.proofs.lemmas.List.Splits.{slice_split_at, slice_split_none}
@@ -10,7 +10,6 @@ use Rattle.flow_prefix.proofs.NumeralLaws.{test_from_AllDigits}
 use Rattle.flow_prefix.proofs.AddressTextLaws.{Lacks}
 use Rattle.policy_text.specs.Words.{Word, is_blank, is_word, words_of, lines_of}
 use Rattle.policy_text.specs.Printing.{line_text}
-use Rattle.policy_text.proofs.WordLaws.{words_of-nil}
 
 -- neither a blank nor a line feed
 abbrev pub plain : ℕ → Bool

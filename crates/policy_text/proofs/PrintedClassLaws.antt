@@ -1,15 +1,14 @@
 -- Each printed word is read back by its class.
-use Rattle.std.proofs.Common.{◌≡◌, ℕ, zero, suc, ◌+◌, ◌^◌, ◌<◌, ◌≤◌, Bool, true, false, cond, not, ◌&&◌, eqb, ltb, leb, List, [], ◌∷◌, ◌++◌, length, get_or, map, Option, Some, None, Result, Ok, Err, IfSome, refl, sym, ap, ◌∙◌, subst, arith, ⊎_elim, append_assoc, append-nil, length-append, position, is_some}
+use Rattle.std.proofs.Common.{◌≡◌, ℕ, zero, suc, ◌^◌, ◌<◌, ◌≤◌, true, false, eqb, List, [], ◌∷◌, ◌++◌, length, get_or, map, Option, Some, None, Result, Ok, Err, refl, sym, ap, ◌∙◌, subst, arith, ⊎_elim, append_assoc, append-nil, length-append}
 use Rattle.std.proofs.lemmas.List.{length-map}
-use Rattle.std.specs.List.{All, AllByRecursion, list_all, slice_split, join_with_byte}
+use Rattle.std.specs.List.{All, list_all, slice_split, join_with_byte}
 use Rattle.std.specs.Char.{is_ascii_lowercase, digit_value}
 use Rattle.std.specs.Str.{bytes_eq}
-use Rattle.std.specs.Str.Parse.{AllDigits}
 use Rattle.std.specs.Fmt.{decimal}
 use Rattle.std.proofs.lemmas.Fmt.{decimal_is_IsNumeral}
 use Rattle.std.proofs.lemmas.Slice.Eq.{bytes_eq-Decides}
 use Rattle.std.proofs.lemmas.List.Splits.{slice_split_at, slice_split_none}
-use Rattle.std.proofs.lemmas.Bool.{ne_eqb, false≢true, and_parts, le-leb, le-ltb, lt-ltb, cases_Bool}
+use Rattle.std.proofs.lemmas.Bool.{ne_eqb, false≢true, and_parts, le-leb, le-ltb, cases_Bool}
 use Rattle.ipfix_element.specs.Element.{Element, IsElement}
 use Rattle.ipfix_element.specs.Registry.{registry}
 use Rattle.ipfix_element.specs.Names.{element_name, is_name_octet as element_octet}
@@ -34,13 +33,12 @@ use Rattle.policy_text.specs.Words.{Word}
 use Rattle.policy_text.specs.Naming.{is_name, is_name_octet}
 use Rattle.policy_text.specs.Elements.{element_of}
 use Rattle.policy_text.specs.Policies.{Aggregate as Definition}
-use Rattle.policy_text.specs.Results.{◌>>=◌}
-use Rattle.policy_text.specs.Classes.{name, number, element, prefix, prefix_or_fault, star, or_star, with_key, add_piece, add_pieces, key_of, place_of, aggregate_place, new_name, interval, bits_within}
+use Rattle.policy_text.specs.Classes.{name, number, element, prefix, prefix_or_fault, star, or_star, add_piece, add_pieces, key_of, place_of, aggregate_place, new_name, interval, bits_within}
 use Rattle.policy_text.specs.Grammar.{IsKeyAfter, IfGiven}
-use Rattle.policy_text.specs.Printing.{word_or_star, itself, key_text}
+use Rattle.policy_text.specs.Printing.{word_or_star, key_text}
 use Rattle.policy_text.proofs.NameLaws.{name_parts}
 use Rattle.policy_text.proofs.ElementLaws.{element_of-only}
-use Rattle.policy_text.proofs.PlainLaws.{plain, IsPlain, ArePlain, Skips, plain_each, plain_lacking, decimal_plain, joined_is_plain}
+use Rattle.policy_text.proofs.PlainLaws.{IsPlain, ArePlain, plain_each, plain_lacking, joined_is_plain}
 
 -- printed words are plain
 name_some : (word : Word) → is_ascii_lowercase (get_or word 0 0) ≡ true → 0 < length word

@@ -1,7 +1,6 @@
 -- What is printed of a policy is read as that policy.
-use Rattle.std.proofs.Common.{◌≡◌, ℕ, zero, suc, ◌+◌, ◌^◌, ◌<◌, ◌≤◌, Bool, true, false, cond, eqb, leb, List, [], ◌∷◌, ◌++◌, length, map, Option, Some, None, Result, Ok, Err, refl, sym, ap, ◌∙◌, subst, arith, append_assoc, append-nil, length-append, codes}
-use Rattle.std.specs.List.{AllByRecursion, join_with_byte, flat_map}
-use Rattle.std.specs.Str.{bytes_eq}
+use Rattle.std.proofs.Common.{◌≡◌, ℕ, ◌+◌, ◌^◌, ◌<◌, ◌≤◌, true, false, List, [], ◌∷◌, ◌++◌, length, map, Option, Some, None, Result, Ok, refl, sym, ap, ◌∙◌, subst, arith, append_assoc, append-nil, length-append, codes}
+use Rattle.std.specs.List.{AllByRecursion, join_with_byte}
 use Rattle.std.specs.Fmt.{decimal}
 use Rattle.std.proofs.lemmas.Bool.{lt-leb}
 use Rattle.ipfix_element.specs.Element.{Element, IsElement}
@@ -10,19 +9,17 @@ use Rattle.flow_prefix.specs.Prefixes.{IsPrefix}
 use Rattle.flow_prefix.specs.Printing.{prefix_text}
 use Rattle.policy_text.specs.declared.fault.FaultKind.{FaultKind}
 use Rattle.policy_text.specs.declared.fault.FaultKind.TheVariants.{BadName, BadNumber, BadPrefix}
-use Rattle.policy_text.specs.declared.fault.PolicyFault.{PolicyFault}
 use Rattle.policy_text.specs.declared.rule.Rule.{Rule}
 use Rattle.policy_text.specs.declared.rule.Action.{Action}
 use Rattle.policy_text.specs.declared.rule.Action.TheVariants.{Pass, Withhold, Aggregate, Keep, Remove, Truncate}
-use Rattle.policy_text.specs.Words.{Word, words_of, lines_of, is_skipped}
+use Rattle.policy_text.specs.Words.{Word, words_of, is_skipped}
 use Rattle.policy_text.specs.Naming.{is_name}
-use Rattle.policy_text.specs.Policies.{Meaning, nothing, with_rule, with_aggregate, Aggregate as Definition}
-use Rattle.policy_text.specs.Results.{◌>>=◌, at_line, then_read}
-use Rattle.policy_text.specs.Classes.{name, number, element, prefix, or_star, width_at, bits_within}
+use Rattle.policy_text.specs.Policies.{Meaning, nothing, Aggregate as Definition}
+use Rattle.policy_text.specs.Classes.{name, number, element, prefix, or_star, width_at}
 use Rattle.policy_text.specs.Lines.{next_of, next, after, ended, truncate_of, element_action, aggregate_action, on_element, action_of, rule_of, aggregate_of, rule_line, aggregate_line, line_of}
 use Rattle.policy_text.specs.Parsing.{is_header, step, line_step, read_lines, policy_of}
-use Rattle.policy_text.specs.Grammar.{name_at, IfGiven, IsAction, IsRule, IsAggregate, AreAggregates, AreRules, IsPolicy}
-use Rattle.policy_text.specs.Printing.{word_or_star, itself, action_words, rule_words, key_text, aggregate_words, header, line_text, policy_lines, policy_text, ReadsBack}
+use Rattle.policy_text.specs.Grammar.{name_at, IfGiven, IsAction, IsRule, IsAggregate, AreAggregates, AreRules}
+use Rattle.policy_text.specs.Printing.{word_or_star, itself, action_words, rule_words, key_text, aggregate_words, header, policy_text, ReadsBack}
 use Rattle.policy_text.proofs.WordLaws.{words_of-nil}
 use Rattle.policy_text.proofs.ParsingLaws.{read_lines-cons, read_lines-done}
 use Rattle.policy_text.proofs.PlainLaws.{IsPlain, ArePlain, decimal_plain, words_of-joined, lines_of-printed}

@@ -1,12 +1,12 @@
 -- What is read is spelled so, and what is spelled so is read.
-use Rattle.std.proofs.Common.{◌≡◌, ◌⊎◌, inl, inr, ℕ, zero, suc, ◌+◌, ◌^◌, ◌<◌, ◌≤◌, Bool, true, false, cond, ◌&&◌, eqb, leb, List, [], ◌∷◌, ◌++◌, length, map, Option, Some, None, Result, Ok, Err, IfOk, refl, sym, ap, ◌∙◌, subst, arith, ⊎_elim, append_assoc, append-nil, codes, ltb, is_some}
+use Rattle.std.proofs.Common.{◌≡◌, ◌⊎◌, inl, inr, ℕ, ◌+◌, ◌^◌, ◌<◌, Bool, true, false, cond, eqb, leb, List, [], ◌∷◌, ◌++◌, length, map, Option, Some, None, Result, Ok, Err, IfOk, refl, sym, ap, ◌∙◌, subst, arith, ⊎_elim, append_assoc, append-nil, codes, ltb, is_some}
 use Rattle.std.specs.List.{slice_split, join_with_byte}
 use Rattle.std.specs.Str.{bytes_eq}
 use Rattle.std.specs.Fmt.{decimal}
 use Rattle.std.proofs.lemmas.Slice.Eq.{bytes_eq-Decides}
 use Rattle.std.proofs.lemmas.List.Splits.{join_with_byte-slice_split}
 use Rattle.std.proofs.lemmas.Bool.{cases_Bool, leb-false, lt-leb, and_parts, false≢true}
-use Rattle.ipfix_element.specs.Element.{Element, IsElement}
+use Rattle.ipfix_element.specs.Element.{Element}
 use Rattle.ipfix_element.specs.Names.{element_name}
 use Rattle.flow_prefix.specs.declared.prefix.Prefix.{Prefix}
 use Rattle.flow_prefix.specs.declared.fault.PrefixFault.{PrefixFault}
@@ -25,17 +25,17 @@ use Rattle.policy_text.specs.Words.{Word, words_of, lines_of, is_skipped}
 use Rattle.policy_text.specs.Naming.{is_name}
 use Rattle.policy_text.specs.Elements.{element_of}
 use Rattle.policy_text.specs.Policies.{Meaning, nothing, with_rule, with_aggregate, Aggregate as Definition}
-use Rattle.policy_text.specs.Results.{◌>>=◌, or_fault, at_line, then_read}
+use Rattle.policy_text.specs.Results.{◌>>=◌, at_line, then_read, Parses}
 use Rattle.policy_text.specs.Classes.{name, number, element, prefix, prefix_or_fault, star, some_of, or_star, with_key, add_piece, add_pieces, key_of, place_of, width_at, aggregate_place, new_name, interval, bits_within}
 use Rattle.policy_text.specs.Lines.{next_of, next, after, ended, truncate_of, element_action, aggregate_action, on_element, action_of, rule_of, aggregate_of, rule_line, aggregate_line, line_of}
 use Rattle.policy_text.specs.Parsing.{is_header, step, line_step, read_lines, policy_of}
-use Rattle.policy_text.specs.Grammar.{name_at, IfGiven, IsRule, IsAggregate}
+use Rattle.policy_text.specs.Grammar.{name_at}
 use Rattle.policy_text.specs.Printing.{word_or_star, itself, action_words, key_text, aggregate_words, header}
 use Rattle.policy_text.specs.Spelling.{IsPrefixWord, rule_tail, SpellsRule, AddsRule, AddsAggregate, AfterLine, AreLines, AreAllLines, Spells}
 use Rattle.policy_text.proofs.ElementLaws.{element_of-found}
 use Rattle.policy_text.proofs.ParsingLaws.{read_lines-cons, read_lines-done, read_lines-empty}
 use Rattle.policy_text.proofs.PrintedClassLaws.{name-printed, or_star-word, or_star-star, or_star-printed, name-star, number-star, prefix-star}
-use Rattle.policy_text.proofs.SoundLaws.{err-Ok, same_Ok, bound, guarded, either, or_fault-Ok, place_name, with_key-sound, AddsKey, rule_end, rule_action, rule_to, rule_behind_from, rule_from, rule_behind_domain, rule_domain, rule_behind_who, rule_who, aggregate_end, aggregate_grace, aggregate_behind_interval, aggregate_interval, aggregate_behind_key, aggregate_key, aggregate_behind_name, rule_of-sound, aggregate_of-sound}
+use Rattle.policy_text.proofs.SoundLaws.{err-Ok, same_Ok, bound, guarded, or_fault-Ok, place_name, with_key-sound, rule_end, rule_action, rule_to, rule_behind_from, rule_from, rule_behind_domain, rule_domain, rule_behind_who, rule_who, aggregate_end, aggregate_grace, aggregate_behind_interval, aggregate_interval, aggregate_behind_key, aggregate_key, aggregate_behind_name, rule_of-sound, aggregate_of-sound}
 use Rattle.policy_text.proofs.RoundLaws.{domain_back, action_back, aggregate_back}
 
 next_of-text : (words : List Word) (x : Word × List Word) → next_of words ≡ Ok x → words ≡ x.0 ∷ x.1
@@ -73,8 +73,8 @@ or_star-text : {A : Type 0} (class : Word → Result A FaultKind) (word : A → 
 unfolding or_star
 or_star-text {A} class word spelled w o e =
     ⊎_elim (λ (t : bytes_eq w star ≡ true).
-        let none = same_Ok None o (rw t at e) in
-        (bytes_eq-Decides w star).0 t ∙ ap (word_or_star word) none)
+    let none = same_Ok None o (rw t at e) in
+    (bytes_eq-Decides w star).0 t ∙ ap (word_or_star word) none)
     (λ (f : bytes_eq w star ≡ false). class_text class word spelled w (class w) o refl (rw f at e))
     (cases_Bool (bytes_eq w star))
 
@@ -106,8 +106,8 @@ prefix_word : (w : Word) (o : Option Prefix) → or_star prefix w ≡ Ok o → I
 unfolding or_star
 prefix_word w o e =
     ⊎_elim (λ (t : bytes_eq w star ≡ true).
-        let P : Option Prefix → Type 0 = λ x. IsPrefixWord x w in
-        subst P (same_Ok None o (rw t at e)) ((bytes_eq-Decides w star).0 t))
+    let P : Option Prefix → Type 0 = λ x. IsPrefixWord x w in
+    subst P (same_Ok None o (rw t at e)) ((bytes_eq-Decides w star).0 t))
     (λ (f : bytes_eq w star ≡ false). prefix_some w (prefix w) o refl (rw f at e))
     (cases_Bool (bytes_eq w star))
 
@@ -149,10 +149,10 @@ new_name-text : (aggregates : List Definition) (w n : Word) → new_name aggrega
 unfolding new_name
 new_name-text aggregates w n e =
     ⊎_elim (λ (named : is_name w ≡ true).
-        let inner = rw named at e in
-        ⊎_elim (λ (double : is_some (place_of aggregates w) ≡ true). absurd (err-Ok DoubleAggregate n (rw double at inner)))
-        (λ (fresh : is_some (place_of aggregates w) ≡ false). same_Ok w n (rw fresh at inner))
-        (cases_Bool (is_some (place_of aggregates w))))
+    let inner = rw named at e in
+    ⊎_elim (λ (double : is_some (place_of aggregates w) ≡ true). absurd (err-Ok DoubleAggregate n (rw double at inner)))
+    (λ (fresh : is_some (place_of aggregates w) ≡ false). same_Ok w n (rw fresh at inner))
+    (cases_Bool (is_some (place_of aggregates w))))
     (λ (other : is_name w ≡ false). absurd (err-Ok BadName n (rw other at e)))
     (cases_Bool (is_name w))
 
@@ -217,20 +217,20 @@ element_action-text width words x h =
     let whole = next_of-text words first.0 first.1 in
     let P : Action × List Word → Type 0 = λ y. SpellsElementAction words y in
     ⊎_elim (λ (t : bytes_eq w.0 (codes "keep") ≡ true).
-        subst P (same_Ok (Keep, w.1) x (rw t at first.2)) (tt, whole ∙ ap (λ k. k ∷ w.1) ((bytes_eq-Decides w.0 (codes "keep")).0 t)))
+    subst P (same_Ok (Keep, w.1) x (rw t at first.2)) (tt, whole ∙ ap (λ k. k ∷ w.1) ((bytes_eq-Decides w.0 (codes "keep")).0 t)))
     (λ (f : bytes_eq w.0 (codes "keep") ≡ false).
-        let others = rw f at first.2 in
-        ⊎_elim (λ (t : bytes_eq w.0 (codes "remove") ≡ true).
-            subst P (same_Ok (Remove, w.1) x (rw t at others)) (tt, whole ∙ ap (λ k. k ∷ w.1) ((bytes_eq-Decides w.0 (codes "remove")).0 t)))
-        (λ (g : bytes_eq w.0 (codes "remove") ≡ false).
-            let last = rw g at others in
-            ⊎_elim (λ (t : bytes_eq w.0 (codes "truncate") ≡ true).
-                let cut = truncate-text width w.1 x (rw t at last) in
-                let Q : Action × List Word → Type 0 = λ y. on_fields y.0 × (words ≡ behind_element y.0 ++ x.1) in
-                subst Q cut.what_is (tt, whole ∙ ap (λ k. k ∷ w.1) ((bytes_eq-Decides w.0 (codes "truncate")).0 t) ∙ ap (λ ws. codes "truncate" ∷ ws) cut.words_are))
-            (λ (none : bytes_eq w.0 (codes "truncate") ≡ false). absurd (err-Ok UnknownWord x (rw none at last)))
-            (cases_Bool (bytes_eq w.0 (codes "truncate"))))
-        (cases_Bool (bytes_eq w.0 (codes "remove"))))
+    let others = rw f at first.2 in
+    ⊎_elim (λ (t : bytes_eq w.0 (codes "remove") ≡ true).
+    subst P (same_Ok (Remove, w.1) x (rw t at others)) (tt, whole ∙ ap (λ k. k ∷ w.1) ((bytes_eq-Decides w.0 (codes "remove")).0 t)))
+    (λ (g : bytes_eq w.0 (codes "remove") ≡ false).
+    let last = rw g at others in
+    ⊎_elim (λ (t : bytes_eq w.0 (codes "truncate") ≡ true).
+    let cut = truncate-text width w.1 x (rw t at last) in
+    let Q : Action × List Word → Type 0 = λ y. on_fields y.0 × (words ≡ behind_element y.0 ++ x.1) in
+    subst Q cut.what_is (tt, whole ∙ ap (λ k. k ∷ w.1) ((bytes_eq-Decides w.0 (codes "truncate")).0 t) ∙ ap (λ ws. codes "truncate" ∷ ws) cut.words_are))
+    (λ (none : bytes_eq w.0 (codes "truncate") ≡ false). absurd (err-Ok UnknownWord x (rw none at last)))
+    (cases_Bool (bytes_eq w.0 (codes "truncate"))))
+    (cases_Bool (bytes_eq w.0 (codes "remove"))))
     (cases_Bool (bytes_eq w.0 (codes "keep")))
 
 element_row : (aggregates : List Definition) (e : Option Element) (action : Action) (rest : List Word) → on_fields action → codes "element" ∷ word_or_star element_name e ∷ (behind_element action ++ rest) ≡ action_words aggregates e action ++ rest
@@ -275,23 +275,23 @@ action_of-text aggregates words x h =
     let whole = next_of-text words first.0 first.1 in
     let P : (Option Element × Action) × List Word → Type 0 = λ y. SpellsAction aggregates words y in
     ⊎_elim (λ (t : bytes_eq w.0 (codes "pass") ≡ true).
-        subst P (same_Ok ((None, Pass), w.1) x (rw t at first.2)) (whole ∙ ap (λ k. k ∷ w.1) ((bytes_eq-Decides w.0 (codes "pass")).0 t)))
+    subst P (same_Ok ((None, Pass), w.1) x (rw t at first.2)) (whole ∙ ap (λ k. k ∷ w.1) ((bytes_eq-Decides w.0 (codes "pass")).0 t)))
     (λ (f : bytes_eq w.0 (codes "pass") ≡ false).
-        let others = rw f at first.2 in
-        ⊎_elim (λ (t : bytes_eq w.0 (codes "withhold") ≡ true).
-            subst P (same_Ok ((None, Withhold), w.1) x (rw t at others)) (whole ∙ ap (λ k. k ∷ w.1) ((bytes_eq-Decides w.0 (codes "withhold")).0 t)))
-        (λ (g : bytes_eq w.0 (codes "withhold") ≡ false).
-            let more = rw g at others in
-            ⊎_elim (λ (t : bytes_eq w.0 (codes "aggregate") ≡ true).
-                whole ∙ ap (λ k. k ∷ w.1) ((bytes_eq-Decides w.0 (codes "aggregate")).0 t) ∙ aggregate_action-text aggregates w.1 x (rw t at more))
-            (λ (i : bytes_eq w.0 (codes "aggregate") ≡ false).
-                let last = rw i at more in
-                ⊎_elim (λ (t : bytes_eq w.0 (codes "element") ≡ true).
-                    whole ∙ ap (λ k. k ∷ w.1) ((bytes_eq-Decides w.0 (codes "element")).0 t) ∙ on_element-text aggregates w.1 x (rw t at last))
-                (λ (none : bytes_eq w.0 (codes "element") ≡ false). absurd (err-Ok UnknownWord x (rw none at last)))
-                (cases_Bool (bytes_eq w.0 (codes "element"))))
-            (cases_Bool (bytes_eq w.0 (codes "aggregate"))))
-        (cases_Bool (bytes_eq w.0 (codes "withhold"))))
+    let others = rw f at first.2 in
+    ⊎_elim (λ (t : bytes_eq w.0 (codes "withhold") ≡ true).
+    subst P (same_Ok ((None, Withhold), w.1) x (rw t at others)) (whole ∙ ap (λ k. k ∷ w.1) ((bytes_eq-Decides w.0 (codes "withhold")).0 t)))
+    (λ (g : bytes_eq w.0 (codes "withhold") ≡ false).
+    let more = rw g at others in
+    ⊎_elim (λ (t : bytes_eq w.0 (codes "aggregate") ≡ true).
+    whole ∙ ap (λ k. k ∷ w.1) ((bytes_eq-Decides w.0 (codes "aggregate")).0 t) ∙ aggregate_action-text aggregates w.1 x (rw t at more))
+    (λ (i : bytes_eq w.0 (codes "aggregate") ≡ false).
+    let last = rw i at more in
+    ⊎_elim (λ (t : bytes_eq w.0 (codes "element") ≡ true).
+    whole ∙ ap (λ k. k ∷ w.1) ((bytes_eq-Decides w.0 (codes "element")).0 t) ∙ on_element-text aggregates w.1 x (rw t at last))
+    (λ (none : bytes_eq w.0 (codes "element") ≡ false). absurd (err-Ok UnknownWord x (rw none at last)))
+    (cases_Bool (bytes_eq w.0 (codes "element"))))
+    (cases_Bool (bytes_eq w.0 (codes "aggregate"))))
+    (cases_Bool (bytes_eq w.0 (codes "withhold"))))
     (cases_Bool (bytes_eq w.0 (codes "pass")))
 
 -- one word more in front
@@ -363,14 +363,17 @@ unfolding rule_line
 rule_line-found p q words tail e h =
     ⊎_elim (λ (full : leb 4096 (length p.rules) ≡ true). absurd (err-Ok TooMany q (rw full at h)))
     (λ (room : leb 4096 (length p.rules) ≡ false).
-        let read = bound (rule_of p.aggregates tail) (λ r. Ok (with_rule p r)) q (rw room at h) in
-        let found = rule_words-found p.aggregates tail read.0 read.1 in
-        let low = leb-false 4096 (length p.rules) room in
-        record {
-          tail = tail; rule = read.0; words_are = e; room = low;
-          spelled = record { from = found.from; to = found.to; sound = rule_of-sound p.aggregates tail read.0 read.1; from_is = found.from_is; to_is = found.to_is; words_are = found.words_are };
-          added = same_Ok (with_rule p read.0) q read.2;
-        })
+    let read = bound (rule_of p.aggregates tail) (λ r. Ok (with_rule p r)) q (rw room at h) in
+    let found = rule_words-found p.aggregates tail read.0 read.1 in
+    let low = leb-false 4096 (length p.rules) room in
+    record {
+      tail = tail;
+      rule = read.0;
+      words_are = e;
+      room = low;
+      spelled = record { from = found.from; to = found.to; sound = rule_of-sound p.aggregates tail read.0 read.1; from_is = found.from_is; to_is = found.to_is; words_are = found.words_are };
+      added = same_Ok (with_rule p read.0) q read.2;
+    })
     (cases_Bool (leb 4096 (length p.rules)))
 
 aggregate_line-found : (p q : Meaning) (words tail : List Word) → words ≡ codes "aggregate" ∷ tail → aggregate_line p tail ≡ Ok q → AddsAggregate p words q
@@ -378,13 +381,15 @@ unfolding aggregate_line
 aggregate_line-found p q words tail e h =
     ⊎_elim (λ (full : leb 256 (length p.aggregates) ≡ true). absurd (err-Ok TooMany q (rw full at h)))
     (λ (room : leb 256 (length p.aggregates) ≡ false).
-        let read = bound (aggregate_of p.aggregates tail) (λ a. Ok (with_aggregate p a)) q (rw room at h) in
-        let low = leb-false 256 (length p.aggregates) room in
-        record {
-          aggregate = read.0; words_are = e ∙ aggregate_words-found p.aggregates tail read.0 read.1; room = low;
-          sound = aggregate_of-sound p.aggregates tail read.0 read.1;
-          added = same_Ok (with_aggregate p read.0) q read.2;
-        })
+    let read = bound (aggregate_of p.aggregates tail) (λ a. Ok (with_aggregate p a)) q (rw room at h) in
+    let low = leb-false 256 (length p.aggregates) room in
+    record {
+      aggregate = read.0;
+      words_are = e ∙ aggregate_words-found p.aggregates tail read.0 read.1;
+      room = low;
+      sound = aggregate_of-sound p.aggregates tail read.0 read.1;
+      added = same_Ok (with_aggregate p read.0) q read.2;
+    })
     (cases_Bool (leb 256 (length p.aggregates)))
 
 line_of-found : (p q : Meaning) (words : List Word) → line_of p words ≡ Ok q → IsLine p words q
@@ -394,13 +399,13 @@ line_of-found p q words h =
     let w = first.0 in
     let whole = next_of-text words first.0 first.1 in
     ⊎_elim (λ (t : bytes_eq w.0 (codes "rule") ≡ true).
-        inl (rule_line-found p q words w.1 (whole ∙ ap (λ k. k ∷ w.1) ((bytes_eq-Decides w.0 (codes "rule")).0 t)) (rw t at first.2)))
+    inl (rule_line-found p q words w.1 (whole ∙ ap (λ k. k ∷ w.1) ((bytes_eq-Decides w.0 (codes "rule")).0 t)) (rw t at first.2)))
     (λ (f : bytes_eq w.0 (codes "rule") ≡ false).
-        let others = rw f at first.2 in
-        ⊎_elim (λ (t : bytes_eq w.0 (codes "aggregate") ≡ true).
-            inr (aggregate_line-found p q words w.1 (whole ∙ ap (λ k. k ∷ w.1) ((bytes_eq-Decides w.0 (codes "aggregate")).0 t)) (rw t at others)))
-        (λ (none : bytes_eq w.0 (codes "aggregate") ≡ false). absurd (err-Ok UnknownWord q (rw none at others)))
-        (cases_Bool (bytes_eq w.0 (codes "aggregate"))))
+    let others = rw f at first.2 in
+    ⊎_elim (λ (t : bytes_eq w.0 (codes "aggregate") ≡ true).
+    inr (aggregate_line-found p q words w.1 (whole ∙ ap (λ k. k ∷ w.1) ((bytes_eq-Decides w.0 (codes "aggregate")).0 t)) (rw t at others)))
+    (λ (none : bytes_eq w.0 (codes "aggregate") ≡ false). absurd (err-Ok UnknownWord q (rw none at others)))
+    (cases_Bool (bytes_eq w.0 (codes "aggregate"))))
     (cases_Bool (bytes_eq w.0 (codes "rule")))
 
 prefix_back : (o : Option Prefix) (w : Word) → IsPrefixWord o w → or_star prefix w ≡ Ok o
@@ -412,11 +417,13 @@ rule_only : (aggregates : List Definition) (words : List Word) (r : Rule) → Sp
 unfolding rule_of next next_of after ended
 rule_only aggregates words r h =
     ap (rule_of aggregates) h.words_are
-    ∙ rw (or_star-printed name BadName itself (λ w. is_name w ≡ true) name-printed name-star r.who h.sound.who,
-        or_star-printed (number 4294967295) BadNumber decimal (λ d. d < 2 ^ 32) domain_back (number-star 4294967295) r.domain h.sound.domain,
-        prefix_back r.from h.from h.from_is,
-        prefix_back r.to h.to h.to_is,
-        action_back aggregates r.element r.action h.sound.element h.sound.action) refl
+    ∙ rw (
+      or_star-printed name BadName itself (λ w. is_name w ≡ true) name-printed name-star r.who h.sound.who,
+      or_star-printed (number 4294967295) BadNumber decimal (λ d. d < 2 ^ 32) domain_back (number-star 4294967295) r.domain h.sound.domain,
+      prefix_back r.from h.from h.from_is,
+      prefix_back r.to h.to h.to_is,
+      action_back aggregates r.element r.action h.sound.element h.sound.action,
+    ) refl
 
 rule_line-only : (p q : Meaning) (words : List Word) → AddsRule p words q → line_of p words ≡ Ok q
 unfolding line_of rule_line next_of
@@ -456,13 +463,13 @@ line_step-found : (p : Meaning) (line : List ℕ) (x : Bool × Meaning) → line
 unfolding line_step step
 line_step-found p line x h =
     ⊎_elim (λ (skip : is_skipped (words_of line) ≡ true).
-        let same = same_Ok (true, p) x (rw skip at h) in
-        record { started_is = ap (λ (y : Bool × Meaning). y.0) same; line_is = inl (skip, ap (λ (y : Bool × Meaning). y.1) same) })
+    let same = same_Ok (true, p) x (rw skip at h) in
+    record { started_is = ap (λ (y : Bool × Meaning). y.0) same; line_is = inl (skip, ap (λ (y : Bool × Meaning). y.1) same) })
     (λ (kept : is_skipped (words_of line) ≡ false).
-        let read = bound (line_of p (words_of line)) (λ q. Ok (true, q)) x (rw kept at h) in
-        let same = same_Ok (true, read.0) x read.2 in
-        let P : Meaning → Type 0 = λ m. IsLine p (words_of line) m in
-        record { started_is = ap (λ (y : Bool × Meaning). y.0) same; line_is = inr (kept, subst P (ap (λ (y : Bool × Meaning). y.1) same) (line_of-found p read.0 (words_of line) read.1)) })
+    let read = bound (line_of p (words_of line)) (λ q. Ok (true, q)) x (rw kept at h) in
+    let same = same_Ok (true, read.0) x read.2 in
+    let P : Meaning → Type 0 = λ m. IsLine p (words_of line) m in
+    record { started_is = ap (λ (y : Bool × Meaning). y.0) same; line_is = inr (kept, subst P (ap (λ (y : Bool × Meaning). y.1) same) (line_of-found p read.0 (words_of line) read.1)) })
     (cases_Bool (is_skipped (words_of line)))
 
 meaning_ok : (p q : Meaning) → ◌≡◌ {A = Result Meaning PolicyFault} (Ok p) (Ok q) → p ≡ q
@@ -492,9 +499,9 @@ unfolding line_step step
 header-found line x h =
     ⊎_elim (λ (skip : is_skipped (words_of line) ≡ true). record { how = inl (skip, same_Ok (false, nothing) x (rw skip at h)) })
     (λ (kept : is_skipped (words_of line) ≡ false).
-        let read = bound (cond (is_header (words_of line)) (Ok nothing) (Err NoHeader)) (λ q. Ok (true, q)) x (rw kept at h) in
-        let test = guarded (is_header (words_of line)) NoHeader nothing read.0 read.1 in
-        record { how = inr (kept, is_header-is (words_of line) test.0, ap (λ (m : Meaning). (true, m)) test.1 ∙ same_Ok (true, read.0) x read.2) })
+    let read = bound (cond (is_header (words_of line)) (Ok nothing) (Err NoHeader)) (λ q. Ok (true, q)) x (rw kept at h) in
+    let test = guarded (is_header (words_of line)) NoHeader nothing read.0 read.1 in
+    record { how = inr (kept, is_header-is (words_of line) test.0, ap (λ (m : Meaning). (true, m)) test.1 ∙ same_Ok (true, read.0) x read.2) })
     (cases_Bool (is_skipped (words_of line)))
 
 all-found : (q : Meaning) (n : ℕ) (lines : List (List ℕ)) → read_lines false nothing n lines ≡ Ok q → AreAllLines lines q
@@ -503,9 +510,9 @@ all-found q n (line ∷ lines) h =
     let s = steps_of false nothing line n lines q h in
     let read = header-found line (s.next_started, s.mid) s.stepped in
     ⊎_elim (λ (skip : (is_skipped (words_of line) ≡ true) × ((false, nothing) ≡ (s.next_started, s.mid))).
-        inl (skip.0, all-found q (n + 1) lines (ap (λ (y : Bool × Meaning). read_lines y.0 y.1 (n + 1) lines) skip.1 ∙ s.rest)))
+    inl (skip.0, all-found q (n + 1) lines (ap (λ (y : Bool × Meaning). read_lines y.0 y.1 (n + 1) lines) skip.1 ∙ s.rest)))
     (λ (kept : (is_skipped (words_of line) ≡ false) × (words_of line ≡ header) × ((true, nothing) ≡ (s.next_started, s.mid))).
-        inr (kept.0, kept.1, lines-found nothing q (n + 1) lines (ap (λ (y : Bool × Meaning). read_lines y.0 y.1 (n + 1) lines) kept.2 ∙ s.rest)))
+    inr (kept.0, kept.1, lines-found nothing q (n + 1) lines (ap (λ (y : Bool × Meaning). read_lines y.0 y.1 (n + 1) lines) kept.2 ∙ s.rest)))
     read.how
 
 -- what is read is spelled so
@@ -536,12 +543,19 @@ all-only : (q : Meaning) (n : ℕ) (lines : List (List ℕ)) → AreAllLines lin
 all-only q n [] h = absurd h
 all-only q n (line ∷ lines) h =
     ⊎_elim (λ (skip : (is_skipped (words_of line) ≡ true) × AreAllLines lines q).
-        read_lines-cons false nothing n line lines ∙ rw (skip-only line skip.0) (all-only q (n + 1) lines skip.1))
+    read_lines-cons false nothing n line lines ∙ rw (skip-only line skip.0) (all-only q (n + 1) lines skip.1))
     (λ (kept : (is_skipped (words_of line) ≡ false) × (words_of line ≡ header) × AreLines nothing lines q).
-        read_lines-cons false nothing n line lines ∙ rw (header-only line kept.0 kept.1) (lines-only nothing q (n + 1) lines kept.2))
+    read_lines-cons false nothing n line lines ∙ rw (header-only line kept.0 kept.1) (lines-only nothing q (n + 1) lines kept.2))
     h
 
 -- what is spelled so is read
 pub policy_of-only : (text : List ℕ) (q : Meaning) → Spells text q → policy_of text ≡ Ok q
 unfolding policy_of
 policy_of-only text q h = all-only q 1 (lines_of text) h
+
+pub parses-found : (text : List ℕ) (r : Result Meaning PolicyFault) → Parses (λ (p : Meaning). p) r (policy_of text) → IfOk r (λ p. Spells text p)
+parses-found text (Ok p) h = policy_of-found text p h
+parses-found text (Err fault) h = tt
+
+pub parses-only : (text : List ℕ) (r : Result Meaning PolicyFault) (p : Meaning) → Parses (λ (q : Meaning). q) r (policy_of text) → Spells text p → Parses (λ (q : Meaning). q) r (Ok p)
+parses-only text r p h spelled = let P : Result Meaning PolicyFault → Type 0 = λ read. Parses (λ (q : Meaning). q) r read in subst P (policy_of-only text p spelled) h

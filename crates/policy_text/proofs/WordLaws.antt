@@ -1,12 +1,12 @@
 -- The first word of a line.
-use Rattle.std.proofs.Common.{◌≡◌, ℕ, zero, suc, ◌+◌, ◌-◌, ◌<◌, ◌≤◌, Bool, true, false, not, cond, List, [], ◌∷◌, ◌++◌, length, get_or, take, drop, filter, Option, Some, None, refl, sym, ap, ◌∙◌, arith, ⊎_elim, length-drop, length-take-le}
-use Rattle.std.specs.List.{slice_split, position_or_len, position, before_first, after_first}
-use Rattle.std.proofs.lemmas.List.{take_all, drop_all, drop_more, drop-drop}
+use Rattle.std.proofs.Common.{◌≡◌, ℕ, suc, ◌+◌, ◌-◌, ◌<◌, ◌≤◌, Bool, true, false, not, List, [], ◌∷◌, length, get_or, take, drop, filter, Some, None, refl, sym, ap, ◌∙◌, arith, ⊎_elim, length-drop, length-take-le}
+use Rattle.std.specs.List.{slice_split, position_or_len, position}
+use Rattle.std.proofs.lemmas.List.{take_all, drop_all, drop_more}
 use Rattle.std.proofs.lemmas.List.Sums.{prefix_len_stops, prefix_len_passes}
 use Rattle.std.proofs.lemmas.List.Splits.{slice_split_first, slice_split_none, slice_split-cons_yes}
 use Rattle.std.proofs.lemmas.Option.{same_Some, none-some}
-use Rattle.std.proofs.lemmas.Bool.{not-true, not-false, cases_Bool, cases_lt, lt-ltb, le-ltb, false≢true}
-use Rattle.policy_text.specs.Words.{Word, is_blank, is_word, words_of, first_of}
+use Rattle.std.proofs.lemmas.Bool.{not-true, not-false, cases_Bool, cases_lt, lt-ltb, le-ltb}
+use Rattle.policy_text.specs.Words.{Word, is_blank, is_word, words_of}
 
 -- the octets that are no blanks
 abbrev pub in_word : ℕ → Bool

@@ -1,5 +1,5 @@
 -- What a policy is.
-use Rattle.std.specs.Prelude.{◌≡◌, ℕ, ◌≤◌, ◌<◌, List, [], ◌∷◌, ◌++◌, length}
+use Rattle.std.specs.Prelude.{ℕ, ◌≤◌, List, [], ◌∷◌, ◌++◌}
 use Rattle.ipfix_element.specs.Element.{Element}
 use Rattle.policy_text.specs.declared.rule.Rule.{Rule}
 

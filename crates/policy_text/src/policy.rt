@@ -1,5 +1,7 @@
 ghost use Rattle.std.specs.Prelude.{◌≡◌, Ok, IfOk, string_bytes};
 ghost use Rattle.policy_text.specs.Grammar.{IsPolicy};
+ghost use Rattle.policy_text.specs.Policies.{Meaning};
+ghost use Rattle.policy_text.specs.Spelling.{Spells};
 ghost use Rattle.policy_text.specs.Printing.{policy_text};
 ghost use Rattle.policy_text.specs.Results.{Gives, Parses, fault_at};
 ghost use Rattle.policy_text.specs.Lines.{rule_line, aggregate_line, line_of};
@@ -44,6 +46,19 @@ impl Policy {
     /// skipped. A fault is that of the first faulty line, and in it of the first word that doesn't fit;
     /// where memory runs out the fault has line 0.
     pub fn parse(alloc: Global, text: &str) -> Result<Policy, PolicyFault>
+        // What is read is spelled so.
+        ensures found { IfOk result (λ policy. Spells text.now policy) }
+        // What is spelled so is read, unless memory runs out.
+        ensures only { (policy : Meaning) → Spells text.now policy
+            → Parses (λ p. p) result (Ok policy) }
+        // Which fault it is.
+        ensures exact { Parses (λ p. p) result (policy_of text.now) }
+    {
+        Policy::read(alloc, text)
+    }
+
+    /// The policy of a text, or its first fault.
+    fn read(alloc: Global, text: &str) -> Result<Policy, PolicyFault>
         ensures exact { Parses (λ policy. policy) result (policy_of text.now) }
     {
         let mut policy = Policy {

@@ -1,4 +1,4 @@
-use Rattle.std.proofs.Common.{◌≡◌, sym, ap, ◌∙◌}
+use Rattle.std.proofs.Common.{sym, ap, ◌∙◌}
 use Rattle.policy_text.specs.Elements.{element_of}
 use Rattle.policy_text.proofs.ElementLaws.{element_of-answer, element_of-text}
 use Rattle.policy_text.proofs.classes.find_element.Goals as goal

@@ -1,4 +1,4 @@
-use Rattle.std.proofs.Common.{◌≡◌, [], sym, ap, ◌∙◌, eqb}
+use Rattle.std.proofs.Common.{sym, ap, ◌∙◌, eqb}
 use Rattle.std.specs.List.{slice_split}
 use Rattle.std.proofs.lemmas.Result.{err_from_is_err_and}
 use Rattle.flow_prefix.proofs.PartsLaws.{cut_at-shorter}

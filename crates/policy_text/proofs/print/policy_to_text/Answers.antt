@@ -1,4 +1,4 @@
-use Rattle.std.proofs.Common.{refl, append_assoc}
+use Rattle.std.proofs.Common.{append_assoc}
 use Rattle.std.proofs.lemmas.List.Concat.{flat_map-append}
 use Rattle.policy_text.specs.Printing.{policy_text}
 use Rattle.policy_text.proofs.print.policy_to_text.Goals as goal

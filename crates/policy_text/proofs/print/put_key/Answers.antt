@@ -1,8 +1,5 @@
-use Rattle.std.proofs.Common.{◌≡◌, ◌++◌, take, sym, ap, ◌∙◌, arith, append_assoc}
-use Rattle.std.specs.String.{string_bytes}
-use Rattle.policy_text.specs.Printing.{key_text}
-use Rattle.ipfix_element.specs.Names.{element_name}
-use Rattle.policy_text.proofs.PrintLaws.{comma_before, comma_none, comma_some, key_turn}
+use Rattle.std.proofs.Common.{arith, append_assoc}
+use Rattle.policy_text.proofs.PrintLaws.{comma_none, comma_some, key_turn}
 use Rattle.policy_text.proofs.print.put_key.Goals as goal
 use Rattle.policy_text.proofs.print.put_key.Goals.{then-place-gt0+in_ok-push_str, else-place-gt0}
 

@@ -1,4 +1,4 @@
-use Rattle.std.proofs.Common.{[], ◌∷◌, ◌++◌, ◌∙◌, refl}
+use Rattle.std.proofs.Common.{[], ◌∷◌, ◌++◌}
 use Rattle.std.specs.String.{string_bytes}
 use Rattle.policy_text.specs.Printing.{line_text, rule_words}
 use Rattle.policy_text.proofs.PrintLaws.{last_push, rule_row}

@@ -1,5 +1,5 @@
-use Rattle.std.proofs.Common.{◌≡◌, Some, None, sym, ap, ◌∙◌, arith}
-use Rattle.policy_text.specs.Words.{first_of, words_of}
+use Rattle.std.proofs.Common.{sym, ap, ◌∙◌, arith}
+use Rattle.policy_text.specs.Words.{first_of}
 use Rattle.policy_text.proofs.WordLaws.{words_of-none, position-none, in_word, from_place, from_word, begins_word, first_until, last_whole}
 use Rattle.policy_text.proofs.words.first_word.Goals as goal
 

@@ -1,4 +1,4 @@
-use Rattle.std.proofs.Common.{◌≡◌, List, ℕ, subst, sym}
+use Rattle.std.proofs.Common.{List, ℕ, subst, sym}
 use Rattle.std.specs.Str.{IsUtf8}
 use Rattle.policy_text.proofs.NameLaws.{is_name-text}
 use Rattle.policy_text.proofs.name.Name.as_str.Goals as goal

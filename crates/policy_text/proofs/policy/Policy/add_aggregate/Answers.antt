@@ -1,4 +1,4 @@
-use Rattle.std.proofs.Common.{◌≡◌, ◌<◌, List, Ok, length, sym, ap, ◌∙◌, arith}
+use Rattle.std.proofs.Common.{◌<◌, List, length, sym, ap, ◌∙◌, arith}
 use Rattle.policy_text.specs.Policies.{Aggregate}
 use Rattle.policy_text.specs.Lines.{aggregate_of}
 use Rattle.policy_text.proofs.SoundLaws.{aggregate_of-sound}

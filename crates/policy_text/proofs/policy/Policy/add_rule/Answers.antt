@@ -1,4 +1,4 @@
-use Rattle.std.proofs.Common.{◌≡◌, ◌<◌, List, Ok, length, sym, ap, ◌∙◌, arith}
+use Rattle.std.proofs.Common.{◌<◌, List, length, sym, ap, ◌∙◌, arith}
 use Rattle.policy_text.specs.Policies.{Aggregate}
 use Rattle.policy_text.specs.Lines.{rule_of}
 use Rattle.policy_text.proofs.SoundLaws.{rule_of-sound}
