@@ -13,7 +13,7 @@ length-be_octets zero n = refl
 length-be_octets (suc width) n = let e = length-be_octets width n in omega (arith, e)
 
 -- an octet of a number, by its place
-byte_at-pow : (k n : ℕ) → byte_at k n ≡ n / 256 ^ k % 256
+pub byte_at-pow : (k n : ℕ) → byte_at k n ≡ n / 256 ^ k % 256
 byte_at-pow zero n = ap (λ (m : ℕ). m % 256) (sym (div-one n))
 byte_at-pow (suc k) n = refl
 

@@ -1,0 +1,12 @@
+pub mod PowerLaws
+pub mod BitLaws
+pub mod NumeralLaws
+pub mod ScanLaws
+pub mod PartsLaws
+pub mod AddressLaws
+pub mod AddressTextLaws
+pub mod DoubleLaws
+pub mod AddressReadLaws
+pub mod CutLaws
+pub mod PrefixLaws
+pub mod PrintLaws

@@ -1,0 +1,10 @@
+pub use Rattle.sequences.specs.Octets
+pub mod Family
+pub mod Bits
+pub mod Net
+pub mod Numerals
+pub mod Text
+pub mod Reading
+pub mod Parts
+pub mod Printing
+pub mod Prefixes

@@ -1,0 +1,59 @@
+ghost use Rattle.std.specs.Prelude.{◌≡◌, ◌≤◌, ◌<◌, ◌*◌, ◌^◌, ◌++◌, length, OnOk, OnErr};
+ghost use Rattle.sequences.specs.Octets.{be_value};
+ghost use Rattle.flow_prefix.specs.Bits.{truncated, kept_octets};
+
+use std::alloc::AllocError;
+
+const OCTET_BITS: usize = 8;
+
+/// Appends the octets with their `n` most significant bits kept and the others 0, as many octets as
+/// they are (RFC 6235, section 4.1.1: truncation). An `Err`, for want of memory, leaves `out` as it was.
+pub fn keep_bits(octets: &[u8], n: usize, out: &mut Vec<u8>) -> Result<(), AllocError>
+    requires { n ≤ 8 * length octets.now }
+    ensures ok { OnOk result (out.new.items ≡ out.old.items ++ kept_octets n octets.now) }
+    ensures err { OnErr result (out.new.items ≡ out.old.items) }
+{
+    out.reserve(octets.len())?;
+    let mut left = n;
+    for octet in octets {
+        let kept = left.min(OCTET_BITS);
+        out.push_reserved(kept_octet(*octet, kept));
+        left -= kept;
+    }
+    Ok(())
+}
+
+/// An octet with its first bits kept.
+fn kept_octet(octet: u8, kept: usize) -> u8
+    requires { kept ≤ 8 }
+    ensures { result ≡ truncated 8 kept octet }
+{
+    let dropped = OCTET_BITS - kept;
+    ((u32::from(octet) >> dropped) << dropped) as u8
+}
+
+/// A value of so many bits with its first ones kept.
+pub(crate) fn first_bits(width: u32, kept: u32, value: u128) -> u128
+    requires wide { width ≤ 128 }
+    requires within { kept ≤ width }
+    requires below { value < 2 ^ width }
+    ensures { result ≡ truncated width kept value }
+{
+    match 1u128.checked_shl(width - kept) {
+        Some(unit) => value / unit * unit,
+        None => 0,
+    }
+}
+
+/// The number that the octets write, the most significant first.
+pub(crate) fn number(octets: &[u8]) -> u128
+    requires { length octets.now ≤ 16 }
+    ensures value { result ≡ be_value octets.now }
+    ensures below { result < 256 ^ length octets.now }
+{
+    let mut value = 0u128;
+    for octet in octets {
+        value = value * 0x100 + u128::from(*octet);
+    }
+    value
+}

@@ -1,0 +1,52 @@
+ghost use Rattle.std.specs.Prelude.{◌≡◌};
+
+/// The two families of addresses.
+#[derive(Clone, Copy, Debug, PartialEq, Eq)]
+pub enum Family {
+    Ipv4,
+    Ipv6,
+}
+
+impl Family {
+    ghost use Rattle.flow_prefix.specs.Family.{width, places, base, separator};
+
+    /// The bits of an address.
+    pub fn width(self) -> u32
+        ensures { result ≡ width self }
+    {
+        match self {
+            Family::Ipv4 => 32,
+            Family::Ipv6 => 128,
+        }
+    }
+
+    /// The parts of an address: octets of IPv4, groups of 16 bits of IPv6.
+    pub(crate) fn places(self) -> usize
+        ensures { result ≡ places self }
+    {
+        match self {
+            Family::Ipv4 => 4,
+            Family::Ipv6 => 8,
+        }
+    }
+
+    /// One above the greatest part.
+    pub(crate) fn base(self) -> u128
+        ensures { result ≡ base self }
+    {
+        match self {
+            Family::Ipv4 => 0x100,
+            Family::Ipv6 => 0x1_0000,
+        }
+    }
+
+    /// What stands between two parts of an address.
+    pub(crate) fn separator(self) -> u8
+        ensures { result ≡ separator self }
+    {
+        match self {
+            Family::Ipv4 => b'.',
+            Family::Ipv6 => b':',
+        }
+    }
+}

@@ -1,0 +1,120 @@
+ghost use Rattle.std.specs.Prelude.{◌≡◌, ◌↔◌, ℕ, Bool, ◌^◌, ◌<◌, Ok, Err, IfOk, IsErrOf, string_bytes};
+ghost use Rattle.flow_prefix.specs.Family.{width};
+
+use crate::address::read_address;
+use crate::bits::first_bits;
+use crate::family::Family;
+use crate::fault::PrefixFault;
+use crate::net::{Prefix4, Prefix6};
+use crate::numeral::read_number;
+use crate::scan::cut_at;
+use std::alloc::{AllocError, Global};
+
+const GREATEST_LENGTH: u32 = 999;
+
+/// A prefix of either family.
+#[derive(Clone, Copy, Debug, PartialEq, Eq)]
+pub enum Prefix {
+    V4(Prefix4),
+    V6(Prefix6),
+}
+
+impl Prefix {
+    ghost use Rattle.flow_prefix.specs.Text.{IsPrefixText, HasNoForm, HasLongLength, HasHostBits};
+    ghost use Rattle.flow_prefix.specs.Reading.{prefix_of};
+    ghost use Rattle.flow_prefix.specs.Printing.{prefix_text};
+    ghost use Rattle.flow_prefix.specs.Prefixes.{contains};
+
+    /// The prefix that a text writes: an address, `/` and a length (RFC 4291, section 2.3). An IPv4
+    /// address is four decimal numbers; an IPv6 address is eight groups of hexadecimal digits, where
+    /// one `::` may stand for one or more groups of zeros. `BadText` where the text has another form;
+    /// then `BadLength` where the length is above the family's width; then `HostBits` where a bit past
+    /// the length is set.
+    pub fn parse(text: &str) -> Result<Prefix, PrefixFault>
+        ensures exact { result ≡ prefix_of text.now }
+        ensures found { IfOk result (λ prefix. IsPrefixText text.now prefix) }
+        ensures only { (prefix : Prefix) → IsPrefixText text.now prefix → result ≡ Ok prefix }
+
+        ensures bad_text { (result ≡ Err PrefixFault.BadText) ↔ HasNoForm text.now }
+        ensures bad_length { (result ≡ Err PrefixFault.BadLength) ↔ HasLongLength text.now }
+        ensures host_bits { (result ≡ Err PrefixFault.HostBits) ↔ HasHostBits text.now }
+    {
+        Prefix::parse_ascii(text.as_bytes())
+    }
+
+    /// The prefix that these octets of a text write, as `parse` reads it.
+    pub fn parse_ascii(text: &[u8]) -> Result<Prefix, PrefixFault>
+        ensures exact { result ≡ prefix_of text.now }
+        ensures found { IfOk result (λ prefix. IsPrefixText text.now prefix) }
+        ensures only { (prefix : Prefix) → IsPrefixText text.now prefix → result ≡ Ok prefix }
+
+        ensures bad_text { (result ≡ Err PrefixFault.BadText) ↔ HasNoForm text.now }
+        ensures bad_length { (result ≡ Err PrefixFault.BadLength) ↔ HasLongLength text.now }
+        ensures host_bits { (result ≡ Err PrefixFault.HostBits) ↔ HasHostBits text.now }
+    {
+        read_prefix(text)
+    }
+
+    /// Whether the octets are a value of the prefix's family, 4 or 16 octets, whose first bits are
+    /// those of the prefix.
+    pub fn contains(&self, octets: &[u8]) -> bool
+        ensures { result ≡ contains self.now octets.now }
+    {
+        match self {
+            Prefix::V4(net) => net.contains(octets),
+            Prefix::V6(net) => net.contains(octets),
+        }
+    }
+
+    /// The canonical text: IPv4 in dotted decimal; IPv6 as eight groups in lower case without leading
+    /// zeros and without `::`. Fails only for want of memory.
+    pub fn print(&self, alloc: Global) -> Result<String, AllocError>
+        ensures text { IfOk result (λ text. string_bytes text ≡ prefix_text self.now) }
+        ensures reads_back { IfOk result (λ text. prefix_of (string_bytes text) ≡ Ok self.now) }
+    {
+        match self {
+            Prefix::V4(net) => net.print(alloc),
+            Prefix::V6(net) => net.print(alloc),
+        }
+    }
+}
+
+ghost use Rattle.flow_prefix.specs.Reading.{prefix_of, judged};
+
+/// The reading of a prefix: its address first, then its length, then its host bits.
+#[tactic(auto, unfolding(crate::specs::Reading::prefix_of))]
+fn read_prefix(text: &[u8]) -> Result<Prefix, PrefixFault>
+    ensures { result ≡ prefix_of text.now }
+{
+    let Some((address, length)) = cut_at(text, b'/') else {
+        return Err(PrefixFault::BadText);
+    };
+    let Some(bits) = read_number(length, GREATEST_LENGTH) else {
+        return Err(PrefixFault::BadText);
+    };
+    if let Some(number) = read_address(Family::Ipv4, address) {
+        return judge(Family::Ipv4, number, bits);
+    }
+    match read_address(Family::Ipv6, address) {
+        Some(number) => judge(Family::Ipv6, number, bits),
+        None => Err(PrefixFault::BadText),
+    }
+}
+
+/// The prefix of an address and a length, or the fault of the two.
+#[tactic(auto, unfolding(crate::specs::Reading::judged))]
+fn judge(family: Family, address: u128, bits: u32) -> Result<Prefix, PrefixFault>
+    requires { address < 2 ^ width family }
+    ensures { result ≡ judged family address bits }
+{
+    if bits > family.width() {
+        return Err(PrefixFault::BadLength);
+    }
+    if first_bits(family.width(), bits, address) != address {
+        return Err(PrefixFault::HostBits);
+    }
+    Ok(match family {
+        Family::Ipv4 => Prefix::V4(Prefix4::new(address as u32, bits as u8)),
+        Family::Ipv6 => Prefix::V6(Prefix6::new(address, bits as u8)),
+    })
+}

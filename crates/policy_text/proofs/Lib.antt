@@ -1,0 +1,13 @@
+pub mod WordLaws
+pub mod ElementLaws
+pub mod ResultLaws
+pub mod KeyLaws
+pub mod ParsingLaws
+pub mod NameLaws
+pub mod PrintLaws
+pub mod PlainLaws
+pub mod PrintedClassLaws
+pub mod RoundLaws
+pub mod SoundLaws
+pub mod KeptLaws
+pub mod SpellLaws

@@ -1,0 +1,561 @@
+-- What is read is spelled so, and what is spelled so is read.
+use Rattle.std.proofs.Common.{◌≡◌, ◌⊎◌, inl, inr, ℕ, ◌+◌, ◌^◌, ◌<◌, Bool, true, false, cond, eqb, leb, List, [], ◌∷◌, ◌++◌, length, map, Option, Some, None, Result, Ok, Err, IfOk, refl, sym, ap, ◌∙◌, subst, arith, ⊎_elim, append_assoc, append-nil, codes, ltb, is_some}
+use Rattle.std.specs.List.{slice_split, join_with_byte}
+use Rattle.std.specs.Str.{bytes_eq}
+use Rattle.std.specs.Fmt.{decimal}
+use Rattle.std.proofs.lemmas.Slice.Eq.{bytes_eq-Decides}
+use Rattle.std.proofs.lemmas.List.Splits.{join_with_byte-slice_split}
+use Rattle.std.proofs.lemmas.Bool.{cases_Bool, leb-false, lt-leb, and_parts, false≢true}
+use Rattle.ipfix_element.specs.Element.{Element}
+use Rattle.ipfix_element.specs.Names.{element_name}
+use Rattle.flow_prefix.specs.declared.prefix.Prefix.{Prefix}
+use Rattle.flow_prefix.specs.declared.fault.PrefixFault.{PrefixFault}
+use Rattle.flow_prefix.specs.Numerals.{number_of}
+use Rattle.flow_prefix.specs.Reading.{prefix_of}
+use Rattle.flow_prefix.specs.Text.{IsPrefixText}
+use Rattle.flow_prefix.proofs.NumeralLaws.{number_of-found}
+use Rattle.flow_prefix.proofs.PrefixLaws.{prefix_of-found, prefix_of-only}
+use Rattle.policy_text.specs.declared.fault.FaultKind.{FaultKind}
+use Rattle.policy_text.specs.declared.fault.FaultKind.TheVariants.{UnknownAggregate, DoubleAggregate, UnknownWord, NoHeader, BadName, BadNumber, BadPrefix, BadTruncate, TooMany}
+use Rattle.policy_text.specs.declared.fault.PolicyFault.{PolicyFault}
+use Rattle.policy_text.specs.declared.rule.Rule.{Rule}
+use Rattle.policy_text.specs.declared.rule.Action.{Action}
+use Rattle.policy_text.specs.declared.rule.Action.TheVariants.{Pass, Withhold, Aggregate, Keep, Remove, Truncate}
+use Rattle.policy_text.specs.Words.{Word, words_of, lines_of, is_skipped}
+use Rattle.policy_text.specs.Naming.{is_name}
+use Rattle.policy_text.specs.Elements.{element_of}
+use Rattle.policy_text.specs.Policies.{Meaning, nothing, with_rule, with_aggregate, Aggregate as Definition}
+use Rattle.policy_text.specs.Results.{◌>>=◌, at_line, then_read, Parses}
+use Rattle.policy_text.specs.Classes.{name, number, element, prefix, prefix_or_fault, star, some_of, or_star, with_key, add_piece, add_pieces, key_of, place_of, width_at, aggregate_place, new_name, interval, bits_within}
+use Rattle.policy_text.specs.Lines.{next_of, next, after, ended, truncate_of, element_action, aggregate_action, on_element, action_of, rule_of, aggregate_of, rule_line, aggregate_line, line_of}
+use Rattle.policy_text.specs.Parsing.{is_header, step, line_step, read_lines, policy_of}
+use Rattle.policy_text.specs.Grammar.{name_at}
+use Rattle.policy_text.specs.Printing.{word_or_star, itself, action_words, key_text, aggregate_words, header}
+use Rattle.policy_text.specs.Spelling.{IsPrefixWord, rule_tail, SpellsRule, AddsRule, AddsAggregate, AfterLine, AreLines, AreAllLines, Spells}
+use Rattle.policy_text.proofs.ElementLaws.{element_of-found}
+use Rattle.policy_text.proofs.ParsingLaws.{read_lines-cons, read_lines-done, read_lines-empty}
+use Rattle.policy_text.proofs.PrintedClassLaws.{name-printed, or_star-word, or_star-star, or_star-printed, name-star, number-star, prefix-star}
+use Rattle.policy_text.proofs.SoundLaws.{err-Ok, same_Ok, bound, guarded, or_fault-Ok, place_name, with_key-sound, rule_end, rule_action, rule_to, rule_behind_from, rule_from, rule_behind_domain, rule_domain, rule_behind_who, rule_who, aggregate_end, aggregate_grace, aggregate_behind_interval, aggregate_interval, aggregate_behind_key, aggregate_key, aggregate_behind_name, rule_of-sound, aggregate_of-sound}
+use Rattle.policy_text.proofs.RoundLaws.{domain_back, action_back, aggregate_back}
+
+next_of-text : (words : List Word) (x : Word × List Word) → next_of words ≡ Ok x → words ≡ x.0 ∷ x.1
+unfolding next_of
+next_of-text [] x e = absurd (err-Ok UnknownWord x e)
+next_of-text (w ∷ words) x e = ap (λ (y : Word × List Word). y.0 ∷ y.1) (same_Ok (w, words) x e)
+
+next-text : {A : Type 0} (class : Word → Result A FaultKind) (words : List Word) (x : A × List Word) → next class words ≡ Ok x → (w : Word) × (words ≡ w ∷ x.1) × (class w ≡ Ok x.0)
+unfolding next
+next-text {A} class words x e =
+    let first = bound (next_of words) (λ w. class w.0 >>= λ a. Ok (a, w.1)) x e in
+    let second = bound (class first.0.0) (λ a. Ok (a, first.0.1)) x first.2 in
+    let same = same_Ok (second.0, first.0.1) x second.2 in
+    (first.0.0, next_of-text words first.0 first.1 ∙ ap (λ (y : A × List Word). first.0.0 ∷ y.1) same, second.1 ∙ ap (λ (y : A × List Word). Ok y.0) same)
+
+after-text : (keyword : Word) (words rest : List Word) → after keyword words ≡ Ok rest → words ≡ keyword ∷ rest
+unfolding after
+after-text keyword words rest e =
+    let first = bound (next_of words) (λ w. cond (bytes_eq w.0 keyword) (Ok w.1) (Err UnknownWord)) rest e in
+    let h = guarded (bytes_eq first.0.0 keyword) UnknownWord first.0.1 rest first.2 in
+    let same = (bytes_eq-Decides first.0.0 keyword).0 h.0 in
+    next_of-text words first.0 first.1 ∙ ap (λ w. w ∷ first.0.1) same ∙ ap (λ ws. keyword ∷ ws) h.1
+
+ended-text : (words : List Word) (u : Unit {0}) → ended words ≡ Ok u → words ≡ []
+unfolding ended
+ended-text [] u e = refl
+ended-text (w ∷ words) u e = absurd (err-Ok UnknownWord u e)
+
+-- the words of classes
+class_text : {A : Type 0} (class : Word → Result A FaultKind) (word : A → Word) → ((w : Word) (a : A) → class w ≡ Ok a → w ≡ word a) → (w : Word) (r : Result A FaultKind) (p : Option A) → class w ≡ r → some_of r ≡ Ok p → w ≡ word_or_star word p
+class_text class word spelled w (Ok a) p c h = spelled w a c ∙ ap (word_or_star word) (same_Ok (Some a) p h)
+class_text class word spelled w (Err k) p c h = absurd (err-Ok k p h)
+
+or_star-text : {A : Type 0} (class : Word → Result A FaultKind) (word : A → Word) → ((w : Word) (a : A) → class w ≡ Ok a → w ≡ word a) → (w : Word) (o : Option A) → or_star class w ≡ Ok o → w ≡ word_or_star word o
+unfolding or_star
+or_star-text {A} class word spelled w o e =
+    ⊎_elim (λ (t : bytes_eq w star ≡ true).
+    let none = same_Ok None o (rw t at e) in
+    (bytes_eq-Decides w star).0 t ∙ ap (word_or_star word) none)
+    (λ (f : bytes_eq w star ≡ false). class_text class word spelled w (class w) o refl (rw f at e))
+    (cases_Bool (bytes_eq w star))
+
+name-text : (w n : Word) → name w ≡ Ok n → w ≡ itself n
+unfolding name
+name-text w n e = (guarded (is_name w) BadName w n e).1
+
+number-text : (most : ℕ) → most < 2 ^ 64 → (w : Word) (n : ℕ) → number most w ≡ Ok n → w ≡ decimal n
+unfolding number
+number-text most small w n e = (number_of-found most w n small (or_fault-Ok BadNumber (number_of most w) n e)).text
+
+element-text : (w : Word) (e : Element) → element w ≡ Ok e → w ≡ element_name e
+unfolding element
+element-text w e h = (element_of-found w e (or_fault-Ok BadName (element_of w) e h)).1
+
+prefix_by : (text : Word) (r : Result Prefix PrefixFault) (p : Prefix) → IfOk r (λ q. IsPrefixText text q) → prefix_or_fault r ≡ Ok p → IsPrefixText text p
+prefix_by text (Ok q) p h e = let P : Prefix → Type 0 = λ x. IsPrefixText text x in subst P (same_Ok q p e) h
+prefix_by text (Err fault) p h e = absurd (err-Ok BadPrefix p e)
+
+prefix-text : (w : Word) (p : Prefix) → prefix w ≡ Ok p → IsPrefixText w p
+unfolding prefix
+prefix-text w p e = prefix_by w (prefix_of w) p (prefix_of-found w) e
+
+prefix_some : (w : Word) (r : Result Prefix FaultKind) (o : Option Prefix) → prefix w ≡ r → some_of r ≡ Ok o → IsPrefixWord o w
+prefix_some w (Ok p) o c h = let P : Option Prefix → Type 0 = λ x. IsPrefixWord x w in subst P (same_Ok (Some p) o h) (prefix-text w p c)
+prefix_some w (Err k) o c h = absurd (err-Ok k o h)
+
+prefix_word : (w : Word) (o : Option Prefix) → or_star prefix w ≡ Ok o → IsPrefixWord o w
+unfolding or_star
+prefix_word w o e =
+    ⊎_elim (λ (t : bytes_eq w star ≡ true).
+    let P : Option Prefix → Type 0 = λ x. IsPrefixWord x w in
+    subst P (same_Ok None o (rw t at e)) ((bytes_eq-Decides w star).0 t))
+    (λ (f : bytes_eq w star ≡ false). prefix_some w (prefix w) o refl (rw f at e))
+    (cases_Bool (bytes_eq w star))
+
+-- keys
+record SpellsKey (before out : List Element) (pieces : List Word) : Type 0 where
+  pub more : List Element
+  pub out_is : before ++ more ≡ out
+  pub pieces_are : pieces ≡ map element_name more
+
+pieces-text : (before : List Element) (pieces : List Word) (out : List Element) → add_pieces before pieces ≡ Ok out → SpellsKey before out pieces
+unfolding add_pieces add_piece
+pieces-text before [] out e = record { more = []; out_is = append-nil before ∙ same_Ok before out e; pieces_are = refl }
+pieces-text before (piece ∷ pieces) out e =
+    let first = bound (element piece >>= λ x. with_key before x) (λ more. add_pieces more pieces) out e in
+    let read = bound (element piece) (λ x. with_key before x) first.0 first.1 in
+    let added = with_key-sound before first.0 read.0 read.2 in
+    let rest = pieces-text first.0 pieces out first.2 in
+    record {
+      more = read.0 ∷ rest.more;
+      out_is = sym (append_assoc before (read.0 ∷ []) rest.more) ∙ ap (λ l. l ++ rest.more) added.more_is ∙ rest.out_is;
+      pieces_are = ap (λ w. w ∷ pieces) (element-text piece read.0 read.1) ∙ ap (λ ws. element_name read.0 ∷ ws) rest.pieces_are;
+    }
+
+key-text : (w : Word) (key : List Element) → key_of w ≡ Ok key → w ≡ key_text key
+unfolding key_of
+key-text w key e =
+    let h = pieces-text [] (slice_split (λ c. eqb c 44) w) key e in
+    sym (join_with_byte-slice_split 44 w) ∙ ap (join_with_byte 44) (h.pieces_are ∙ ap (map element_name) h.out_is)
+
+interval-text : (w : Word) (n : ℕ) → interval w ≡ Ok n → w ≡ decimal n
+unfolding interval
+interval-text w n e =
+    let read = bound (number 86400 w) (λ seconds. cond (ltb seconds 1) (Err BadNumber) (Ok seconds)) n e in
+    ⊎_elim (λ (low : ltb read.0 1 ≡ true). absurd (err-Ok BadNumber n (rw low at read.2)))
+    (λ (good : ltb read.0 1 ≡ false). number-text 86400 (omega arith) w read.0 read.1 ∙ ap decimal (same_Ok read.0 n (rw good at read.2)))
+    (cases_Bool (ltb read.0 1))
+
+new_name-text : (aggregates : List Definition) (w n : Word) → new_name aggregates w ≡ Ok n → w ≡ n
+unfolding new_name
+new_name-text aggregates w n e =
+    ⊎_elim (λ (named : is_name w ≡ true).
+    let inner = rw named at e in
+    ⊎_elim (λ (double : is_some (place_of aggregates w) ≡ true). absurd (err-Ok DoubleAggregate n (rw double at inner)))
+    (λ (fresh : is_some (place_of aggregates w) ≡ false). same_Ok w n (rw fresh at inner))
+    (cases_Bool (is_some (place_of aggregates w))))
+    (λ (other : is_name w ≡ false). absurd (err-Ok BadName n (rw other at e)))
+    (cases_Bool (is_name w))
+
+place-text : (aggregates : List Definition) (w : Word) (place : ℕ) → aggregate_place aggregates w ≡ Ok place → w ≡ name_at aggregates place
+unfolding aggregate_place
+place-text aggregates w place e =
+    ⊎_elim (λ (named : is_name w ≡ true). sym (place_name aggregates w place (or_fault-Ok UnknownAggregate (place_of aggregates w) place (rw named at e))))
+    (λ (other : is_name w ≡ false). absurd (err-Ok BadName place (rw other at e)))
+    (cases_Bool (is_name w))
+
+bits-text : (width : ℕ) (w : Word) (n : ℕ) → bits_within width w ≡ Ok n → w ≡ decimal n
+unfolding bits_within
+bits-text width w n e =
+    let read = bound (number 999 w) (λ bits. cond (leb bits width) (Ok bits) (Err BadTruncate)) n e in
+    number-text 999 (omega arith) w read.0 read.1 ∙ ap decimal (guarded (leb read.0 width) BadTruncate read.0 n read.2).1
+
+-- actions
+record SpellsTruncate (words : List Word) (x : Action × List Word) : Type 0 where
+  pub bits : ℕ
+  pub what_is : (Truncate bits, x.1) ≡ x
+  pub words_are : words ≡ decimal bits ∷ x.1
+
+truncate-text : (width : Option ℕ) (words : List Word) (x : Action × List Word) → truncate_of width words ≡ Ok x → SpellsTruncate words x
+unfolding truncate_of
+truncate-text None words x e = absurd (err-Ok BadTruncate x e)
+truncate-text (Some width) words x e =
+    let read = bound (next (bits_within width) words) (λ bits. Ok (Truncate bits.0, bits.1)) x e in
+    let word = next-text (bits_within width) words read.0 read.1 in
+    let same = same_Ok (Truncate read.0.0, read.0.1) x read.2 in
+    let rest : read.0.1 ≡ x.1 = ap (λ (y : Action × List Word). y.1) same in
+    record {
+      bits = read.0.0;
+      what_is = ap (λ (ws : List Word). (Truncate read.0.0, ws)) (sym rest) ∙ same;
+      words_are = word.1 ∙ ap (λ w. w ∷ read.0.1) (bits-text width word.0 read.0.0 word.2) ∙ ap (λ ws. decimal read.0.0 ∷ ws) rest;
+    }
+
+-- the words of an action on an element
+abbrev behind_element : Action → List Word
+behind_element Pass = []
+behind_element Withhold = []
+behind_element (Aggregate place) = []
+behind_element Keep = codes "keep" ∷ []
+behind_element Remove = codes "remove" ∷ []
+behind_element (Truncate bits) = codes "truncate" ∷ decimal bits ∷ []
+
+on_fields : Action → Type 0
+on_fields Pass = ⊥
+on_fields Withhold = ⊥
+on_fields (Aggregate place) = ⊥
+on_fields Keep = Unit {0}
+on_fields Remove = Unit {0}
+on_fields (Truncate bits) = Unit {0}
+
+abbrev SpellsElementAction : List Word → Action × List Word → Type 0
+SpellsElementAction words x = on_fields x.0 × (words ≡ behind_element x.0 ++ x.1)
+
+element_action-text : (width : Option ℕ) (words : List Word) (x : Action × List Word) → element_action width words ≡ Ok x → SpellsElementAction words x
+unfolding element_action on_fields
+element_action-text width words x h =
+    let first = bound (next_of words) (λ w. cond (bytes_eq w.0 (codes "keep")) (Ok (Keep, w.1)) (cond (bytes_eq w.0 (codes "remove")) (Ok (Remove, w.1)) (cond (bytes_eq w.0 (codes "truncate")) (truncate_of width w.1) (Err UnknownWord)))) x h in
+    let w = first.0 in
+    let whole = next_of-text words first.0 first.1 in
+    let P : Action × List Word → Type 0 = λ y. SpellsElementAction words y in
+    ⊎_elim (λ (t : bytes_eq w.0 (codes "keep") ≡ true).
+    subst P (same_Ok (Keep, w.1) x (rw t at first.2)) (tt, whole ∙ ap (λ k. k ∷ w.1) ((bytes_eq-Decides w.0 (codes "keep")).0 t)))
+    (λ (f : bytes_eq w.0 (codes "keep") ≡ false).
+    let others = rw f at first.2 in
+    ⊎_elim (λ (t : bytes_eq w.0 (codes "remove") ≡ true).
+    subst P (same_Ok (Remove, w.1) x (rw t at others)) (tt, whole ∙ ap (λ k. k ∷ w.1) ((bytes_eq-Decides w.0 (codes "remove")).0 t)))
+    (λ (g : bytes_eq w.0 (codes "remove") ≡ false).
+    let last = rw g at others in
+    ⊎_elim (λ (t : bytes_eq w.0 (codes "truncate") ≡ true).
+    let cut = truncate-text width w.1 x (rw t at last) in
+    let Q : Action × List Word → Type 0 = λ y. on_fields y.0 × (words ≡ behind_element y.0 ++ x.1) in
+    subst Q cut.what_is (tt, whole ∙ ap (λ k. k ∷ w.1) ((bytes_eq-Decides w.0 (codes "truncate")).0 t) ∙ ap (λ ws. codes "truncate" ∷ ws) cut.words_are))
+    (λ (none : bytes_eq w.0 (codes "truncate") ≡ false). absurd (err-Ok UnknownWord x (rw none at last)))
+    (cases_Bool (bytes_eq w.0 (codes "truncate"))))
+    (cases_Bool (bytes_eq w.0 (codes "remove"))))
+    (cases_Bool (bytes_eq w.0 (codes "keep")))
+
+element_row : (aggregates : List Definition) (e : Option Element) (action : Action) (rest : List Word) → on_fields action → codes "element" ∷ word_or_star element_name e ∷ (behind_element action ++ rest) ≡ action_words aggregates e action ++ rest
+unfolding on_fields
+element_row aggregates e Pass rest h = absurd h
+element_row aggregates e Withhold rest h = absurd h
+element_row aggregates e (Aggregate place) rest h = absurd h
+element_row aggregates e Keep rest h = refl
+element_row aggregates e Remove rest h = refl
+element_row aggregates e (Truncate bits) rest h = refl
+
+abbrev SpellsAction : List Definition → List Word → (Option Element × Action) × List Word → Type 0
+SpellsAction aggregates words x = words ≡ action_words aggregates x.0.0 x.0.1 ++ x.1
+
+on_element-text : (aggregates : List Definition) (words : List Word) (x : (Option Element × Action) × List Word) → on_element words ≡ Ok x → SpellsAction aggregates (codes "element" ∷ words) x
+unfolding on_element
+on_element-text aggregates words x h =
+    let first = bound (next (or_star element) words) (λ e. element_action (width_at e.0) e.1 >>= λ action. Ok ((e.0, action.0), action.1)) x h in
+    let second = bound (element_action (width_at first.0.0) first.0.1) (λ action. Ok ((first.0.0, action.0), action.1)) x first.2 in
+    let word = next-text (or_star element) words first.0 first.1 in
+    let named = or_star-text element element_name element-text word.0 first.0.0 word.2 in
+    let action = element_action-text (width_at first.0.0) first.0.1 second.0 second.1 in
+    let P : (Option Element × Action) × List Word → Type 0 = λ y. SpellsAction aggregates (codes "element" ∷ words) y in
+    subst P (same_Ok ((first.0.0, second.0.0), second.0.1) x second.2)
+    (ap (λ ws. codes "element" ∷ ws) (word.1 ∙ ap (λ w. w ∷ first.0.1) named ∙ ap (λ ws. word_or_star element_name first.0.0 ∷ ws) action.1)
+    ∙ element_row aggregates first.0.0 second.0.0 second.0.1 action.0)
+
+aggregate_action-text : (aggregates : List Definition) (words : List Word) (x : (Option Element × Action) × List Word) → aggregate_action aggregates words ≡ Ok x → SpellsAction aggregates (codes "aggregate" ∷ words) x
+unfolding aggregate_action
+aggregate_action-text aggregates words x h =
+    let read = bound (next (aggregate_place aggregates) words) (λ place. Ok ((None, Aggregate place.0), place.1)) x h in
+    let word = next-text (aggregate_place aggregates) words read.0 read.1 in
+    let P : (Option Element × Action) × List Word → Type 0 = λ y. SpellsAction aggregates (codes "aggregate" ∷ words) y in
+    subst P (same_Ok ((None, Aggregate read.0.0), read.0.1) x read.2)
+    (ap (λ ws. codes "aggregate" ∷ ws) (word.1 ∙ ap (λ w. w ∷ read.0.1) (place-text aggregates word.0 read.0.0 word.2)))
+
+action_of-text : (aggregates : List Definition) (words : List Word) (x : (Option Element × Action) × List Word) → action_of aggregates words ≡ Ok x → SpellsAction aggregates words x
+unfolding action_of
+action_of-text aggregates words x h =
+    let first = bound (next_of words) (λ w. cond (bytes_eq w.0 (codes "pass")) (Ok ((None, Pass), w.1)) (cond (bytes_eq w.0 (codes "withhold")) (Ok ((None, Withhold), w.1)) (cond (bytes_eq w.0 (codes "aggregate")) (aggregate_action aggregates w.1) (cond (bytes_eq w.0 (codes "element")) (on_element w.1) (Err UnknownWord))))) x h in
+    let w = first.0 in
+    let whole = next_of-text words first.0 first.1 in
+    let P : (Option Element × Action) × List Word → Type 0 = λ y. SpellsAction aggregates words y in
+    ⊎_elim (λ (t : bytes_eq w.0 (codes "pass") ≡ true).
+    subst P (same_Ok ((None, Pass), w.1) x (rw t at first.2)) (whole ∙ ap (λ k. k ∷ w.1) ((bytes_eq-Decides w.0 (codes "pass")).0 t)))
+    (λ (f : bytes_eq w.0 (codes "pass") ≡ false).
+    let others = rw f at first.2 in
+    ⊎_elim (λ (t : bytes_eq w.0 (codes "withhold") ≡ true).
+    subst P (same_Ok ((None, Withhold), w.1) x (rw t at others)) (whole ∙ ap (λ k. k ∷ w.1) ((bytes_eq-Decides w.0 (codes "withhold")).0 t)))
+    (λ (g : bytes_eq w.0 (codes "withhold") ≡ false).
+    let more = rw g at others in
+    ⊎_elim (λ (t : bytes_eq w.0 (codes "aggregate") ≡ true).
+    whole ∙ ap (λ k. k ∷ w.1) ((bytes_eq-Decides w.0 (codes "aggregate")).0 t) ∙ aggregate_action-text aggregates w.1 x (rw t at more))
+    (λ (i : bytes_eq w.0 (codes "aggregate") ≡ false).
+    let last = rw i at more in
+    ⊎_elim (λ (t : bytes_eq w.0 (codes "element") ≡ true).
+    whole ∙ ap (λ k. k ∷ w.1) ((bytes_eq-Decides w.0 (codes "element")).0 t) ∙ on_element-text aggregates w.1 x (rw t at last))
+    (λ (none : bytes_eq w.0 (codes "element") ≡ false). absurd (err-Ok UnknownWord x (rw none at last)))
+    (cases_Bool (bytes_eq w.0 (codes "element"))))
+    (cases_Bool (bytes_eq w.0 (codes "aggregate"))))
+    (cases_Bool (bytes_eq w.0 (codes "withhold"))))
+    (cases_Bool (bytes_eq w.0 (codes "pass")))
+
+-- one word more in front
+onto : (w v : Word) (words rest more : List Word) → words ≡ w ∷ rest → w ≡ v → rest ≡ more → words ≡ v ∷ more
+onto w v words rest more e f g = e ∙ ap (λ x. x ∷ rest) f ∙ ap (λ ws. v ∷ ws) g
+
+-- a rule's words
+record RuleWords (aggregates : List Definition) (words : List Word) (r : Rule) : Type 0 where
+  pub from : Word
+  pub to : Word
+  pub from_is : IsPrefixWord r.from from
+  pub to_is : IsPrefixWord r.to to
+  pub words_are : words ≡ rule_tail aggregates r from to
+
+rule_words-found : (aggregates : List Definition) (words : List Word) (r : Rule) → rule_of aggregates words ≡ Ok r → RuleWords aggregates words r
+unfolding rule_of
+rule_words-found aggregates words r h =
+    let s0 = bound (after (codes "for") words) (λ a. rule_who aggregates a) r h in
+    let who = bound (next (or_star name) s0.0) (λ x. rule_behind_who aggregates x) r s0.2 in
+    let s1 = bound (after (codes "in") who.0.1) (λ b. rule_domain aggregates who.0.0 b) r who.2 in
+    let domain = bound (next (or_star (number 4294967295)) s1.0) (λ x. rule_behind_domain aggregates who.0.0 x) r s1.2 in
+    let s2 = bound (after (codes "from") domain.0.1) (λ c. rule_from aggregates who.0.0 domain.0.0 c) r domain.2 in
+    let from = bound (next (or_star prefix) s2.0) (λ x. rule_behind_from aggregates who.0.0 domain.0.0 x) r s2.2 in
+    let s3 = bound (after (codes "to") from.0.1) (λ d. rule_to aggregates who.0.0 domain.0.0 from.0.0 d) r from.2 in
+    let to = bound (next (or_star prefix) s3.0) (λ x. rule_action aggregates who.0.0 domain.0.0 from.0.0 x) r s3.2 in
+    let done = bound (action_of aggregates to.0.1) (λ x. rule_end who.0.0 domain.0.0 from.0.0 to.0.0 x) r to.2 in
+    let end = bound (ended done.0.1) (λ nothing_more. Ok (record { who = who.0.0; domain = domain.0.0; from = from.0.0; to = to.0.0; element = done.0.0.0; action = done.0.0.1 })) r done.2 in
+    let who_word = next-text (or_star name) s0.0 who.0 who.1 in
+    let domain_word = next-text (or_star (number 4294967295)) s1.0 domain.0 domain.1 in
+    let from_word = next-text (or_star prefix) s2.0 from.0 from.1 in
+    let to_word = next-text (or_star prefix) s3.0 to.0 to.1 in
+    let actions = action_words aggregates done.0.0.0 done.0.0.1 in
+    let t5 : to.0.1 ≡ actions = action_of-text aggregates to.0.1 done.0 done.1 ∙ ap (λ ws. actions ++ ws) (ended-text done.0.1 end.0 end.1) ∙ append-nil actions in
+    let t4 = after-text (codes "to") from.0.1 s3.0 s3.1 ∙ ap (λ ws. codes "to" ∷ ws) (onto to_word.0 to_word.0 s3.0 to.0.1 actions to_word.1 refl t5) in
+    let t3 = after-text (codes "from") domain.0.1 s2.0 s2.1 ∙ ap (λ ws. codes "from" ∷ ws) (onto from_word.0 from_word.0 s2.0 from.0.1 (codes "to" ∷ to_word.0 ∷ actions) from_word.1 refl t4) in
+    let t2 = after-text (codes "in") who.0.1 s1.0 s1.1 ∙ ap (λ ws. codes "in" ∷ ws) (onto domain_word.0 (word_or_star decimal domain.0.0) s1.0 domain.0.1 (codes "from" ∷ from_word.0 ∷ codes "to" ∷ to_word.0 ∷ actions) domain_word.1 (or_star-text (number 4294967295) decimal (number-text 4294967295 (omega arith)) domain_word.0 domain.0.0 domain_word.2) t3) in
+    let t1 = after-text (codes "for") words s0.0 s0.1 ∙ ap (λ ws. codes "for" ∷ ws) (onto who_word.0 (word_or_star itself who.0.0) s0.0 who.0.1 (codes "in" ∷ word_or_star decimal domain.0.0 ∷ codes "from" ∷ from_word.0 ∷ codes "to" ∷ to_word.0 ∷ actions) who_word.1 (or_star-text name itself name-text who_word.0 who.0.0 who_word.2) t2) in
+    let P : Rule → Type 0 = λ x. RuleWords aggregates words x in
+    subst P (same_Ok (record { who = who.0.0; domain = domain.0.0; from = from.0.0; to = to.0.0; element = done.0.0.0; action = done.0.0.1 }) r end.2)
+    (record { from = from_word.0; to = to_word.0; from_is = prefix_word from_word.0 from.0.0 from_word.2; to_is = prefix_word to_word.0 to.0.0 to_word.2; words_are = t1 })
+
+aggregate_words-found : (before : List Definition) (words : List Word) (a : Definition) → aggregate_of before words ≡ Ok a → codes "aggregate" ∷ words ≡ aggregate_words a
+unfolding aggregate_of
+aggregate_words-found before words a h =
+    let named = bound (next (new_name before) words) (λ x. aggregate_behind_name x) a h in
+    let s0 = bound (after (codes "key") named.0.1) (λ x. aggregate_key named.0.0 x) a named.2 in
+    let key = bound (next key_of s0.0) (λ x. aggregate_behind_key named.0.0 x) a s0.2 in
+    let s1 = bound (after (codes "interval") key.0.1) (λ x. aggregate_interval named.0.0 key.0.0 x) a key.2 in
+    let seconds = bound (next interval s1.0) (λ x. aggregate_behind_interval named.0.0 key.0.0 x) a s1.2 in
+    let s2 = bound (after (codes "grace") seconds.0.1) (λ x. aggregate_grace named.0.0 key.0.0 seconds.0.0 x) a seconds.2 in
+    let grace = bound (next (number 86400) s2.0) (λ x. aggregate_end named.0.0 key.0.0 seconds.0.0 x) a s2.2 in
+    let end = bound (ended grace.0.1) (λ nothing_more. Ok (record { name = named.0.0; key = key.0.0; interval = seconds.0.0; grace = grace.0.0 })) a grace.2 in
+    let name_word = next-text (new_name before) words named.0 named.1 in
+    let key_word = next-text key_of s0.0 key.0 key.1 in
+    let seconds_word = next-text interval s1.0 seconds.0 seconds.1 in
+    let grace_word = next-text (number 86400) s2.0 grace.0 grace.1 in
+    let t3 = after-text (codes "grace") seconds.0.1 s2.0 s2.1 ∙ ap (λ ws. codes "grace" ∷ ws) (onto grace_word.0 (decimal grace.0.0) s2.0 grace.0.1 [] grace_word.1 (number-text 86400 (omega arith) grace_word.0 grace.0.0 grace_word.2) (ended-text grace.0.1 end.0 end.1)) in
+    let t2 = after-text (codes "interval") key.0.1 s1.0 s1.1 ∙ ap (λ ws. codes "interval" ∷ ws) (onto seconds_word.0 (decimal seconds.0.0) s1.0 seconds.0.1 (codes "grace" ∷ decimal grace.0.0 ∷ []) seconds_word.1 (interval-text seconds_word.0 seconds.0.0 seconds_word.2) t3) in
+    let t1 = after-text (codes "key") named.0.1 s0.0 s0.1 ∙ ap (λ ws. codes "key" ∷ ws) (onto key_word.0 (key_text key.0.0) s0.0 key.0.1 (codes "interval" ∷ decimal seconds.0.0 ∷ codes "grace" ∷ decimal grace.0.0 ∷ []) key_word.1 (key-text key_word.0 key.0.0 key_word.2) t2) in
+    let t0 = onto name_word.0 named.0.0 words named.0.1 (codes "key" ∷ key_text key.0.0 ∷ codes "interval" ∷ decimal seconds.0.0 ∷ codes "grace" ∷ decimal grace.0.0 ∷ []) name_word.1 (new_name-text before name_word.0 named.0.0 name_word.2) t1 in
+    ap (λ ws. codes "aggregate" ∷ ws) t0 ∙ ap aggregate_words (same_Ok (record { name = named.0.0; key = key.0.0; interval = seconds.0.0; grace = grace.0.0 }) a end.2)
+
+-- lines
+abbrev IsLine : Meaning → List Word → Meaning → Type 0
+IsLine old words new = AddsRule old words new ⊎ AddsAggregate old words new
+
+rule_line-found : (p q : Meaning) (words tail : List Word) → words ≡ codes "rule" ∷ tail → rule_line p tail ≡ Ok q → AddsRule p words q
+unfolding rule_line
+rule_line-found p q words tail e h =
+    ⊎_elim (λ (full : leb 4096 (length p.rules) ≡ true). absurd (err-Ok TooMany q (rw full at h)))
+    (λ (room : leb 4096 (length p.rules) ≡ false).
+    let read = bound (rule_of p.aggregates tail) (λ r. Ok (with_rule p r)) q (rw room at h) in
+    let found = rule_words-found p.aggregates tail read.0 read.1 in
+    let low = leb-false 4096 (length p.rules) room in
+    record {
+      tail = tail;
+      rule = read.0;
+      words_are = e;
+      room = low;
+      spelled = record { from = found.from; to = found.to; sound = rule_of-sound p.aggregates tail read.0 read.1; from_is = found.from_is; to_is = found.to_is; words_are = found.words_are };
+      added = same_Ok (with_rule p read.0) q read.2;
+    })
+    (cases_Bool (leb 4096 (length p.rules)))
+
+aggregate_line-found : (p q : Meaning) (words tail : List Word) → words ≡ codes "aggregate" ∷ tail → aggregate_line p tail ≡ Ok q → AddsAggregate p words q
+unfolding aggregate_line
+aggregate_line-found p q words tail e h =
+    ⊎_elim (λ (full : leb 256 (length p.aggregates) ≡ true). absurd (err-Ok TooMany q (rw full at h)))
+    (λ (room : leb 256 (length p.aggregates) ≡ false).
+    let read = bound (aggregate_of p.aggregates tail) (λ a. Ok (with_aggregate p a)) q (rw room at h) in
+    let low = leb-false 256 (length p.aggregates) room in
+    record {
+      aggregate = read.0;
+      words_are = e ∙ aggregate_words-found p.aggregates tail read.0 read.1;
+      room = low;
+      sound = aggregate_of-sound p.aggregates tail read.0 read.1;
+      added = same_Ok (with_aggregate p read.0) q read.2;
+    })
+    (cases_Bool (leb 256 (length p.aggregates)))
+
+line_of-found : (p q : Meaning) (words : List Word) → line_of p words ≡ Ok q → IsLine p words q
+unfolding line_of
+line_of-found p q words h =
+    let first = bound (next_of words) (λ w. cond (bytes_eq w.0 (codes "rule")) (rule_line p w.1) (cond (bytes_eq w.0 (codes "aggregate")) (aggregate_line p w.1) (Err UnknownWord))) q h in
+    let w = first.0 in
+    let whole = next_of-text words first.0 first.1 in
+    ⊎_elim (λ (t : bytes_eq w.0 (codes "rule") ≡ true).
+    inl (rule_line-found p q words w.1 (whole ∙ ap (λ k. k ∷ w.1) ((bytes_eq-Decides w.0 (codes "rule")).0 t)) (rw t at first.2)))
+    (λ (f : bytes_eq w.0 (codes "rule") ≡ false).
+    let others = rw f at first.2 in
+    ⊎_elim (λ (t : bytes_eq w.0 (codes "aggregate") ≡ true).
+    inr (aggregate_line-found p q words w.1 (whole ∙ ap (λ k. k ∷ w.1) ((bytes_eq-Decides w.0 (codes "aggregate")).0 t)) (rw t at others)))
+    (λ (none : bytes_eq w.0 (codes "aggregate") ≡ false). absurd (err-Ok UnknownWord q (rw none at others)))
+    (cases_Bool (bytes_eq w.0 (codes "aggregate"))))
+    (cases_Bool (bytes_eq w.0 (codes "rule")))
+
+prefix_back : (o : Option Prefix) (w : Word) → IsPrefixWord o w → or_star prefix w ≡ Ok o
+unfolding prefix
+prefix_back None w h = ap (or_star prefix) h ∙ or_star-star prefix
+prefix_back (Some p) w h = or_star-word prefix BadPrefix w p (ap prefix_or_fault (prefix_of-only w p h)) prefix-star
+
+rule_only : (aggregates : List Definition) (words : List Word) (r : Rule) → SpellsRule aggregates words r → rule_of aggregates words ≡ Ok r
+unfolding rule_of next next_of after ended
+rule_only aggregates words r h =
+    ap (rule_of aggregates) h.words_are
+    ∙ rw (
+      or_star-printed name BadName itself (λ w. is_name w ≡ true) name-printed name-star r.who h.sound.who,
+      or_star-printed (number 4294967295) BadNumber decimal (λ d. d < 2 ^ 32) domain_back (number-star 4294967295) r.domain h.sound.domain,
+      prefix_back r.from h.from h.from_is,
+      prefix_back r.to h.to h.to_is,
+      action_back aggregates r.element r.action h.sound.element h.sound.action,
+    ) refl
+
+rule_line-only : (p q : Meaning) (words : List Word) → AddsRule p words q → line_of p words ≡ Ok q
+unfolding line_of rule_line next_of
+rule_line-only p q words h =
+    ap (line_of p) h.words_are ∙ rw (lt-leb 4096 (length p.rules) h.room, rule_only p.aggregates h.tail h.rule h.spelled) (ap (λ (m : Meaning). Ok m) h.added)
+
+aggregate_line-only : (p q : Meaning) (words : List Word) → AddsAggregate p words q → line_of p words ≡ Ok q
+unfolding line_of aggregate_line next_of
+aggregate_line-only p q words h =
+    ap (line_of p) h.words_are ∙ rw (lt-leb 256 (length p.aggregates) h.room, aggregate_back p.aggregates h.aggregate h.sound) (ap (λ (m : Meaning). Ok m) h.added)
+
+line_of-only : (p q : Meaning) (words : List Word) → IsLine p words q → line_of p words ≡ Ok q
+line_of-only p q words h = ⊎_elim (λ (r : AddsRule p words q). rule_line-only p q words r) (λ (a : AddsAggregate p words q). aggregate_line-only p q words a) h
+
+-- steps of reading, where a policy comes out
+record Steps (started : Bool) (p : Meaning) (line : List ℕ) (n : ℕ) (others : List (List ℕ)) (q : Meaning) : Type 0 where
+  pub next_started : Bool
+  pub mid : Meaning
+  pub stepped : line_step started p line ≡ Ok (next_started, mid)
+  pub rest : read_lines next_started mid (n + 1) others ≡ Ok q
+
+fault_ok : (fault : PolicyFault) (q : Meaning) → ◌≡◌ {A = Result Meaning PolicyFault} (Err fault) (Ok q) → ⊥
+fault_ok fault q e = cc
+
+steps_by : (started : Bool) (p : Meaning) (line : List ℕ) (n : ℕ) (others : List (List ℕ)) (q : Meaning) (r : Result (Bool × Meaning) FaultKind) → line_step started p line ≡ r → then_read (at_line n r) (λ x. read_lines x.0 x.1 (n + 1) others) ≡ Ok q → Steps started p line n others q
+steps_by started p line n others q (Ok x) e h = record { next_started = x.0; mid = x.1; stepped = e; rest = h }
+steps_by started p line n others q (Err kind) e h = absurd (fault_ok (record { line = n; kind = kind }) q h)
+
+steps_of : (started : Bool) (p : Meaning) (line : List ℕ) (n : ℕ) (others : List (List ℕ)) (q : Meaning) → read_lines started p n (line ∷ others) ≡ Ok q → Steps started p line n others q
+steps_of started p line n others q h = steps_by started p line n others q (line_step started p line) refl (sym (read_lines-cons started p n line others) ∙ h)
+
+record LineRead (p : Meaning) (line : List ℕ) (x : Bool × Meaning) : Type 0 where
+  pub started_is : true ≡ x.0
+  pub line_is : AfterLine p (words_of line) x.1
+
+line_step-found : (p : Meaning) (line : List ℕ) (x : Bool × Meaning) → line_step true p line ≡ Ok x → LineRead p line x
+unfolding line_step step
+line_step-found p line x h =
+    ⊎_elim (λ (skip : is_skipped (words_of line) ≡ true).
+    let same = same_Ok (true, p) x (rw skip at h) in
+    record { started_is = ap (λ (y : Bool × Meaning). y.0) same; line_is = inl (skip, ap (λ (y : Bool × Meaning). y.1) same) })
+    (λ (kept : is_skipped (words_of line) ≡ false).
+    let read = bound (line_of p (words_of line)) (λ q. Ok (true, q)) x (rw kept at h) in
+    let same = same_Ok (true, read.0) x read.2 in
+    let P : Meaning → Type 0 = λ m. IsLine p (words_of line) m in
+    record { started_is = ap (λ (y : Bool × Meaning). y.0) same; line_is = inr (kept, subst P (ap (λ (y : Bool × Meaning). y.1) same) (line_of-found p read.0 (words_of line) read.1)) })
+    (cases_Bool (is_skipped (words_of line)))
+
+meaning_ok : (p q : Meaning) → ◌≡◌ {A = Result Meaning PolicyFault} (Ok p) (Ok q) → p ≡ q
+meaning_ok p q e = cc
+
+lines-found : (p q : Meaning) (n : ℕ) (lines : List (List ℕ)) → read_lines true p n lines ≡ Ok q → AreLines p lines q
+lines-found p q n [] h = meaning_ok p q (sym (read_lines-done p n) ∙ h)
+lines-found p q n (line ∷ lines) h =
+    let s = steps_of true p line n lines q h in
+    let read = line_step-found p line (s.next_started, s.mid) s.stepped in
+    (s.mid, read.line_is, lines-found s.mid q (n + 1) lines (ap (λ b. read_lines b s.mid (n + 1) lines) read.started_is ∙ s.rest))
+
+is_header-is : (words : List Word) → is_header words ≡ true → words ≡ header
+unfolding is_header
+is_header-is [] h = absurd (false≢true h)
+is_header-is (w ∷ []) h = absurd (false≢true h)
+is_header-is (w ∷ v ∷ []) h =
+    let both = and_parts (bytes_eq w (codes "policy")) (bytes_eq v (codes "1")) h in
+    ap (λ x. x ∷ v ∷ []) ((bytes_eq-Decides w (codes "policy")).0 both.0) ∙ ap (λ x. codes "policy" ∷ x ∷ []) ((bytes_eq-Decides v (codes "1")).0 both.1)
+is_header-is (w ∷ v ∷ u ∷ words) h = absurd (false≢true h)
+
+record HeaderRead (line : List ℕ) (x : Bool × Meaning) : Type 0 where
+  pub how : ((is_skipped (words_of line) ≡ true) × ((false, nothing) ≡ x)) ⊎ ((is_skipped (words_of line) ≡ false) × (words_of line ≡ header) × ((true, nothing) ≡ x))
+
+header-found : (line : List ℕ) (x : Bool × Meaning) → line_step false nothing line ≡ Ok x → HeaderRead line x
+unfolding line_step step
+header-found line x h =
+    ⊎_elim (λ (skip : is_skipped (words_of line) ≡ true). record { how = inl (skip, same_Ok (false, nothing) x (rw skip at h)) })
+    (λ (kept : is_skipped (words_of line) ≡ false).
+    let read = bound (cond (is_header (words_of line)) (Ok nothing) (Err NoHeader)) (λ q. Ok (true, q)) x (rw kept at h) in
+    let test = guarded (is_header (words_of line)) NoHeader nothing read.0 read.1 in
+    record { how = inr (kept, is_header-is (words_of line) test.0, ap (λ (m : Meaning). (true, m)) test.1 ∙ same_Ok (true, read.0) x read.2) })
+    (cases_Bool (is_skipped (words_of line)))
+
+all-found : (q : Meaning) (n : ℕ) (lines : List (List ℕ)) → read_lines false nothing n lines ≡ Ok q → AreAllLines lines q
+all-found q n [] h = fault_ok (record { line = 1; kind = NoHeader }) q (sym (read_lines-empty nothing n) ∙ h)
+all-found q n (line ∷ lines) h =
+    let s = steps_of false nothing line n lines q h in
+    let read = header-found line (s.next_started, s.mid) s.stepped in
+    ⊎_elim (λ (skip : (is_skipped (words_of line) ≡ true) × ((false, nothing) ≡ (s.next_started, s.mid))).
+    inl (skip.0, all-found q (n + 1) lines (ap (λ (y : Bool × Meaning). read_lines y.0 y.1 (n + 1) lines) skip.1 ∙ s.rest)))
+    (λ (kept : (is_skipped (words_of line) ≡ false) × (words_of line ≡ header) × ((true, nothing) ≡ (s.next_started, s.mid))).
+    inr (kept.0, kept.1, lines-found nothing q (n + 1) lines (ap (λ (y : Bool × Meaning). read_lines y.0 y.1 (n + 1) lines) kept.2 ∙ s.rest)))
+    read.how
+
+-- what is read is spelled so
+pub policy_of-found : (text : List ℕ) (q : Meaning) → policy_of text ≡ Ok q → Spells text q
+unfolding policy_of
+policy_of-found text q h = all-found q 1 (lines_of text) h
+
+line_step-only : (p m : Meaning) (line : List ℕ) → AfterLine p (words_of line) m → line_step true p line ≡ Ok (true, m)
+unfolding line_step step
+line_step-only p m line h =
+    ⊎_elim (λ (skip : (is_skipped (words_of line) ≡ true) × (p ≡ m)). rw skip.0 (ap (λ (x : Meaning). Ok (true, x)) skip.1))
+    (λ (kept : (is_skipped (words_of line) ≡ false) × IsLine p (words_of line) m). rw (kept.0, line_of-only p m (words_of line) kept.1) refl)
+    h
+
+lines-only : (p q : Meaning) (n : ℕ) (lines : List (List ℕ)) → AreLines p lines q → read_lines true p n lines ≡ Ok q
+lines-only p q n [] h = read_lines-done p n ∙ ap (λ (x : Meaning). Ok x) h
+lines-only p q n (line ∷ lines) h = read_lines-cons true p n line lines ∙ rw (line_step-only p h.0 line h.1) (lines-only h.0 q (n + 1) lines h.2)
+
+header-only : (line : List ℕ) → is_skipped (words_of line) ≡ false → words_of line ≡ header → line_step false nothing line ≡ Ok (true, nothing)
+unfolding line_step step is_header
+header-only line kept e = rw e refl
+
+skip-only : (line : List ℕ) → is_skipped (words_of line) ≡ true → line_step false nothing line ≡ Ok (false, nothing)
+unfolding line_step
+skip-only line skip = rw skip refl
+
+all-only : (q : Meaning) (n : ℕ) (lines : List (List ℕ)) → AreAllLines lines q → read_lines false nothing n lines ≡ Ok q
+all-only q n [] h = absurd h
+all-only q n (line ∷ lines) h =
+    ⊎_elim (λ (skip : (is_skipped (words_of line) ≡ true) × AreAllLines lines q).
+    read_lines-cons false nothing n line lines ∙ rw (skip-only line skip.0) (all-only q (n + 1) lines skip.1))
+    (λ (kept : (is_skipped (words_of line) ≡ false) × (words_of line ≡ header) × AreLines nothing lines q).
+    read_lines-cons false nothing n line lines ∙ rw (header-only line kept.0 kept.1) (lines-only nothing q (n + 1) lines kept.2))
+    h
+
+-- what is spelled so is read
+pub policy_of-only : (text : List ℕ) (q : Meaning) → Spells text q → policy_of text ≡ Ok q
+unfolding policy_of
+policy_of-only text q h = all-only q 1 (lines_of text) h
+
+pub parses-found : (text : List ℕ) (r : Result Meaning PolicyFault) → Parses (λ (p : Meaning). p) r (policy_of text) → IfOk r (λ p. Spells text p)
+parses-found text (Ok p) h = policy_of-found text p h
+parses-found text (Err fault) h = tt
+
+pub parses-only : (text : List ℕ) (r : Result Meaning PolicyFault) (p : Meaning) → Parses (λ (q : Meaning). q) r (policy_of text) → Spells text p → Parses (λ (q : Meaning). q) r (Ok p)
+parses-only text r p h spelled = let P : Result Meaning PolicyFault → Type 0 = λ read. Parses (λ (q : Meaning). q) r read in subst P (policy_of-only text p spelled) h

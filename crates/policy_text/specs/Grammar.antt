@@ -1,0 +1,66 @@
+-- What the type of a policy keeps: each rule and each aggregate is one that a line may spell after those before it.
+use Rattle.std.specs.Prelude.{◌≡◌, ℕ, zero, suc, ◌<◌, ◌≤◌, ◌^◌, true, List, [], ◌∷◌, ◌++◌, length, Option, Some, None, Ok}
+use Rattle.std.specs.List.{AllByRecursion}
+use Rattle.ipfix_element.specs.Element.{Element, IsElement}
+use Rattle.flow_prefix.specs.Prefixes.{IsPrefix}
+use Rattle.policy_text.specs.declared.rule.Rule.{Rule}
+use Rattle.policy_text.specs.declared.rule.Action.{Action}
+use Rattle.policy_text.specs.declared.rule.Action.TheVariants.{Pass, Withhold, Aggregate, Keep, Remove, Truncate}
+use Rattle.policy_text.specs.Naming.{is_name}
+use Rattle.policy_text.specs.Policies.{Meaning, IsRanged, Aggregate as Definition}
+use Rattle.policy_text.specs.Classes.{place_of, width_at, with_key}
+
+-- the name of the aggregate at a place
+abbrev pub name_at : List Definition → ℕ → List ℕ
+name_at [] place = []
+name_at (a ∷ rest) zero = a.name
+name_at (a ∷ rest) (suc place) = name_at rest place
+
+abbrev pub IfGiven : {A : Type 0} → (A → Type 0) → Option A → Type 0
+IfGiven P None = Unit {0}
+IfGiven P (Some a) = P a
+
+-- what an action needs: a rule on records has no element, an aggregate is defined, and bits are within the width
+abbrev pub IsAction : List Definition → Option Element → Action → Type 0
+IsAction aggregates element Pass = element ≡ None
+IsAction aggregates element Withhold = element ≡ None
+IsAction aggregates element (Aggregate place) =
+    (element ≡ None) × (is_name (name_at aggregates place) ≡ true) × (place_of aggregates (name_at aggregates place) ≡ Some place)
+IsAction aggregates element Keep = Unit {0}
+IsAction aggregates element Remove = Unit {0}
+IsAction aggregates element (Truncate bits) = (width : ℕ) × (width_at element ≡ Some width) × (bits ≤ width) × (bits < 1000)
+
+-- a rule that a line may spell after these aggregates
+pub record IsRule (aggregates : List Definition) (r : Rule) : Type 0 where
+  pub who : IfGiven (λ w. is_name w ≡ true) r.who
+  pub domain : IfGiven (λ d. d < 2 ^ 32) r.domain
+  pub from : IfGiven IsPrefix r.from
+  pub to : IfGiven IsPrefix r.to
+  pub element : IfGiven IsElement r.element
+  pub action : IsAction aggregates r.element r.action
+
+-- elements that a key may have after those before
+abbrev pub IsKeyAfter : List Element → List Element → Type 0
+IsKeyAfter before [] = Unit {0}
+IsKeyAfter before (e ∷ es) = IsElement e × (with_key before e ≡ Ok (before ++ e ∷ [])) × IsKeyAfter (before ++ e ∷ []) es
+
+-- an aggregate that a line may spell after those before
+pub record IsAggregate (before : List Definition) (a : Definition) : Type 0 where
+  pub name : is_name a.name ≡ true
+  pub other : place_of before a.name ≡ None
+  pub key : IsKeyAfter [] a.key
+  pub ranged : IsRanged (length a.key) a.interval a.grace
+
+abbrev pub AreAggregates : List Definition → List Definition → Type 0
+AreAggregates before [] = Unit {0}
+AreAggregates before (a ∷ rest) = IsAggregate before a × AreAggregates (before ++ a ∷ []) rest
+
+abbrev pub AreRules : List Definition → List Rule → Type 0
+AreRules aggregates rules = AllByRecursion (λ r. IsRule aggregates r) rules
+
+-- a policy that a text may spell
+pub record IsPolicy (policy : Meaning) : Type 0 where
+  pub aggregates : AreAggregates [] policy.aggregates
+  pub rules : AreRules policy.aggregates policy.rules
+  pub few_aggregates : length policy.aggregates ≤ 256
+  pub few_rules : length policy.rules ≤ 4096

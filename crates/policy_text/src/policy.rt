@@ -1,0 +1,209 @@
+ghost use Rattle.std.specs.Prelude.{◌≡◌, Ok, IfOk, string_bytes};
+ghost use Rattle.policy_text.specs.Grammar.{IsPolicy};
+ghost use Rattle.policy_text.specs.Policies.{Meaning};
+ghost use Rattle.policy_text.specs.Spelling.{Spells};
+ghost use Rattle.policy_text.specs.Printing.{policy_text};
+ghost use Rattle.policy_text.specs.Results.{Gives, Parses, fault_at};
+ghost use Rattle.policy_text.specs.Lines.{rule_line, aggregate_line, line_of};
+ghost use Rattle.policy_text.specs.Words.{words_of, is_skipped};
+ghost use Rattle.policy_text.specs.Parsing.{is_header, line_step, policy_of};
+
+use crate::aggregate::AggregateDef;
+use crate::fault::{FaultKind, PolicyFault};
+use crate::lines::{read_aggregate, read_rule};
+use crate::print::policy_to_text;
+use crate::rule::Rule;
+use crate::words::{Words, first_word, is_word};
+use flow_prefix::cut_at;
+use std::alloc::{AllocError, Global};
+use std::marker::Model;
+
+const MOST_RULES: usize = 4096;
+
+const MOST_AGGREGATES: usize = 256;
+
+/// An ordered list of rules, with the aggregates that they name.
+#[derive(Debug, Drop)]
+pub struct Policy {
+    aggregates: Vec<AggregateDef>,
+    rules: Vec<Rule>,
+}
+
+impl Model for Policy {
+    ghost use Rattle.policy_text.specs.Policies.{Meaning};
+    ghost use Rattle.policy_text.specs.Grammar.{IsPolicy};
+
+    ghost Value = { Meaning };
+
+    ghost view = { λ p. record { aggregates = p.aggregates.items; rules = p.rules.items } };
+
+    ghost invariant = { λ p. IsPolicy (record { aggregates = p.aggregates.items; rules = p.rules.items }) };
+}
+
+impl Policy {
+    /// The policy that a text spells: `policy 1`, and then a line for each aggregate and each rule, each
+    /// aggregate before the rules that name it. Lines without words and lines that begin with `#` are
+    /// skipped. A fault is that of the first faulty line, and in it of the first word that doesn't fit;
+    /// where memory runs out the fault has line 0.
+    pub fn parse(alloc: Global, text: &str) -> Result<Policy, PolicyFault>
+        // What is read is spelled so.
+        ensures found { IfOk result (λ policy. Spells text.now policy) }
+        // What is spelled so is read, unless memory runs out.
+        ensures only { (policy : Meaning) → Spells text.now policy
+            → Parses (λ p. p) result (Ok policy) }
+        // Which fault it is.
+        ensures exact { Parses (λ p. p) result (policy_of text.now) }
+    {
+        Policy::read(alloc, text)
+    }
+
+    /// The policy of a text, or its first fault.
+    fn read(alloc: Global, text: &str) -> Result<Policy, PolicyFault>
+        ensures exact { Parses (λ policy. policy) result (policy_of text.now) }
+    {
+        let mut policy = Policy {
+            aggregates: Vec::new(alloc),
+            rules: Vec::new(alloc),
+        };
+        let mut started = false;
+        let mut number = 1;
+        let mut rest = text.as_bytes();
+        'lines: while let Some((line, after)) = cut_at(rest, b'\n') {
+            started = match policy.read_line(alloc, started, line) {
+                Ok(started) => started,
+                Err(kind) => return Err(fault_at(number, kind)),
+            };
+            number += 1;
+            rest = after;
+        }
+        match policy.read_line(alloc, started, rest) {
+            Ok(true) => Ok(policy),
+            Ok(false) => Err(fault_at(1, FaultKind::NoHeader)),
+            Err(kind) => Err(fault_at(number, kind)),
+        }
+    }
+
+    /// The aggregates, in the order of the text.
+    pub fn aggregates(&self) -> &[AggregateDef]
+        ensures { result.now ≡ self.now.aggregates }
+    {
+        self.aggregates.as_slice()
+    }
+
+    /// The rules, in the order of the text.
+    pub fn rules(&self) -> &[Rule]
+        ensures value { result.now ≡ self.now.rules }
+        ensures sound { IsPolicy self.now }
+    {
+        self.rules.as_slice()
+    }
+
+    /// The one printed text: `policy 1`, the aggregates and the rules, each in their order, one space
+    /// between words and a line feed behind each line. Fails only for want of memory.
+    pub fn print(&self, alloc: Global) -> Result<String, AllocError>
+        ensures text { IfOk result (λ text. string_bytes text ≡ policy_text self.now) }
+        ensures reads_back { IfOk result (λ text. policy_of (string_bytes text) ≡ Ok self.now) }
+    {
+        let _rules = &self.rules;
+        policy_to_text(alloc, self)
+    }
+
+    /// Reads a line, and says whether the header was read by then.
+    #[tactic(auto, unfolding(crate::specs::Parsing::line_step, crate::specs::Parsing::step))]
+    fn read_line(&mut self, alloc: Global, started: bool, line: &[u8]) -> Result<bool, FaultKind>
+        ensures { Gives (λ started. (started, self.new)) result
+            (line_step started self.old line.now) }
+    {
+        if is_skipped(line) {
+            return Ok(started);
+        }
+        if started {
+            self.add_line(alloc, line)?;
+            return Ok(true);
+        }
+        if is_header(line) {
+            return Ok(true);
+        }
+        Err(FaultKind::NoHeader)
+    }
+
+    /// Adds the rule or the aggregate of a line.
+    #[tactic(auto, unfolding(crate::specs::Lines::line_of))]
+    fn add_line(&mut self, alloc: Global, line: &[u8]) -> Result<(), FaultKind>
+        ensures { Gives (λ _. self.new) result (line_of self.old (words_of line.now)) }
+    {
+        let mut words = Words::new(line);
+        let word = words.word()?;
+        if is_word(word, b"rule") {
+            return self.add_rule(alloc, &mut words);
+        }
+        if is_word(word, b"aggregate") {
+            return self.add_aggregate(alloc, &mut words);
+        }
+        Err(FaultKind::UnknownWord)
+    }
+
+    #[tactic(auto, unfolding(crate::specs::Lines::rule_line))]
+    fn add_rule(&mut self, alloc: Global, words: &mut Words<'_>) -> Result<(), FaultKind>
+        ensures { Gives (λ _. self.new) result (rule_line self.old words.old) }
+    {
+        if self.rules.len() >= MOST_RULES {
+            return Err(FaultKind::TooMany);
+        }
+        let rule = read_rule(alloc, &self.aggregates, words)?;
+        self.rules.push(rule)?;
+        Ok(())
+    }
+
+    #[tactic(auto, unfolding(crate::specs::Lines::aggregate_line))]
+    fn add_aggregate(&mut self, alloc: Global, words: &mut Words<'_>) -> Result<(), FaultKind>
+        ensures { Gives (λ _. self.new) result (aggregate_line self.old words.old) }
+    {
+        if self.aggregates.len() >= MOST_AGGREGATES {
+            return Err(FaultKind::TooMany);
+        }
+        let aggregate = read_aggregate(alloc, &self.aggregates, words)?;
+        self.aggregates.push(aggregate)?;
+        Ok(())
+    }
+}
+
+/// The fault of a line; want of memory has no line.
+fn fault_at(line: usize, kind: FaultKind) -> PolicyFault
+    ensures { result ≡ fault_at line kind }
+{
+    let line = if kind == FaultKind::OutOfMemory {
+        0
+    } else {
+        line
+    };
+    PolicyFault { line, kind }
+}
+
+/// Whether the line has no words, or begins with `#`.
+fn is_skipped(line: &[u8]) -> bool
+    ensures { result ≡ is_skipped (words_of line.now) }
+{
+    match first_word(line) {
+        Some((word, _)) => word.first() == Some(&b'#'),
+        None => true,
+    }
+}
+
+/// Whether the words of the line are `policy 1`.
+#[tactic(auto, unfolding(crate::specs::Parsing::is_header))]
+fn is_header(line: &[u8]) -> bool
+    ensures { result ≡ is_header (words_of line.now) }
+{
+    let mut words = Words::new(line);
+    let Some(first) = words.take() else {
+        return false;
+    };
+    let Some(second) = words.take() else {
+        return false;
+    };
+    if words.take().is_some() {
+        return false;
+    }
+    is_word(first, b"policy") && is_word(second, b"1")
+}
