@@ -14,6 +14,7 @@
 
 pub mod data_record;
 pub mod encode;
+mod equality;
 pub mod field;
 pub mod laws;
 pub mod spans;
