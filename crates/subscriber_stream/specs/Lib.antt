@@ -4,11 +4,14 @@ pub use Rattle.ipfix_template.specs.Variable
 pub use Rattle.ipfix_template.specs.Element
 pub use Rattle.ipfix_template.specs.Kinds
 pub use Rattle.ipfix_template.specs.Template
+pub use Rattle.ipfix_template.specs.Equality
 pub use Rattle.ipfix_template.specs.Values
 pub use Rattle.ipfix_template.specs.DataRecord
 pub use Rattle.sequences.specs.Before
 pub mod Shapes
 pub mod Parts
 pub mod Message
+pub mod Table
+pub mod Waiting
 pub mod Standing
 pub mod Calls

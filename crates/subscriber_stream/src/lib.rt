@@ -1,13 +1,17 @@
-// A library with one function.
+//! A subscriber's own stream of IPFIX messages: what it is given are records, and what it hands out are
+//! messages that announce each template under an ID of this stream before the first record of it
+//! (RFC 7011, sections 3 and 8).
+//!
+//! - [`stream`]: `Stream`, which queues records and builds the messages.
+//! - [`limits`]: `Limits`, how many records may wait, and how many templates may be announced.
+//! - [`pull_error`]: `PullError`, why no message was built.
 #![tactic(auto)]
 
-ghost use Rattle.std.specs.Prelude.{◌≡◌};
-ghost use Rattle.subscriber_stream.specs.Echo.{echo_of};
+mod fitting;
+pub mod limits;
+pub mod pull_error;
+mod shape_table;
+mod waiting;
 
-// The `ensures` clause is the contract: what `echo` returns is `echo_of` of its argument, a definition
-// in `specs/Echo.antt`, which a caller's clause can cite too.
-pub fn echo(x: usize) -> usize
-    ensures { result ≡ echo_of x }
-{
-    x
-}
+pub use limits::Limits;
+pub use pull_error::PullError;
