@@ -1,2 +1,5 @@
 pub mod TableLaws
 pub mod Costs
+pub mod Pieces
+pub mod Bodies
+pub mod Messages

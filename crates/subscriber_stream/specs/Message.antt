@@ -26,17 +26,24 @@ sets_of (Announcement id shape ∷ ps) = Announces id shape ∷ sets_of ps
 sets_of (Entry id r ∷ ps) = with_record id r (sets_of ps)
 
 -- Set ID 2 is a Template Set, 3 an Options Template Set (RFC 7011, section 3.3.2)
+abbrev pub template_set : Template → ℕ
+template_set shape = if is_options shape then 3 else 2
+
 abbrev pub set_id : Set → ℕ
-set_id (Announces id shape) = if is_options shape then 3 else 2
+set_id (Announces id shape) = template_set shape
 set_id (Brings id rs) = id
 
 abbrev pub set_content : Set → List ℕ
 set_content (Announces id shape) = template_record id (is_options shape) shape
 set_content (Brings id rs) = flat_map (λ r. record_text r.template.fields r.values) rs
 
--- Set ID, length with the set's header, and the content without padding
+-- a set's header: its ID, and its length with the header (RFC 7011, section 3.3.2)
+unfoldable pub set_head : ℕ → ℕ → List ℕ
+set_head id octets = be_octets 2 id ++ be_octets 2 (4 + octets)
+
+-- the header and the content, without padding
 abbrev pub set_text : Set → List ℕ
-set_text s = be_octets 2 (set_id s) ++ be_octets 2 (4 + length (set_content s)) ++ set_content s
+set_text s = set_head (set_id s) (length (set_content s)) ++ set_content s
 
 unfoldable pub body : List Part → List ℕ
 body ps = flat_map set_text (sets_of ps)

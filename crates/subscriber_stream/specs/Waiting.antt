@@ -1,13 +1,12 @@
 -- What waits in a stream's queue, and what it adds to a message. A part names its template by the ID alone.
 use Rattle.std.specs.Prelude.{◌≡◌, ◌≤◌, ◌<◌, ℕ, suc, ◌+◌, ◌-◌, Bool, true, false, ◌==◌, nat_le, List, [], ◌∷◌, ◌++◌, length, map, slice_index_or, Option, Some, None, if◌then◌else◌}
 use Rattle.ipfix_template.specs.declared.template.Template.{Template}
-use Rattle.sequences.specs.Octets.{be_octets}
 use Rattle.ipfix_template.specs.Template.{IsAccepted, is_options, template_record}
 use Rattle.ipfix_template.specs.Values.{fit_fields, record_text}
 use Rattle.subscriber_stream.specs.declared.waiting.Waiting.{Waiting}
 use Rattle.subscriber_stream.specs.declared.waiting.Waiting.TheVariants.{Announce, Bring}
 use Rattle.subscriber_stream.specs.Parts.{Part, Announcement, Entry}
-use Rattle.subscriber_stream.specs.Message.{Set, Announces, set_id}
+use Rattle.subscriber_stream.specs.Message.{template_set, set_head}
 
 -- the template of an ID
 abbrev pub shape_at : List Template → ℕ → Template
@@ -83,15 +82,11 @@ fits target last octets (w ∷ ws) = if nat_le (octets + cost last w) target the
 abbrev pub run : ℕ → List Waiting → ℕ
 run id [] = 0
 run id (Announce other octets ∷ ws) = 0
-run id (Bring other octets values ∷ ws) = if other == id then octets + run id ws else 0
-
--- a set's header: its ID, and its length with the header (RFC 7011, section 3.3.2)
-abbrev pub set_head : ℕ → ℕ → List ℕ
-set_head id octets = be_octets 2 id ++ be_octets 2 (4 + octets)
+run id (Bring other octets values ∷ ws) = if id == other then octets + run id ws else 0
 
 -- what is written for one, where these follow it in the message
 abbrev pub piece : List Template → Option ℕ → Waiting → List Waiting → List ℕ
-piece shapes last (Announce id octets) ws = set_head (set_id (Announces id (shape_at shapes id))) octets ++ template_record id (is_options (shape_at shapes id)) (shape_at shapes id)
+piece shapes last (Announce id octets) ws = set_head (template_set (shape_at shapes id)) octets ++ template_record id (is_options (shape_at shapes id)) (shape_at shapes id)
 piece shapes last (Bring id octets values) ws = (if joins last id then [] else set_head id (octets + run id ws)) ++ record_text (shape_at shapes id).fields values
 
 abbrev pub pieces : List Template → Option ℕ → List Waiting → List ℕ

@@ -12,6 +12,7 @@ pub mod limits;
 pub mod pull_error;
 mod shape_table;
 mod waiting;
+mod writing;
 
 pub use limits::Limits;
 pub use pull_error::PullError;
