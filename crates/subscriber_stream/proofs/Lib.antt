@@ -3,3 +3,4 @@ pub mod Costs
 pub mod Pieces
 pub mod Bodies
 pub mod Messages
+pub mod Standings

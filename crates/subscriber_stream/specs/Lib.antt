@@ -14,4 +14,5 @@ pub mod Message
 pub mod Table
 pub mod Waiting
 pub mod Standing
+pub mod Steps
 pub mod Calls

@@ -11,8 +11,10 @@ mod fitting;
 pub mod limits;
 pub mod pull_error;
 mod shape_table;
+pub mod stream;
 mod waiting;
 mod writing;
 
 pub use limits::Limits;
 pub use pull_error::PullError;
+pub use stream::Stream;
