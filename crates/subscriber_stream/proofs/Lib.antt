@@ -4,3 +4,4 @@ pub mod Pieces
 pub mod Bodies
 pub mod Messages
 pub mod Standings
+pub mod Pushing

@@ -54,6 +54,11 @@ entries [] = 0
 entries (Announce id octets ∷ ws) = entries ws
 entries (Bring id octets values ∷ ws) = suc (entries ws)
 
+-- what is put into the queue for a record
+abbrev pub new_parts : ℕ → Option ℕ → ℕ → List (List ℕ) → List Waiting
+new_parts id None octets values = Bring id octets values ∷ []
+new_parts id (Some announced) octets values = Announce id announced ∷ Bring id octets values ∷ []
+
 -- ---- what each adds to a message of which a Data Set of this ID, or none, is the last
 
 abbrev pub joins : Option ℕ → ℕ → Bool

@@ -8,7 +8,7 @@ use crate::fitting::fitting;
 use crate::limits::Limits;
 use crate::pull_error::PullError;
 use crate::shape_table::ShapeTable;
-use crate::waiting::Waiting;
+use crate::waiting::{Waiting, put_waiting};
 use crate::writing::{LEAST_TEMPLATE_ID, message_of};
 use bytes::Bytes;
 use ipfix_template::Record;
@@ -124,14 +124,8 @@ impl Stream {
         let (template, values) = next.into_parts();
         let (place, is_new) = self.shapes.place_reserved(template);
         let id = LEAST_TEMPLATE_ID + place as u16;
-        if is_new {
-            self.queue.push_back_reserved(Waiting::Announce {
-                id,
-                octets: template_octets,
-            });
-        }
-        self.queue
-            .push_back_reserved(Waiting::Bring { id, octets, values });
+        let announced = is_new.then_some(template_octets);
+        put_waiting(&mut self.queue, id, announced, octets, values);
         self.waiting += 1;
         self.spare -= 1;
     }

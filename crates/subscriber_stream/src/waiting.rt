@@ -1,7 +1,9 @@
 //! What waits in a stream's queue.
-ghost use Rattle.std.specs.Prelude.{◌≡◌, ◌+◌, ◌≤◌};
+ghost use Rattle.std.specs.Prelude.{◌≡◌, ◌+◌, ◌≤◌, ◌++◌, length};
+ghost use Rattle.std.specs.VecDeque.{deque_capacity};
 
 use ipfix_template::Values;
+use std::collections::VecDeque;
 
 /// A part of a stream that waits to be handed out. It names its template by the ID alone.
 #[derive(Drop)]
@@ -50,7 +52,7 @@ impl Waiting {
     }
 }
 
-ghost use Rattle.subscriber_stream.specs.Waiting.{joins};
+ghost use Rattle.subscriber_stream.specs.Waiting.{joins, new_parts};
 
 /// Whether a record of this ID joins the last set.
 pub(crate) fn joins(last: Option<u16>, id: u16) -> bool
@@ -60,4 +62,23 @@ pub(crate) fn joins(last: Option<u16>, id: u16) -> bool
         Some(last) => last == id,
         None => false,
     }
+}
+
+/// Puts a record into the reserved room of the queue, and the announcement of its template before it where
+/// its octets are given.
+pub(crate) fn put_waiting(
+    queue: &mut VecDeque<Waiting>,
+    id: u16,
+    announced: Option<u16>,
+    octets: u16,
+    values: Values,
+)
+    requires { length queue.old.items + 2 ≤ deque_capacity queue.old }
+    ensures items { queue.new.items ≡ queue.old.items ++ new_parts id announced octets values }
+    ensures capacity { deque_capacity queue.new ≡ deque_capacity queue.old }
+{
+    if let Some(octets) = announced {
+        queue.push_back_reserved(Waiting::Announce { id, octets });
+    }
+    queue.push_back_reserved(Waiting::Bring { id, octets, values });
 }
