@@ -11,7 +11,7 @@ pub record IsRun (target : ℕ) (ws : List Waiting) (parts octets : ℕ) (last :
   pub counted : octets ≡ 16 + total None (take parts ws)
   pub more : (w : Waiting) (vs : List Waiting) → total None (take parts ws ++ w ∷ vs) ≡ total None (take parts ws) + (cost last w + total (data_set w) vs)
   pub fit : parts + fits target last octets (drop parts ws) ≡ fits target None 16 ws
-  pub small : octets ≤ 65551
+  pub small : octets ≤ 65535
 
 pub IsRun-none : (target : ℕ) (ws : List Waiting) → IsRun target ws 0 16 None
 IsRun-none target ws = record {

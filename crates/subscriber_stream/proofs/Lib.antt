@@ -5,3 +5,5 @@ pub mod Bodies
 pub mod Messages
 pub mod Standings
 pub mod Pushing
+pub mod Pulling
+pub mod Rooms

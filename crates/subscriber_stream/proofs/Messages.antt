@@ -65,7 +65,7 @@ fits-last_passing target last octets (w ∷ ws) =
     let over = leb-false (octets + cost last w) target is in
     sym (last_passing-none (λ n. nat_le (octets + total last (take n (w ∷ ws))) target) (suc (length ws)) (λ k. lt-leb _ target (omega arith)))
 
-take-map : {A B : Type 0} (f : A → B) (n : ℕ) (xs : List A) → take n (map f xs) ≡ map f (take n xs)
+pub take-map : {A B : Type 0} (f : A → B) (n : ℕ) (xs : List A) → take n (map f xs) ≡ map f (take n xs)
 take-map f zero xs = refl
 take-map f (suc n) [] = refl
 take-map f (suc n) (x ∷ xs) = ap (λ t. f x ∷ t) (take-map f n xs)

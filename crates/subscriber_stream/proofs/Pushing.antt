@@ -172,6 +172,7 @@ pub record Takes (table grown : Table) (limits : Limits) (waiting handed spare :
   pub are : AreOctetsOf r announced octets
   pub some : 0 < spare
   pub few : length (with_shape table.shapes r.template) ≤ limits.shapes
+  pub queue : waiting + 1 ≤ limits.queue
   pub below : handed + waiting + 1 < 2 ^ 64
   pub shapes : grown.shapes ≡ with_shape table.shapes r.template
   pub spare_left : table.spare ≤ grown.spare + 1
@@ -192,6 +193,7 @@ taken table grown queue capacity limits waiting handed announced spare r announc
       announced_before = omega (arith, is.announced_before, announcements-append queue new, one.counted, len);
       few_shapes = omega (arith, takes.few, len);
       few_ids = is.few_ids;
+      few_waiting = takes.queue;
       below = omega (arith, takes.below);
       room = omega (arith, is.room, takes.some, one.few, length-append queue new);
       table_room = omega (arith, is.table_room, takes.spare_left, takes.some);

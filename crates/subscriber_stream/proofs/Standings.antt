@@ -1,8 +1,8 @@
 -- What a stream keeps, and how it stands in the parts of a list.
-use Rattle.std.proofs.Common.{◌≡◌, ℕ, zero, suc, ◌+◌, ◌-◌, ◌<◌, ◌≤◌, ◌^◌, Bool, true, false, cond, not, List, [], ◌∷◌, ◌++◌, length, take, drop, get_or, refl, sym, ap, subst, ◌∙◌, arith, append_assoc, length-append}
+use Rattle.std.proofs.Common.{◌≡◌, ℕ, zero, suc, ◌+◌, ◌-◌, ◌<◌, ◌≤◌, ◌^◌, Bool, true, false, cond, not, List, [], ◌∷◌, ◌++◌, length, take, drop, Some, None, refl, sym, ap, subst, ◌∙◌, arith, append_assoc, length-append}
 use Rattle.std.specs.Prelude.{map}
 use Rattle.std.specs.List.{flat_map, list_any, position_or_len}
-use Rattle.std.proofs.lemmas.List.{append-nil, map-append, length-map, drop-drop}
+use Rattle.std.proofs.lemmas.List.{append-nil, length-take}
 use Rattle.sequences.specs.Before.{each_after, each_with_before}
 use Rattle.sequences.proofs.BeforeLaws.{each_with_before-push}
 use Rattle.ipfix_template.specs.Equality.{same_template}
@@ -13,6 +13,7 @@ use Rattle.subscriber_stream.specs.declared.waiting.Waiting.{Waiting}
 use Rattle.subscriber_stream.specs.declared.waiting.Waiting.TheVariants.{Announce, Bring}
 use Rattle.subscriber_stream.specs.Shapes.{is_among, with_shape, shapes_after, shapes_of}
 use Rattle.subscriber_stream.specs.Parts.{Part, Announcement, Entry, parts_for, parts_at, parts, record_in, records_in}
+use Rattle.subscriber_stream.specs.Message.{message, run_length, next_message, built, place_after}
 use Rattle.subscriber_stream.specs.Waiting.{parts_of, announcements, entries}
 use Rattle.subscriber_stream.specs.Standing.{Standing, Kept, StandsAt, at_start, queued, HasRoom, FitsLimits}
 use Rattle.subscriber_stream.specs.Steps.{with_record, given_one, given, without_first, handed_one, handed_parts}
@@ -98,7 +99,7 @@ kept_after (suc n) k =
 
 -- ---- records that are given
 
-shapes_after-append : (shapes : List Template) (xs ys : List DataRecord) → shapes_after shapes (xs ++ ys) ≡ shapes_after (shapes_after shapes xs) ys
+pub shapes_after-append : (shapes : List Template) (xs ys : List DataRecord) → shapes_after shapes (xs ++ ys) ≡ shapes_after (shapes_after shapes xs) ys
 unfolding shapes_after
 shapes_after-append shapes [] ys = refl
 shapes_after-append shapes (x ∷ xs) ys = shapes_after-append (with_shape shapes x.template) xs ys
@@ -230,3 +231,66 @@ announce_out shapes limits spare handed announced ws qs id octets is = rw is ref
 pub bring_out : (shapes : List Template) (limits : Limits) (spare handed announced : ℕ) (ws qs : List Waiting) (id octets : ℕ) (values : List (List ℕ)) → ws ≡ Bring id octets values ∷ qs → kept_of shapes limits spare (handed + 1) announced qs ≡ handed_one (kept_of shapes limits spare handed announced ws)
 unfolding handed_one
 bring_out shapes limits spare handed announced ws qs id octets values is = rw is refl
+
+-- ---- many records, and a message
+
+-- these are still to be given, and then all are
+pub record IsGiving (k : Kept) (rest : List DataRecord) (start : Kept) (all : List DataRecord) : Type 0 where
+  pub can : CanTake k rest
+  pub whole : given k rest ≡ given start all
+
+pub IsGiving-next : (k : Kept) (r : DataRecord) (rest whole : List DataRecord) (start : Kept) (all : List DataRecord) → whole ≡ r ∷ rest → IsGiving k whole start all → IsGiving (given_one k r) rest start all
+IsGiving-next k r rest whole start all is giving =
+    let P : List DataRecord → Type 0 = λ rs. IsGiving k rs start all in
+    let here = subst P is giving in
+    record { can = CanTake-rest k r rest here.can; whole = here.whole }
+
+pub IsGiving-can : (k : Kept) (r : DataRecord) (rest whole : List DataRecord) (start : Kept) (all : List DataRecord) → whole ≡ r ∷ rest → IsGiving k whole start all → CanTake k (r ∷ rest)
+IsGiving-can k r rest whole start all is giving =
+    let P : List DataRecord → Type 0 = λ rs. CanTake k rs in subst P is giving.can
+
+spare_one : (k : Kept) (r : DataRecord) → (given_one k r).spare ≡ k.spare - 1
+unfolding given_one
+spare_one k r = refl
+
+limits_one : (k : Kept) (r : DataRecord) → (given_one k r).limits ≡ k.limits
+unfolding given_one
+limits_one k r = refl
+
+pub kept_given : (k : Kept) (rs : List DataRecord) → length rs ≤ k.spare → ((given k rs).limits ≡ k.limits) × ((given k rs).spare + length rs ≡ k.spare)
+kept_given k [] le = (refl, omega arith)
+kept_given k (r ∷ rs) le =
+    let one = spare_one k r in
+    let others = kept_given (given_one k r) rs (omega (arith, one)) in
+    (others.0 ∙ limits_one k r, omega (arith, others.1, one))
+
+length-take-nil : {A : Type 0} (n : ℕ) (xs : List A) → xs ≡ [] → length (take n xs) ≡ 0
+length-take-nil n xs is = omega (arith, length-take n xs, ap length is)
+
+-- the message of what waits is the one that is built
+pub next_is_built : (s : Standing) (records : List DataRecord) (p now target : ℕ) → StandsAt s records p → next_message now target s.handed s.waiting ≡ built records p now target
+next_is_built s records p now target at =
+    ap (λ (n : ℕ). next_message now target n s.waiting) at.handed ∙ ap (next_message now target (length (records_in (take p (parts records))))) at.waiting
+
+pub next_some : (now target handed : ℕ) (ws : List Part) → 0 < length ws → next_message now target handed ws ≡ Some (message now handed (take (run_length target ws) ws))
+unfolding next_message
+next_some now target handed [] some = absurd (omega arith)
+next_some now target handed (part ∷ ps) some = refl
+
+pub next_none : (now target handed : ℕ) (ws : List Part) → ws ≡ [] → next_message now target handed ws ≡ None
+unfolding next_message
+next_none now target handed ws is = rw is refl
+
+-- the place after a message
+pub stands_after_message : (k : Kept) (records : List DataRecord) (p target n : ℕ) → n ≡ run_length target k.standing.waiting → n ≤ length k.standing.waiting → StandsAt k.standing records p → StandsAt (handed_parts n k).standing records (place_after records p target)
+stands_after_message k records p target n is le at =
+    let P : ℕ → Type 0 = λ q. StandsAt (handed_parts n k).standing records q in
+    let same : n ≡ run_length target (drop p (parts records)) = is ∙ ap (run_length target) at.waiting in
+    let len : p + n ≡ place_after records p target = omega (arith, length-take (run_length target (drop p (parts records))) (drop p (parts records)), ap length at.waiting, same) in
+    subst P len (stands_after n k records p le at)
+
+pub stands_at_end : (s : Standing) (records : List DataRecord) (p target : ℕ) → s.waiting ≡ [] → StandsAt s records p → StandsAt s records (place_after records p target)
+stands_at_end s records p target none at =
+    let P : ℕ → Type 0 = λ q. StandsAt s records q in
+    let len : p ≡ place_after records p target = omega (arith, length-take-nil (run_length target (drop p (parts records))) (drop p (parts records)) (sym at.waiting ∙ none)) in
+    subst P len at

@@ -42,6 +42,7 @@ pub record IsConsistent (table : Table) (queue : List Waiting) (capacity : ℕ) 
   pub announced_before : announced + announcements queue ≡ length table.shapes
   pub few_shapes : length table.shapes ≤ limits.shapes
   pub few_ids : limits.shapes ≤ 65280
+  pub few_waiting : waiting ≤ limits.queue
   pub below : handed + waiting < 2 ^ 64
   pub room : length queue + 2 * spare ≤ capacity
   pub table_room : spare ≤ table.spare

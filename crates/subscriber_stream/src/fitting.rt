@@ -1,7 +1,7 @@
 //! How many parts a message takes.
-ghost use Rattle.std.specs.Prelude.{◌≡◌, ◌≤◌, ◌<◌, ◌+◌, max, take, length, None};
+ghost use Rattle.std.specs.Prelude.{◌≡◌, ◌≤◌, ◌<◌, ◌+◌, max, take, length, slice_index_or, None};
 ghost use Rattle.subscriber_stream.specs.declared.waiting.Waiting.{Waiting};
-ghost use Rattle.subscriber_stream.specs.Waiting.{fits, total};
+ghost use Rattle.subscriber_stream.specs.Waiting.{cost, fits, total};
 
 use crate::waiting::Waiting;
 use std::collections::VecDeque;
@@ -19,10 +19,12 @@ pub(crate) struct Run {
 /// The longest run of parts from the front whose message is at most `target` octets long, or the first
 /// part alone.
 pub(crate) fn fitting(queue: &VecDeque<Waiting>, target: u16) -> Run
-    requires { 0 < length queue.now.items }
+    requires some { 0 < length queue.now.items }
+    requires first { (w : Waiting) → cost None (slice_index_or queue.now.items 0 w) ≤ 65519 }
     ensures parts { result.parts ≡ max 1 (fits target None 16 queue.now.items) }
     ensures octets { result.octets ≡ 16 + total None (take result.parts queue.now.items) }
     ensures within { result.parts ≤ length queue.now.items }
+    ensures small { result.octets ≤ 65535 }
 {
     let run = whole_run(queue, target);
     if run.parts > 0 {
@@ -39,6 +41,7 @@ fn whole_run(queue: &VecDeque<Waiting>, target: u16) -> Run
     ensures parts { result.parts ≡ fits target None 16 queue.now.items }
     ensures octets { result.octets ≡ 16 + total None (take result.parts queue.now.items) }
     ensures within { result.parts ≤ length queue.now.items }
+    ensures small { result.octets ≤ 65535 }
 {
     let mut run = Run {
         parts: 0,

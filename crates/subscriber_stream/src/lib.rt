@@ -10,6 +10,7 @@
 mod fitting;
 pub mod limits;
 pub mod pull_error;
+mod room;
 mod shape_table;
 pub mod stream;
 mod waiting;

@@ -111,6 +111,30 @@ impl Stream {
         Ok(())
     }
 
+    /// Takes records into the reserved room, behind those that were given before. It takes no memory.
+    pub fn push_reserved(&mut self, records: Vec<Record>)
+        requires room { HasRoom self.old records.items }
+        requires reserved { length records.items ≤ self.old.spare }
+        requires count { self.old.standing.handed + queued self.old.standing + length records.items < 2 ^ 64 }
+        ensures stands { (given_before : List DataRecord) (p : ℕ) → StandsAt self.old.standing given_before p
+            → StandsAt self.new.standing (given_before ++ records.items) p }
+        ensures limits { self.new.limits ≡ self.old.limits }
+        ensures spare { self.new.spare + length records.items ≡ self.old.spare }
+    {
+        self.push_all(records);
+    }
+
+    fn push_all(&mut self, records: Vec<Record>)
+        requires room { HasRoom self.old records.items }
+        requires reserved { length records.items ≤ self.old.spare }
+        requires count { self.old.standing.handed + queued self.old.standing + length records.items < 2 ^ 64 }
+        ensures { self.new ≡ given self.old records.items }
+    {
+        for next in records {
+            self.push_one(next);
+        }
+    }
+
     /// Takes one record into the reserved room.
     fn push_one(&mut self, next: Record)
         requires reserved { 0 < self.old.spare }
@@ -153,5 +177,39 @@ impl Stream {
         for _ in 0..count {
             self.hand_out_one();
         }
+    }
+
+    /// Builds the next message: the longest run of parts whose message is at most `target` octets long, or
+    /// the next part alone where no such run has any; with the Export Time `now`, in seconds since 1970.
+    /// `None` exactly at the end, where nothing is queued.
+    ///
+    /// # Errors
+    /// Want of memory for the message, and then the stream is as it was.
+    pub fn pull(&mut self, now: u32, target: u16) -> Result<Option<Bytes>, PullError>
+        // The message is the one that is built from the place where the stream stands,
+        ensures answer { IfOk result (λ m. (records : List DataRecord) (p : ℕ) → StandsAt self.old.standing records p
+            → m ≡ built records p now target) }
+        // and the stream then stands after its parts.
+        ensures place { OnOk result ((records : List DataRecord) (p : ℕ) → StandsAt self.old.standing records p
+            → StandsAt self.new.standing records (place_after records p target)) }
+        ensures end { IfOk result (λ m. IsNone m ↔ (self.old.standing.waiting ≡ [])) }
+        ensures limits { self.new.limits ≡ self.old.limits }
+        ensures spare { self.new.spare ≡ self.old.spare }
+        ensures err { OnErr result (self.new ≡ self.old) }
+    {
+        if self.queue.is_empty() {
+            return Ok(None);
+        }
+        let run = fitting(&self.queue, target);
+        let message = message_of(
+            self.alloc,
+            &self.shapes,
+            &self.queue,
+            run,
+            now,
+            self.handed,
+        )?;
+        self.hand_out(run.parts);
+        Ok(Some(message))
     }
 }
