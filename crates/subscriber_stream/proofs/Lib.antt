@@ -7,3 +7,4 @@ pub mod Standings
 pub mod Pushing
 pub mod Pulling
 pub mod Rooms
+pub mod CallLaws

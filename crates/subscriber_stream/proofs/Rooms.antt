@@ -84,3 +84,20 @@ length-shapes_after_most shapes (r ∷ rs) =
 pub shapes_after-none : (shapes : List Template) → shapes_after shapes [] ≡ shapes
 unfolding shapes_after
 shapes_after-none shapes = refl
+
+abbrev one_if : Bool → ℕ
+one_if b = cond b 1 0
+
+pub new_where_unused : (shapes : List Template) (records : List DataRecord) (place : ℕ) (r : DataRecord) (t : Template) (used : Bool) → place < length records → r ≡ get_or records place r → t ≡ r.template → is_among t shapes ≡ false → used ≡ list_any (λ q. same_template t q.template) (take place records)
+    → length (shapes_after shapes (take (place + 1) records)) ≡ length (shapes_after shapes (take place records)) + cond (not used) 1 0
+new_where_unused shapes records place r t used lt is t_is known used_is =
+    let P : Template → Type 0 = λ u. one_if (not (is_among u shapes) && not (list_any (λ q. same_template u q.template) (take place records))) ≡ one_if (not used) in
+    let here : P t = rw (known, used_is) refl in
+    length-shapes_after_more shapes records place r lt is ∙ ap (λ (n : ℕ). length (shapes_after shapes (take place records)) + n) (subst P t_is here)
+
+pub none_where_known : (shapes : List Template) (records : List DataRecord) (place : ℕ) (r : DataRecord) (t : Template) (known : Bool) → place < length records → r ≡ get_or records place r → t ≡ r.template → known ≡ is_among t shapes → known ≡ true
+    → length (shapes_after shapes (take (place + 1) records)) ≡ length (shapes_after shapes (take place records)) + cond (not known) 1 0
+none_where_known shapes records place r t known lt is t_is known_is holds =
+    let P : Template → Type 0 = λ u. one_if (not (is_among u shapes) && not (list_any (λ q. same_template u q.template) (take place records))) ≡ one_if (not known) in
+    let here : P t = rw (← known_is, holds) refl in
+    length-shapes_after_more shapes records place r lt is ∙ ap (λ (n : ℕ). length (shapes_after shapes (take place records)) + n) (subst P t_is here)

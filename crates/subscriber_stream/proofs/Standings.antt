@@ -167,13 +167,13 @@ length-shapes_after shapes (r ∷ rs) =
     omega (arith, length-with_shape shapes r.template, length-shapes_after (with_shape shapes r.template) rs)
 
 -- one record is among the parts of one record
-records_in-parts_for : (shapes : List Template) (r : DataRecord) → records_in (parts_for shapes r) ≡ r ∷ []
+pub records_in-parts_for : (shapes : List Template) (r : DataRecord) → records_in (parts_for shapes r) ≡ r ∷ []
 records_in-parts_for shapes r = by_test (is_among r.template shapes) where
   by_test : (b : Bool) → records_in (cond b (Entry (256 + position_or_len (same_template r.template) shapes) r ∷ []) (Announcement (256 + position_or_len (same_template r.template) shapes) r.template ∷ Entry (256 + position_or_len (same_template r.template) shapes) r ∷ [])) ≡ r ∷ []
   by_test true = refl
   by_test false = refl
 
-records_in-append : (ps qs : List Part) → records_in (ps ++ qs) ≡ records_in ps ++ records_in qs
+pub records_in-append : (ps qs : List Part) → records_in (ps ++ qs) ≡ records_in ps ++ records_in qs
 records_in-append [] qs = refl
 records_in-append (p ∷ ps) qs =
     ap (λ (t : List DataRecord). record_in p ++ t) (records_in-append ps qs) ∙ sym (append_assoc (record_in p) (records_in ps) (records_in qs))
@@ -294,3 +294,19 @@ stands_at_end s records p target none at =
     let P : ℕ → Type 0 = λ q. StandsAt s records q in
     let len : p ≡ place_after records p target = omega (arith, length-take-nil (run_length target (drop p (parts records))) (drop p (parts records)) (sym at.waiting ∙ none)) in
     subst P len at
+
+-- room behind a list is room behind what the stream keeps of it
+pub room_is_limits : (k : Kept) (records : List DataRecord) (p : ℕ) (more : List DataRecord) → StandsAt k.standing records p → (HasRoom k more → FitsLimits k.limits records p more) × (FitsLimits k.limits records p more → HasRoom k more)
+room_is_limits k records p more at =
+    let count : queued k.standing ≡ length (records_in (drop p (parts records))) = ap (λ (ps : List Part). length (records_in ps)) at.waiting in
+    let shapes : length (shapes_after k.standing.shapes more) ≡ length (shapes_of (records ++ more)) = ap (λ (ss : List Template). length (shapes_after ss more)) at.shapes ∙ ap length (sym (shapes_after-append [] records more)) in
+    (λ room. record { queue = omega (arith, room.queue, count); shapes = omega (arith, room.shapes, shapes) },
+    λ fits. record { queue = omega (arith, fits.queue, count); shapes = omega (arith, fits.shapes, shapes) })
+
+-- room in the queue and among the shapes, and no more than that
+pub room_by_parts : (k : Kept) (more : List DataRecord) (waiting : ℕ) → waiting ≡ queued k.standing → waiting ≤ k.limits.queue → length more ≤ k.limits.queue - waiting → (b : Bool) → (b ≡ true → length (shapes_after k.standing.shapes more) ≤ k.limits.shapes) × (length (shapes_after k.standing.shapes more) ≤ k.limits.shapes → b ≡ true) → (b ≡ true → HasRoom k more) × (HasRoom k more → b ≡ true)
+room_by_parts k more waiting is few fits b shapes =
+    (λ yes'. record { queue = omega (arith, is, few, fits); shapes = shapes.0 yes' }, λ room. shapes.1 room.shapes)
+
+pub no_room : (k : Kept) (more : List DataRecord) (waiting : ℕ) → waiting ≡ queued k.standing → k.limits.queue - waiting < length more → HasRoom k more → ⊥
+no_room k more waiting is over room = omega (arith, is, over, room.queue)

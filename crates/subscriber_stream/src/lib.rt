@@ -5,9 +5,11 @@
 //! - [`stream`]: `Stream`, which queues records and builds the messages.
 //! - [`limits`]: `Limits`, how many records may wait, and how many templates may be announced.
 //! - [`pull_error`]: `PullError`, why no message was built.
+//! - [`laws`]: what a subscriber gets is a function of the records and the pulls.
 #![tactic(auto)]
 
 mod fitting;
+pub mod laws;
 pub mod limits;
 pub mod pull_error;
 mod room;
@@ -16,6 +18,7 @@ pub mod stream;
 mod waiting;
 mod writing;
 
+pub use laws::{longest_run, octets_of_pulls, one_shape, parts_bring_the_list, parts_go_on};
 pub use limits::Limits;
 pub use pull_error::PullError;
 pub use stream::Stream;

@@ -7,6 +7,7 @@ ghost use Rattle.subscriber_stream.specs.declared.limits.TheConstants.{MOST_SHAP
 use crate::fitting::fitting;
 use crate::limits::Limits;
 use crate::pull_error::PullError;
+use crate::room::has_shape_room;
 use crate::shape_table::ShapeTable;
 use crate::waiting::{Waiting, put_waiting};
 use crate::writing::{LEAST_TEMPLATE_ID, message_of};
@@ -89,6 +90,24 @@ impl Stream {
         ensures { result ≡ length self.now.standing.shapes }
     {
         self.shapes.len() as u32
+    }
+
+    /// Whether the limits leave room for these records: for all of them in the queue, and for their
+    /// templates among those that the stream knows. It takes no memory.
+    pub fn room(&self, records: &[Record]) -> bool
+        ensures room { IsTrue result ↔ HasRoom self.now records.now }
+        // That is room behind the list of records that the stream was given.
+        ensures exact { (given_before : List DataRecord) (p : ℕ) → StandsAt self.now.standing given_before p
+            → (IsTrue result ↔ FitsLimits self.now.limits given_before p records.now) }
+    {
+        self.has_room(records)
+    }
+
+    fn has_room(&self, records: &[Record]) -> bool
+        ensures { IsTrue result ↔ HasRoom self.now records.now }
+    {
+        records.len() <= (self.limits.queue - self.waiting) as usize
+            && has_shape_room(&self.shapes, records, self.limits.shapes)
     }
 
     /// Makes room for these records.
