@@ -3,12 +3,13 @@ use Rattle.std.proofs.Common.{◌≡◌, ℕ, ◌<◌, ◌≤◌, List, [], ◌�
 use Rattle.std.proofs.lemmas.List.{length-map}
 use Rattle.ipfix_template.specs.declared.template.Template.{Template}
 use Rattle.subscriber_stream.specs.declared.waiting.Waiting.{Waiting}
-use Rattle.subscriber_stream.specs.Parts.{Part}
+use Rattle.subscriber_stream.specs.declared.waiting.Waiting.TheVariants.{Announce, Bring}
+use Rattle.subscriber_stream.specs.Parts.{Part, records_in}
 use Rattle.subscriber_stream.specs.Message.{message, run_length, next_message}
-use Rattle.subscriber_stream.specs.Waiting.{part_of, parts_of, AreKept, fits}
+use Rattle.subscriber_stream.specs.Waiting.{part_of, parts_of, AreKept, AreFollowed, entries, fits}
 use Rattle.subscriber_stream.specs.Standing.{Kept}
 use Rattle.subscriber_stream.proofs.Messages.{run_length-waiting, take-map}
-use Rattle.subscriber_stream.proofs.Standings.{next_some}
+use Rattle.subscriber_stream.proofs.Standings.{next_some, queued_entries}
 
 -- a stream whose queue this is, the number of records handed out, and how many parts its next message takes
 pub record Pulls (k : Kept) (shapes : List Template) (ws : List Waiting) (handed target n : ℕ) : Type 0 where
@@ -43,3 +44,16 @@ nothing_waits shapes (w ∷ ws) none = absurd (omega arith)
 pub something_waits : (ws : List Waiting) → (length ws ≡ 0 → ⊥) → 0 < length ws
 something_waits [] some = absurd (some refl)
 something_waits (w ∷ ws) some = omega arith
+
+-- where no record waits nothing does
+pub none_followed : (ws : List Waiting) → AreFollowed ws → entries ws ≡ 0 → length ws ≡ 0
+none_followed [] all none = refl
+none_followed (Announce id octets ∷ ws) all none = absurd (omega (arith, all.0, none))
+none_followed (Bring id octets values ∷ ws) all none = absurd (omega (arith, none))
+
+entries_none : (ws : List Waiting) → length ws ≡ 0 → entries ws ≡ 0
+entries_none [] none = refl
+entries_none (w ∷ ws) none = absurd (omega arith)
+
+pub queued_none : (shapes : List Template) (ws : List Waiting) → length ws ≡ 0 → length (records_in (parts_of shapes ws)) ≡ 0
+queued_none shapes ws none = queued_entries shapes ws ∙ entries_none ws none

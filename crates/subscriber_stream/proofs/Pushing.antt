@@ -18,7 +18,7 @@ use Rattle.subscriber_stream.specs.declared.waiting.Waiting.TheVariants.{Announc
 use Rattle.subscriber_stream.specs.Shapes.{is_among, with_shape}
 use Rattle.subscriber_stream.specs.Parts.{Part, Announcement, Entry, parts_for}
 use Rattle.subscriber_stream.specs.Table.{Table}
-use Rattle.subscriber_stream.specs.Waiting.{shape_at, part_of, parts_of, IsAnnouncement, IsEntry, IsKept, AreKept, announcements, entries, new_parts}
+use Rattle.subscriber_stream.specs.Waiting.{shape_at, part_of, parts_of, IsAnnouncement, IsEntry, IsKept, AreKept, AreFollowed, announcements, entries, new_parts}
 use Rattle.subscriber_stream.specs.Standing.{Standing, Kept}
 use Rattle.subscriber_stream.specs.Steps.{given_one, IsConsistent}
 use Rattle.subscriber_stream.proofs.Pieces.{kept_append}
@@ -166,6 +166,16 @@ entries-append [] ws = omega arith
 entries-append (Announce id octets ∷ vs) ws = entries-append vs ws
 entries-append (Bring id octets values ∷ vs) ws = omega (arith, entries-append vs ws)
 
+followed_append : (vs ws : List Waiting) → AreFollowed vs → AreFollowed ws → AreFollowed (vs ++ ws)
+followed_append [] ws first second = second
+followed_append (Announce id octets ∷ vs) ws first second =
+    (omega (arith, first.0, entries-append vs ws), followed_append vs ws first.1 second)
+followed_append (Bring id octets values ∷ vs) ws first second = followed_append vs ws first second
+
+followed_new : (id : ℕ) (announced : Option ℕ) (octets : ℕ) (values : List (List ℕ)) → AreFollowed (new_parts id announced octets values)
+followed_new id None octets values = tt
+followed_new id (Some announced) octets values = (omega arith, tt)
+
 -- the table and the queue before and after, and what the record asks for
 pub record Takes (table grown : Table) (limits : Limits) (waiting handed spare : ℕ) (r : DataRecord) (announced octets : ℕ) : Type 0 where
   pub sound : IsSound r
@@ -189,6 +199,7 @@ taken table grown queue capacity limits waiting handed announced spare r announc
     let len : length grown.shapes ≡ length (with_shape table.shapes r.template) = ap length takes.shapes in
     (record {
       kept = subst K (sym takes.shapes) (kept_append (with_shape table.shapes r.template) queue new old.0 one.kept);
+      followed = followed_append queue new is.followed (followed_new _ _ _ _);
       counted = omega (arith, is.counted, entries-append queue new, one.one_entry);
       announced_before = omega (arith, is.announced_before, announcements-append queue new, one.counted, len);
       few_shapes = omega (arith, takes.few, len);

@@ -6,7 +6,7 @@ use Rattle.subscriber_stream.specs.declared.waiting.Waiting.{Waiting}
 use Rattle.subscriber_stream.specs.Shapes.{with_shape}
 use Rattle.subscriber_stream.specs.Parts.{Part, Announcement, Entry, parts_for}
 use Rattle.subscriber_stream.specs.Table.{Table}
-use Rattle.subscriber_stream.specs.Waiting.{AreKept, announcements, entries}
+use Rattle.subscriber_stream.specs.Waiting.{AreKept, AreFollowed, announcements, entries}
 use Rattle.subscriber_stream.specs.Standing.{Standing, Kept}
 
 -- one record more
@@ -38,6 +38,7 @@ handed_parts (suc n) k = handed_parts n (handed_one k)
 -- what a stream keeps of itself, by its parts: the table, the queue and its capacity, the counts and the reserved room
 pub record IsConsistent (table : Table) (queue : List Waiting) (capacity : ℕ) (limits : Limits) (waiting handed announced spare : ℕ) : Type 0 where
   pub kept : AreKept table.shapes queue
+  pub followed : AreFollowed queue
   pub counted : waiting ≡ entries queue
   pub announced_before : announced + announcements queue ≡ length table.shapes
   pub few_shapes : length table.shapes ≤ limits.shapes

@@ -54,6 +54,12 @@ entries [] = 0
 entries (Announce id octets ∷ ws) = entries ws
 entries (Bring id octets values ∷ ws) = suc (entries ws)
 
+-- a record comes after each announcement
+abbrev pub AreFollowed : List Waiting → Type 0
+AreFollowed [] = Unit {0}
+AreFollowed (Announce id octets ∷ ws) = (0 < entries ws) × AreFollowed ws
+AreFollowed (Bring id octets values ∷ ws) = AreFollowed ws
+
 -- what is put into the queue for a record
 abbrev pub new_parts : ℕ → Option ℕ → ℕ → List (List ℕ) → List Waiting
 new_parts id None octets values = Bring id octets values ∷ []

@@ -49,7 +49,7 @@ impl Model for Stream {
 
 impl Stream {
     ghost use Rattle.subscriber_stream.specs.Standing.{at_start, StandsAt, HasRoom, FitsLimits, queued};
-    ghost use Rattle.subscriber_stream.specs.Message.{built, place_after};
+    ghost use Rattle.subscriber_stream.specs.Calls.{TakesRecords, Gives};
     ghost use Rattle.subscriber_stream.specs.Steps.{given_one, given, handed_one, handed_parts};
     ghost use Rattle.subscriber_stream.specs.Shapes.{with_shape};
 
@@ -135,8 +135,8 @@ impl Stream {
         requires room { HasRoom self.old records.items }
         requires reserved { length records.items ≤ self.old.spare }
         requires count { self.old.standing.handed + queued self.old.standing + length records.items < 2 ^ 64 }
-        ensures stands { (given_before : List DataRecord) (p : ℕ) → StandsAt self.old.standing given_before p
-            → StandsAt self.new.standing (given_before ++ records.items) p }
+        // The list that was given goes on with the records, and the place stays.
+        ensures ok { TakesRecords self.old.standing records.items self.new.standing }
         ensures limits { self.new.limits ≡ self.old.limits }
         ensures spare { self.new.spare + length records.items ≡ self.old.spare }
     {
@@ -205,13 +205,10 @@ impl Stream {
     /// # Errors
     /// Want of memory for the message, and then the stream is as it was.
     pub fn pull(&mut self, now: u32, target: u16) -> Result<Option<Bytes>, PullError>
-        // The message is the one that is built from the place where the stream stands,
-        ensures answer { IfOk result (λ m. (records : List DataRecord) (p : ℕ) → StandsAt self.old.standing records p
-            → m ≡ built records p now target) }
-        // and the stream then stands after its parts.
-        ensures place { OnOk result ((records : List DataRecord) (p : ℕ) → StandsAt self.old.standing records p
-            → StandsAt self.new.standing records (place_after records p target)) }
-        ensures end { IfOk result (λ m. IsNone m ↔ (self.old.standing.waiting ≡ [])) }
+        // The message is the one that is built at the place where the stream stands, and the stream then
+        // stands after its parts.
+        ensures ok { IfOk result (λ m. Gives self.old.standing now target m self.new.standing) }
+        ensures end { IfOk result (λ m. IsNone m ↔ (queued self.old.standing ≡ 0)) }
         ensures limits { self.new.limits ≡ self.old.limits }
         ensures spare { self.new.spare ≡ self.old.spare }
         ensures err { OnErr result (self.new ≡ self.old) }
