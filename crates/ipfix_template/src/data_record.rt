@@ -2,6 +2,8 @@
 ghost use Rattle.std.specs.Prelude.{◌≡◌, ◌==◌, ◌≤◌, ◌*◌, ◌↔◌, IsTrue, true, length, MatchResult};
 ghost use Rattle.std.specs.Arc.{arc_value};
 
+mod parts;
+
 use crate::field::{FieldSpec, Fields};
 use crate::template::{LEAST_TEMPLATE_ID, Template};
 use bytes::Bytes;

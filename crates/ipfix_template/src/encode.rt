@@ -5,11 +5,14 @@ ghost use Rattle.ipfix_template.specs.Template.{refusal_of, is_options, specifie
 ghost use Rattle.ipfix_template.specs.Values.{fits_field, fit_fields, value_text, record_text};
 ghost use Rattle.ipfix_template.specs.DataRecord.{IsSound};
 
+mod parts;
+
 use crate::data_record::Record;
 use crate::field::FieldSpec;
 use crate::template::Template;
 use bytes::Bytes;
 use ipfix_octets::write_varlen;
+pub use parts::encode_values;
 use std::alloc::AllocError;
 
 /// The enterprise bit of a Field Specifier's element number (RFC 7011, section 3.2).

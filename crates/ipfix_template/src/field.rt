@@ -13,7 +13,7 @@ pub const MOST_FIELDS: usize = 65535;
 
 /// A Field Specifier: an element, and the length of its values in octets, or [`VARIABLE`] (RFC 7011,
 /// section 3.2).
-#[derive(Clone, Copy, Debug, PartialEq, Eq)]
+#[derive(Clone, Copy, Debug, PartialEq, Eq, Hash)]
 pub struct FieldSpec {
     pub element: ElementId,
     pub length: u16,

@@ -8,12 +8,13 @@
 //! - [`values`]: `split`, which finds a record's values at the front of octets.
 //! - [`spans`]: what it answers, `Split` and `Span`.
 //! - [`data_record`]: `Values`, and `Record`, a template and values that fit it.
-//! - [`encode`]: `encode_template` and `encode_record`.
+//! - [`encode`]: `encode_template`, `encode_record`, and `encode_values` for values by themselves.
 //! - [`laws`]: what is written is read as what it was, and as nothing else.
 #![tactic(auto)]
 
 pub mod data_record;
 pub mod encode;
+mod equality;
 pub mod field;
 pub mod laws;
 pub mod spans;
@@ -21,7 +22,7 @@ pub mod template;
 pub mod values;
 
 pub use data_record::{Record, RefusedRecord, Values};
-pub use encode::{encode_record, encode_template};
+pub use encode::{encode_record, encode_template, encode_values};
 pub use field::{FieldSpec, Fields};
 pub use laws::{one_split, one_template, record_splits_back};
 pub use spans::{Span, Split};

@@ -1,0 +1,29 @@
+//! What is written for values apart from their record.
+ghost use Rattle.std.specs.Prelude.{◌≡◌, ◌++◌, true, OnOk, OnErr};
+ghost use Rattle.ipfix_template.specs.Values.{fit_fields, record_text};
+
+use crate::data_record::Values;
+use crate::encode::put_values;
+use crate::template::Template;
+use std::alloc::AllocError;
+
+/// Appends values that fit the template, as `encode_record` does those of a record.
+///
+/// # Errors
+/// Want of memory, and then nothing is appended.
+pub fn encode_values(
+    template: &Template,
+    values: &Values,
+    out: &mut Vec<u8>,
+) -> Result<(), AllocError>
+    requires { fit_fields template.now.fields values.now ≡ true }
+    ensures ok { OnOk result (out.new.items ≡ out.old.items ++ record_text template.now.fields values.now) }
+    ensures err { OnErr result (out.new.items ≡ out.old.items) }
+{
+    let held = out.len();
+    let put = put_values(template.fields.as_slice(), values.as_slice(), out);
+    if put.is_err() {
+        out.truncate(held);
+    }
+    put
+}

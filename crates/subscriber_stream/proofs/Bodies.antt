@@ -1,0 +1,175 @@
+-- The sets of a message are what its parts write, one after another.
+use Rattle.std.proofs.Common.{◌≡◌, ℕ, ◌+◌, Bool, true, false, cond, List, [], ◌∷◌, ◌++◌, length, Option, Some, None, refl, sym, ap, subst, ◌∙◌, arith, nat_eq, append_assoc, length-append}
+use Rattle.std.specs.Prelude.{map}
+use Rattle.std.specs.List.{flat_map}
+use Rattle.std.proofs.lemmas.Bool.{eqb-true, eq-eqb}
+use Rattle.std.proofs.lemmas.List.{append-nil}
+use Rattle.sequences.specs.Octets.{be_octets}
+use Rattle.ipfix_template.specs.declared.template.Template.{Template}
+use Rattle.ipfix_template.specs.DataRecord.{DataRecord}
+use Rattle.ipfix_template.specs.Template.{is_options, record_head, template_record}
+use Rattle.ipfix_template.specs.Values.{record_text}
+use Rattle.subscriber_stream.specs.declared.waiting.Waiting.{Waiting}
+use Rattle.subscriber_stream.specs.declared.waiting.Waiting.TheVariants.{Announce, Bring}
+use Rattle.subscriber_stream.specs.Message.{Set, Announces, Brings, with_record, sets_of, template_set, set_head, set_content, set_text, body}
+use Rattle.subscriber_stream.specs.Waiting.{shape_at, parts_of, AreKept, joins, data_set, cost, total, run, piece, pieces}
+
+abbrev spelled : DataRecord → List ℕ
+spelled r = record_text r.template.fields r.values
+
+abbrev texts : List Set → List ℕ
+texts sets = flat_map set_text sets
+
+-- what is left to write of the sets where the header of a Data Set of this ID was written
+abbrev text_after : Option ℕ → List Set → List ℕ
+text_after None sets = texts sets
+text_after (Some id) [] = []
+text_after (Some id) (Announces other shape ∷ sets) = texts (Announces other shape ∷ sets)
+text_after (Some id) (Brings other rs ∷ sets) = cond (nat_eq id other) (flat_map spelled rs ++ texts sets) (texts (Brings other rs ∷ sets))
+
+-- the octets of the Data Set of this ID in front of the sets
+abbrev content_after : ℕ → List Set → ℕ
+content_after id [] = 0
+content_after id (Announces other shape ∷ sets) = 0
+content_after id (Brings other rs ∷ sets) = cond (nat_eq id other) (length (flat_map spelled rs)) 0
+
+-- a record in a Data Set of its own
+alone : (id : ℕ) (r : DataRecord) (rest : List ℕ) → set_text (Brings id (r ∷ [])) ++ rest ≡ set_head id (length (spelled r) + 0) ++ (spelled r ++ rest)
+alone id r rest =
+    let whole : List ℕ → List ℕ = λ t. (set_head id (length t) ++ t) ++ rest in
+    let len : length (spelled r) ≡ length (spelled r) + 0 = omega arith in
+    ap whole (append-nil (spelled r)) ∙ append_assoc (set_head id (length (spelled r))) (spelled r) rest ∙ ap (λ (n : ℕ). set_head id n ++ (spelled r ++ rest)) len
+
+-- a record in front of the records of its set
+joined : (id : ℕ) (r : DataRecord) (rs : List DataRecord) (rest : List ℕ) → set_text (Brings id (r ∷ rs)) ++ rest ≡ set_head id (length (spelled r) + length (flat_map spelled rs)) ++ (spelled r ++ (flat_map spelled rs ++ rest))
+joined id r rs rest =
+    let content = flat_map spelled rs in
+    append_assoc (set_head id (length (spelled r ++ content))) (spelled r ++ content) rest
+    ∙ ap (λ (n : ℕ). set_head id n ++ ((spelled r ++ content) ++ rest)) (length-append (spelled r) content)
+    ∙ ap (λ (t : List ℕ). set_head id (length (spelled r) + length content) ++ t) (append_assoc (spelled r) content rest)
+
+-- a record in front of sets, of which all is to be written
+with_texts : (id : ℕ) (r : DataRecord) (sets : List Set) → texts (with_record id r sets) ≡ set_head id (length (spelled r) + content_after id sets) ++ (spelled r ++ text_after (Some id) sets)
+with_texts id r [] = alone id r []
+with_texts id r (Announces other shape ∷ sets) = alone id r (texts (Announces other shape ∷ sets))
+with_texts id r (Brings other rs ∷ sets) = by_test (nat_eq id other) where
+  by_test : (b : Bool) → texts (cond b (Brings id (r ∷ rs) ∷ sets) (Brings id (r ∷ []) ∷ Brings other rs ∷ sets)) ≡ set_head id (length (spelled r) + cond b (length (flat_map spelled rs)) 0) ++ (spelled r ++ cond b (flat_map spelled rs ++ texts sets) (texts (Brings other rs ∷ sets)))
+  by_test true = joined id r rs (texts sets)
+  by_test false = alone id r (texts (Brings other rs ∷ sets))
+
+same : (id : ℕ) → nat_eq id id ≡ true
+same id = eq-eqb id id refl
+
+-- a record that joins the set that is open
+with_open : (id : ℕ) (r : DataRecord) (sets : List Set) → text_after (Some id) (with_record id r sets) ≡ spelled r ++ text_after (Some id) sets
+with_open id r [] = rw (same id) (append_assoc (spelled r) [] [])
+with_open id r (Announces other shape ∷ sets) = rw (same id) (append_assoc (spelled r) [] (texts (Announces other shape ∷ sets)))
+with_open id r (Brings other rs ∷ sets) = by_test (nat_eq id other) where
+  by_test : (b : Bool) → text_after (Some id) (cond b (Brings id (r ∷ rs) ∷ sets) (Brings id (r ∷ []) ∷ Brings other rs ∷ sets)) ≡ spelled r ++ cond b (flat_map spelled rs ++ texts sets) (texts (Brings other rs ∷ sets))
+  by_test true = rw (same id) (append_assoc (spelled r) (flat_map spelled rs) (texts sets))
+  by_test false = rw (same id) (append_assoc (spelled r) [] (texts (Brings other rs ∷ sets)))
+
+-- a record that does not
+with_other : (last id : ℕ) (r : DataRecord) (sets : List Set) → nat_eq last id ≡ false → text_after (Some last) (with_record id r sets) ≡ texts (with_record id r sets)
+with_other last id r [] is = rw is refl
+with_other last id r (Announces other shape ∷ sets) is = rw is refl
+with_other last id r (Brings other rs ∷ sets) is = by_test (nat_eq id other) where
+  by_test : (b : Bool) → text_after (Some last) (cond b (Brings id (r ∷ rs) ∷ sets) (Brings id (r ∷ []) ∷ Brings other rs ∷ sets)) ≡ texts (cond b (Brings id (r ∷ rs) ∷ sets) (Brings id (r ∷ []) ∷ Brings other rs ∷ sets))
+  by_test true = rw is refl
+  by_test false = rw is refl
+
+content_with : (last id : ℕ) (r : DataRecord) (sets : List Set) → content_after last (with_record id r sets) ≡ cond (nat_eq last id) (length (spelled r) + content_after id sets) 0
+content_with last id r [] = ap (λ (n : ℕ). cond (nat_eq last id) n 0) (length-append (spelled r) [])
+content_with last id r (Announces other shape ∷ sets) = ap (λ (n : ℕ). cond (nat_eq last id) n 0) (length-append (spelled r) [])
+content_with last id r (Brings other rs ∷ sets) = by_test (nat_eq id other) where
+  by_test : (b : Bool) → content_after last (cond b (Brings id (r ∷ rs) ∷ sets) (Brings id (r ∷ []) ∷ Brings other rs ∷ sets)) ≡ cond (nat_eq last id) (length (spelled r) + cond b (length (flat_map spelled rs)) 0) 0
+  by_test true = ap (λ (n : ℕ). cond (nat_eq last id) n 0) (length-append (spelled r) (flat_map spelled rs))
+  by_test false = ap (λ (n : ℕ). cond (nat_eq last id) n 0) (length-append (spelled r) [])
+
+-- ---- along the queue
+
+abbrev entry : List Template → ℕ → List (List ℕ) → DataRecord
+entry shapes id values = record { template = shape_at shapes id; values = values }
+
+-- the records that join a set are its content
+pub run_content : (shapes : List Template) (id : ℕ) (ws : List Waiting) → AreKept shapes ws → run id ws ≡ content_after id (sets_of (parts_of shapes ws))
+run_content shapes id [] kept = refl
+run_content shapes id (Announce other octets ∷ ws) kept = refl
+run_content shapes id (Bring other octets values ∷ ws) kept =
+    by_test (nat_eq id other) refl (run_content shapes id ws kept.1) kept.0.counted ∙ sym (content_with id other (entry shapes other values) (sets_of (parts_of shapes ws))) where
+  by_test : (b : Bool) → nat_eq id other ≡ b → run id ws ≡ content_after id (sets_of (parts_of shapes ws)) → octets ≡ length (spelled (entry shapes other values)) → cond b (octets + run id ws) 0 ≡ cond b (length (spelled (entry shapes other values)) + content_after other (sets_of (parts_of shapes ws))) 0
+  by_test true is others here =
+    let moved : content_after id (sets_of (parts_of shapes ws)) ≡ content_after other (sets_of (parts_of shapes ws)) = ap (λ (n : ℕ). content_after n (sets_of (parts_of shapes ws))) (eqb-true id other is) in
+    omega (arith, others, here, moved)
+  by_test false is others here = refl
+
+length-template_record : (id : ℕ) (options : Bool) (t : Template) → length (template_record id options t) ≡ length (template_record 256 options t)
+unfolding template_record
+length-template_record id true t = refl
+length-template_record id false t = refl
+
+announced_text : (last : Option ℕ) (id : ℕ) (shape : Template) (sets : List Set) → text_after last (Announces id shape ∷ sets) ≡ texts (Announces id shape ∷ sets)
+announced_text None id shape sets = refl
+announced_text (Some other) id shape sets = refl
+
+opened_text : (last : Option ℕ) (id : ℕ) (r : DataRecord) (sets : List Set) → joins last id ≡ false → text_after last (with_record id r sets) ≡ texts (with_record id r sets)
+opened_text None id r sets is = refl
+opened_text (Some other) id r sets is = with_other other id r sets is
+
+joined_text : (last : Option ℕ) (id : ℕ) (r : DataRecord) (sets : List Set) → joins last id ≡ true → text_after last (with_record id r sets) ≡ spelled r ++ text_after (Some id) sets
+joined_text None id r sets is = absurd cc
+joined_text (Some other) id r sets is =
+    ap (λ (n : ℕ). text_after (Some n) (with_record id r sets)) (eqb-true other id is) ∙ with_open id r sets
+
+-- the sets of parts are what the parts write
+pub texts_pieces : (shapes : List Template) (last : Option ℕ) (ws : List Waiting) → AreKept shapes ws → text_after last (sets_of (parts_of shapes ws)) ≡ pieces shapes last ws
+texts_pieces shapes None [] kept = refl
+texts_pieces shapes (Some id) [] kept = refl
+texts_pieces shapes last (Announce id octets ∷ ws) kept =
+    let shape = shape_at shapes id in
+    let written = template_record id (is_options shape) shape in
+    let len : length written ≡ octets = length-template_record id (is_options shape) shape ∙ sym kept.0.counted in
+    announced_text last id shape (sets_of (parts_of shapes ws))
+    ∙ ap (λ (t : List ℕ). (set_head (template_set shape) (length written) ++ written) ++ t) (texts_pieces shapes None ws kept.1)
+    ∙ ap (λ (n : ℕ). (set_head (template_set shape) n ++ written) ++ pieces shapes None ws) len
+texts_pieces shapes last (Bring id octets values ∷ ws) kept =
+    by_test (joins last id) refl (texts_pieces shapes (Some id) ws kept.1) (run_content shapes id ws kept.1) kept.0.counted where
+  by_test : (b : Bool) → joins last id ≡ b → text_after (Some id) (sets_of (parts_of shapes ws)) ≡ pieces shapes (Some id) ws → run id ws ≡ content_after id (sets_of (parts_of shapes ws)) → octets ≡ length (spelled (entry shapes id values))
+    → text_after last (with_record id (entry shapes id values) (sets_of (parts_of shapes ws))) ≡ (cond b [] (set_head id (octets + run id ws)) ++ spelled (entry shapes id values)) ++ pieces shapes (Some id) ws
+  by_test true is rest others here =
+    joined_text last id (entry shapes id values) (sets_of (parts_of shapes ws)) is ∙ ap (λ (t : List ℕ). spelled (entry shapes id values) ++ t) rest
+  by_test false is rest others here =
+    let r = entry shapes id values in
+    let content : length (spelled r) + content_after id (sets_of (parts_of shapes ws)) ≡ octets + run id ws = omega (arith, others, here) in
+    opened_text last id r (sets_of (parts_of shapes ws)) is
+    ∙ with_texts id r (sets_of (parts_of shapes ws))
+    ∙ ap (λ (n : ℕ). set_head id n ++ (spelled r ++ text_after (Some id) (sets_of (parts_of shapes ws)))) content
+    ∙ ap (λ (t : List ℕ). set_head id (octets + run id ws) ++ (spelled r ++ t)) rest
+    ∙ sym (append_assoc (set_head id (octets + run id ws)) (spelled r) (pieces shapes (Some id) ws))
+
+length-set_head : (id octets : ℕ) → length (set_head id octets) ≡ 4
+unfolding set_head
+length-set_head id octets = refl
+
+-- and their octets are the costs
+pub length-pieces : (shapes : List Template) (last : Option ℕ) (ws : List Waiting) → AreKept shapes ws → length (pieces shapes last ws) ≡ total last ws
+length-pieces shapes last [] kept = refl
+length-pieces shapes last (Announce id octets ∷ ws) kept =
+    let shape = shape_at shapes id in
+    let written = template_record id (is_options shape) shape in
+    let len : length written ≡ octets = length-template_record id (is_options shape) shape ∙ sym kept.0.counted in
+    let head = length-set_head (template_set shape) octets in
+    let others = length-pieces shapes None ws kept.1 in
+    omega (arith, length-append (set_head (template_set shape) octets ++ written) (pieces shapes None ws), length-append (set_head (template_set shape) octets) written, len, head, others)
+length-pieces shapes last (Bring id octets values ∷ ws) kept =
+    by_test (joins last id) (length-pieces shapes (Some id) ws kept.1) kept.0.counted where
+  by_test : (b : Bool) → length (pieces shapes (Some id) ws) ≡ total (Some id) ws → octets ≡ length (spelled (entry shapes id values)) → length ((cond b [] (set_head id (octets + run id ws)) ++ spelled (entry shapes id values)) ++ pieces shapes (Some id) ws) ≡ cond b octets (4 + octets) + total (Some id) ws
+  by_test true others here =
+    omega (arith, length-append (spelled (entry shapes id values)) (pieces shapes (Some id) ws), others, here)
+  by_test false others here =
+    let head = length-set_head id (octets + run id ws) in
+    omega (arith, length-append (set_head id (octets + run id ws) ++ spelled (entry shapes id values)) (pieces shapes (Some id) ws), length-append (set_head id (octets + run id ws)) (spelled (entry shapes id values)), others, here, head)
+
+pub body_pieces : (shapes : List Template) (ws : List Waiting) → AreKept shapes ws → body (parts_of shapes ws) ≡ pieces shapes None ws
+unfolding body
+body_pieces shapes ws kept = texts_pieces shapes None ws kept

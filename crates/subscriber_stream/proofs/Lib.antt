@@ -1,0 +1,10 @@
+pub mod TableLaws
+pub mod Costs
+pub mod Pieces
+pub mod Bodies
+pub mod Messages
+pub mod Standings
+pub mod Pushing
+pub mod Pulling
+pub mod Rooms
+pub mod CallLaws

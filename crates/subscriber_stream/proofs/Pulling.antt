@@ -1,0 +1,59 @@
+-- The message that is written is the next one of what waits.
+use Rattle.std.proofs.Common.{◌≡◌, ℕ, ◌<◌, ◌≤◌, List, [], ◌∷◌, length, take, max, Option, Some, None, refl, sym, ap, subst, ◌∙◌, arith}
+use Rattle.std.proofs.lemmas.List.{length-map}
+use Rattle.ipfix_template.specs.declared.template.Template.{Template}
+use Rattle.subscriber_stream.specs.declared.waiting.Waiting.{Waiting}
+use Rattle.subscriber_stream.specs.declared.waiting.Waiting.TheVariants.{Announce, Bring}
+use Rattle.subscriber_stream.specs.Parts.{Part, records_in}
+use Rattle.subscriber_stream.specs.Message.{message, run_length, next_message}
+use Rattle.subscriber_stream.specs.Waiting.{part_of, parts_of, AreKept, AreFollowed, entries, fits}
+use Rattle.subscriber_stream.specs.Standing.{Kept}
+use Rattle.subscriber_stream.proofs.Messages.{run_length-waiting, take-map}
+use Rattle.subscriber_stream.proofs.Standings.{next_some, queued_entries}
+
+-- a stream whose queue this is, the number of records handed out, and how many parts its next message takes
+pub record Pulls (k : Kept) (shapes : List Template) (ws : List Waiting) (handed target n : ℕ) : Type 0 where
+  pub waiting : k.standing.waiting ≡ parts_of shapes ws
+  pub handed_is : k.standing.handed ≡ handed
+  pub kept : AreKept shapes ws
+  pub some : 0 < length ws
+  pub parts : n ≡ max 1 (fits target None 16 ws)
+  pub within : n ≤ length ws
+
+pub run_is : (k : Kept) (shapes : List Template) (ws : List Waiting) (handed target n : ℕ) → Pulls k shapes ws handed target n → n ≡ run_length target k.standing.waiting
+run_is k shapes ws handed target n is =
+    is.parts ∙ sym (run_length-waiting shapes target ws is.kept) ∙ ap (run_length target) (sym is.waiting)
+
+pub within_is : (k : Kept) (shapes : List Template) (ws : List Waiting) (handed target n : ℕ) → Pulls k shapes ws handed target n → n ≤ length k.standing.waiting
+within_is k shapes ws handed target n is =
+    omega (arith, is.within, length-map ws (part_of shapes), ap length is.waiting)
+
+pub message_is_next : (k : Kept) (shapes : List Template) (ws : List Waiting) (handed now target n : ℕ) (m : List ℕ) → Pulls k shapes ws handed target n → m ≡ message now handed (parts_of shapes (take n ws)) → Some m ≡ next_message now target k.standing.handed k.standing.waiting
+message_is_next k shapes ws handed now target n m is m_is =
+    let some : 0 < length (parts_of shapes ws) = omega (arith, length-map ws (part_of shapes), is.some) in
+    let run : n ≡ run_length target (parts_of shapes ws) = is.parts ∙ sym (run_length-waiting shapes target ws is.kept) in
+    let front : parts_of shapes (take n ws) ≡ take (run_length target (parts_of shapes ws)) (parts_of shapes ws) = sym (take-map (part_of shapes) n ws) ∙ ap (λ (i : ℕ). take i (parts_of shapes ws)) run in
+    let whole : m ≡ message now handed (take (run_length target (parts_of shapes ws)) (parts_of shapes ws)) = m_is ∙ ap (λ (ps : List Part). message now handed ps) front in
+    ap (λ (t : List ℕ). Some t) whole ∙ sym (next_some now target handed (parts_of shapes ws) some)
+    ∙ ap (λ (h : ℕ). next_message now target h (parts_of shapes ws)) (sym is.handed_is) ∙ ap (next_message now target k.standing.handed) (sym is.waiting)
+
+pub nothing_waits : (shapes : List Template) (ws : List Waiting) → length ws ≡ 0 → parts_of shapes ws ≡ []
+nothing_waits shapes [] none = refl
+nothing_waits shapes (w ∷ ws) none = absurd (omega arith)
+
+pub something_waits : (ws : List Waiting) → (length ws ≡ 0 → ⊥) → 0 < length ws
+something_waits [] some = absurd (some refl)
+something_waits (w ∷ ws) some = omega arith
+
+-- where no record waits nothing does
+pub none_followed : (ws : List Waiting) → AreFollowed ws → entries ws ≡ 0 → length ws ≡ 0
+none_followed [] all none = refl
+none_followed (Announce id octets ∷ ws) all none = absurd (omega (arith, all.0, none))
+none_followed (Bring id octets values ∷ ws) all none = absurd (omega (arith, none))
+
+entries_none : (ws : List Waiting) → length ws ≡ 0 → entries ws ≡ 0
+entries_none [] none = refl
+entries_none (w ∷ ws) none = absurd (omega arith)
+
+pub queued_none : (shapes : List Template) (ws : List Waiting) → length ws ≡ 0 → length (records_in (parts_of shapes ws)) ≡ 0
+queued_none shapes ws none = queued_entries shapes ws ∙ entries_none ws none

@@ -1,0 +1,312 @@
+-- What a stream keeps, and how it stands in the parts of a list.
+use Rattle.std.proofs.Common.{◌≡◌, ℕ, zero, suc, ◌+◌, ◌-◌, ◌<◌, ◌≤◌, ◌^◌, Bool, true, false, cond, not, List, [], ◌∷◌, ◌++◌, length, take, drop, Some, None, refl, sym, ap, subst, ◌∙◌, arith, append_assoc, length-append}
+use Rattle.std.specs.Prelude.{map}
+use Rattle.std.specs.List.{flat_map, list_any, position_or_len}
+use Rattle.std.proofs.lemmas.List.{append-nil, length-take}
+use Rattle.sequences.specs.Before.{each_after, each_with_before}
+use Rattle.sequences.proofs.BeforeLaws.{each_with_before-push}
+use Rattle.ipfix_template.specs.Equality.{same_template}
+use Rattle.ipfix_template.specs.declared.template.Template.{Template}
+use Rattle.ipfix_template.specs.DataRecord.{DataRecord}
+use Rattle.subscriber_stream.specs.declared.limits.Limits.{Limits}
+use Rattle.subscriber_stream.specs.declared.waiting.Waiting.{Waiting}
+use Rattle.subscriber_stream.specs.declared.waiting.Waiting.TheVariants.{Announce, Bring}
+use Rattle.subscriber_stream.specs.Shapes.{is_among, with_shape, shapes_after, shapes_of}
+use Rattle.subscriber_stream.specs.Parts.{Part, Announcement, Entry, parts_for, parts_at, parts, record_in, records_in}
+use Rattle.subscriber_stream.specs.Message.{message, run_length, next_message, built, place_after}
+use Rattle.subscriber_stream.specs.Waiting.{parts_of, announcements, entries}
+use Rattle.subscriber_stream.specs.Standing.{Standing, Kept, StandsAt, at_start, queued, HasRoom, FitsLimits}
+use Rattle.subscriber_stream.specs.Steps.{with_record, given_one, given, without_first, handed_one, handed_parts}
+
+-- the records among what waits
+pub queued_entries : (shapes : List Template) (ws : List Waiting) → length (records_in (parts_of shapes ws)) ≡ entries ws
+queued_entries shapes [] = refl
+queued_entries shapes (Announce id octets ∷ ws) = queued_entries shapes ws
+queued_entries shapes (Bring id octets values ∷ ws) = ap suc (queued_entries shapes ws)
+
+pub stands_at_start : StandsAt at_start [] 0
+unfolding parts shapes_after
+stands_at_start = record { within = omega arith; place = refl; shapes = refl; handed = refl; waiting = refl }
+
+-- ---- a part that is handed out
+
+at_part : (ps qs : List Part) (p : ℕ) (part : Part) → drop p ps ≡ part ∷ qs → (take (suc p) ps ≡ take p ps ++ part ∷ []) × (drop (suc p) ps ≡ qs) × (suc p ≤ length ps)
+at_part ps qs zero part is =
+    let P : List Part → Type 0 = λ ps. (take 1 ps ≡ part ∷ []) × (drop 1 ps ≡ qs) × (1 ≤ length ps) in
+    let here : P (part ∷ qs) = (refl, refl, omega arith) in
+    subst P (sym is) here
+at_part [] qs (suc p) part is = absurd cc
+at_part (x ∷ ps) qs (suc p) part is =
+    let others = at_part ps qs p part is in (ap (λ (t : List Part). x ∷ t) others.0, others.1, omega (arith, others.2))
+
+length-records_in-push : (ps : List Part) (part : Part) → length (records_in (ps ++ part ∷ [])) ≡ length (records_in ps) + length (record_in part)
+length-records_in-push [] part = ap length (append-nil (record_in part)) ∙ omega arith
+length-records_in-push (q ∷ ps) part =
+    let others = length-records_in-push ps part in
+    omega (arith, length-append (record_in q) (records_in (ps ++ part ∷ [])), length-append (record_in q) (records_in ps), others)
+
+after_first : (s : Standing) (records : List DataRecord) (p : ℕ) (part : Part) (ps : List Part) → s.waiting ≡ part ∷ ps → StandsAt s records p → StandsAt (without_first s (part ∷ ps)) records (suc p)
+after_first s records p (Announcement id shape) ps is at =
+    let place = at_part (parts records) ps p (Announcement id shape) (sym at.waiting ∙ is) in
+    let more : length (records_in (take (suc p) (parts records))) ≡ length (records_in (take p (parts records))) + 0 = ap (λ (t : List Part). length (records_in t)) place.0 ∙ length-records_in-push (take p (parts records)) (Announcement id shape) in
+    record { within = place.2; place = omega (arith, at.place); shapes = at.shapes; handed = omega (arith, at.handed, more); waiting = sym place.1 }
+after_first s records p (Entry id r) ps is at =
+    let place = at_part (parts records) ps p (Entry id r) (sym at.waiting ∙ is) in
+    let more : length (records_in (take (suc p) (parts records))) ≡ length (records_in (take p (parts records))) + 1 = ap (λ (t : List Part). length (records_in t)) place.0 ∙ length-records_in-push (take p (parts records)) (Entry id r) in
+    record { within = place.2; place = omega (arith, at.place); shapes = at.shapes; handed = omega (arith, at.handed, more); waiting = sym place.1 }
+
+waiting_first : (s : Standing) (part : Part) (ps : List Part) → (without_first s (part ∷ ps)).waiting ≡ ps
+waiting_first s (Announcement id shape) ps = refl
+waiting_first s (Entry id r) ps = refl
+
+stands_after_one : (k : Kept) (records : List DataRecord) (p : ℕ) (part : Part) (ps : List Part) → k.standing.waiting ≡ part ∷ ps → StandsAt k.standing records p → StandsAt (handed_one k).standing records (suc p)
+unfolding handed_one
+stands_after_one k records p part ps is at =
+    let P : List Part → Type 0 = λ ws. StandsAt (without_first k.standing ws) records (suc p) in
+    subst P (sym is) (after_first k.standing records p part ps is at)
+
+pub waiting_after_one : (k : Kept) (part : Part) (ps : List Part) → k.standing.waiting ≡ part ∷ ps → (handed_one k).standing.waiting ≡ ps
+unfolding handed_one
+waiting_after_one k part ps is =
+    ap (λ (ws : List Part). (without_first k.standing ws).waiting) is ∙ waiting_first k.standing part ps
+
+stands_after_parts : (n : ℕ) (k : Kept) (records : List DataRecord) (p : ℕ) (ws : List Part) → k.standing.waiting ≡ ws → n ≤ length ws → StandsAt k.standing records p → StandsAt (handed_parts n k).standing records (p + n)
+stands_after_parts zero k records p ws is le at =
+    let P : ℕ → Type 0 = λ q. StandsAt k.standing records q in
+    let same : p ≡ p + 0 = omega arith in
+    subst P same at
+stands_after_parts (suc n) k records p [] is le at = absurd (omega arith)
+stands_after_parts (suc n) k records p (part ∷ ps) is le at =
+    let P : ℕ → Type 0 = λ q. StandsAt (handed_parts n (handed_one k)).standing records q in
+    let same : suc p + n ≡ p + suc n = omega arith in
+    subst P same (stands_after_parts n (handed_one k) records (suc p) ps (waiting_after_one k part ps is) (omega arith) (stands_after_one k records p part ps is at))
+
+-- so many parts further on
+pub stands_after : (n : ℕ) (k : Kept) (records : List DataRecord) (p : ℕ) → n ≤ length k.standing.waiting → StandsAt k.standing records p → StandsAt (handed_parts n k).standing records (p + n)
+stands_after n k records p le at = stands_after_parts n k records p k.standing.waiting refl le at
+
+-- limits and room stay
+kept_one : (k : Kept) → ((handed_one k).limits ≡ k.limits) × ((handed_one k).spare ≡ k.spare)
+unfolding handed_one
+kept_one k = (refl, refl)
+
+pub kept_after : (n : ℕ) (k : Kept) → ((handed_parts n k).limits ≡ k.limits) × ((handed_parts n k).spare ≡ k.spare)
+kept_after zero k = (refl, refl)
+kept_after (suc n) k =
+    let others = kept_after n (handed_one k) in
+    let one = kept_one k in
+    (others.0 ∙ one.0, others.1 ∙ one.1)
+
+-- ---- records that are given
+
+pub shapes_after-append : (shapes : List Template) (xs ys : List DataRecord) → shapes_after shapes (xs ++ ys) ≡ shapes_after (shapes_after shapes xs) ys
+unfolding shapes_after
+shapes_after-append shapes [] ys = refl
+shapes_after-append shapes (x ∷ xs) ys = shapes_after-append (with_shape shapes x.template) xs ys
+
+shapes_after-first : (shapes : List Template) (r : DataRecord) (rs : List DataRecord) → shapes_after shapes (r ∷ rs) ≡ shapes_after (with_shape shapes r.template) rs
+unfolding shapes_after
+shapes_after-first shapes r rs = refl
+
+shapes_after-nil : (shapes : List Template) → shapes_after shapes [] ≡ shapes
+unfolding shapes_after
+shapes_after-nil shapes = refl
+
+shapes_of-push : (records : List DataRecord) (r : DataRecord) → shapes_of (records ++ r ∷ []) ≡ with_shape (shapes_of records) r.template
+shapes_of-push records r =
+    shapes_after-append [] records (r ∷ []) ∙ shapes_after-first (shapes_of records) r [] ∙ shapes_after-nil (with_shape (shapes_of records) r.template)
+
+parts-push : (records : List DataRecord) (r : DataRecord) → parts (records ++ r ∷ []) ≡ parts records ++ parts_for (shapes_of records) r
+unfolding parts
+parts-push records r = each_with_before-push parts_at records r
+
+take-front : (p : ℕ) (xs ys : List Part) → p ≤ length xs → take p (xs ++ ys) ≡ take p xs
+take-front zero xs ys le = refl
+take-front (suc p) [] ys le = absurd (omega arith)
+take-front (suc p) (x ∷ xs) ys le = ap (λ (t : List Part). x ∷ t) (take-front p xs ys (omega arith))
+
+drop-front : (p : ℕ) (xs ys : List Part) → p ≤ length xs → drop p (xs ++ ys) ≡ drop p xs ++ ys
+drop-front zero xs ys le = refl
+drop-front (suc p) [] ys le = absurd (omega arith)
+drop-front (suc p) (x ∷ xs) ys le = drop-front p xs ys (omega arith)
+
+stands_given_one : (k : Kept) (records : List DataRecord) (p : ℕ) (r : DataRecord) → StandsAt k.standing records p → StandsAt (given_one k r).standing (records ++ r ∷ []) p
+unfolding given_one
+stands_given_one k records p r at =
+    let more = parts-push records r in
+    let front : take p (parts (records ++ r ∷ [])) ≡ take p (parts records) = ap (take p) more ∙ take-front p (parts records) (parts_for (shapes_of records) r) at.within in
+    let back : drop p (parts (records ++ r ∷ [])) ≡ drop p (parts records) ++ parts_for (shapes_of records) r = ap (drop p) more ∙ drop-front p (parts records) (parts_for (shapes_of records) r) at.within in
+    record {
+      within = omega (arith, at.within, ap length more, length-append (parts records) (parts_for (shapes_of records) r));
+      place = at.place;
+      shapes = ap (λ (ss : List Template). with_shape ss r.template) at.shapes ∙ sym (shapes_of-push records r);
+      handed = at.handed ∙ ap (λ (t : List Part). length (records_in t)) (sym front);
+      waiting = ap (λ (t : List Part). t ++ parts_for k.standing.shapes r) at.waiting ∙ ap (λ (ss : List Template). drop p (parts records) ++ parts_for ss r) at.shapes ∙ sym back;
+    }
+
+-- the list goes on with the records that are given
+pub stands_given : (k : Kept) (rs records : List DataRecord) (p : ℕ) → StandsAt k.standing records p → StandsAt (given k rs).standing (records ++ rs) p
+stands_given k [] records p at =
+    let P : List DataRecord → Type 0 = λ rs. StandsAt k.standing rs p in subst P (sym (append-nil records)) at
+stands_given k (r ∷ rs) records p at =
+    let P : List DataRecord → Type 0 = λ whole. StandsAt (given (given_one k r) rs).standing whole p in
+    subst P (append_assoc records (r ∷ []) rs) (stands_given (given_one k r) rs (records ++ r ∷ []) p (stands_given_one k records p r at))
+
+-- ---- room
+
+length-with_shape : (shapes : List Template) (shape : Template) → length shapes ≤ length (with_shape shapes shape)
+length-with_shape shapes shape = by_test (is_among shape shapes) where
+  by_test : (b : Bool) → length shapes ≤ length (cond b shapes (shapes ++ shape ∷ []))
+  by_test true = omega arith
+  by_test false = omega (arith, length-append shapes (shape ∷ []))
+
+length-shapes_after : (shapes : List Template) (rs : List DataRecord) → length shapes ≤ length (shapes_after shapes rs)
+unfolding shapes_after
+length-shapes_after shapes [] = omega arith
+length-shapes_after shapes (r ∷ rs) =
+    omega (arith, length-with_shape shapes r.template, length-shapes_after (with_shape shapes r.template) rs)
+
+-- one record is among the parts of one record
+pub records_in-parts_for : (shapes : List Template) (r : DataRecord) → records_in (parts_for shapes r) ≡ r ∷ []
+records_in-parts_for shapes r = by_test (is_among r.template shapes) where
+  by_test : (b : Bool) → records_in (cond b (Entry (256 + position_or_len (same_template r.template) shapes) r ∷ []) (Announcement (256 + position_or_len (same_template r.template) shapes) r.template ∷ Entry (256 + position_or_len (same_template r.template) shapes) r ∷ [])) ≡ r ∷ []
+  by_test true = refl
+  by_test false = refl
+
+pub records_in-append : (ps qs : List Part) → records_in (ps ++ qs) ≡ records_in ps ++ records_in qs
+records_in-append [] qs = refl
+records_in-append (p ∷ ps) qs =
+    ap (λ (t : List DataRecord). record_in p ++ t) (records_in-append ps qs) ∙ sym (append_assoc (record_in p) (records_in ps) (records_in qs))
+
+pub queued_given_one : (k : Kept) (r : DataRecord) → queued (given_one k r).standing ≡ queued k.standing + 1
+unfolding given_one
+queued_given_one k r =
+    ap length (records_in-append k.standing.waiting (parts_for k.standing.shapes r)) ∙ length-append (records_in k.standing.waiting) (records_in (parts_for k.standing.shapes r)) ∙ ap (λ (t : List DataRecord). queued k.standing + length t) (records_in-parts_for k.standing.shapes r)
+
+-- what a stream needs to take records one by one
+pub record CanTake (k : Kept) (rs : List DataRecord) : Type 0 where
+  pub room : HasRoom k rs
+  pub reserved : length rs ≤ k.spare
+  pub below : k.standing.handed + queued k.standing + length rs < 2 ^ 64
+
+pub shape_room : (k : Kept) (r : DataRecord) (rs : List DataRecord) → CanTake k (r ∷ rs) → length (with_shape k.standing.shapes r.template) ≤ k.limits.shapes
+shape_room k r rs can =
+    omega (arith, can.room.shapes, ap length (shapes_after-first k.standing.shapes r rs), length-shapes_after (with_shape k.standing.shapes r.template) rs)
+
+can_take_by : (k : Kept) (r : DataRecord) (rs : List DataRecord) → queued (given_one k r).standing ≡ queued k.standing + 1 → CanTake k (r ∷ rs) → CanTake (given_one k r) rs
+unfolding given_one shapes_after
+can_take_by k r rs more can = record {
+  room = record { queue = omega (arith, can.room.queue, more); shapes = can.room.shapes };
+  reserved = omega (arith, can.reserved);
+  below = omega (arith, can.below, more);
+}
+
+pub CanTake-rest : (k : Kept) (r : DataRecord) (rs : List DataRecord) → CanTake k (r ∷ rs) → CanTake (given_one k r) rs
+CanTake-rest k r rs can = can_take_by k r rs (queued_given_one k r) can
+
+-- so many parts are still to be handed out, and then as many as were asked for are
+pub record IsHanding (left : ℕ) (k : Kept) (count : ℕ) (start : Kept) : Type 0 where
+  pub enough : left ≤ length k.standing.waiting
+  pub whole : handed_parts left k ≡ handed_parts count start
+
+pub IsHanding-next : (left count : ℕ) (k start : Kept) → 0 < left → IsHanding left k count start → IsHanding (left - 1) (handed_one k) count start
+IsHanding-next zero count k start some is = absurd (omega arith)
+IsHanding-next (suc left) count k start some is = from_waiting k.standing.waiting refl where
+  from_waiting : (ws : List Part) → k.standing.waiting ≡ ws → IsHanding (suc left - 1) (handed_one k) count start
+  from_waiting [] e = absurd (omega (arith, is.enough, ap length e))
+  from_waiting (part ∷ ps) e =
+    let n : suc left - 1 ≡ left = omega arith in
+    let P : ℕ → Type 0 = λ m. IsHanding m (handed_one k) count start in
+    subst P (sym n) (record { enough = omega (arith, is.enough, ap length e, ap length (waiting_after_one k part ps e)); whole = is.whole })
+
+-- ---- what the queue holds, handed out
+
+abbrev kept_of : List Template → Limits → ℕ → ℕ → ℕ → List Waiting → Kept
+kept_of shapes limits spare handed announced ws = record { standing = record { shapes = shapes; handed = handed; announced = announced; waiting = parts_of shapes ws }; limits = limits; spare = spare }
+
+pub announce_out : (shapes : List Template) (limits : Limits) (spare handed announced : ℕ) (ws qs : List Waiting) (id octets : ℕ) → ws ≡ Announce id octets ∷ qs → kept_of shapes limits spare handed (announced + 1) qs ≡ handed_one (kept_of shapes limits spare handed announced ws)
+unfolding handed_one
+announce_out shapes limits spare handed announced ws qs id octets is = rw is refl
+
+pub bring_out : (shapes : List Template) (limits : Limits) (spare handed announced : ℕ) (ws qs : List Waiting) (id octets : ℕ) (values : List (List ℕ)) → ws ≡ Bring id octets values ∷ qs → kept_of shapes limits spare (handed + 1) announced qs ≡ handed_one (kept_of shapes limits spare handed announced ws)
+unfolding handed_one
+bring_out shapes limits spare handed announced ws qs id octets values is = rw is refl
+
+-- ---- many records, and a message
+
+-- these are still to be given, and then all are
+pub record IsGiving (k : Kept) (rest : List DataRecord) (start : Kept) (all : List DataRecord) : Type 0 where
+  pub can : CanTake k rest
+  pub whole : given k rest ≡ given start all
+
+pub IsGiving-next : (k : Kept) (r : DataRecord) (rest whole : List DataRecord) (start : Kept) (all : List DataRecord) → whole ≡ r ∷ rest → IsGiving k whole start all → IsGiving (given_one k r) rest start all
+IsGiving-next k r rest whole start all is giving =
+    let P : List DataRecord → Type 0 = λ rs. IsGiving k rs start all in
+    let here = subst P is giving in
+    record { can = CanTake-rest k r rest here.can; whole = here.whole }
+
+pub IsGiving-can : (k : Kept) (r : DataRecord) (rest whole : List DataRecord) (start : Kept) (all : List DataRecord) → whole ≡ r ∷ rest → IsGiving k whole start all → CanTake k (r ∷ rest)
+IsGiving-can k r rest whole start all is giving =
+    let P : List DataRecord → Type 0 = λ rs. CanTake k rs in subst P is giving.can
+
+spare_one : (k : Kept) (r : DataRecord) → (given_one k r).spare ≡ k.spare - 1
+unfolding given_one
+spare_one k r = refl
+
+limits_one : (k : Kept) (r : DataRecord) → (given_one k r).limits ≡ k.limits
+unfolding given_one
+limits_one k r = refl
+
+pub kept_given : (k : Kept) (rs : List DataRecord) → length rs ≤ k.spare → ((given k rs).limits ≡ k.limits) × ((given k rs).spare + length rs ≡ k.spare)
+kept_given k [] le = (refl, omega arith)
+kept_given k (r ∷ rs) le =
+    let one = spare_one k r in
+    let others = kept_given (given_one k r) rs (omega (arith, one)) in
+    (others.0 ∙ limits_one k r, omega (arith, others.1, one))
+
+length-take-nil : {A : Type 0} (n : ℕ) (xs : List A) → xs ≡ [] → length (take n xs) ≡ 0
+length-take-nil n xs is = omega (arith, length-take n xs, ap length is)
+
+-- the message of what waits is the one that is built
+pub next_is_built : (s : Standing) (records : List DataRecord) (p now target : ℕ) → StandsAt s records p → next_message now target s.handed s.waiting ≡ built records p now target
+next_is_built s records p now target at =
+    ap (λ (n : ℕ). next_message now target n s.waiting) at.handed ∙ ap (next_message now target (length (records_in (take p (parts records))))) at.waiting
+
+pub next_some : (now target handed : ℕ) (ws : List Part) → 0 < length ws → next_message now target handed ws ≡ Some (message now handed (take (run_length target ws) ws))
+unfolding next_message
+next_some now target handed [] some = absurd (omega arith)
+next_some now target handed (part ∷ ps) some = refl
+
+pub next_none : (now target handed : ℕ) (ws : List Part) → ws ≡ [] → next_message now target handed ws ≡ None
+unfolding next_message
+next_none now target handed ws is = rw is refl
+
+-- the place after a message
+pub stands_after_message : (k : Kept) (records : List DataRecord) (p target n : ℕ) → n ≡ run_length target k.standing.waiting → n ≤ length k.standing.waiting → StandsAt k.standing records p → StandsAt (handed_parts n k).standing records (place_after records p target)
+stands_after_message k records p target n is le at =
+    let P : ℕ → Type 0 = λ q. StandsAt (handed_parts n k).standing records q in
+    let same : n ≡ run_length target (drop p (parts records)) = is ∙ ap (run_length target) at.waiting in
+    let len : p + n ≡ place_after records p target = omega (arith, length-take (run_length target (drop p (parts records))) (drop p (parts records)), ap length at.waiting, same) in
+    subst P len (stands_after n k records p le at)
+
+pub stands_at_end : (s : Standing) (records : List DataRecord) (p target : ℕ) → s.waiting ≡ [] → StandsAt s records p → StandsAt s records (place_after records p target)
+stands_at_end s records p target none at =
+    let P : ℕ → Type 0 = λ q. StandsAt s records q in
+    let len : p ≡ place_after records p target = omega (arith, length-take-nil (run_length target (drop p (parts records))) (drop p (parts records)) (sym at.waiting ∙ none)) in
+    subst P len at
+
+-- room behind a list is room behind what the stream keeps of it
+pub room_is_limits : (k : Kept) (records : List DataRecord) (p : ℕ) (more : List DataRecord) → StandsAt k.standing records p → (HasRoom k more → FitsLimits k.limits records p more) × (FitsLimits k.limits records p more → HasRoom k more)
+room_is_limits k records p more at =
+    let count : queued k.standing ≡ length (records_in (drop p (parts records))) = ap (λ (ps : List Part). length (records_in ps)) at.waiting in
+    let shapes : length (shapes_after k.standing.shapes more) ≡ length (shapes_of (records ++ more)) = ap (λ (ss : List Template). length (shapes_after ss more)) at.shapes ∙ ap length (sym (shapes_after-append [] records more)) in
+    (λ room. record { queue = omega (arith, room.queue, count); shapes = omega (arith, room.shapes, shapes) },
+    λ fits. record { queue = omega (arith, fits.queue, count); shapes = omega (arith, fits.shapes, shapes) })
+
+-- room in the queue and among the shapes, and no more than that
+pub room_by_parts : (k : Kept) (more : List DataRecord) (waiting : ℕ) → waiting ≡ queued k.standing → waiting ≤ k.limits.queue → length more ≤ k.limits.queue - waiting → (b : Bool) → (b ≡ true → length (shapes_after k.standing.shapes more) ≤ k.limits.shapes) × (length (shapes_after k.standing.shapes more) ≤ k.limits.shapes → b ≡ true) → (b ≡ true → HasRoom k more) × (HasRoom k more → b ≡ true)
+room_by_parts k more waiting is few fits b shapes =
+    (λ yes'. record { queue = omega (arith, is, few, fits); shapes = shapes.0 yes' }, λ room. shapes.1 room.shapes)
+
+pub no_room : (k : Kept) (more : List DataRecord) (waiting : ℕ) → waiting ≡ queued k.standing → k.limits.queue - waiting < length more → HasRoom k more → ⊥
+no_room k more waiting is over room = omega (arith, is, over, room.queue)

@@ -1,0 +1,10 @@
+use Rattle.std.proofs.Common.{◌≡◌, ◌+◌, ◌-◌, ℕ, arith, subst}
+use Rattle.subscriber_stream.specs.Steps.{handed_one}
+use Rattle.subscriber_stream.proofs.Standings.{IsHanding, IsHanding-next}
+use Rattle.subscriber_stream.proofs.stream.Stream.hand_out.Goals as goal
+
+pub loop-preserved : goal.loop-preserved
+loop-preserved c =
+    let n : c.args.count - c.loop.counter - 1 ≡ c.args.count - (c.loop.counter + 1) = omega arith in
+    let next = IsHanding-next (c.args.count - c.loop.counter) c.args.count _ c.args.self.now (omega arith) c.loop.invariant in
+    rw (← n, c.hand_out_one.ensures) next

@@ -1,0 +1,49 @@
+-- What one record that is given, and one part that is handed out, make of a stream's standing.
+use Rattle.std.specs.Prelude.{◌≡◌, ◌≤◌, ◌<◌, ℕ, zero, suc, ◌+◌, ◌-◌, ◌*◌, ◌^◌, List, [], ◌∷◌, ◌++◌, length}
+use Rattle.ipfix_template.specs.DataRecord.{DataRecord}
+use Rattle.subscriber_stream.specs.declared.limits.Limits.{Limits}
+use Rattle.subscriber_stream.specs.declared.waiting.Waiting.{Waiting}
+use Rattle.subscriber_stream.specs.Shapes.{with_shape}
+use Rattle.subscriber_stream.specs.Parts.{Part, Announcement, Entry, parts_for}
+use Rattle.subscriber_stream.specs.Table.{Table}
+use Rattle.subscriber_stream.specs.Waiting.{AreKept, AreFollowed, announcements, entries}
+use Rattle.subscriber_stream.specs.Standing.{Standing, Kept}
+
+-- one record more
+abbrev pub with_record : Standing → DataRecord → Standing
+with_record s r = record { shapes = with_shape s.shapes r.template; handed = s.handed; announced = s.announced; waiting = s.waiting ++ parts_for s.shapes r }
+
+-- the same, out of the room that is reserved
+unfoldable pub given_one : Kept → DataRecord → Kept
+given_one k r = record { standing = with_record k.standing r; limits = k.limits; spare = k.spare - 1 }
+
+abbrev pub given : Kept → List DataRecord → Kept
+given k [] = k
+given k (r ∷ rs) = given (given_one k r) rs
+
+-- the first part handed out
+abbrev pub without_first : Standing → List Part → Standing
+without_first s [] = s
+without_first s (Announcement id shape ∷ ps) = record { shapes = s.shapes; handed = s.handed; announced = s.announced + 1; waiting = ps }
+without_first s (Entry id r ∷ ps) = record { shapes = s.shapes; handed = s.handed + 1; announced = s.announced; waiting = ps }
+
+unfoldable pub handed_one : Kept → Kept
+handed_one k = record { standing = without_first k.standing k.standing.waiting; limits = k.limits; spare = k.spare }
+
+-- so many parts handed out
+abbrev pub handed_parts : ℕ → Kept → Kept
+handed_parts zero k = k
+handed_parts (suc n) k = handed_parts n (handed_one k)
+
+-- what a stream keeps of itself, by its parts: the table, the queue and its capacity, the counts and the reserved room
+pub record IsConsistent (table : Table) (queue : List Waiting) (capacity : ℕ) (limits : Limits) (waiting handed announced spare : ℕ) : Type 0 where
+  pub kept : AreKept table.shapes queue
+  pub followed : AreFollowed queue
+  pub counted : waiting ≡ entries queue
+  pub announced_before : announced + announcements queue ≡ length table.shapes
+  pub few_shapes : length table.shapes ≤ limits.shapes
+  pub few_ids : limits.shapes ≤ 65280
+  pub few_waiting : waiting ≤ limits.queue
+  pub below : handed + waiting < 2 ^ 64
+  pub room : length queue + 2 * spare ≤ capacity
+  pub table_room : spare ≤ table.spare

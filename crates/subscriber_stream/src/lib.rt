@@ -1,0 +1,24 @@
+//! A subscriber's own stream of IPFIX messages: what it is given are records, and what it hands out are
+//! messages that announce each template under an ID of this stream before the first record of it
+//! (RFC 7011, sections 3 and 8).
+//!
+//! - [`stream`]: `Stream`, which queues records and builds the messages.
+//! - [`limits`]: `Limits`, how many records may wait, and how many templates may be announced.
+//! - [`pull_error`]: `PullError`, why no message was built.
+//! - [`laws`]: what a subscriber gets is a function of the records and the pulls.
+#![tactic(auto)]
+
+mod fitting;
+pub mod laws;
+pub mod limits;
+pub mod pull_error;
+mod room;
+mod shape_table;
+pub mod stream;
+mod waiting;
+mod writing;
+
+pub use laws::{longest_run, octets_of_pulls, one_shape, parts_bring_the_list, parts_go_on};
+pub use limits::Limits;
+pub use pull_error::PullError;
+pub use stream::Stream;

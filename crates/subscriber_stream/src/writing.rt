@@ -1,0 +1,189 @@
+//! The octets of a message.
+ghost use Rattle.std.specs.Prelude.{◌≡◌, ◌≤◌, ◌<◌, ◌+◌, ◌^◌, ◌%◌, ◌++◌, length, drop, take, IfOk, OnOk, None};
+ghost use Rattle.sequences.specs.Octets.{be_octets};
+ghost use Rattle.subscriber_stream.specs.Message.{message, set_head, template_set};
+ghost use Rattle.subscriber_stream.specs.Waiting.{AreKept, parts_of, data_set, total, run, piece, pieces};
+
+use crate::fitting::Run;
+use crate::shape_table::ShapeTable;
+use crate::waiting::{SET_HEADER, Waiting, joins};
+use bytes::Bytes;
+use ipfix_template::{Template, encode_template, encode_values};
+use std::alloc::{AllocError, Global};
+use std::collections::VecDeque;
+
+/// The version of IPFIX messages (RFC 7011, section 3.1).
+const VERSION: u16 = 10;
+
+/// The Set ID of a Template Set (RFC 7011, section 3.3.2).
+const TEMPLATE_SET: u16 = 2;
+
+/// The Set ID of an Options Template Set (RFC 7011, section 3.3.2).
+const OPTIONS_TEMPLATE_SET: u16 = 3;
+
+/// The least ID of a template (RFC 7011, section 3.4.1).
+pub(crate) const LEAST_TEMPLATE_ID: u16 = 256;
+
+/// The message of a run of parts, of which the first stand at the front of the queue.
+///
+/// # Errors
+/// Want of memory.
+pub(crate) fn message_of(
+    alloc: Global,
+    shapes: &ShapeTable,
+    queue: &VecDeque<Waiting>,
+    whole: Run,
+    now: u32,
+    handed: u64,
+) -> Result<Bytes, AllocError>
+    requires kept { AreKept shapes.now.shapes queue.now.items }
+    requires within { whole.parts ≤ length queue.now.items }
+    requires octets { whole.octets ≡ 16 + total None (take whole.parts queue.now.items) }
+    requires fits { whole.octets ≤ 65535 }
+    ensures { IfOk result (λ m. m ≡ message now handed (parts_of shapes.now.shapes (take whole.parts queue.now.items))) }
+{
+    let mut out = Vec::with_capacity(alloc, whole.octets)?;
+    put_header(whole.octets, now, (handed % (1 << 32)) as u32, &mut out)?;
+    put_parts(shapes, queue, whole.parts, &mut out)?;
+    Ok(Bytes::from_vec(out)?)
+}
+
+/// Appends a message header: version, length, Export Time, Sequence Number and Observation Domain 0
+/// (RFC 7011, section 3.1).
+fn put_header(
+    octets: usize,
+    now: u32,
+    sequence: u32,
+    out: &mut Vec<u8>,
+) -> Result<(), AllocError>
+    requires { octets ≤ 65535 }
+    ensures { OnOk result (out.new.items ≡ out.old.items ++ (be_octets 2 10 ++ be_octets 2 octets ++ be_octets 4 now ++ be_octets 4 sequence ++ be_octets 4 0)) }
+{
+    let [a, b] = VERSION.to_be_bytes();
+    let [c, d] = (octets as u16).to_be_bytes();
+    let [e, f, g, h] = now.to_be_bytes();
+    let [i, j, k, l] = sequence.to_be_bytes();
+    out.extend_from_slice(&[a, b, c, d, e, f, g, h, i, j, k, l, 0, 0, 0, 0])
+}
+
+/// Appends the sets of the first `count` parts.
+fn put_parts(
+    shapes: &ShapeTable,
+    queue: &VecDeque<Waiting>,
+    count: usize,
+    out: &mut Vec<u8>,
+) -> Result<(), AllocError>
+    requires kept { AreKept shapes.now.shapes queue.now.items }
+    requires within { count ≤ length queue.now.items }
+    requires fits { total None (take count queue.now.items) ≤ 65519 }
+    ensures { OnOk result (out.new.items ≡ out.old.items ++ pieces shapes.now.shapes None (take count queue.now.items)) }
+{
+    let mut last = None;
+    for place in 0..count {
+        put_part(shapes, queue, place, count, last, out)?;
+        last = queue[place].data_set();
+    }
+    Ok(())
+}
+
+/// Appends what the part at a place adds to the message of the first `count` parts.
+fn put_part(
+    shapes: &ShapeTable,
+    queue: &VecDeque<Waiting>,
+    place: usize,
+    count: usize,
+    last: Option<u16>,
+    out: &mut Vec<u8>,
+) -> Result<(), AllocError>
+    requires kept { AreKept shapes.now.shapes queue.now.items }
+    requires within { count ≤ length queue.now.items }
+    requires place { place < count }
+    requires fits { total None (take count queue.now.items) ≤ 65519 }
+    ensures { (w : Waiting) → OnOk result (out.new.items ≡ out.old.items
+        ++ piece shapes.now.shapes last (Rattle.std.specs.Prelude.slice_index_or queue.now.items place w) (drop (place + 1) (take count queue.now.items))) }
+{
+    match &queue[place] {
+        Waiting::Announce { id, octets } => {
+            put_announcement(*id, shape_of(shapes, *id), *octets, out)
+        }
+        Waiting::Bring { id, octets, values } => {
+            if !joins(last, *id) {
+                let others = run_octets(queue, place + 1, count, *id);
+                put_head(*id, usize::from(*octets) + others, out)?;
+            }
+            encode_values(shape_of(shapes, *id), values, out)
+        }
+    }
+}
+
+ghost use Rattle.subscriber_stream.specs.Waiting.{shape_at};
+ghost use Rattle.ipfix_template.specs.Template.{refusal_of, is_options, template_record};
+
+/// The template of an ID.
+fn shape_of(shapes: &ShapeTable, id: u16) -> &Template
+    requires low { 256 ≤ id }
+    requires known { id < 256 + length shapes.now.shapes }
+    ensures { result.now ≡ shape_at shapes.now.shapes id }
+{
+    shapes.shape(usize::from(id - LEAST_TEMPLATE_ID))
+}
+
+/// Appends the set that announces the template under an ID.
+fn put_announcement(
+    id: u16,
+    shape: &Template,
+    octets: u16,
+    out: &mut Vec<u8>,
+) -> Result<(), AllocError>
+    requires accepted { refusal_of id (is_options shape.now) shape.now ≡ None }
+    requires few { octets ≤ 65515 }
+    ensures { OnOk result (out.new.items
+        ≡ out.old.items ++ (set_head (template_set shape.now) octets ++ template_record id (is_options shape.now) shape.now)) }
+{
+    put_head(template_set(shape), usize::from(octets), out)?;
+    encode_template(id, shape, out)
+}
+
+/// Appends the header of a set with so many octets of content (RFC 7011, section 3.3.2).
+#[tactic(auto, unfolding(crate::specs::Message::set_head))]
+fn put_head(id: u16, octets: usize, out: &mut Vec<u8>) -> Result<(), AllocError>
+    requires { octets ≤ 65531 }
+    ensures { OnOk result (out.new.items ≡ out.old.items ++ set_head id octets) }
+{
+    let [a, b] = id.to_be_bytes();
+    let [c, d] = ((SET_HEADER + octets) as u16).to_be_bytes();
+    out.extend_from_slice(&[a, b, c, d])
+}
+
+/// The ID of the set that announces the template.
+fn template_set(shape: &Template) -> u16
+    ensures { result ≡ template_set shape.now }
+{
+    if shape.is_options() {
+        OPTIONS_TEMPLATE_SET
+    } else {
+        TEMPLATE_SET
+    }
+}
+
+/// The octets of the records of this ID that stand one after another from a place on, among the first
+/// `count` parts.
+fn run_octets(queue: &VecDeque<Waiting>, place: usize, count: usize, id: u16) -> usize
+    requires within { count ≤ length queue.now.items }
+    requires place { place ≤ count }
+    requires fits { run id (drop place (take count queue.now.items)) ≤ 65535 }
+    ensures { result ≡ run id (drop place (take count queue.now.items)) }
+{
+    let mut octets = 0;
+    'records: for at in place..count {
+        match &queue[at] {
+            Waiting::Bring {
+                id: other,
+                octets: more,
+                ..
+            } if id == *other => octets += usize::from(*more),
+            _ => return octets,
+        }
+    }
+    octets
+}
