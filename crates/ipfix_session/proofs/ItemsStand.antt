@@ -1,8 +1,8 @@
 -- What a message's items define may be kept, and its Data Sets lie within it.
-use Rattle.std.proofs.Common.{◌≡◌, ℕ, zero, suc, ◌+◌, ◌-◌, ◌<◌, ◌≤◌, Bool, true, false, cond, ltb, eqb, List, [], ◌∷◌, ◌++◌, length, take, drop, Option, Some, None, Result, Ok, Err, refl, sym, ap, subst, ◌∙◌, arith, length-append, length-drop}
+use Rattle.std.proofs.Common.{◌≡◌, ℕ, zero, suc, ◌+◌, ◌-◌, ◌≤◌, Bool, true, false, cond, ltb, eqb, List, [], ◌∷◌, ◌++◌, length, take, drop, Option, Some, None, Result, Ok, Err, refl, ap, ◌∙◌, arith, length-append, length-drop}
 use Rattle.std.specs.Prelude.{◌||◌, IfSome}
 use Rattle.std.specs.List.{AllByRecursion, flat_map, list_all}
-use Rattle.std.proofs.lemmas.Bool.{ltb-false, ltb-true, le-ltb, lt-ltb}
+use Rattle.std.proofs.lemmas.Bool.{ltb-false}
 use Rattle.std.proofs.lemmas.List.{length-take-le}
 use Rattle.std.proofs.lemmas.List.Concat.{flat_map-cons}
 use Rattle.sequences.specs.Octets.{be_octets, number_at}
@@ -12,13 +12,12 @@ use Rattle.ipfix_template.specs.declared.field.FieldSpec.{FieldSpec}
 use Rattle.ipfix_template.specs.declared.template.Template.{Template}
 use Rattle.ipfix_template.specs.declared.template.Refused.{Refused}
 use Rattle.ipfix_template.specs.declared.template.Refused.TheVariants.{BadId, BadLength, BadScope, EmptyRecord}
-use Rattle.ipfix_template.specs.Template.{specifier, specifier_of, record_head, template_record, has_allowed_length, has_bad_scope, refusal_of, is_options, shortest_record, IsAccepted}
+use Rattle.ipfix_template.specs.Template.{specifier, specifier_of, record_head, template_record, has_allowed_length, has_bad_scope, refusal_of, is_options, shortest_record}
 use Rattle.ipfix_template.specs.Values.{◌>>=◌}
 use Rattle.ipfix_message.specs.declared.header.Header.{Header}
 use Rattle.ipfix_message.specs.declared.decode_error.DecodeError.{DecodeError}
 use Rattle.ipfix_message.specs.declared.item.Item.{Item}
-use Rattle.ipfix_message.specs.declared.item.Item.TheVariants as items
-use Rattle.ipfix_message.specs.Records.{set_id, bare_item, judged_item, template_item}
+use Rattle.ipfix_message.specs.Records.{set_id, bare_item, judged_item}
 use Rattle.ipfix_message.specs.Reading.{read_header, field_at, fields_at, scoped_at, template_at, found_template, template_front, set_items, found_set, set_front, after_header, items_of}
 use Rattle.ipfix_message.proofs.Shrinks.{on_both, or_false, set_takes, template_takes}
 use Rattle.ipfix_session.specs.Keeping.{IsKeepable, StandsIn, StandIn}
@@ -91,6 +90,7 @@ fields_shorter (suc count) octets = first (λ rest. fields_shorter count rest) (
   others : (field : FieldSpec × List ℕ) (found : Option (List FieldSpec × List ℕ)) → specifier_size field.0 + length field.1 ≤ length octets → Shorter fields_size (length field.1) found → Shorter fields_size (length octets) (found >>= λ o. Some (field.0 ∷ o.0, o.1))
   others field None fits h = tt
   others field (Some o) fits h = omega (arith, fits, h, ap length (flat_map-cons specifier field.0 o.0), length-append (specifier field.0) (flat_map specifier o.0))
+
   first : ((rest : List ℕ) → Shorter fields_size (length rest) (fields_at count rest)) → (field : Option (FieldSpec × List ℕ)) → Shorter specifier_size (length octets) field → Shorter fields_size (length octets) (field >>= λ f. fields_at count f.1 >>= λ o. Some (f.0 ∷ o.0, o.1))
   first more None fits = tt
   first more (Some f) fits = others f (fields_at count f.1) fits (more f.1)
@@ -161,7 +161,7 @@ keepable_of id options t accepted few =
     let own = of_its_kind id options t accepted in
     record {
       accepted = rw own.kind own.accepted;
-      fits = rw own.kind (omega (arith, few, record_size options t))
+      fits = rw own.kind (omega (arith, few, record_size options t));
     }
 
 -- ---- the items of a set of templates
@@ -204,6 +204,7 @@ set_stands total few some octets within =
       found : (r : Result (List Item) DecodeError) → AllRead (StandsIn total) r → AllFront (StandsIn total) (found_set r (drop (number_at 2 2 octets) octets))
       found (Ok said) h = h
       found (Err e) h = tt
+
       stands : (ltb (number_at 2 2 octets) 4 ≡ false) × (ltb (length octets) (number_at 2 2 octets) ≡ false) → AllRead (StandsIn total) (set_items (number_at 0 2 octets) (total - length octets + 4) (take (number_at 2 2 octets - 4) (drop 4 octets)))
       stands both =
           let least = ltb-false _ _ both.0 in

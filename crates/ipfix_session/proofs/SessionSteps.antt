@@ -1,5 +1,5 @@
 -- How a session reads its next message.
-use Rattle.std.proofs.Common.{◌≡◌, ℕ, ◌+◌, ◌%◌, ◌^◌, Bool, true, false, cond, eqb, ltb, List, [], ◌∷◌, ◌++◌, length, reverse, Option, Some, None, Result, Ok, Err, refl, sym, ap, ◌∙◌, subst}
+use Rattle.std.proofs.Common.{◌≡◌, ℕ, Bool, true, false, cond, eqb, ltb, List, [], ◌∷◌, ◌++◌, length, reverse, Option, Result, Ok, Err, refl, sym, ap, ◌∙◌}
 use Rattle.std.proofs.lemmas.Bool.{eqb-true}
 use Rattle.sequences.specs.Octets.{number_at}
 use Rattle.ipfix_template.specs.declared.template.Template.{Template}
@@ -16,7 +16,7 @@ use Rattle.ipfix_session.specs.declared.read_error.ReadError.{ReadError}
 use Rattle.ipfix_session.specs.declared.read_error.ReadError.TheVariants.{Malformed, RecordOverrun, OutOfMemory}
 use Rattle.ipfix_session.specs.declared.domain.Domain.{Domain}
 use Rattle.ipfix_session.specs.InForce.{template_in_force}
-use Rattle.ipfix_session.specs.Contents.{Contents, contents_after, ◌>>=◌}
+use Rattle.ipfix_session.specs.Contents.{Contents, contents_after}
 use Rattle.ipfix_session.specs.Meaning.{domain_of, items_or_none, items_of_domain, read_items, contents_of, number_after, next_number, expected_number, gap_between, Meaning, gap_of, meaning_of}
 use Rattle.ipfix_session.specs.Keeping.{at_key, Keeps}
 use Rattle.ipfix_session.specs.Standing.{kept_of, StandsFor}
@@ -155,10 +155,10 @@ found_stands held new older message h said c changed next found reads keeps next
     let items : items_or_none (items_of message) ≡ said = ap items_or_none found.items in
     record {
       templates = λ q id. ap (λ (k : Domain). at_key id k.templates) (here q)
-        ∙ templates_by (eqb q d) id q d kept (kept_of q held) said older (eqb-true q d) (keeps (before older message) (keeps_before held older message h said found) id) (found.stands.templates q id)
-        ∙ ap (λ (xs : List Item). template_in_force id (cond (eqb q d) (reverse xs) [] ++ items_of_domain q older)) (sym items)
-        ∙ ap (template_in_force id) (sym (items_then q message older));
+          ∙ templates_by (eqb q d) id q d kept (kept_of q held) said older (eqb-true q d) (keeps (before older message) (keeps_before held older message h said found) id) (found.stands.templates q id)
+          ∙ ap (λ (xs : List Item). template_in_force id (cond (eqb q d) (reverse xs) [] ++ items_of_domain q older)) (sym items)
+          ∙ ap (template_in_force id) (sym (items_then q message older));
       expected = λ q. ap (λ (k : Domain). k.expected) (here q)
-        ∙ domain_by (eqb q d) q d kept (kept_of q held) older (next_number (header_of message) (contents_of older message)) (expected_number q older) number (found.stands.expected q)
-        ∙ sym (expected_then q message older)
+          ∙ domain_by (eqb q d) q d kept (kept_of q held) older (next_number (header_of message) (contents_of older message)) (expected_number q older) number (found.stands.expected q)
+          ∙ sym (expected_then q message older);
     }

@@ -1,9 +1,9 @@
 -- How a Data Set is read, record by record.
-use Rattle.std.proofs.Common.{◌≡◌, ℕ, suc, ◌+◌, ◌-◌, ◌<◌, ◌≤◌, List, [], ◌∷◌, ◌++◌, length, take, drop, get_or, map, Option, Some, None, Result, Ok, Err, refl, sym, ap, ◌∙◌, subst, append_assoc, arith}
+use Rattle.std.proofs.Common.{◌≡◌, ℕ, ◌+◌, ◌-◌, ◌<◌, ◌≤◌, List, [], ◌∷◌, ◌++◌, length, take, drop, get_or, map, Option, Some, None, Result, Ok, Err, refl, sym, ap, ◌∙◌, subst, append_assoc, arith}
 use Rattle.std.specs.Global.{Vec}
 use Rattle.std.proofs.lemmas.List.{append-nil, take_more, map_push, length-take}
 use Rattle.sequences.proofs.SequenceLaws.{with_front-append, with_front-nil, read_all-step}
-use Rattle.ipfix_template.specs.Sequence.{Front, End, Fault, Next, with_front, read_on, read_all, TakesSome}
+use Rattle.ipfix_template.specs.Sequence.{Front, End, Fault, Next, with_front, read_on, read_all}
 use Rattle.ipfix_template.specs.declared.template.Template.{Template}
 use Rattle.ipfix_template.specs.declared.spans.Span.{Span}
 use Rattle.ipfix_template.specs.declared.spans.Split.TheVariants.{Record}
@@ -14,7 +14,7 @@ use Rattle.ipfix_session.specs.declared.read_error.ReadError.{ReadError}
 use Rattle.ipfix_session.specs.declared.read_error.ReadError.TheVariants.{Malformed, RecordOverrun, OutOfMemory}
 use Rattle.ipfix_session.specs.Contents.{record_of}
 use Rattle.ipfix_session.specs.Keeping.{IsKeepable}
-use Rattle.ipfix_session.specs.DataSets.{IsOverrun, ShowsRecord, Shortens, AddsRecords}
+use Rattle.ipfix_session.specs.DataSets.{IsOverrun, ShowsRecord, AddsRecords}
 use Rattle.ipfix_session.proofs.Soundness.{record_takes, sound_of}
 
 abbrev Rows : Type 0
@@ -57,10 +57,10 @@ reads_more t content rest after old new r keepable shown so_far =
     record {
       rows = so_far.rows ++ row;
       added = ap (λ (rs : List DataRecord). rs ++ r ∷ []) so_far.added ∙ append_assoc old (map (record_of t) so_far.rows) (r ∷ [])
-        ∙ ap (λ (s : DataRecord). old ++ (map (record_of t) so_far.rows ++ s ∷ [])) shown.0
-        ∙ ap (λ (rs : List DataRecord). old ++ rs) (sym (map-append t so_far.rows row));
+          ∙ ap (λ (s : DataRecord). old ++ (map (record_of t) so_far.rows ++ s ∷ [])) shown.0
+          ∙ ap (λ (rs : List DataRecord). old ++ rs) (sym (map-append t so_far.rows row));
       read = with_front-append so_far.rows row (read_all (record_front t) after)
-        ∙ ap (with_front so_far.rows) (sym (at_front t keepable rest (Next row after) shown.1)) ∙ so_far.read
+          ∙ ap (with_front so_far.rows) (sym (at_front t keepable rest (Next row after) shown.1)) ∙ so_far.read;
     }
 
 pub reads_all : (t : Template) (content rest after : List ℕ) (old new : List DataRecord) → IsKeepable t → ShowsRecord t rest after (Ok None) → ReadsOn t content rest old new → AddsRecords t content old new (Ok tt)

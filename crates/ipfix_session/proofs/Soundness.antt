@@ -1,9 +1,8 @@
 -- What is split by a template that is kept is a sound record, and takes some octets.
-use Rattle.std.proofs.Common.{inl, inr, ◌≡◌, ℕ, zero, suc, ◌+◌, ◌<◌, ◌≤◌, Bool, true, false, cond, ltb, leb, eqb, List, [], ◌∷◌, ◌++◌, length, take, drop, Option, Some, None, refl, sym, ap, ◌∙◌, arith, length-append, length-drop}
+use Rattle.std.proofs.Common.{inl, inr, ◌≡◌, ℕ, ◌+◌, ◌<◌, ◌≤◌, Bool, true, false, cond, ltb, leb, eqb, List, [], ◌∷◌, ◌++◌, length, take, drop, Option, Some, None, refl, ap, ◌∙◌, arith, length-append, length-drop}
 use Rattle.std.specs.Prelude.{◌&&◌, MatchBool, IfSome}
 use Rattle.std.specs.List.{sum_by, list_all}
-use Rattle.std.proofs.lemmas.Bool.{leb-true, ltb-false, ltb-true, eqb-false, le-leb, eq-eqb}
-use Rattle.std.proofs.lemmas.List.{length-take-le}
+use Rattle.std.proofs.lemmas.Bool.{leb-true, ltb-false, eqb-false, le-leb, eq-eqb}
 use Rattle.std.proofs.lemmas.List.Sums.{sum_by-cons}
 use Rattle.sequences.specs.Octets.{be_value, be_octets}
 use Rattle.sequences.specs.Sequence.{Front, End, Fault, Next, TakesSome}
@@ -11,11 +10,10 @@ use Rattle.sequences.proofs.OctetLaws.{length-be_octets}
 use Rattle.ipfix_octets.specs.Variable.{IsVarText, shortest_text, value_within, varlen_at}
 use Rattle.ipfix_template.specs.declared.field.FieldSpec.{FieldSpec}
 use Rattle.ipfix_template.specs.declared.template.Template.{Template}
-use Rattle.ipfix_template.specs.declared.template.Refused.{Refused}
-use Rattle.ipfix_template.specs.declared.template.Refused.TheVariants.{BadId, BadLength, BadScope, EmptyRecord}
+use Rattle.ipfix_template.specs.declared.template.Refused.TheVariants.{BadLength, BadScope, EmptyRecord}
 use Rattle.ipfix_template.specs.Template.{is_variable, least_octets, shortest_record, has_allowed_length, has_bad_scope, refusal_of, is_options, IsAccepted}
 use Rattle.ipfix_template.specs.Values.{IsText, Splits, span_at, values_at, ◌>>=◌, found_record, record_front, fits_field, fit_fields, value_text, record_text}
-use Rattle.ipfix_template.specs.DataRecord.{DataRecord, IsSound}
+use Rattle.ipfix_template.specs.DataRecord.{IsSound}
 use Rattle.ipfix_message.proofs.Shrinks.{on_both}
 use Rattle.ipfix_session.specs.Keeping.{IsKeepable}
 
@@ -76,7 +74,7 @@ values_fit (f ∷ fs) text (v ∷ vs) few is =
     let others = values_fit fs back vs (omega (arith, wide, few)) is.4 in
     record {
       fit = and_both (fits_field f v) (fit_fields fs vs) first.fits others.fit;
-      shortest = omega (arith, wide, first.shortest, others.shortest, length-append (value_text f v) (record_text fs vs))
+      shortest = omega (arith, wide, first.shortest, others.shortest, length-append (value_text f v) (record_text fs vs));
     }
 
 -- what was split by a template that is kept is a sound record
@@ -131,6 +129,7 @@ values_take (f ∷ fs) octets = first (λ rest. values_take fs rest) (span_at f 
   others : (span : ℕ × ℕ) (value : List ℕ) (found : Option (List (List ℕ) × List ℕ)) → (least_octets f ≤ span.0 + span.1) × (span.0 + span.1 ≤ length octets) → TakesLeast (sum_by least_octets fs) (length (drop (span.0 + span.1) octets)) found → TakesLeast (sum_by least_octets (f ∷ fs)) (length octets) (found >>= λ o. Some (value ∷ o.0, o.1))
   others span value None fits h = tt
   others span value (Some o) fits h = omega (arith, fits.0, fits.1, h, length-drop (span.0 + span.1) octets, sum_by-cons least_octets f fs)
+
   first : ((rest : List ℕ) → TakesLeast (sum_by least_octets fs) (length rest) (values_at fs rest)) → (span : Option (ℕ × ℕ)) → SpanFits (least_octets f) (length octets) span → TakesLeast (sum_by least_octets (f ∷ fs)) (length octets) (span >>= λ s. values_at fs (drop (s.0 + s.1) octets) >>= λ o. Some (take s.1 (drop s.0 octets) ∷ o.0, o.1))
   first more None fits = tt
   first more (Some s) fits = others s (take s.1 (drop s.0 octets)) (values_at fs (drop (s.0 + s.1) octets)) fits (more (drop (s.0 + s.1) octets))

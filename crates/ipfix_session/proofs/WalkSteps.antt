@@ -1,5 +1,5 @@
 -- How a message's items are read, one after another.
-use Rattle.std.proofs.Common.{arith, ◌≡◌, ℕ, ◌+◌, ◌<◌, ◌^◌, Bool, true, false, cond, eqb, List, [], ◌∷◌, ◌++◌, reverse, take, drop, map, length, Option, Some, None, Result, Ok, Err, refl, sym, ap, ◌∙◌, subst, append_assoc}
+use Rattle.std.proofs.Common.{arith, ◌≡◌, ℕ, ◌+◌, ◌<◌, ◌^◌, Bool, cond, eqb, List, [], ◌∷◌, ◌++◌, reverse, take, drop, map, length, Option, Some, None, Result, Ok, Err, refl, sym, ap, ◌∙◌, subst, append_assoc}
 use Rattle.std.specs.Prelude.{OnOk}
 use Rattle.std.specs.Option.{option_map}
 use Rattle.std.proofs.lemmas.List.{append-nil, reverse-append}
@@ -107,10 +107,11 @@ rows_read t content found is = ap (λ (o : Option Template). set_contents o cont
 
 pub added_records : (t : Template) (found : Option Template) (content expected : List ℕ) (old new : List DataRecord) (s : Skips) (r : Result (Unit {0}) ReadError) → Some t ≡ found → content ≡ expected → AddsRecords t content old new r → Adds (contents old s) (contents new s) (set_contents found expected) r
 added_records t found content expected old new s (Ok u) is same adds =
-    let first = only_records (map (record_of t) adds.0) in
-    (first,
+    let first = only_records (map (record_of t) adds.0) in (
+      first,
       rows_read t expected found is ∙ ap (λ (o : List ℕ). rows_of t (records_in t o)) (sym same) ∙ ap (rows_of t) adds.1,
-      same_contents (contents new s) (both (contents old s) first) adds.2 (same_skips s (both (contents old s) first).skips (omega arith) (omega arith) (omega arith)))
+      same_contents (contents new s) (both (contents old s) first) adds.2 (same_skips s (both (contents old s) first).skips (omega arith) (omega arith) (omega arith)),
+    )
 added_records t found content expected old new s (Err OutOfMemory) is same adds = tt
 added_records t found content expected old new s (Err RecordOverrun) is same adds = rows_read t expected found is ∙ ap (λ (o : List ℕ). rows_of t (records_in t o)) (sym same) ∙ ap (rows_of t) adds
 added_records t found content expected old new s (Err (Malformed why)) is same adds = absurd adds
@@ -160,9 +161,9 @@ walks_more message table after item rest so_far new older said reads keeps walks
       done = item ∷ walks.done;
       keeps = keeps walks.done walks.keeps;
       read = ap (λ (c : Contents). with_contents c (contents_after (item ∷ walks.done) message rest)) added.2
-        ∙ with_both so_far added.0 (contents_after (item ∷ walks.done) message rest)
-        ∙ ap (with_contents so_far) (sym (at_item walks.done message item rest added.0 added.1)) ∙ walks.read;
-      order = sym (append_assoc (reverse rest) (item ∷ []) walks.done) ∙ ap (λ (xs : List Item). xs ++ walks.done) (sym (reverse-append (item ∷ []) rest)) ∙ walks.order
+          ∙ with_both so_far added.0 (contents_after (item ∷ walks.done) message rest)
+          ∙ ap (with_contents so_far) (sym (at_item walks.done message item rest added.0 added.1)) ∙ walks.read;
+      order = sym (append_assoc (reverse rest) (item ∷ []) walks.done) ∙ ap (λ (xs : List Item). xs ++ walks.done) (sym (reverse-append (item ∷ []) rest)) ∙ walks.order;
     }
 
 fault_is : (message : List ℕ) (table : List (ℕ × Template)) (item : Item) (rest : List Item) (so_far : Contents) (older said : List Item) (e : ReadError) (walks : Walks message table (item ∷ rest) so_far older said) → item_contents walks.done message item ≡ Err e → contents_after older message said ≡ Err e

@@ -1,5 +1,5 @@
 -- What `apply` answers.
-use Rattle.std.specs.Prelude.{◌≡◌, List, Result, Ok, Err}
+use Rattle.std.specs.Prelude.{◌≡◌, Result, Ok, Err}
 use Rattle.ipfix_message.specs.declared.decode_error.DecodeError.{DecodeError}
 use Rattle.ipfix_message.specs.declared.decode_error.DecodeError.TheVariants as decode
 use Rattle.ipfix_session.specs.declared.read.Read.{Read}

@@ -31,7 +31,7 @@ only_skips skips = record { records = []; skips = skips }
 abbrev pub both : Contents → Contents → Contents
 both a b = record {
   records = a.records ++ b.records;
-  skips = skips_of (a.skips.unknown + b.skips.unknown) (a.skips.reserved + b.skips.reserved) (a.skips.refused + b.skips.refused)
+  skips = skips_of (a.skips.unknown + b.skips.unknown) (a.skips.reserved + b.skips.reserved) (a.skips.refused + b.skips.refused);
 }
 
 infixl 10 ◌>>=◌

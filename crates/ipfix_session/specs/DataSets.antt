@@ -1,6 +1,6 @@
 -- What the functions that read a Data Set answer.
-use Rattle.std.specs.Prelude.{◌≡◌, ◌<◌, ◌≤◌, ℕ, List, [], ◌∷◌, ◌++◌, length, map, Option, Some, None, Result, Ok, Err}
-use Rattle.ipfix_template.specs.Sequence.{Front, End, Fault, Next}
+use Rattle.std.specs.Prelude.{◌≡◌, ◌<◌, ℕ, List, [], ◌∷◌, ◌++◌, length, map, Option, Some, None, Result, Ok, Err}
+use Rattle.ipfix_template.specs.Sequence.{End, Fault, Next}
 use Rattle.ipfix_template.specs.declared.template.Template.{Template}
 use Rattle.ipfix_template.specs.Values.{record_front, records_in}
 use Rattle.ipfix_template.specs.DataRecord.{DataRecord}

@@ -1,5 +1,5 @@
 -- The messages that a session stands for.
-use Rattle.std.specs.Prelude.{◌≡◌, ℕ, List, [], Option, None, unwrap_or}
+use Rattle.std.specs.Prelude.{◌≡◌, ℕ, List, [], None, unwrap_or}
 use Rattle.ipfix_session.specs.declared.domain.Domain.{Domain}
 use Rattle.ipfix_session.specs.InForce.{template_in_force}
 use Rattle.ipfix_session.specs.Meaning.{items_of_domain, expected_number}

@@ -14,6 +14,7 @@ mod domain;
 pub mod laws;
 pub mod read;
 pub mod read_error;
+mod same_template;
 pub mod session;
 mod table;
 #[cfg(test)]

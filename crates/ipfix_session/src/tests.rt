@@ -88,7 +88,10 @@ fn malformed_messages(rt: HostRuntime) -> Result<(), Fail> {
         (&ONE_RECORD[..15], DecodeError::ShortHeader),
         (&ONE_RECORD[..16], DecodeError::BadLength),
     ] {
-        assert_eq!(rt; fault(&mut session, message), Some(ReadError::Malformed(why)));
+        assert_eq!(rt;
+            fault(&mut session, message),
+            Some(ReadError::Malformed(why))
+        );
     }
     Ok(())
 }
@@ -121,14 +124,21 @@ fn record_overrun(rt: HostRuntime) -> Result<(), Fail> {
     // The definition stands in the refused message itself.
     let together = b"\x00\x0a\x00\x25\x65\x53\xf1\x00\x00\x00\x00\x00\x00\x00\x00\x07\
 \x00\x02\x00\x0c\x01\x00\x00\x01\x00\x52\xff\xff\x01\x00\x00\x09\x01\x61\x03\x62\x63";
-    assert_eq!(rt; fault(&mut session, together), Some(ReadError::RecordOverrun));
+    assert_eq!(rt;
+        fault(&mut session, together),
+        Some(ReadError::RecordOverrun)
+    );
     assert!(rt; session.template(7, 256).is_none());
-    let _defined = read(&rt, &mut session, &{
-        let mut message = [0u8; 28];
-        message.copy_from_slice(&together[..28]);
-        message[3] = 28;
-        message
-    })?;
+    let _defined = read(
+        &rt,
+        &mut session,
+        &{
+            let mut message = [0u8; 28];
+            message.copy_from_slice(&together[..28]);
+            message[3] = 28;
+            message
+        },
+    )?;
     let data = b"\x00\x0a\x00\x19\x65\x53\xf1\x00\x00\x00\x00\x00\x00\x00\x00\x07\
 \x01\x00\x00\x09\x01\x61\x03\x62\x63";
     assert_eq!(rt; fault(&mut session, data), Some(ReadError::RecordOverrun));
@@ -164,7 +174,13 @@ fn sequence_gap(rt: HostRuntime) -> Result<(), Fail> {
     again[11] = 5;
     let answer = read(&rt, &mut session, &again)?;
     assert_eq!(rt; answer.records.len(), 1);
-    assert_eq!(rt; answer.gap, Some(Gap { expected: 1, got: 5 }));
+    assert_eq!(rt;
+        answer.gap,
+        Some(Gap {
+            expected: 1,
+            got: 5
+        })
+    );
     Ok(())
 }
 
@@ -188,7 +204,13 @@ fn sequence_base(rt: HostRuntime) -> Result<(), Fail> {
         &mut session,
         b"\x00\x0a\x00\x10\x65\x53\xf1\x00\x00\x00\x00\x05\x00\x00\x00\x07",
     )?;
-    assert_eq!(rt; after.gap, Some(Gap { expected: 9, got: 5 }));
+    assert_eq!(rt;
+        after.gap,
+        Some(Gap {
+            expected: 9,
+            got: 5
+        })
+    );
     Ok(())
 }
 
@@ -240,11 +262,7 @@ fn knows_only_the_options_template(
     let answer = read(rt, session, data)?;
     assert_eq!(rt; answer.skips.unknown, 1);
     assert_eq!(rt; answer.records.len(), 1);
-    has_values(
-        rt,
-        answer.records.first(),
-        &[b"\x00\x00\x00\x01", b"\x11"],
-    );
+    has_values(rt, answer.records.first(), &[b"\x00\x00\x00\x01", b"\x11"]);
     Ok(())
 }
 
@@ -257,7 +275,14 @@ fn refused_template(rt: HostRuntime) -> Result<(), Fail> {
         b"\x00\x0a\x00\x23\x65\x53\xf1\x00\x00\x00\x00\x00\x00\x00\x00\x07\
 \x00\x02\x00\x0c\x01\x00\x00\x01\x00\x08\x00\x03\x01\x00\x00\x07\x01\x02\x03",
     )?;
-    assert_eq!(rt; answer.skips, Skips { unknown: 1, reserved: 0, refused: 1 });
+    assert_eq!(rt;
+        answer.skips,
+        Skips {
+            unknown: 1,
+            reserved: 0,
+            refused: 1
+        }
+    );
     assert_eq!(rt; answer.records.len(), 0);
     Ok(())
 }

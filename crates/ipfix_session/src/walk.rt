@@ -1,18 +1,19 @@
 //! The items of a message, one after another.
-ghost use Rattle.std.specs.Prelude.{◌≡◌, ◌+◌, ◌-◌, ◌≤◌, ◌<◌, ◌^◌, ◌++◌, ℕ, List, ◌∷◌, length, take, drop, reverse, IfOk, OnOk, None, if◌then◌else◌, ◌==◌};
+ghost use Rattle.std.specs.Prelude.{◌≡◌, ◌+◌, ◌-◌, ◌≤◌, ◌<◌, ◌^◌, ◌++◌, ℕ, List, ◌∷◌, length, take, drop, reverse, IfOk, OnOk, None, Some, IsTrue, if◌then◌else◌, ◌==◌};
 ghost use Rattle.ipfix_message.specs.declared.item.Item.{Item};
 ghost use Rattle.ipfix_session.specs.Contents.{set_contents, item_contents, contents_after};
-ghost use Rattle.ipfix_session.specs.Keeping.{at_key, Keeps, StandsIn, StandIn};
+ghost use Rattle.ipfix_session.specs.Keeping.{at_key, IsKeepable, Keeps, StandsIn, StandIn};
 ghost use Rattle.ipfix_session.specs.Answers.{Gives};
 ghost use Rattle.ipfix_session.specs.Walking.{table_of, contents_in, Adds, IsCopy, IsCounted};
 
 use crate::data_set::read_set;
 use crate::read::Skips;
 use crate::read_error::ReadError;
+use crate::same_template::is_same;
 use crate::table::Table;
 use bytes::Bytes;
 use ipfix_message::Item;
-use ipfix_template::Record;
+use ipfix_template::{Record, Template};
 use std::alloc::{AllocError, Global};
 
 /// What was read of a message so far.
@@ -104,9 +105,7 @@ fn read_item(
             Ok(())
         }
         Item::Define { id, template } => {
-            let mut table = own_table(base, &mut state.changed)?;
-            table.define(alloc, id, template)?;
-            state.changed = Some(table);
+            define(alloc, base, &mut state.changed, id, template)?;
             Ok(())
         }
     }
@@ -197,4 +196,36 @@ fn withdraw(base: &Table, changed: &mut Option<Table>, id: u16) -> Result<(), Al
     table.withdraw(id);
     *changed = Some(table);
     Ok(())
+}
+
+/// Sets the template of an ID. One that is in force already changes nothing, so exporters may repeat their
+/// templates at no cost.
+fn define(
+    alloc: Global,
+    base: &Table,
+    changed: &mut Option<Table>,
+    id: u16,
+    template: Template,
+) -> Result<(), AllocError>
+    requires { IsKeepable template }
+    ensures { OnOk result ((q : ℕ) → at_key q (table_of base.now changed.new)
+        ≡ (if q == id then Some template else at_key q (table_of base.now changed.old))) }
+{
+    if repeats(current(base, changed), id, &template) {
+        return Ok(());
+    }
+    let mut table = own_table(base, changed)?;
+    table.define(alloc, id, template)?;
+    *changed = Some(table);
+    Ok(())
+}
+
+/// Whether the ID has this template already.
+fn repeats(table: &Table, id: u16, template: &Template) -> bool
+    ensures { IsTrue result → at_key id table.now ≡ Some template.now }
+{
+    match table.template(id) {
+        Some(kept) => is_same(kept, template),
+        None => false,
+    }
 }

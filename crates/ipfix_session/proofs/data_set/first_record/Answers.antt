@@ -1,4 +1,3 @@
-use Rattle.std.proofs.Common.{◌≡◌}
 use Rattle.std.specs.Arc.{arc_value}
 use Rattle.ipfix_template.specs.declared.spans.Split.TheVariants.{Record}
 use Rattle.ipfix_template.specs.Values.{record_front}

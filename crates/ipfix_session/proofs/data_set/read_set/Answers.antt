@@ -1,7 +1,6 @@
-use Rattle.std.proofs.Common.{◌≡◌, Option, Some, None, Result, Ok, refl, subst, arith}
+use Rattle.std.proofs.Common.{Some, Ok, arith}
 use Rattle.std.proofs.lemmas.Result.{err_from_is_err_and}
 use Rattle.std.specs.Arc.{arc_value}
-use Rattle.ipfix_template.specs.DataRecord.{DataRecord}
 use Rattle.ipfix_session.specs.DataSets.{ShowsRecord, Shortens}
 use Rattle.ipfix_session.proofs.SetSteps.{reads_more, reads_all, reads_fault, none_shown}
 use Rattle.ipfix_session.proofs.data_set.read_set.Goals as goal

@@ -1,4 +1,4 @@
-use Rattle.std.proofs.Common.{◌≡◌, ◌+◌, ◌≤◌, length}
+use Rattle.std.proofs.Common.{◌+◌, ◌≤◌, length}
 use Rattle.std.specs.Arc.{arc_value}
 use Rattle.ipfix_session.proofs.SetSteps.{ReadsOn}
 use Rattle.ipfix_session.proofs.data_set.read_set.Given as goal

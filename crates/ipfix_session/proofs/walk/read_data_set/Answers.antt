@@ -1,4 +1,3 @@
-use Rattle.std.proofs.Common.{◌≡◌, Option, Some, None, ◌∙◌, ap}
 use Rattle.std.specs.Arc.{arc_value}
 use Rattle.ipfix_session.specs.Keeping.{at_key}
 use Rattle.ipfix_session.proofs.WalkSteps.{added_unknown, added_records, none_there}

@@ -1,4 +1,4 @@
-use Rattle.std.proofs.Common.{◌≡◌, ap}
+use Rattle.std.proofs.Common.{ap}
 use Rattle.ipfix_session.specs.Contents.{item_contents}
 use Rattle.ipfix_session.specs.Walking.{table_of, contents_in}
 use Rattle.ipfix_session.proofs.WalkSteps.{keeps_define, keeps_withdraw, keeps_refused, keeps_withdraw_all, keeps_skipped, keeps_data, added_reserved, added_refused, added_nothing, in_force}
@@ -44,4 +44,4 @@ returns-in_ok-define-in-Define-clause-reads c = λ done keeps. added_nothing don
 
 pub returns-in_ok-define-in-Define-clause-keeps : goal.returns-in_ok-define-in-Define-clause-keeps
 returns-in_ok-define-in-Define-clause-keeps c =
-    rw (← c.in_ok-table-in-Define.ensures) (keeps_define c.in_ok-table-in-Define.table c.define.new.self c.args.item c.in-Define.id c.in-Define.template c.in-Define.is c.in_ok-define-in-Define.ensures.ok)
+    keeps_define (table_of c.args.base.now c.args.state.now.changed) (table_of c.args.base.now c.define.new.changed) c.args.item c.in-Define.id c.in-Define.template c.in-Define.is c.in_ok-define-in-Define.ensures

@@ -1,10 +1,9 @@
-use Rattle.std.proofs.Common.{◌≡◌, ◌+◌, [], ◌∷◌, List, length, ap, arith}
+use Rattle.std.proofs.Common.{◌≡◌, ◌+◌, [], ◌∷◌, length, ap, arith}
 use Rattle.std.specs.Vec.Iter.{into_iter_items}
 use Rattle.std.proofs.lemmas.Result.{err_from_is_err_and}
-use Rattle.ipfix_message.specs.declared.item.Item.{Item}
-use Rattle.ipfix_session.specs.Keeping.{Keeps, StandIn}
+use Rattle.ipfix_session.specs.Keeping.{StandIn}
 use Rattle.ipfix_session.specs.Walking.{table_of, contents_in}
-use Rattle.ipfix_session.proofs.WalkSteps.{Walks, HasRoom, walks_first, walks_more, walks_fault, walks_read, walks_keeps, no_items}
+use Rattle.ipfix_session.proofs.WalkSteps.{walks_first, walks_more, walks_fault, walks_read, walks_keeps, no_items}
 use Rattle.ipfix_session.proofs.walk.walk_items.Goals as goal
 
 pub items-init : goal.items-init
@@ -26,7 +25,7 @@ items-preserved c =
       copy = c.in_ok-read_item.ensures.copy;
       room = record { done = room.done + 1; counted = c.in_ok-read_item.ensures.counts room.done room.counted; all = omega (arith, ap length left, room.all); fits = room.fits };
       walks = λ older keeps. walks_more c.args.message.now (table_of c.args.base.now c.items.state.changed) (table_of c.args.base.now c.read_item.new.state.changed) c.in-Some.item (into_iter_items c.next.new.self) (contents_in c.items.state) (contents_in c.read_item.new.state) older c.args.said.items
-        c.in_ok-read_item.ensures.reads c.in_ok-read_item.ensures.keeps (rw left at (c.items.invariant.walks older keeps));
+          c.in_ok-read_item.ensures.reads c.in_ok-read_item.ensures.keeps (rw left at (c.items.invariant.walks older keeps));
     }
 
 pub returns-in_err-read_item-clause-reads : goal.returns-in_err-read_item-clause-reads

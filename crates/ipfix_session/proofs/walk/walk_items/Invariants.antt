@@ -1,8 +1,8 @@
-use Rattle.std.proofs.Common.{◌≡◌, ◌+◌, ◌≤◌, ◌<◌, ◌^◌, ℕ, List, length}
+use Rattle.std.proofs.Common.{List, length}
 use Rattle.std.specs.Vec.Iter.{into_iter_items}
 use Rattle.ipfix_message.specs.declared.item.Item.{Item}
 use Rattle.ipfix_session.specs.Keeping.{Keeps, StandIn}
-use Rattle.ipfix_session.specs.Walking.{table_of, contents_in, IsCopy, IsCounted}
+use Rattle.ipfix_session.specs.Walking.{table_of, contents_in, IsCopy}
 use Rattle.ipfix_session.proofs.WalkSteps.{Walks, HasRoom}
 use Rattle.ipfix_session.proofs.walk.walk_items.Given as goal
 

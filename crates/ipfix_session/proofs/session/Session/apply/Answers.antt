@@ -1,4 +1,3 @@
-use Rattle.std.proofs.Common.{◌≡◌, sym}
 use Rattle.std.proofs.lemmas.Result.{err_from_is_err_and}
 use Rattle.ipfix_session.proofs.ItemsStand.{items_stand}
 use Rattle.ipfix_session.specs.Settling.{contents_read}

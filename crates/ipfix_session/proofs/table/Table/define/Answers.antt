@@ -1,6 +1,5 @@
-use Rattle.std.proofs.Common.{◌≡◌, Some, ap, subst}
+use Rattle.std.proofs.Common.{Some}
 use Rattle.std.specs.Arc.{arc_value}
-use Rattle.ipfix_template.specs.declared.template.Template.{Template}
 use Rattle.ipfix_session.specs.Keeping.{IsKeepable}
 use Rattle.ipfix_session.proofs.TableSteps.{changed_at, keepable_after}
 use Rattle.ipfix_session.proofs.table.Table.define.Goals as goal

@@ -1,10 +1,10 @@
-use Rattle.std.proofs.Common.{◌≡◌, ℕ, ap, ◌∙◌, sym, Option, Some, None, Bor, refl, subst}
+use Rattle.std.proofs.Common.{◌≡◌, ap, ◌∙◌, sym, Option, Some, None, Bor, subst}
 use Rattle.std.specs.Prelude.{IfSome}
 use Rattle.std.specs.Option.{option_map, option_copied}
 use Rattle.std.specs.Arc.{arc_value}
 use Rattle.ipfix_template.specs.declared.template.Template.{Template}
-use Rattle.ipfix_session.specs.Keeping.{at_key, IsKeepable}
-use Rattle.ipfix_session.proofs.TableSteps.{viewed, at_view}
+use Rattle.ipfix_session.specs.Keeping.{IsKeepable}
+use Rattle.ipfix_session.proofs.TableSteps.{at_view}
 use Rattle.ipfix_session.proofs.table.Table.get.Goals as goal
 
 found_by : {X : Type 0} (f : X → Template) (r : Option (Bor X)) (o : Option X) → option_copied r ≡ o → option_map (λ (t : Bor X). f t.now) r ≡ option_map f o

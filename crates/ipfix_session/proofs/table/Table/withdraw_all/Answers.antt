@@ -1,4 +1,4 @@
-use Rattle.std.proofs.Common.{◌≡◌, ℕ, subst, rules}
+use Rattle.std.proofs.Common.{rules}
 use Rattle.std.specs.Arc.{arc_value}
 use Rattle.std.proofs.lemmas.Map.Made.{filter_same_pairs}
 use Rattle.ipfix_session.specs.InForce.{is_other_kind}

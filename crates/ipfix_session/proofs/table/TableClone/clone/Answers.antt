@@ -1,4 +1,4 @@
-use Rattle.std.proofs.Common.{◌≡◌, ℕ, List, ◌∙◌, sym, subst}
+use Rattle.std.proofs.Common.{ℕ, List, ◌∙◌, sym, subst}
 use Rattle.std.specs.Arc.{arc_value}
 use Rattle.ipfix_template.specs.declared.template.Template.{Template}
 use Rattle.ipfix_session.specs.Keeping.{AreKeepable}
