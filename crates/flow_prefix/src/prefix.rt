@@ -1,5 +1,6 @@
 ghost use Rattle.std.specs.Prelude.{◌≡◌, ◌↔◌, ℕ, Bool, ◌^◌, ◌<◌, Ok, Err, IfOk, IsErrOf, string_bytes};
 ghost use Rattle.flow_prefix.specs.Family.{width};
+ghost use Rattle.flow_prefix.specs.Reading.{prefix_of, judged};
 
 use crate::address::read_address;
 use crate::bits::first_bits;
@@ -21,7 +22,6 @@ pub enum Prefix {
 
 impl Prefix {
     ghost use Rattle.flow_prefix.specs.Text.{IsPrefixText, HasNoForm, HasLongLength, HasHostBits};
-    ghost use Rattle.flow_prefix.specs.Reading.{prefix_of};
     ghost use Rattle.flow_prefix.specs.Printing.{prefix_text};
     ghost use Rattle.flow_prefix.specs.Prefixes.{contains};
 
@@ -78,8 +78,6 @@ impl Prefix {
         }
     }
 }
-
-ghost use Rattle.flow_prefix.specs.Reading.{prefix_of, judged};
 
 /// The reading of a prefix: its address first, then its length, then its host bits.
 #[tactic(auto, unfolding(crate::specs::Reading::prefix_of))]

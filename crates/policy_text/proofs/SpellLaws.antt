@@ -31,7 +31,7 @@ use Rattle.policy_text.specs.Lines.{next_of, next, after, ended, truncate_of, el
 use Rattle.policy_text.specs.Parsing.{is_header, step, line_step, read_lines, policy_of}
 use Rattle.policy_text.specs.Grammar.{name_at}
 use Rattle.policy_text.specs.Printing.{word_or_star, itself, action_words, key_text, aggregate_words, header}
-use Rattle.policy_text.specs.Spelling.{IsPrefixWord, rule_tail, SpellsRule, AddsRule, AddsAggregate, AfterLine, AreLines, AreAllLines, Spells}
+use Rattle.policy_text.specs.Spelling.{IsPrefixWord, rule_tail, SpellsRule, AddsRule, AddsAggregate, AfterLine, AreLines, AreAllLines, Spells, OnePolicy}
 use Rattle.policy_text.proofs.ElementLaws.{element_of-found}
 use Rattle.policy_text.proofs.ParsingLaws.{read_lines-cons, read_lines-done, read_lines-empty}
 use Rattle.policy_text.proofs.PrintedClassLaws.{name-printed, or_star-word, or_star-star, or_star-printed, name-star, number-star, prefix-star}
@@ -559,3 +559,6 @@ parses-found text (Err fault) h = tt
 
 pub parses-only : (text : List ℕ) (r : Result Meaning PolicyFault) (p : Meaning) → Parses (λ (q : Meaning). q) r (policy_of text) → Spells text p → Parses (λ (q : Meaning). q) r (Ok p)
 parses-only text r p h spelled = let P : Result Meaning PolicyFault → Type 0 = λ read. Parses (λ (q : Meaning). q) r read in subst P (policy_of-only text p spelled) h
+
+pub one_policy : OnePolicy
+one_policy text p q a b = meaning_ok p q (sym (policy_of-only text p a) ∙ policy_of-only text q b)

@@ -66,3 +66,7 @@ AreAllLines (line ∷ lines) new =
 -- the text spells the policy
 abbrev pub Spells : List ℕ → Meaning → Type 0
 Spells text policy = AreAllLines (lines_of text) policy
+
+-- no text spells two policies
+abbrev pub OnePolicy : Type 0
+OnePolicy = (text : List ℕ) (p q : Meaning) → Spells text p → Spells text q → p ≡ q

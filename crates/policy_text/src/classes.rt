@@ -1,9 +1,10 @@
-ghost use Rattle.std.specs.Prelude.{◌≡◌, ◌≤◌, ◌<◌, ◌-◌, ◌+◌, ◌*◌, length, ◌==◌, IfOk, OnOk};
+ghost use Rattle.std.specs.Prelude.{◌≡◌, ◌≤◌, ◌==◌, length, IfOk, OnOk};
 ghost use Rattle.std.specs.List.{list_any};
+ghost use Rattle.std.specs.Str.{bytes_eq};
 ghost use Rattle.policy_text.specs.Policies.{IsKeyLength};
 ghost use Rattle.policy_text.specs.Results.{Gives};
 ghost use Rattle.policy_text.specs.Elements.{element_of};
-ghost use Rattle.policy_text.specs.Classes.{name, number, element, prefix, or_star, is_key_kind, width_at, with_key, add_piece, add_pieces, key_of, place_of, aggregate_place, new_name, interval, bits_within};
+ghost use Rattle.policy_text.specs.Classes.{star, name, number, element, prefix, or_star, is_key_kind, width_at, with_key, add_piece, add_pieces, key_of, place_of, aggregate_place, new_name, interval, bits_within};
 ghost use Rattle.ipfix_element.specs.Kinds.{kind_of};
 
 use crate::aggregate::AggregateDef;
@@ -29,9 +30,6 @@ fn is_star(word: &[u8]) -> bool
 {
     is_word(word, b"*")
 }
-
-ghost use Rattle.std.specs.Str.{bytes_eq};
-ghost use Rattle.policy_text.specs.Classes.{star};
 
 #[tactic(auto, unfolding(crate::specs::Classes::name))]
 fn read_name(alloc: Global, word: &[u8]) -> Result<Name, FaultKind>

@@ -1,5 +1,6 @@
 ghost use Rattle.std.specs.Prelude.{◌≡◌, true, length, IfOk};
-ghost use Rattle.policy_text.specs.Naming.{is_name};
+ghost use Rattle.std.specs.List.{list_all};
+ghost use Rattle.policy_text.specs.Naming.{is_name, is_name_octet};
 
 use std::alloc::{AllocError, Global};
 use std::marker::Model;
@@ -27,9 +28,6 @@ pub(crate) fn is_name_word(word: &[u8]) -> bool
         None => false,
     }
 }
-
-ghost use Rattle.std.specs.List.{list_all};
-ghost use Rattle.policy_text.specs.Naming.{is_name_octet};
 
 fn are_name_octets(word: &[u8]) -> bool
     ensures { result ≡ list_all is_name_octet word.now }

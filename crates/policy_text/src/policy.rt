@@ -102,6 +102,7 @@ impl Policy {
     /// between words and a line feed behind each line. Fails only for want of memory.
     pub fn print(&self, alloc: Global) -> Result<String, AllocError>
         ensures text { IfOk result (λ text. string_bytes text ≡ policy_text self.now) }
+        ensures spelled { IfOk result (λ text. Spells (string_bytes text) self.now) }
         ensures reads_back { IfOk result (λ text. policy_of (string_bytes text) ≡ Ok self.now) }
     {
         let _rules = &self.rules;

@@ -1,4 +1,4 @@
-ghost use Rattle.std.specs.Prelude.{◌≡◌, ◌++◌, ◌∷◌, [], OnOk, IfOk, map, string_bytes};
+ghost use Rattle.std.specs.Prelude.{◌≡◌, ◌++◌, ◌∷◌, [], OnOk, IfOk, map, string_bytes, codes};
 ghost use Rattle.std.specs.Fmt.{decimal};
 ghost use Rattle.std.specs.List.{flat_map, join_with_byte};
 ghost use Rattle.ipfix_element.specs.Names.{element_name};
@@ -174,8 +174,6 @@ fn put_on_element(
     }
     text.push_str(" ")
 }
-
-ghost use Rattle.std.specs.Prelude.{codes};
 
 fn put_element(alloc: Global, text: &mut String, element: ElementId) -> Result<(), AllocError>
     ensures { OnOk result (string_bytes text.new ≡ string_bytes text.old ++ element_name element) }

@@ -1,4 +1,4 @@
-use crate::{Action, FaultKind, Policy, is_name, print_then_parse};
+use crate::{Action, FaultKind, Policy, is_name, one_policy, print_then_parse};
 use std::process::Abort;
 use std::test::Fail;
 
@@ -287,6 +287,7 @@ fn check_policy(rt: HostRuntime) -> Result<(), Fail> {
     let text = policy.print(rt.alloc())?;
     assert_eq!(rt; text.as_str(), PASS);
     print_then_parse();
+    one_policy();
     Ok(())
 }
 
