@@ -22,3 +22,6 @@ pub use laws::{longest_run, octets_of_pulls, one_shape, parts_bring_the_list, pa
 pub use limits::Limits;
 pub use pull_error::PullError;
 pub use stream::Stream;
+
+#[cfg(test)]
+mod tests;
