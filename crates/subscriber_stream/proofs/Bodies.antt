@@ -97,11 +97,11 @@ run_content shapes id [] kept = refl
 run_content shapes id (Announce other octets ∷ ws) kept = refl
 run_content shapes id (Bring other octets values ∷ ws) kept =
     by_test (nat_eq id other) refl (run_content shapes id ws kept.1) kept.0.counted ∙ sym (content_with id other (entry shapes other values) (sets_of (parts_of shapes ws))) where
-  by_test : (b : Bool) → nat_eq id other ≡ b → run id ws ≡ content_after id (sets_of (parts_of shapes ws)) → octets ≡ length (spelled (entry shapes other values)) → cond b (octets + run id ws) 0 ≡ cond b (length (spelled (entry shapes other values)) + content_after other (sets_of (parts_of shapes ws))) 0
-  by_test true is others here =
-    let moved : content_after id (sets_of (parts_of shapes ws)) ≡ content_after other (sets_of (parts_of shapes ws)) = ap (λ (n : ℕ). content_after n (sets_of (parts_of shapes ws))) (eqb-true id other is) in
-    omega (arith, others, here, moved)
-  by_test false is others here = refl
+      by_test : (b : Bool) → nat_eq id other ≡ b → run id ws ≡ content_after id (sets_of (parts_of shapes ws)) → octets ≡ length (spelled (entry shapes other values)) → cond b (octets + run id ws) 0 ≡ cond b (length (spelled (entry shapes other values)) + content_after other (sets_of (parts_of shapes ws))) 0
+      by_test true is others here =
+          let moved : content_after id (sets_of (parts_of shapes ws)) ≡ content_after other (sets_of (parts_of shapes ws)) = ap (λ (n : ℕ). content_after n (sets_of (parts_of shapes ws))) (eqb-true id other is) in
+          omega (arith, others, here, moved)
+      by_test false is others here = refl
 
 length-template_record : (id : ℕ) (options : Bool) (t : Template) → length (template_record id options t) ≡ length (template_record 256 options t)
 unfolding template_record
@@ -134,18 +134,18 @@ texts_pieces shapes last (Announce id octets ∷ ws) kept =
     ∙ ap (λ (n : ℕ). (set_head (template_set shape) n ++ written) ++ pieces shapes None ws) len
 texts_pieces shapes last (Bring id octets values ∷ ws) kept =
     by_test (joins last id) refl (texts_pieces shapes (Some id) ws kept.1) (run_content shapes id ws kept.1) kept.0.counted where
-  by_test : (b : Bool) → joins last id ≡ b → text_after (Some id) (sets_of (parts_of shapes ws)) ≡ pieces shapes (Some id) ws → run id ws ≡ content_after id (sets_of (parts_of shapes ws)) → octets ≡ length (spelled (entry shapes id values))
-    → text_after last (with_record id (entry shapes id values) (sets_of (parts_of shapes ws))) ≡ (cond b [] (set_head id (octets + run id ws)) ++ spelled (entry shapes id values)) ++ pieces shapes (Some id) ws
-  by_test true is rest others here =
-    joined_text last id (entry shapes id values) (sets_of (parts_of shapes ws)) is ∙ ap (λ (t : List ℕ). spelled (entry shapes id values) ++ t) rest
-  by_test false is rest others here =
-    let r = entry shapes id values in
-    let content : length (spelled r) + content_after id (sets_of (parts_of shapes ws)) ≡ octets + run id ws = omega (arith, others, here) in
-    opened_text last id r (sets_of (parts_of shapes ws)) is
-    ∙ with_texts id r (sets_of (parts_of shapes ws))
-    ∙ ap (λ (n : ℕ). set_head id n ++ (spelled r ++ text_after (Some id) (sets_of (parts_of shapes ws)))) content
-    ∙ ap (λ (t : List ℕ). set_head id (octets + run id ws) ++ (spelled r ++ t)) rest
-    ∙ sym (append_assoc (set_head id (octets + run id ws)) (spelled r) (pieces shapes (Some id) ws))
+      by_test : (b : Bool) → joins last id ≡ b → text_after (Some id) (sets_of (parts_of shapes ws)) ≡ pieces shapes (Some id) ws → run id ws ≡ content_after id (sets_of (parts_of shapes ws)) → octets ≡ length (spelled (entry shapes id values))
+          → text_after last (with_record id (entry shapes id values) (sets_of (parts_of shapes ws))) ≡ (cond b [] (set_head id (octets + run id ws)) ++ spelled (entry shapes id values)) ++ pieces shapes (Some id) ws
+      by_test true is rest others here =
+          joined_text last id (entry shapes id values) (sets_of (parts_of shapes ws)) is ∙ ap (λ (t : List ℕ). spelled (entry shapes id values) ++ t) rest
+      by_test false is rest others here =
+          let r = entry shapes id values in
+          let content : length (spelled r) + content_after id (sets_of (parts_of shapes ws)) ≡ octets + run id ws = omega (arith, others, here) in
+          opened_text last id r (sets_of (parts_of shapes ws)) is
+          ∙ with_texts id r (sets_of (parts_of shapes ws))
+          ∙ ap (λ (n : ℕ). set_head id n ++ (spelled r ++ text_after (Some id) (sets_of (parts_of shapes ws)))) content
+          ∙ ap (λ (t : List ℕ). set_head id (octets + run id ws) ++ (spelled r ++ t)) rest
+          ∙ sym (append_assoc (set_head id (octets + run id ws)) (spelled r) (pieces shapes (Some id) ws))
 
 length-set_head : (id octets : ℕ) → length (set_head id octets) ≡ 4
 unfolding set_head
@@ -163,12 +163,12 @@ length-pieces shapes last (Announce id octets ∷ ws) kept =
     omega (arith, length-append (set_head (template_set shape) octets ++ written) (pieces shapes None ws), length-append (set_head (template_set shape) octets) written, len, head, others)
 length-pieces shapes last (Bring id octets values ∷ ws) kept =
     by_test (joins last id) (length-pieces shapes (Some id) ws kept.1) kept.0.counted where
-  by_test : (b : Bool) → length (pieces shapes (Some id) ws) ≡ total (Some id) ws → octets ≡ length (spelled (entry shapes id values)) → length ((cond b [] (set_head id (octets + run id ws)) ++ spelled (entry shapes id values)) ++ pieces shapes (Some id) ws) ≡ cond b octets (4 + octets) + total (Some id) ws
-  by_test true others here =
-    omega (arith, length-append (spelled (entry shapes id values)) (pieces shapes (Some id) ws), others, here)
-  by_test false others here =
-    let head = length-set_head id (octets + run id ws) in
-    omega (arith, length-append (set_head id (octets + run id ws) ++ spelled (entry shapes id values)) (pieces shapes (Some id) ws), length-append (set_head id (octets + run id ws)) (spelled (entry shapes id values)), others, here, head)
+      by_test : (b : Bool) → length (pieces shapes (Some id) ws) ≡ total (Some id) ws → octets ≡ length (spelled (entry shapes id values)) → length ((cond b [] (set_head id (octets + run id ws)) ++ spelled (entry shapes id values)) ++ pieces shapes (Some id) ws) ≡ cond b octets (4 + octets) + total (Some id) ws
+      by_test true others here =
+          omega (arith, length-append (spelled (entry shapes id values)) (pieces shapes (Some id) ws), others, here)
+      by_test false others here =
+          let head = length-set_head id (octets + run id ws) in
+          omega (arith, length-append (set_head id (octets + run id ws) ++ spelled (entry shapes id values)) (pieces shapes (Some id) ws), length-append (set_head id (octets + run id ws)) (spelled (entry shapes id values)), others, here, head)
 
 pub body_pieces : (shapes : List Template) (ws : List Waiting) → AreKept shapes ws → body (parts_of shapes ws) ≡ pieces shapes None ws
 unfolding body

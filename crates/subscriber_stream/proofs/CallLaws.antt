@@ -56,9 +56,9 @@ none_after p (suc n) k over le = by_test (p (suc n)) refl over (none_after p n k
   by_test : (b : Bool) → p (suc n) ≡ b → cond b (suc n) (last_passing p n) < k → (last_passing p n < k → k ≤ n → p k ≡ false) → p k ≡ false
   by_test true is over others = absurd (omega arith)
   by_test false is over others = elim (cases_lt n k) [
-      | inl lt ↦ (let e : suc n ≡ k = omega arith in (let P : ℕ → Type 0 = λ m. p m ≡ false in subst P e is))
-      | inr ge ↦ others over ge
-    ]
+    | inl lt ↦ (let e : suc n ≡ k = omega arith in (let P : ℕ → Type 0 = λ m. p m ≡ false in subst P e is))
+    | inr ge ↦ others over ge
+  ]
 
 same_length : (now sequence : ℕ) (ps : List Part) → length (message now sequence ps) ≡ length (message 0 0 ps)
 same_length now sequence ps = omega (arith, length-message now sequence ps, length-message 0 0 ps)

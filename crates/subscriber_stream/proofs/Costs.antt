@@ -51,8 +51,8 @@ IsRun-more target ws parts octets last w run lt is within small =
       within = omega arith;
       counted = omega (arith, run.counted, here);
       more = λ v vs.
-      let joined : total None (take (parts + 1) ws ++ v ∷ vs) ≡ total None (take parts ws ++ w ∷ (v ∷ vs)) = ap (total None) (ap (λ (t : List Waiting). t ++ v ∷ vs) front ∙ append_assoc (take parts ws) (w ∷ []) (v ∷ vs)) in
-      omega (arith, joined, run.more w (v ∷ vs), here);
+          let joined : total None (take (parts + 1) ws ++ v ∷ vs) ≡ total None (take parts ws ++ w ∷ (v ∷ vs)) = ap (total None) (ap (λ (t : List Waiting). t ++ v ∷ vs) front ∙ append_assoc (take parts ws) (w ∷ []) (v ∷ vs)) in
+          omega (arith, joined, run.more w (v ∷ vs), here);
       fit = omega (arith, run.fit, rest);
       small = omega arith;
     }

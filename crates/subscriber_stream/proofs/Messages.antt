@@ -54,16 +54,16 @@ pub fits-last_passing : (target : ℕ) (last : Option ℕ) (octets : ℕ) (ws : 
 fits-last_passing target last octets [] = refl
 fits-last_passing target last octets (w ∷ ws) =
     by_test (leb (octets + cost last w) target) refl (fits-last_passing target (data_set w) (octets + cost last w) ws) where
-  by_test : (b : Bool) → leb (octets + cost last w) target ≡ b → fits target (data_set w) (octets + cost last w) ws ≡ last_passing (λ n. nat_le ((octets + cost last w) + total (data_set w) (take n ws)) target) (length ws)
-    → cond b (suc (fits target (data_set w) (octets + cost last w) ws)) 0 ≡ last_passing (λ n. nat_le (octets + total last (take n (w ∷ ws))) target) (suc (length ws))
-  by_test true is others =
-    let passes = leb-true (octets + cost last w) target is in
-    let first : leb (octets + (cost last w + 0)) target ≡ true = le-leb _ target (omega arith) in
-    let moved : last_passing (λ n. nat_le ((octets + cost last w) + total (data_set w) (take n ws)) target) (length ws) ≡ last_passing (λ n. nat_le (octets + (cost last w + total (data_set w) (take n ws))) target) (length ws) = last_passing-same _ _ (length ws) (λ k. (let sums : (octets + cost last w) + total (data_set w) (take k ws) ≡ octets + (cost last w + total (data_set w) (take k ws)) = omega arith in ap (λ (m : ℕ). nat_le m target) sums)) in
-    ap suc (others ∙ moved) ∙ sym (last_passing-some (λ n. nat_le (octets + total last (take n (w ∷ ws))) target) (length ws) first)
-  by_test false is others =
-    let over = leb-false (octets + cost last w) target is in
-    sym (last_passing-none (λ n. nat_le (octets + total last (take n (w ∷ ws))) target) (suc (length ws)) (λ k. lt-leb _ target (omega arith)))
+      by_test : (b : Bool) → leb (octets + cost last w) target ≡ b → fits target (data_set w) (octets + cost last w) ws ≡ last_passing (λ n. nat_le ((octets + cost last w) + total (data_set w) (take n ws)) target) (length ws)
+          → cond b (suc (fits target (data_set w) (octets + cost last w) ws)) 0 ≡ last_passing (λ n. nat_le (octets + total last (take n (w ∷ ws))) target) (suc (length ws))
+      by_test true is others =
+          let passes = leb-true (octets + cost last w) target is in
+          let first : leb (octets + (cost last w + 0)) target ≡ true = le-leb _ target (omega arith) in
+          let moved : last_passing (λ n. nat_le ((octets + cost last w) + total (data_set w) (take n ws)) target) (length ws) ≡ last_passing (λ n. nat_le (octets + (cost last w + total (data_set w) (take n ws))) target) (length ws) = last_passing-same _ _ (length ws) (λ k. (let sums : (octets + cost last w) + total (data_set w) (take k ws) ≡ octets + (cost last w + total (data_set w) (take k ws)) = omega arith in ap (λ (m : ℕ). nat_le m target) sums)) in
+          ap suc (others ∙ moved) ∙ sym (last_passing-some (λ n. nat_le (octets + total last (take n (w ∷ ws))) target) (length ws) first)
+      by_test false is others =
+          let over = leb-false (octets + cost last w) target is in
+          sym (last_passing-none (λ n. nat_le (octets + total last (take n (w ∷ ws))) target) (suc (length ws)) (λ k. lt-leb _ target (omega arith)))
 
 pub take-map : {A B : Type 0} (f : A → B) (n : ℕ) (xs : List A) → take n (map f xs) ≡ map f (take n xs)
 take-map f zero xs = refl

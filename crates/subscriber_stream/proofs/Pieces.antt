@@ -44,8 +44,8 @@ run-total id (Announce other octets ∷ ws) = omega arith
 run-total id (Bring other octets values ∷ ws) = by_test (nat_eq id other) refl (run-total id ws) where
   by_test : (b : Bool) → nat_eq id other ≡ b → run id ws ≤ total (Some id) ws → run id (Bring other octets values ∷ ws) ≤ total (Some id) (Bring other octets values ∷ ws)
   by_test true is le =
-    let h : run id ws ≤ total (Some other) ws = (let P : ℕ → Type 0 = λ n. run id ws ≤ total (Some n) ws in subst P (eqb-true id other is) le) in
-    rw is (omega arith)
+      let h : run id ws ≤ total (Some other) ws = (let P : ℕ → Type 0 = λ n. run id ws ≤ total (Some n) ws in subst P (eqb-true id other is) le) in
+      rw is (omega arith)
   by_test false is le = rw is (omega arith)
 
 pub announcement_at : (shapes : List Template) (ws : List Waiting) (i id octets : ℕ) (v : Waiting) → AreKept shapes ws → i < length ws → v ≡ get_or ws i v → v ≡ Announce id octets → IsAnnouncement shapes id octets

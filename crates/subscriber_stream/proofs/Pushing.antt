@@ -30,13 +30,13 @@ place_of_one : (p : Template → Bool) (shapes : List Template) (d : Template) �
 place_of_one p [] d is = absurd cc
 place_of_one p (s ∷ shapes) d is = by_test (p s) refl is (place_of_one p shapes d) where
   by_test : (b : Bool) → p s ≡ b → (b || list_any p shapes) ≡ true → (list_any p shapes ≡ true → (position_or_len p shapes < length shapes) × (p (get_or shapes (position_or_len p shapes) d) ≡ true))
-    → (cond (not b) (1 + position_or_len p shapes) 0 < suc (length shapes)) × (p (get_or (s ∷ shapes) (cond (not b) (1 + position_or_len p shapes) 0) d) ≡ true)
+      → (cond (not b) (1 + position_or_len p shapes) 0 < suc (length shapes)) × (p (get_or (s ∷ shapes) (cond (not b) (1 + position_or_len p shapes) 0) d) ≡ true)
   by_test true here is others = (omega arith, here)
   by_test false here is others =
-    let at = others is in
-    let n : suc (position_or_len p shapes) ≡ 1 + position_or_len p shapes = omega arith in
-    let P : ℕ → Type 0 = λ i. (i < suc (length shapes)) × (p (get_or (s ∷ shapes) i d) ≡ true) in
-    subst P n (omega (arith, at.0), at.1)
+      let at = others is in
+      let n : suc (position_or_len p shapes) ≡ 1 + position_or_len p shapes = omega arith in
+      let P : ℕ → Type 0 = λ i. (i < suc (length shapes)) × (p (get_or (s ∷ shapes) i d) ≡ true) in
+      subst P n (omega (arith, at.0), at.1)
 
 -- one that is not comes after them
 place_of_none : (p : Template → Bool) (shapes : List Template) → list_any p shapes ≡ false → position_or_len p shapes ≡ length shapes
@@ -88,16 +88,18 @@ kept_grown shapes grown (Announce id octets ∷ ws) longer before kept =
     let others = kept_grown shapes grown ws longer before kept.1 in
     let same = same_shape_at shapes grown id before kept.0.low kept.0.known in
     let A : Template → Type 0 = λ t. IsAccepted t in
-    let C : Template → Type 0 = λ t. octets ≡ length (template_record 256 (is_options t) t) in
-    ((record { low = kept.0.low; known = omega (arith, kept.0.known); accepted = subst A same kept.0.accepted; counted = subst C same kept.0.counted; few = kept.0.few }, others.0),
-    ap (λ (t : Template). Announcement id t ∷ parts_of shapes ws) same ∙ ap (λ (ps : List Part). Announcement id (shape_at grown id) ∷ ps) others.1)
+    let C : Template → Type 0 = λ t. octets ≡ length (template_record 256 (is_options t) t) in (
+      (record { low = kept.0.low; known = omega (arith, kept.0.known); accepted = subst A same kept.0.accepted; counted = subst C same kept.0.counted; few = kept.0.few }, others.0),
+      ap (λ (t : Template). Announcement id t ∷ parts_of shapes ws) same ∙ ap (λ (ps : List Part). Announcement id (shape_at grown id) ∷ ps) others.1,
+    )
 kept_grown shapes grown (Bring id octets values ∷ ws) longer before kept =
     let others = kept_grown shapes grown ws longer before kept.1 in
     let same = same_shape_at shapes grown id before kept.0.low kept.0.known in
     let F : Template → Type 0 = λ t. fit_fields t.fields values ≡ true in
-    let C : Template → Type 0 = λ t. octets ≡ length (record_text t.fields values) in
-    ((record { low = kept.0.low; known = omega (arith, kept.0.known); fit = subst F same kept.0.fit; counted = subst C same kept.0.counted; few = kept.0.few }, others.0),
-    ap (λ (t : Template). Entry id (record { template = t; values = values }) ∷ parts_of shapes ws) same ∙ ap (λ (ps : List Part). Entry id (record { template = shape_at grown id; values = values }) ∷ ps) others.1)
+    let C : Template → Type 0 = λ t. octets ≡ length (record_text t.fields values) in (
+      (record { low = kept.0.low; known = omega (arith, kept.0.known); fit = subst F same kept.0.fit; counted = subst C same kept.0.counted; few = kept.0.few }, others.0),
+      ap (λ (t : Template). Entry id (record { template = t; values = values }) ∷ parts_of shapes ws) same ∙ ap (λ (ps : List Part). Entry id (record { template = shape_at grown id; values = values }) ∷ ps) others.1,
+    )
 
 -- ---- what is put behind it
 
@@ -145,8 +147,10 @@ put_by shapes r announced octets false is sound are =
     let at = placed shapes r.template false is in
     let facts = shape_is grown r id announced octets at.there sound are in
     record {
-      kept = (record { low = omega arith; known = omega (arith, at.known); accepted = facts.0; counted = facts.1; few = are.template_few },
-      (record { low = omega arith; known = omega (arith, at.known); fit = facts.2; counted = facts.3; few = are.text_few }, tt));
+      kept = (
+        record { low = omega arith; known = omega (arith, at.known); accepted = facts.0; counted = facts.1; few = are.template_few },
+        (record { low = omega arith; known = omega (arith, at.known); fit = facts.2; counted = facts.3; few = are.text_few }, tt),
+      );
       shown = ap (λ (t : Template). Announcement id t ∷ Entry id (record { template = t; values = r.values }) ∷ []) at.there ∙ sym (ap (λ (b : Bool). cond b (Entry id r ∷ []) (Announcement id r.template ∷ Entry id r ∷ [])) is);
       one_entry = refl;
       counted = omega (arith, length-append shapes (r.template ∷ []));
@@ -196,20 +200,21 @@ taken table grown queue capacity limits waiting handed announced spare r announc
     let at = placed table.shapes r.template (is_among r.template table.shapes) refl in
     let old = kept_grown table.shapes (with_shape table.shapes r.template) queue at.longer at.before is.kept in
     let K : List Template → Type 0 = λ shapes. AreKept shapes (queue ++ new) in
-    let len : length grown.shapes ≡ length (with_shape table.shapes r.template) = ap length takes.shapes in
-    (record {
-      kept = subst K (sym takes.shapes) (kept_append (with_shape table.shapes r.template) queue new old.0 one.kept);
-      followed = followed_append queue new is.followed (followed_new _ _ _ _);
-      counted = omega (arith, is.counted, entries-append queue new, one.one_entry);
-      announced_before = omega (arith, is.announced_before, announcements-append queue new, one.counted, len);
-      few_shapes = omega (arith, takes.few, len);
-      few_ids = is.few_ids;
-      few_waiting = takes.queue;
-      below = omega (arith, takes.below);
-      room = omega (arith, is.room, takes.some, one.few, length-append queue new);
-      table_room = omega (arith, is.table_room, takes.spare_left, takes.some);
-    },
-    ap (λ (shapes : List Template). parts_of shapes (queue ++ new)) takes.shapes ∙ map-append (part_of (with_shape table.shapes r.template)) queue new ∙ ap (λ (ps : List Part). ps ++ parts_of (with_shape table.shapes r.template) new) (sym old.1) ∙ ap (λ (ps : List Part). parts_of table.shapes queue ++ ps) one.shown)
+    let len : length grown.shapes ≡ length (with_shape table.shapes r.template) = ap length takes.shapes in (
+      record {
+        kept = subst K (sym takes.shapes) (kept_append (with_shape table.shapes r.template) queue new old.0 one.kept);
+        followed = followed_append queue new is.followed (followed_new _ _ _ _);
+        counted = omega (arith, is.counted, entries-append queue new, one.one_entry);
+        announced_before = omega (arith, is.announced_before, announcements-append queue new, one.counted, len);
+        few_shapes = omega (arith, takes.few, len);
+        few_ids = is.few_ids;
+        few_waiting = takes.queue;
+        below = omega (arith, takes.below);
+        room = omega (arith, is.room, takes.some, one.few, length-append queue new);
+        table_room = omega (arith, is.table_room, takes.spare_left, takes.some);
+      },
+      ap (λ (shapes : List Template). parts_of shapes (queue ++ new)) takes.shapes ∙ map-append (part_of (with_shape table.shapes r.template)) queue new ∙ ap (λ (ps : List Part). ps ++ parts_of (with_shape table.shapes r.template) new) (sym old.1) ∙ ap (λ (ps : List Part). parts_of table.shapes queue ++ ps) one.shown,
+    )
 
 -- the place of a shape is below the limit
 pub place_below : (shapes : List Template) (shape : Template) → position_or_len (same_template shape) shapes < length (with_shape shapes shape)

@@ -35,8 +35,8 @@ is_among-with t u shapes = by_test (is_among u shapes) refl where
   by_test true is = by_same (same_template t u) refl where
     by_same : (c : Bool) → same_template t u ≡ c → is_among t shapes ≡ (is_among t shapes || c)
     by_same true same =
-      let found : is_among t shapes ≡ true = ap (λ (s : Template). is_among s shapes) (same_template-is t u same) ∙ is in
-      rw found refl
+        let found : is_among t shapes ≡ true = ap (λ (s : Template). is_among s shapes) (same_template-is t u same) ∙ is in
+        rw found refl
     by_same false same = sym (or_false (is_among t shapes))
   by_test false is = list_any-append (same_template t) shapes (u ∷ []) ∙ ap (λ (c : Bool). is_among t shapes || c) (or_false (same_template t u))
 

@@ -215,9 +215,9 @@ IsHanding-next (suc left) count k start some is = from_waiting k.standing.waitin
   from_waiting : (ws : List Part) → k.standing.waiting ≡ ws → IsHanding (suc left - 1) (handed_one k) count start
   from_waiting [] e = absurd (omega (arith, is.enough, ap length e))
   from_waiting (part ∷ ps) e =
-    let n : suc left - 1 ≡ left = omega arith in
-    let P : ℕ → Type 0 = λ m. IsHanding m (handed_one k) count start in
-    subst P (sym n) (record { enough = omega (arith, is.enough, ap length e, ap length (waiting_after_one k part ps e)); whole = is.whole })
+      let n : suc left - 1 ≡ left = omega arith in
+      let P : ℕ → Type 0 = λ m. IsHanding m (handed_one k) count start in
+      subst P (sym n) (record { enough = omega (arith, is.enough, ap length e, ap length (waiting_after_one k part ps e)); whole = is.whole })
 
 -- ---- what the queue holds, handed out
 
@@ -299,9 +299,10 @@ stands_at_end s records p target none at =
 pub room_is_limits : (k : Kept) (records : List DataRecord) (p : ℕ) (more : List DataRecord) → StandsAt k.standing records p → (HasRoom k more → FitsLimits k.limits records p more) × (FitsLimits k.limits records p more → HasRoom k more)
 room_is_limits k records p more at =
     let count : queued k.standing ≡ length (records_in (drop p (parts records))) = ap (λ (ps : List Part). length (records_in ps)) at.waiting in
-    let shapes : length (shapes_after k.standing.shapes more) ≡ length (shapes_of (records ++ more)) = ap (λ (ss : List Template). length (shapes_after ss more)) at.shapes ∙ ap length (sym (shapes_after-append [] records more)) in
-    (λ room. record { queue = omega (arith, room.queue, count); shapes = omega (arith, room.shapes, shapes) },
-    λ fits. record { queue = omega (arith, fits.queue, count); shapes = omega (arith, fits.shapes, shapes) })
+    let shapes : length (shapes_after k.standing.shapes more) ≡ length (shapes_of (records ++ more)) = ap (λ (ss : List Template). length (shapes_after ss more)) at.shapes ∙ ap length (sym (shapes_after-append [] records more)) in (
+      λ room. record { queue = omega (arith, room.queue, count); shapes = omega (arith, room.shapes, shapes) },
+      λ fits. record { queue = omega (arith, fits.queue, count); shapes = omega (arith, fits.shapes, shapes) },
+    )
 
 -- room in the queue and among the shapes, and no more than that
 pub room_by_parts : (k : Kept) (more : List DataRecord) (waiting : ℕ) → waiting ≡ queued k.standing → waiting ≤ k.limits.queue → length more ≤ k.limits.queue - waiting → (b : Bool) → (b ≡ true → length (shapes_after k.standing.shapes more) ≤ k.limits.shapes) × (length (shapes_after k.standing.shapes more) ≤ k.limits.shapes → b ≡ true) → (b ≡ true → HasRoom k more) × (HasRoom k more → b ≡ true)

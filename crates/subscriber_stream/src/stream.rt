@@ -217,14 +217,7 @@ impl Stream {
             return Ok(None);
         }
         let run = fitting(&self.queue, target);
-        let message = message_of(
-            self.alloc,
-            &self.shapes,
-            &self.queue,
-            run,
-            now,
-            self.handed,
-        )?;
+        let message = message_of(self.alloc, &self.shapes, &self.queue, run, now, self.handed)?;
         self.hand_out(run.parts);
         Ok(Some(message))
     }

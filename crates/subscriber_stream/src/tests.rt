@@ -96,12 +96,7 @@ fn give(rt: &impl Abort, stream: &mut Stream, records: Vec<Record>) -> Result<()
     Ok(())
 }
 
-fn give_one(
-    rt: &impl Abort,
-    alloc: Global,
-    stream: &mut Stream,
-    next: Record,
-) -> Result<(), Fail> {
+fn give_one(rt: &impl Abort, alloc: Global, stream: &mut Stream, next: Record) -> Result<(), Fail> {
     let mut records = Vec::new(alloc);
     records.push(next)?;
     give(rt, stream, records)
@@ -192,8 +187,18 @@ fn withdraw_and_redefine(rt: HostRuntime) -> Result<(), Fail> {
     let first = template_of(alloc, &[field(PROTOCOL, 1)], 0)?;
     let second = template_of(alloc, &[field(IP_VERSION, 1)], 0)?;
     let mut stream = Stream::new(alloc, LIMITS);
-    give_one(&rt, alloc, &mut stream, record_of(alloc, &first, &[b"\x06"])?)?;
-    give_one(&rt, alloc, &mut stream, record_of(alloc, &second, &[b"\x04"])?)?;
+    give_one(
+        &rt,
+        alloc,
+        &mut stream,
+        record_of(alloc, &first, &[b"\x06"])?,
+    )?;
+    give_one(
+        &rt,
+        alloc,
+        &mut stream,
+        record_of(alloc, &second, &[b"\x04"])?,
+    )?;
     expect(
         &rt,
         &mut stream,
@@ -204,7 +209,12 @@ fn withdraw_and_redefine(rt: HostRuntime) -> Result<(), Fail> {
     )?;
     // An equal template is no new shape, whoever made it.
     let again = template_of(alloc, &[field(PROTOCOL, 1)], 0)?;
-    give_one(&rt, alloc, &mut stream, record_of(alloc, &again, &[b"\x11"])?)?;
+    give_one(
+        &rt,
+        alloc,
+        &mut stream,
+        record_of(alloc, &again, &[b"\x11"])?,
+    )?;
     expect(
         &rt,
         &mut stream,
@@ -343,6 +353,9 @@ fn many_records_of_many_shapes(rt: HostRuntime) -> Result<(), Fail> {
     }
     assert_eq!(rt; stream.handed(), 100_000);
     // A set of 16 octets for each announcement, one of 5 for each record, and a header for each message.
-    assert_eq!(rt; octets, 16usize.saturating_mul(messages).saturating_add(516_000));
+    assert_eq!(rt;
+        octets,
+        16usize.saturating_mul(messages).saturating_add(516_000)
+    );
     expect_end(&rt, &mut stream)
 }

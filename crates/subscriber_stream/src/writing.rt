@@ -50,12 +50,7 @@ pub(crate) fn message_of(
 
 /// Appends a message header: version, length, Export Time, Sequence Number and Observation Domain 0
 /// (RFC 7011, section 3.1).
-fn put_header(
-    octets: usize,
-    now: u32,
-    sequence: u32,
-    out: &mut Vec<u8>,
-) -> Result<(), AllocError>
+fn put_header(octets: usize, now: u32, sequence: u32, out: &mut Vec<u8>) -> Result<(), AllocError>
     requires { octets ≤ 65535 }
     ensures { OnOk result (out.new.items ≡ out.old.items ++ (be_octets 2 10 ++ be_octets 2 octets ++ be_octets 4 now ++ be_octets 4 sequence ++ be_octets 4 0)) }
 {

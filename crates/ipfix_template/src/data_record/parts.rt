@@ -35,10 +35,7 @@ impl Record {
         ensures exact { result ≡ length (record_text self.now.template.fields self.now.values) }
         ensures fits { result ≤ RECORD_ROOM }
     {
-        record_octets(
-            self.template().fields.as_slice(),
-            self.values().as_slice(),
-        )
+        record_octets(self.template().fields.as_slice(), self.values().as_slice())
     }
 
     /// The octets of what `encode_template` appends for the record's template, at most [`RECORD_ROOM`].

@@ -32,15 +32,15 @@ takes c =
     let below = rw (← c.self.view_is) at c.requires.count in
     let queue = rw (← c.self.view_is) at c.requires.queue in
     record {
-  sound = c.into_parts-template.ensures.sound;
-  are = record { template = c.template_octets-template_octets.ensures.exact; template_few = c.template_octets-template_octets.ensures.fits; text = c.octets-octets.ensures.exact; text_few = c.octets-octets.ensures.fits };
-  some = rw (← c.self.view_is) at c.requires.reserved;
-  few = rw (← c.self.view_is) at c.requires.shapes;
-  queue = omega (arith, queue, queued_entries c.self.inside.shapes.shapes c.self.inside.queue.items, c.self.invariant.counted);
-  below = omega (arith, below, queued_entries c.self.inside.shapes.shapes c.self.inside.queue.items, c.self.invariant.counted);
-  shapes = c.place_reserved-place.ensures.shapes ∙ ap (λ (t : Template). with_shape c.self.inside.shapes.shapes t) c.into_parts-template.ensures.template;
-  spare_left = c.place_reserved-place.ensures.kept;
-}
+      sound = c.into_parts-template.ensures.sound;
+      are = record { template = c.template_octets-template_octets.ensures.exact; template_few = c.template_octets-template_octets.ensures.fits; text = c.octets-octets.ensures.exact; text_few = c.octets-octets.ensures.fits };
+      some = rw (← c.self.view_is) at c.requires.reserved;
+      few = rw (← c.self.view_is) at c.requires.shapes;
+      queue = omega (arith, queue, queued_entries c.self.inside.shapes.shapes c.self.inside.queue.items, c.self.invariant.counted);
+      below = omega (arith, below, queued_entries c.self.inside.shapes.shapes c.self.inside.queue.items, c.self.invariant.counted);
+      shapes = c.place_reserved-place.ensures.shapes ∙ ap (λ (t : Template). with_shape c.self.inside.shapes.shapes t) c.into_parts-template.ensures.template;
+      spare_left = c.place_reserved-place.ensures.kept;
+    }
 
 queue_is : (c : goal.After-self-2-1) → c.put_waiting.new.queue.items ≡ c.self.inside.queue.items ++ new_waiting c.self.inside.shapes.shapes c.args.next c.template_octets-template_octets.result c.octets-octets.result
 queue_is c =
