@@ -1,0 +1,3 @@
+pub mod OccurrenceLaws
+pub mod FirstRuleLaws
+pub mod NeverLaws

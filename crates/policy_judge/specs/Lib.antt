@@ -1,0 +1,10 @@
+pub use Rattle.ipfix_element.specs.Element
+pub use Rattle.ipfix_template.specs.Template
+pub use Rattle.ipfix_template.specs.DataRecord
+pub use Rattle.flow_prefix.specs.Prefixes
+pub use Rattle.policy_text.specs.Policies
+pub mod Occurrences
+pub mod Sides
+pub mod Match
+pub mod Verdicts
+pub mod Laws

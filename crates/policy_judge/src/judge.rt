@@ -1,0 +1,108 @@
+ghost use Rattle.std.specs.Prelude.{◌≡◌, ◌<◌, Some, IfSome, length, position};
+ghost use Rattle.policy_judge.specs.Match.{matches_record, matches_field};
+ghost use Rattle.policy_judge.specs.Verdicts.{record_action, element_action, record_verdict_of, element_verdict_of};
+
+use crate::rule_match::{matches_field, matches_record};
+use crate::verdict::{ElementAction, ElementVerdict, RecordAction, RecordVerdict};
+use ipfix_element::ElementId;
+use ipfix_template::Record;
+use policy_text::{Action, Policy, Rule};
+
+/// The verdict of a policy on a record of this observation domain, for the subscriber of this name: that of
+/// the first matching rule on records, or rule 0, which withholds.
+pub fn record_verdict(
+    policy: &Policy,
+    name: &str,
+    domain: u32,
+    flow_record: &Record,
+) -> RecordVerdict
+    ensures { result ≡ record_verdict_of name.now domain flow_record.now policy.now.rules }
+{
+    let rules = policy.rules();
+    match first_on_records(rules, name.as_bytes(), domain, flow_record) {
+        Some(place) => RecordVerdict {
+            rule: place as u32 + 1,
+            action: record_action(rules[place].action),
+        },
+        None => RecordVerdict {
+            rule: 0,
+            action: RecordAction::Withhold,
+        },
+    }
+}
+
+/// The verdict of a policy on the field of a record at this place, counted from 0, for the subscriber of this
+/// name: that of the first matching rule on fields, or rule 0, which removes.
+pub fn element_verdict(
+    policy: &Policy,
+    name: &str,
+    domain: u32,
+    flow_record: &Record,
+    field: usize,
+) -> ElementVerdict
+    requires { field < length flow_record.now.template.fields }
+    ensures { result ≡ element_verdict_of name.now domain flow_record.now field policy.now.rules }
+{
+    let rules = policy.rules();
+    let element = flow_record.template().fields.as_slice()[field].element;
+    match first_on_fields(rules, name.as_bytes(), domain, flow_record, element) {
+        Some(at) => ElementVerdict {
+            rule: at as u32 + 1,
+            action: element_action(rules[at].action),
+        },
+        None => ElementVerdict {
+            rule: 0,
+            action: ElementAction::Remove,
+        },
+    }
+}
+
+/// The place of the first rule that matches the record.
+fn first_on_records(rules: &[Rule], name: &[u8], domain: u32, flow_record: &Record) -> Option<usize>
+    ensures value { result ≡ position (matches_record name.now domain flow_record.now) rules.now }
+    ensures within { IfSome result (λ place. place < length rules.now) }
+{
+    rules
+        .iter()
+        .position(|rule| matches_record(rule, name, domain, flow_record))
+}
+
+/// The place of the first rule that matches a field of this element.
+fn first_on_fields(
+    rules: &[Rule],
+    name: &[u8],
+    domain: u32,
+    flow_record: &Record,
+    element: ElementId,
+) -> Option<usize>
+    ensures value { result ≡ position (matches_field name.now domain flow_record.now (Some element)) rules.now }
+    ensures within { IfSome result (λ place. place < length rules.now) }
+{
+    rules.iter().position(|rule| matches_field(rule, name, domain, flow_record, element))
+}
+
+/// What a rule on records does.
+fn record_action(action: Action) -> RecordAction
+    ensures { result ≡ record_action action }
+{
+    match action {
+        Action::Pass => RecordAction::Pass,
+        Action::Aggregate(place) => RecordAction::Aggregate(place),
+        Action::Withhold | Action::Keep | Action::Remove | Action::Truncate(_) => {
+            RecordAction::Withhold
+        }
+    }
+}
+
+/// What a rule on fields does.
+fn element_action(action: Action) -> ElementAction
+    ensures { result ≡ element_action action }
+{
+    match action {
+        Action::Keep => ElementAction::Keep,
+        Action::Truncate(bits) => ElementAction::Truncate(bits),
+        Action::Remove | Action::Pass | Action::Withhold | Action::Aggregate(_) => {
+            ElementAction::Remove
+        }
+    }
+}

@@ -1,0 +1,22 @@
+//! The judge of an IPFIX mediator: for a subscriber, which rule of a policy decides on a record, and which
+//! on each of its fields, and what that rule does. It changes no record, and takes no memory.
+//!
+//! - `verdict`: [`RecordVerdict`] with [`RecordAction`], [`ElementVerdict`] with [`ElementAction`].
+//! - `judge`: [`record_verdict`] and [`element_verdict`].
+//! - `rule_match`: whether a rule matches.
+//! - `laws`: [`others_never_matter`] and [`later_rules_never_matter`], proved over the definitions.
+//! - `occurrences`: a record's source and destination addresses.
+#![tactic(auto)]
+
+mod judge;
+mod laws;
+mod occurrences;
+mod rule_match;
+mod verdict;
+
+pub use judge::{element_verdict, record_verdict};
+pub use laws::{later_rules_never_matter, others_never_matter};
+pub use verdict::{ElementAction, ElementVerdict, RecordAction, RecordVerdict};
+
+#[cfg(test)]
+mod tests;

@@ -1,0 +1,86 @@
+ghost use Rattle.std.specs.Prelude.{◌≡◌, ◌&&◌, ◌||◌, not};
+ghost use Rattle.std.specs.List.{list_any, list_all, zip};
+ghost use Rattle.flow_prefix.specs.Prefixes.{contains};
+ghost use Rattle.policy_judge.specs.Occurrences.{values_of};
+ghost use Rattle.policy_judge.specs.Match.{are_inside};
+
+use bytes::Bytes;
+use flow_prefix::Prefix;
+use ipfix_element::ElementId;
+use ipfix_template::{FieldSpec, Record};
+
+// Elements of the registry, by their numbers (RFC 7012, section 5).
+const SOURCE_IPV4_ADDRESS: u16 = 8;
+
+const DESTINATION_IPV4_ADDRESS: u16 = 12;
+
+const SOURCE_IPV6_ADDRESS: u16 = 27;
+
+const DESTINATION_IPV6_ADDRESS: u16 = 28;
+
+/// Which of a record's addresses.
+#[derive(Clone, Copy)]
+pub(crate) enum Side {
+    Source,
+    Destination,
+}
+
+impl Side {
+    ghost use Rattle.policy_judge.specs.Sides.{is_of};
+
+    /// Whether fields of the element hold such addresses.
+    pub(crate) fn has(self, element: ElementId) -> bool
+        ensures { result ≡ is_of self element }
+    {
+        let number = element.number();
+        element.pen().is_none()
+            && match self {
+                Side::Source => number == SOURCE_IPV4_ADDRESS || number == SOURCE_IPV6_ADDRESS,
+                Side::Destination => {
+                    number == DESTINATION_IPV4_ADDRESS || number == DESTINATION_IPV6_ADDRESS
+                }
+            }
+    }
+}
+
+ghost use Rattle.policy_judge.specs.Sides.{is_of};
+
+/// Whether these occurrences of the record are such as a rule that denies, or one that permits, needs.
+#[tactic(auto, using(crate::proofs::OccurrenceLaws::any_picked, crate::proofs::OccurrenceLaws::all_picked, crate::proofs::OccurrenceLaws::some_picked))]
+pub(crate) fn are_inside(flow_record: &Record, side: Side, denies: bool, prefix: &Prefix) -> bool
+    ensures { result ≡ are_inside denies (values_of (is_of side) flow_record.now) prefix.now }
+{
+    let fields = flow_record.template().fields.as_slice();
+    let values = flow_record.values().as_slice();
+    if denies {
+        some_inside(fields, values, side, prefix)
+    } else {
+        occurs(fields, values, side) && each_inside(fields, values, side, prefix)
+    }
+}
+
+/// Whether there is an occurrence.
+fn occurs(fields: &[FieldSpec], values: &[Bytes], side: Side) -> bool
+    ensures { result ≡ list_any (λ p. is_of side p.0.element) (zip fields.now values.now) }
+{
+    fields
+        .iter()
+        .zip(values)
+        .any(|(field, _)| side.has(field.element))
+}
+
+/// Whether some occurrence is inside.
+fn some_inside(fields: &[FieldSpec], values: &[Bytes], side: Side, prefix: &Prefix) -> bool
+    ensures { result ≡ list_any (λ p. is_of side p.0.element && contains prefix.now p.1) (zip fields.now values.now) }
+{
+    fields.iter().zip(values).any(|(field, value)| side.has(field.element)
+        && prefix.contains(value.as_slice()))
+}
+
+/// Whether each occurrence is inside.
+fn each_inside(fields: &[FieldSpec], values: &[Bytes], side: Side, prefix: &Prefix) -> bool
+    ensures { result ≡ list_all (λ p. not (is_of side p.0.element) || contains prefix.now p.1) (zip fields.now values.now) }
+{
+    fields.iter().zip(values).all(|(field, value)| !side.has(field.element)
+        || prefix.contains(value.as_slice()))
+}
