@@ -3,6 +3,7 @@
 use crate::{
     ElementId, Kind, allowed_length, by_name, full_width, kind_of, name_of, one_name, one_word,
 };
+use std::alloc::Global;
 use std::process::Abort;
 use std::test::Fail;
 
@@ -66,6 +67,14 @@ static NUMBERED: [(Option<u32>, u16, &str); 8] = [
     (Some(8), 210, "e8/210"),
 ];
 
+/// The element's name, at the second call where the first was refused memory.
+fn named(alloc: Global, element: ElementId) -> Result<String, Fail> {
+    match name_of(alloc, element) {
+        Ok(name) => Ok(name),
+        Err(_) => Ok(name_of(alloc, element)?),
+    }
+}
+
 fn both_ways(
     rt: &(impl Abort + AllocGlobal),
     pen: Option<u32>,
@@ -75,7 +84,7 @@ fn both_ways(
 ) -> Result<(), Fail> {
     let element = ElementId::new(pen, number).ok_or("a number above 32767")?;
     assert_eq!(rt; kind_of(element), kind);
-    assert_eq!(rt; name_of(rt.alloc(), element)?.as_str(), name);
+    assert_eq!(rt; named(rt.alloc(), element)?.as_str(), name);
     assert_eq!(rt; by_name(name), Some(element));
     Ok(())
 }
@@ -123,13 +132,13 @@ fn numbered_both_ways(rt: HostRuntime) -> Result<(), Fail> {
 #[test]
 fn prefix_and_element_names(rt: HostRuntime) -> Result<(), Fail> {
     let alloc = rt.alloc();
-    assert_eq!(rt; name_of(alloc, ElementId::registered(32))?.as_str(), "e32");
+    assert_eq!(rt; named(alloc, ElementId::registered(32))?.as_str(), "e32");
     assert_eq!(rt;
-        name_of(alloc, ElementId::enterprise(29305, 1))?.as_str(),
+        named(alloc, ElementId::enterprise(29305, 1))?.as_str(),
         "e29305/1"
     );
     assert_eq!(rt;
-        name_of(alloc, ElementId::registered(8))?.as_str(),
+        named(alloc, ElementId::registered(8))?.as_str(),
         "sourceIPv4Address"
     );
     assert_eq!(rt; by_name("e8"), None);
