@@ -1,12 +1,15 @@
 -- Runs of calls, one behind another.
 use Rattle.std.proofs.Common.{◌≡◌, ℕ, suc, ◌+◌, ◌<◌, ◌≤◌, ◌^◌, List, [], ◌∷◌, ◌++◌, length, take, drop, Option, Some, None, refl, sym, ap, subst, ◌∙◌, append_assoc, append-nil, arith, length-take, length-drop}
+use Rattle.std.specs.List.{AllByRecursion}
 use Rattle.ipfix_template.specs.DataRecord.{DataRecord}
 use Rattle.subscriber_stream.specs.Parts.{Part, parts, records_in}
 use Rattle.subscriber_stream.specs.Message.{run_length, built, place_after}
-use Rattle.subscriber_stream.specs.Standing.{Standing, StandsAt}
+use Rattle.subscriber_stream.specs.declared.limits.Limits.{Limits}
+use Rattle.subscriber_stream.specs.Shapes.{shapes_after, shapes_of}
+use Rattle.subscriber_stream.specs.Standing.{Standing, StandsAt, FitsLimits}
 use Rattle.subscriber_stream.specs.Calls.{Call, Given, Pulled, Pull, pulls_of, octets_from, Serves}
 use Rattle.subscriber_stream.proofs.CallLaws.{served, parts_bring}
-use Rattle.stream_meaning.specs.Served.{AreStreamable, AreInRange, records_given, messages_in, messages_got, place_from, place_reached, pulls}
+use Rattle.stream_meaning.specs.Served.{IsStreamable, AreStreamable, AreInRange, records_given, messages_in, messages_got, place_from, place_reached, pulls}
 use Rattle.stream_meaning.specs.Means.{Means}
 use Rattle.stream_meaning.specs.HandedOut.{AreHandedOut}
 use Rattle.stream_meaning.proofs.Runs.{got, means_so_far, means_all}
@@ -82,10 +85,10 @@ handed_given messages records more p are =
 abbrev with_answer : List (List ℕ) → Option (List ℕ) → List (List ℕ)
 with_answer messages answer = messages ++ messages_in (answer ∷ [])
 
-handed_answer : (messages : List (List ℕ)) (answer : Option (List ℕ)) (records : List DataRecord) (p now target : ℕ) → now < 2 ^ 32 → target < 2 ^ 16 → AreHandedOut messages records p → built records p now target ≡ answer → AreHandedOut (with_answer messages answer) records (place_after records p target)
+pub handed_answer : (messages : List (List ℕ)) (answer : Option (List ℕ)) (records : List DataRecord) (p now target : ℕ) → now < 2 ^ 32 → target < 2 ^ 16 → AreHandedOut messages records p → answer ≡ built records p now target → AreHandedOut (with_answer messages answer) records (place_after records p target)
 handed_answer messages answer records p now target time below are is =
     let last = Pulled now target ∷ [] in
-    let here : built (records_given are.calls) (place_reached are.calls) now target ≡ answer = ap (λ (rs : List DataRecord). built rs (place_reached are.calls) now target) are.given ∙ ap (λ (q : ℕ). built records q now target) are.reached ∙ is in
+    let here : built (records_given are.calls) (place_reached are.calls) now target ≡ answer = ap (λ (rs : List DataRecord). built rs (place_reached are.calls) now target) are.given ∙ ap (λ (q : ℕ). built records q now target) are.reached ∙ sym is in
     record {
       calls = are.calls ++ last;
       ranges = ranges_append are.calls last are.ranges ((time, below), tt);
@@ -96,13 +99,23 @@ handed_answer messages answer records p now target time below are is =
       reached = reached_append are.calls last ∙ ap (λ (rs : List DataRecord). place_after rs (place_reached are.calls) target) are.given ∙ ap (λ (q : ℕ). place_after records q target) are.reached;
     }
 
-pub handed_message : (messages : List (List ℕ)) (message : List ℕ) (records : List DataRecord) (p now target : ℕ) → now < 2 ^ 32 → target < 2 ^ 16 → AreHandedOut messages records p → built records p now target ≡ Some message → AreHandedOut (messages ++ message ∷ []) records (place_after records p target)
-handed_message messages message records p now target time below are is = handed_answer messages (Some message) records p now target time below are is
+-- ---- which records may be streamed
 
-pub handed_none : (messages : List (List ℕ)) (records : List DataRecord) (p now target : ℕ) → now < 2 ^ 32 → target < 2 ^ 16 → AreHandedOut messages records p → built records p now target ≡ None → AreHandedOut messages records (place_after records p target)
-handed_none messages records p now target time below are is =
-    let A : List (List ℕ) → Type 0 = λ ms. AreHandedOut ms records (place_after records p target) in
-    subst A (append-nil messages) (handed_answer messages None records p now target time below are is)
+no_shapes : length (shapes_of []) ≤ 65280
+unfolding shapes_after
+no_shapes = omega arith
+
+pub none_streamable : AreStreamable []
+none_streamable = record { each = tt; shapes = no_shapes }
+
+each_append : (records more : List DataRecord) → AllByRecursion IsStreamable records → AllByRecursion IsStreamable more → AllByRecursion IsStreamable (records ++ more)
+each_append [] more first second = second
+each_append (r ∷ records) more first second = (first.0, each_append records more first.1 second)
+
+pub streamable_more : (limits : Limits) (records more : List DataRecord) (p : ℕ) → AreStreamable records → AllByRecursion IsStreamable more → FitsLimits limits records p more → limits.shapes ≤ 65280 → AreStreamable (records ++ more)
+streamable_more limits records more p may each fits few = record { each = each_append records more may.each each; shapes = omega (arith, fits.shapes, few) }
+
+-- ---- what is known of the messages
 
 pub handed_means : (messages : List (List ℕ)) (records : List DataRecord) (p : ℕ) → AreHandedOut messages records p → AreStreamable records → Means messages (records_in (take p (parts records)))
 handed_means messages records p are may =

@@ -1,16 +1,18 @@
 //! Laws over the definitions alone: no code stands behind them.
 //!
-//! Their premises are what the types of a stream's callers keep. Each record is one that a `Record` can
-//! be, so that it is sound and the numbers of its template fit the octets that they are written in; the
-//! distinct templates are at most the 65,280 that `Limits` allows; an Export Time is a `u32`, and a target
-//! a `u16`.
-ghost use Rattle.std.specs.Prelude.{◌≡◌, ◌≤◌, ◌<◌, ◌^◌, ◌++◌, ◌∷◌, [], ℕ, List, length, take, Option, Some, None};
+//! Their premises are what the callers of a stream hold. Each record is one that a `Record` can be: it is
+//! sound, and the numbers of its template fit the octets that they are written in (`see_records` tells it
+//! of each slice of records). The distinct templates are at most the 65,280 that a stream's `Limits` allow.
+//! An Export Time is a `u32`, and a target a `u16`.
+ghost use Rattle.std.specs.Prelude.{◌≡◌, ◌≤◌, ◌<◌, ◌^◌, ◌++◌, ◌∷◌, [], ℕ, List, length, take, Option, None};
+ghost use Rattle.std.specs.List.{AllByRecursion};
 ghost use Rattle.ipfix_template.specs.DataRecord.{DataRecord};
 ghost use Rattle.subscriber_stream.specs.Parts.{parts, records_in};
 ghost use Rattle.subscriber_stream.specs.Message.{built, place_after};
-ghost use Rattle.subscriber_stream.specs.Standing.{Standing, StandsAt};
+ghost use Rattle.subscriber_stream.specs.declared.limits.Limits.{Limits};
+ghost use Rattle.subscriber_stream.specs.Standing.{Standing, StandsAt, FitsLimits};
 ghost use Rattle.subscriber_stream.specs.Calls.{Call, Serves};
-ghost use Rattle.stream_meaning.specs.Served.{AreStreamable, AreInRange, records_given, messages_in, messages_got, place_reached, pulls};
+ghost use Rattle.stream_meaning.specs.Served.{IsStreamable, AreStreamable, AreInRange, records_given, messages_in, messages_got, place_reached, pulls};
 ghost use Rattle.stream_meaning.specs.Means.{Means};
 ghost use Rattle.stream_meaning.specs.HandedOut.{AreHandedOut};
 
@@ -41,19 +43,21 @@ pub fn answers_mean_the_list()
 {}
 
 /// What a holder of a stream keeps beside it, call by call: that the messages are all that were handed out
-/// of a list of records up to a place, which is where the stream stands. A pull gives the message that is
-/// `built` there, and moves the place by `place_after`, as the contract of `Stream::pull` says. It follows
-/// what the messages mean so far, and at the end.
+/// of a list of records up to a place, which is where the stream stands, and that the list may be streamed.
+///
+/// Where records are given, the first follows at once, and the second from the room that `Stream::room`
+/// found for them and from `see_records`. Where a message is pulled, the answer and the place are those of
+/// the contract of `Stream::pull`. It follows what the messages mean so far, and at the end.
 pub fn holders_keep()
     ensures start { AreHandedOut [] [] 0 }
+    ensures streamable { AreStreamable [] }
     ensures given { (messages : List (List ℕ)) (records more : List DataRecord) (p : ℕ) → AreHandedOut messages records p
         → AreHandedOut messages (records ++ more) p }
-    ensures pulled { (messages : List (List ℕ)) (message : List ℕ) (records : List DataRecord) (p now target : ℕ) → now < 2 ^ 32 → target < 2 ^ 16
-        → AreHandedOut messages records p → built records p now target ≡ Some message
-        → AreHandedOut (messages ++ message ∷ []) records (place_after records p target) }
-    ensures ended { (messages : List (List ℕ)) (records : List DataRecord) (p now target : ℕ) → now < 2 ^ 32 → target < 2 ^ 16
-        → AreHandedOut messages records p → built records p now target ≡ None
-        → AreHandedOut messages records (place_after records p target) }
+    ensures streamable_more { (limits : Limits) (records more : List DataRecord) (p : ℕ) → AreStreamable records → AllByRecursion IsStreamable more
+        → FitsLimits limits records p more → limits.shapes ≤ 65280 → AreStreamable (records ++ more) }
+    ensures pulled { (messages : List (List ℕ)) (answer : Option (List ℕ)) (records : List DataRecord) (p now target : ℕ) → now < 2 ^ 32 → target < 2 ^ 16
+        → AreHandedOut messages records p → answer ≡ built records p now target
+        → AreHandedOut (messages ++ messages_in (answer ∷ [])) records (place_after records p target) }
     ensures so_far { (messages : List (List ℕ)) (records : List DataRecord) (p : ℕ) → AreHandedOut messages records p → AreStreamable records
         → Means messages (records_in (take p (parts records))) }
     ensures whole { (messages : List (List ℕ)) (records : List DataRecord) (p now target : ℕ) → AreHandedOut messages records p → AreStreamable records

@@ -7,8 +7,10 @@
 #![tactic(auto)]
 
 pub mod laws;
+pub mod streamable;
 
 pub use laws::{answers_mean_the_list, holders_keep, messages_mean_the_list};
+pub use streamable::{see_record, see_records};
 
 #[cfg(test)]
 mod tests;

@@ -1,6 +1,11 @@
 //! The laws are called; and worked cases go through a `Stream` and back through a `Session`, which is what
 //! the laws say of all: the values that were given come out, under equal templates.
-ghost use Rattle.std.specs.Prelude.{◌<◌};
+ghost use Rattle.std.specs.Prelude.{◌<◌, ◌≤◌, ◌++◌, ◌∷◌, [], ℕ, List, IfOk};
+ghost use Rattle.ipfix_template.specs.DataRecord.{DataRecord};
+ghost use Rattle.subscriber_stream.specs.Message.{place_after};
+ghost use Rattle.subscriber_stream.specs.Standing.{StandsAt};
+ghost use Rattle.stream_meaning.specs.Served.{messages_in};
+ghost use Rattle.stream_meaning.specs.HandedOut.{AreHandedOut};
 
 use super::*;
 use bytes::Bytes;
@@ -158,6 +163,17 @@ fn expect(rt: &impl Abort, next: Option<&Record>, template: &Template, wanted: &
     for (value, octets) in next.values().as_slice().iter().zip(wanted) {
         assert_eq!(rt; &value[..], *octets);
     }
+}
+
+/// Pulls from a stream whose holder keeps what was handed out: the premises of the laws are what the
+/// contract of `pull` gives.
+fn pull_kept(stream: &mut Stream, now: u32, target: u16) -> Result<Option<Bytes>, PullError>
+    ensures { (messages : List (List ℕ)) (records : List DataRecord) (p : ℕ) → StandsAt stream.old.standing records p → AreHandedOut messages records p
+        → IfOk result (λ answer. AreHandedOut (messages ++ messages_in (answer ∷ [])) records (place_after records p target)
+        × StandsAt stream.new.standing records (place_after records p target)) }
+{
+    holders_keep();
+    stream.pull(now, target)
 }
 
 #[test]
