@@ -1,6 +1,7 @@
 -- Runs of calls, one behind another.
 use Rattle.std.proofs.Common.{◌≡◌, ℕ, suc, ◌+◌, ◌<◌, ◌≤◌, ◌^◌, List, [], ◌∷◌, ◌++◌, length, take, drop, Option, Some, None, refl, sym, ap, subst, ◌∙◌, append_assoc, append-nil, arith, length-take, length-drop}
 use Rattle.std.specs.List.{AllByRecursion}
+use Rattle.std.proofs.lemmas.List.{take-append-drop, take_at}
 use Rattle.ipfix_template.specs.DataRecord.{DataRecord}
 use Rattle.subscriber_stream.specs.Parts.{Part, parts, records_in}
 use Rattle.subscriber_stream.specs.Message.{run_length, built, place_after}
@@ -9,6 +10,7 @@ use Rattle.subscriber_stream.specs.Shapes.{shapes_after, shapes_of}
 use Rattle.subscriber_stream.specs.Standing.{Standing, StandsAt, FitsLimits}
 use Rattle.subscriber_stream.specs.Calls.{Call, Given, Pulled, Pull, pulls_of, octets_from, Serves}
 use Rattle.subscriber_stream.proofs.CallLaws.{served, parts_bring}
+use Rattle.subscriber_stream.proofs.Standings.{records_in-append}
 use Rattle.stream_meaning.specs.Served.{IsStreamable, AreStreamable, AreInRange, records_given, messages_in, messages_got, place_from, place_reached, pulls}
 use Rattle.stream_meaning.specs.Means.{Means}
 use Rattle.stream_meaning.specs.HandedOut.{AreHandedOut}
@@ -133,6 +135,14 @@ handed_whole messages records p now target are may end =
     let M : List (List ℕ) → Type 0 = λ ms. Means ms (records_given are.calls) in
     let L : List DataRecord → Type 0 = λ rs. Means messages rs in
     subst L are.given (subst M are.got all)
+
+-- what stands before a place is the first of the list
+pub first_of : (s : Standing) (records : List DataRecord) (p : ℕ) → StandsAt s records p → records_in (take p (parts records)) ≡ take s.handed records
+first_of s records p at =
+    let front = records_in (take p (parts records)) in
+    let rest = records_in (drop p (parts records)) in
+    let whole : records ≡ front ++ rest = sym (parts_bring records) ∙ ap records_in (sym (take-append-drop p (parts records))) ∙ records_in-append (take p (parts records)) (drop p (parts records)) in
+    sym (ap (take s.handed) whole ∙ take_at front rest s.handed (sym at.handed))
 
 -- ---- the answers of a stream
 

@@ -34,6 +34,13 @@ pub fn messages_mean_the_list()
         → Means (messages_got (calls ++ pulls turns)) (records_given calls) }
 {}
 
+/// Where a stream stands at a place of the parts of a list, the records before that place are the first of
+/// the list, as many as `Stream::handed` counts.
+pub fn the_first_are_handed_out()
+    ensures { (s : Standing) (records : List DataRecord) (p : ℕ) → StandsAt s records p
+        → records_in (take p (parts records)) ≡ take s.handed records }
+{}
+
 /// The same of what a stream answers: where it takes these calls one after another, by the contracts of
 /// `Stream::push_reserved` and `Stream::pull`.
 pub fn answers_mean_the_list()

@@ -1,11 +1,13 @@
 //! The laws are called; and worked cases go through a `Stream` and back through a `Session`, which is what
 //! the laws say of all: the values that were given come out, under equal templates.
-ghost use Rattle.std.specs.Prelude.{◌<◌, ◌≤◌, ◌++◌, ◌∷◌, [], ℕ, List, IfOk};
+ghost use Rattle.std.specs.Prelude.{◌≡◌, ◌<◌, ◌≤◌, ◌+◌, ◌^◌, ◌++◌, ◌∷◌, [], ℕ, List, IfOk, IsTrue, length, take};
 ghost use Rattle.ipfix_template.specs.DataRecord.{DataRecord};
+ghost use Rattle.subscriber_stream.specs.Parts.{parts, records_in};
 ghost use Rattle.subscriber_stream.specs.Message.{place_after};
-ghost use Rattle.subscriber_stream.specs.Standing.{StandsAt};
-ghost use Rattle.stream_meaning.specs.Served.{messages_in};
+ghost use Rattle.subscriber_stream.specs.Standing.{StandsAt, queued};
+ghost use Rattle.stream_meaning.specs.Served.{AreStreamable, messages_in};
 ghost use Rattle.stream_meaning.specs.HandedOut.{AreHandedOut};
+ghost use Rattle.stream_meaning.specs.Means.{Means};
 
 use super::*;
 use bytes::Bytes;
@@ -165,12 +167,31 @@ fn expect(rt: &impl Abort, next: Option<&Record>, template: &Template, wanted: &
     }
 }
 
-/// Pulls from a stream whose holder keeps what was handed out: the premises of the laws are what the
-/// contract of `pull` gives.
+/// Gives records to a stream whose holder keeps what was handed out, where there is room for them: the
+/// premises of the laws are what the contracts of the calls give, with no further proof.
+fn give_kept(stream: &mut Stream, records: Vec<Record>) -> bool
+    requires shapes { stream.old.limits.shapes ≤ 65280 }
+    requires reserved { length records.items ≤ stream.old.spare }
+    requires count { stream.old.standing.handed + queued stream.old.standing + length records.items < 2 ^ 64 }
+    ensures { (messages : List (List ℕ)) (given : List DataRecord) (p : ℕ) → StandsAt stream.old.standing given p → AreHandedOut messages given p → AreStreamable given → IsTrue result
+        → StandsAt stream.new.standing (given ++ records.items) p × AreHandedOut messages (given ++ records.items) p × AreStreamable (given ++ records.items) }
+{
+    holders_keep();
+    see_records(&records);
+    if !stream.room(&records) {
+        return false;
+    }
+    stream.push_reserved(records);
+    true
+}
+
+/// Pulls from such a stream: its holder knows what the messages mean with the one that is answered.
 fn pull_kept(stream: &mut Stream, now: u32, target: u16) -> Result<Option<Bytes>, PullError>
-    ensures { (messages : List (List ℕ)) (records : List DataRecord) (p : ℕ) → StandsAt stream.old.standing records p → AreHandedOut messages records p
-        → IfOk result (λ answer. AreHandedOut (messages ++ messages_in (answer ∷ [])) records (place_after records p target)
-        × StandsAt stream.new.standing records (place_after records p target)) }
+    ensures kept { (messages : List (List ℕ)) (given : List DataRecord) (p : ℕ) → StandsAt stream.old.standing given p → AreHandedOut messages given p
+        → IfOk result (λ answer. StandsAt stream.new.standing given (place_after given p target)
+        × AreHandedOut (messages ++ messages_in (answer ∷ [])) given (place_after given p target)) }
+    ensures means { (messages : List (List ℕ)) (given : List DataRecord) (p : ℕ) → StandsAt stream.old.standing given p → AreHandedOut messages given p → AreStreamable given
+        → IfOk result (λ answer. Means (messages ++ messages_in (answer ∷ [])) (records_in (take (place_after given p target) (parts given)))) }
 {
     holders_keep();
     stream.pull(now, target)
@@ -179,8 +200,30 @@ fn pull_kept(stream: &mut Stream, now: u32, target: u16) -> Result<Option<Bytes>
 #[test]
 fn laws_are_called() {
     messages_mean_the_list();
+    the_first_are_handed_out();
     answers_mean_the_list();
     holders_keep();
+}
+
+/// A holder of a stream, from its first record to the end.
+#[test]
+fn a_holder(rt: HostRuntime) -> Result<(), Fail> {
+    let alloc = rt.alloc();
+    let template = template_of(alloc, &[field(PROTOCOL, 1)], 0)?;
+    let mut records = Vec::new(alloc);
+    records.push(record_of(alloc, &template, &[b"\x06"])?)?;
+    let mut stream = Stream::new(alloc, LIMITS);
+    if stream.reserve(&records).is_err() {
+        stream.reserve(&records)?;
+    }
+    assert!(rt; give_kept(&mut stream, records));
+    let message = pull_kept(&mut stream, NOW, 1400)?.ok_or("nothing was queued")?;
+    assert!(rt; pull_kept(&mut stream, NOW, 1400)?.is_none());
+    let mut session = Session::new(alloc);
+    let answer = read(&mut session, &message)?;
+    assert_eq!(rt; answer.records.len(), 1);
+    expect(&rt, answer.records.first(), &template, &[b"\x06"]);
+    Ok(())
 }
 
 /// One part a message: the announcement alone, and then each record.
