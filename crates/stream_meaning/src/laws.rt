@@ -17,12 +17,13 @@ ghost use Rattle.stream_meaning.specs.Means.{Means};
 ghost use Rattle.stream_meaning.specs.HandedOut.{AreHandedOut};
 
 /// The messages that calls get from a new stream, taken as all of a session, bring exactly the records
-/// that were handed out, in order and in domain 0: those before the place that the pulls reached. Each
-/// message's Sequence Number counts the records before it, nothing is skipped, and there is no gap (RFC
-/// 7011, sections 3.1 and 8).
+/// that were handed out, each with its template and values, in order and in domain 0: those before the
+/// place that the pulls reached. Each message is read, its Sequence Number counts the records before it
+/// modulo 2^32, nothing is skipped, and there is no gap (RFC 7011, sections 3.1 and 8). For one list the
+/// calls are `Given` of the list, and then pulls.
 ///
-/// Where the next pull has nothing to give, they bring all records that were given; and it has nothing to
-/// give after as many further pulls as the records have parts, whatever their targets.
+/// Where the next pull has nothing to give, they bring all records that were given (`whole`); and so they
+/// do after as many further pulls as the records have parts, whatever the targets (`drained`).
 pub fn messages_mean_the_list()
     ensures so_far { (calls : List Call) → AreStreamable (records_given calls) → AreInRange calls
         → Means (messages_got calls) (records_in (take (place_reached calls) (parts (records_given calls)))) }
