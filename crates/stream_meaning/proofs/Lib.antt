@@ -1,0 +1,9 @@
+pub mod DataSets
+pub mod Tables
+pub mod Written
+pub mod Readings
+pub mod Sets
+pub mod Listed
+pub mod Steps
+pub mod Runs
+pub mod Handing

@@ -1,0 +1,10 @@
+pub use Rattle.subscriber_stream.specs.Shapes
+pub use Rattle.subscriber_stream.specs.Parts
+pub use Rattle.subscriber_stream.specs.Message
+pub use Rattle.subscriber_stream.specs.Standing
+pub use Rattle.subscriber_stream.specs.Calls
+pub use Rattle.ipfix_session.specs.Contents
+pub use Rattle.ipfix_session.specs.Meaning
+pub mod Served
+pub mod Means
+pub mod HandedOut

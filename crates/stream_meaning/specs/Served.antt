@@ -1,0 +1,56 @@
+-- What a stream is given, and the messages that it gives.
+use Rattle.std.specs.Prelude.{◌≤◌, ◌<◌, ◌^◌, ℕ, List, [], ◌∷◌, ◌++◌, length, Option, Some, None}
+use Rattle.std.specs.List.{AllByRecursion}
+use Rattle.ipfix_template.specs.Template.{IsWritable, is_options}
+use Rattle.ipfix_template.specs.DataRecord.{DataRecord, IsSound}
+use Rattle.subscriber_stream.specs.Shapes.{shapes_of}
+use Rattle.subscriber_stream.specs.Message.{place_after}
+use Rattle.subscriber_stream.specs.Calls.{Pull, Call, Given, Pulled, pulls_of, octets_got}
+
+-- a sound record, the numbers of whose template fit the octets that they are written in
+pub record IsStreamable (r : DataRecord) : Type 0 where
+  pub sound : IsSound r
+  pub writable : IsWritable 256 (is_options r.template) r.template
+
+-- records that one stream can announce: there are IDs from 256 to 65,535
+pub record AreStreamable (records : List DataRecord) : Type 0 where
+  pub each : AllByRecursion IsStreamable records
+  pub shapes : length (shapes_of records) ≤ 65280
+
+-- Export Time and target are numbers of 32 and of 16 bits
+abbrev pub IsInRange : Call → Type 0
+IsInRange (Given more) = Unit {0}
+IsInRange (Pulled now target) = (now < 2 ^ 32) × (target < 2 ^ 16)
+
+abbrev pub AreInRange : List Call → Type 0
+AreInRange calls = AllByRecursion IsInRange calls
+
+-- all records that calls give
+abbrev pub records_given : List Call → List DataRecord
+records_given [] = []
+records_given (Given more ∷ calls) = more ++ records_given calls
+records_given (Pulled now target ∷ calls) = records_given calls
+
+-- the messages among what pulls answer
+abbrev pub messages_in : List (Option (List ℕ)) → List (List ℕ)
+messages_in [] = []
+messages_in (None ∷ answers) = messages_in answers
+messages_in (Some message ∷ answers) = message ∷ messages_in answers
+
+-- the messages that calls get from a new stream
+abbrev pub messages_got : List Call → List (List ℕ)
+messages_got calls = messages_in (octets_got (pulls_of [] calls))
+
+-- the place that pulls reach from place p on
+abbrev pub place_from : ℕ → List Pull → ℕ
+place_from p [] = p
+place_from p (pull ∷ pulls) = place_from (place_after pull.records p pull.target) pulls
+
+-- the place that the calls of a new stream reach
+abbrev pub place_reached : List Call → ℕ
+place_reached calls = place_from 0 (pulls_of [] calls)
+
+-- pulls, each with its Export Time and target
+abbrev pub pulls : List (ℕ × ℕ) → List Call
+pulls [] = []
+pulls (turn ∷ turns) = Pulled turn.0 turn.1 ∷ pulls turns

@@ -1,0 +1,49 @@
+//! That records may be streamed, as their types keep it.
+ghost use Rattle.std.specs.Prelude.{◌≡◌, ◌≤◌, length};
+ghost use Rattle.std.specs.List.{AllByRecursion};
+ghost use Rattle.ipfix_template.specs.Template.{is_options, IsAccepted, IsSpecifier, IsWritable};
+ghost use Rattle.ipfix_template.specs.DataRecord.{DataRecord};
+ghost use Rattle.stream_meaning.specs.Served.{IsStreamable};
+
+use ipfix_template::{FieldSpec, Record, Template};
+
+/// Each record may be streamed: always so, by its type. A caller who has records learns it here, and the
+/// call does nothing else.
+pub fn see_records(records: &[Record])
+    ensures { AllByRecursion IsStreamable records.now }
+{
+    for next in records {
+        see_record(next);
+    }
+}
+
+/// A record is sound, and the numbers of its template fit their octets.
+pub fn see_record(next: &Record)
+    ensures { IsStreamable next.now }
+{
+    see_template(next.template());
+}
+
+fn see_template(template: &Template)
+    requires { IsAccepted template.now }
+    ensures { IsWritable 256 (is_options template.now) template.now }
+{
+    let _scope = template.scope;
+    see_fields(template.fields.as_slice());
+}
+
+fn see_fields(fields: &[FieldSpec])
+    ensures { AllByRecursion IsSpecifier fields.now }
+{
+    for field in fields {
+        see_field(field);
+    }
+}
+
+fn see_field(field: &FieldSpec)
+    ensures { IsSpecifier field.now }
+{
+    let _length = field.length;
+    let _pen = field.element.pen();
+    let _number = field.element.number();
+}
