@@ -54,7 +54,8 @@ impl Audit {
 
     /// How many more entries the limit leaves room for.
     pub fn room(&self) -> u32
-        ensures { result + length self.now.standing.entries ≡ self.now.limit }
+        ensures value { result + length self.now.standing.entries ≡ self.now.limit }
+        ensures limit { self.now.limit ≤ MOST_ENTRIES }
     {
         self.limit - self.queue.len() as u32
     }

@@ -16,3 +16,6 @@ pub use audit::{Audit, MOST_ENTRIES};
 pub use entry::{AuditEntry, RemovedField, RemovedFields, What};
 pub use lines::line;
 pub use reason::Reason;
+
+#[cfg(test)]
+mod tests;
