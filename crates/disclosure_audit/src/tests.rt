@@ -20,7 +20,11 @@ fn withheld(position: u64, rule: u32, reason: Reason) -> AuditEntry {
 
 /// A record of which these fields were left out.
 fn removed(alloc: Global, fields: &[RemovedField]) -> Result<AuditEntry, Fail> {
-    let fields = RemovedFields::from_vec(Vec::from_slice(alloc, fields)?);
+    let list = match Vec::from_slice(alloc, fields) {
+        Ok(list) => list,
+        Err(_) => Vec::from_slice(alloc, fields)?,
+    };
+    let fields = RemovedFields::from_vec(list);
     Ok(AuditEntry {
         position: 3,
         index: 0,
@@ -233,7 +237,10 @@ fn entries_in_a_row(rt: HostRuntime) -> Result<(), Fail> {
     let alloc = rt.alloc();
     let mut audit = Audit::new(alloc, MOST_ENTRIES);
     push(&rt, &mut audit, 1)?;
-    let mut entries = Vec::new(alloc);
+    let mut entries = match Vec::with_capacity(alloc, 2) {
+        Ok(entries) => entries,
+        Err(_) => Vec::with_capacity(alloc, 2)?,
+    };
     entries.push(withheld(2, 1, Reason::Rule))?;
     entries.push(withheld(3, 1, Reason::Rule))?;
     reserve(&rt, &mut audit, 2)?;
