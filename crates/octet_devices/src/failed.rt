@@ -1,0 +1,3 @@
+/// The device has failed. What it read or wrote before stays as it was.
+#[derive(Clone, Copy, Debug, PartialEq, Eq)]
+pub struct Failed;
