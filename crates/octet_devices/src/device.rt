@@ -35,6 +35,15 @@ impl<T> Device<T> {
         self.failed
     }
 
+    /// Keeps that the device has failed.
+    fn fail(&mut self) -> Failed
+        ensures failed { device_failed self.new ≡ true }
+        ensures inner { device_inner self.new ≡ device_inner self.old }
+    {
+        self.failed = true;
+        Failed
+    }
+
     /// The reader or writer again.
     pub fn into_inner(self) -> T
         ensures { result ≡ device_inner self }
@@ -52,10 +61,7 @@ impl<T: Read> Source for Device<T> {
     fn read(&mut self, buffer: &mut [u8]) -> Result<usize, Failed> {
         match self.inner.read(buffer) {
             Ok(count) => Ok(count),
-            Err(_) => {
-                self.failed = true;
-                Err(Failed)
-            }
+            Err(_) => Err(self.fail()),
         }
     }
 }
@@ -68,10 +74,7 @@ impl<T: Write> Sink for Device<T> {
     fn write(&mut self, octets: &[u8]) -> Result<usize, Failed> {
         match self.inner.write(octets) {
             Ok(count) if count > 0 || octets.is_empty() => Ok(count),
-            Ok(_) | Err(_) => {
-                self.failed = true;
-                Err(Failed)
-            }
+            Err(_) | Ok(_) => Err(self.fail()),
         }
     }
 }

@@ -18,3 +18,6 @@ pub use device::Device;
 pub use failed::Failed;
 pub use sink::{Sink, WriteStopped, write_all};
 pub use source::Source;
+
+#[cfg(test)]
+mod tests;

@@ -5,6 +5,7 @@ ghost use Rattle.octet_devices.specs.Failing.{FailsOnErr};
 ghost use Rattle.octet_devices.specs.Written.{WritesFront};
 
 use crate::failed::Failed;
+use thiserror::Error;
 
 /// To where octets are written.
 pub trait Sink {
@@ -26,7 +27,8 @@ pub trait Sink {
 }
 
 /// The sink failed after this many octets of the slice.
-#[derive(Clone, Copy, Debug, PartialEq, Eq)]
+#[derive(Clone, Copy, Debug, PartialEq, Eq, Error)]
+#[error("WriteStopped")]
 pub struct WriteStopped {
     pub sent: usize,
 }
