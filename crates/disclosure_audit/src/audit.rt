@@ -67,7 +67,7 @@ impl Audit {
         self.drained
     }
 
-    /// Makes room for so many entries, of which the limit takes no notice.
+    /// Makes room in memory for so many more entries, whatever the limit.
     ///
     /// # Errors
     /// Want of memory, and then nothing has changed.
