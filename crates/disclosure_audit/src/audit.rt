@@ -1,4 +1,4 @@
-ghost use Rattle.std.specs.Prelude.{◌≡◌, ◌≤◌, ◌<◌, ◌+◌, ◌-◌, ◌^◌, ◌++◌, [], ◌∷◌, length, take, drop, vec_capacity, IfOk, OnOk, OnErr};
+ghost use Rattle.std.specs.Prelude.{◌≡◌, ◌≤◌, ◌<◌, ◌+◌, ◌-◌, ◌^◌, ◌++◌, [], ◌∷◌, length, take, drop, vec_capacity, IsOk, IfOk, OnOk, OnErr};
 ghost use Rattle.std.specs.VecDeque.{deque_capacity};
 ghost use Rattle.disclosure_audit.specs.declared.audit.TheConstants.{MOST_ENTRIES};
 
@@ -77,6 +77,8 @@ impl Audit {
         ensures kept { self.old.spare ≤ self.new.spare }
         ensures ok { OnOk result (more ≤ self.new.spare) }
         ensures err { OnErr result (self.new ≡ self.old) }
+        // Room that is reserved already takes no memory.
+        ensures there { more ≤ self.old.spare → IsOk result }
     {
         if more <= self.spare {
             return Ok(());
@@ -123,6 +125,8 @@ impl Audit {
         // They are the next entries of the list of all entries.
         ensures stands { IfOk result (λ out. Drains self.old.standing most out.items self.new.standing) }
         ensures err { OnErr result (self.new ≡ self.old) }
+        // Nothing to hand out takes no memory.
+        ensures none { oldest most self.old.standing ≡ [] → IsOk result }
     {
         let count = self.queue.len().min(most as usize);
         let mut out = Vec::with_capacity(self.alloc, count)?;
