@@ -1,0 +1,4 @@
+pub mod QueueLaws
+pub mod FieldLaws
+pub mod SplitLaws
+pub mod LineLaws

@@ -1,0 +1,4 @@
+pub mod Lines
+pub mod Queue
+pub mod Kept
+pub mod Laws

@@ -1,0 +1,67 @@
+ghost use Rattle.std.specs.Prelude.{◌≡◌, ◌==◌, length};
+
+use crate::reason::Reason;
+use std::marker::Model;
+
+/// A field that was left out of a record that was handed on.
+#[derive(Clone, Copy, Debug, PartialEq, Eq)]
+pub struct RemovedField {
+    /// Its place in the record that was received, from 0.
+    pub place: u16,
+    /// The number of the rule that removes it, from 1; 0 where no rule matches it.
+    pub rule: u32,
+}
+
+/// The fields that were left out of one record, by ascending place. Contracts see the list.
+#[derive(Debug, Drop)]
+pub struct RemovedFields {
+    fields: Vec<RemovedField>,
+}
+
+impl Model for RemovedFields {
+    ghost use Rattle.std.specs.Prelude.{List};
+    ghost use Rattle.disclosure_audit.specs.declared.entry.RemovedField.{RemovedField};
+
+    ghost Value = { List RemovedField };
+
+    ghost view = { λ f. f.fields.items };
+}
+
+impl RemovedFields {
+    pub fn from_vec(fields: Vec<RemovedField>) -> RemovedFields
+        ensures { result ≡ fields.items }
+    {
+        RemovedFields { fields }
+    }
+
+    pub fn as_slice(&self) -> &[RemovedField]
+        ensures { result.now ≡ self.now }
+    {
+        self.fields.as_slice()
+    }
+}
+
+/// What was kept back.
+#[derive(Debug, Drop)]
+pub enum What {
+    /// A whole record, by the rule of this number, or by 0 where no rule matches.
+    Withheld { rule: u32, reason: Reason },
+    /// A record that is shown only as a part of sums, by the rule of this number.
+    Aggregated { rule: u32 },
+    /// Fields of a record that was handed on without them.
+    Removed { fields: RemovedFields },
+    /// All records from here on: the subscription was cut.
+    Cut,
+}
+
+/// What was kept from one subscription, of one record or from one place on.
+#[derive(Debug, Drop)]
+pub struct AuditEntry {
+    /// The position in the history of the message, or of the cut, from 0.
+    pub position: u64,
+    /// The record's place in its message, from 0; 0 for a cut.
+    pub index: u32,
+    /// The number of the subscription.
+    pub sub: u64,
+    pub what: What,
+}

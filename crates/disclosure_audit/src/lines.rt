@@ -1,0 +1,79 @@
+ghost use Rattle.std.specs.Prelude.{◌≡◌, ◌++◌, ◌∷◌, [], OnOk, IfOk, string_bytes};
+ghost use Rattle.std.specs.Fmt.{decimal};
+ghost use Rattle.std.specs.List.{join_with_byte};
+ghost use Rattle.disclosure_audit.specs.Lines.{line_of, what_words, fields_text, field_text};
+
+use crate::entry::{AuditEntry, RemovedField, What};
+use std::alloc::{AllocError, Global};
+use std::fmt::Write;
+
+/// The line of an entry, with its line feed: position, index and subscription, then what was kept back,
+/// words parted by one space.
+///
+/// # Errors
+/// Want of memory.
+pub fn line(alloc: Global, entry: &AuditEntry) -> Result<String, AllocError>
+    ensures { IfOk result (λ text. string_bytes text ≡ line_of entry.now) }
+{
+    let mut text = String::new(alloc);
+    put_number(&mut text, entry.position)?;
+    text.push_str(" ")?;
+    put_number(&mut text, u64::from(entry.index))?;
+    text.push_str(" ")?;
+    put_number(&mut text, entry.sub)?;
+    text.push_str(" ")?;
+    put_what(&mut text, &entry.what)?;
+    text.push_str("\n")?;
+    Ok(text)
+}
+
+fn put_what(text: &mut String, what: &What) -> Result<(), AllocError>
+    ensures { OnOk result (string_bytes text.new ≡ string_bytes text.old
+        ++ join_with_byte 32 (what_words what.now)) }
+{
+    match what {
+        What::Withheld { rule, reason } => {
+            text.push_str("withheld ")?;
+            put_number(text, u64::from(*rule))?;
+            text.push_str(" ")?;
+            text.push_str(reason.word())
+        }
+        What::Aggregated { rule } => {
+            text.push_str("aggregated ")?;
+            put_number(text, u64::from(*rule))
+        }
+        What::Removed { fields } => {
+            text.push_str("removed ")?;
+            put_fields(text, fields.as_slice())
+        }
+        What::Cut => text.push_str("cut"),
+    }
+}
+
+/// Removed fields with commas between.
+fn put_fields(text: &mut String, fields: &[RemovedField]) -> Result<(), AllocError>
+    ensures { OnOk result (string_bytes text.new ≡ string_bytes text.old ++ fields_text fields.now) }
+{
+    for (at, field) in fields.iter().enumerate() {
+        if at > 0 {
+            text.push_str(",")?;
+        }
+        put_field(text, *field)?;
+    }
+    Ok(())
+}
+
+/// The place of a removed field, a colon, and its rule.
+fn put_field(text: &mut String, field: RemovedField) -> Result<(), AllocError>
+    ensures { OnOk result (string_bytes text.new ≡ string_bytes text.old ++ field_text field) }
+{
+    put_number(text, u64::from(field.place))?;
+    text.push_str(":")?;
+    put_number(text, u64::from(field.rule))
+}
+
+fn put_number(text: &mut String, number: u64) -> Result<(), AllocError>
+    ensures { OnOk result (string_bytes text.new ≡ string_bytes text.old ++ decimal number) }
+{
+    write!(text, "{number}")
+}

@@ -1,0 +1,3 @@
+pub mod Failing
+pub mod Written
+pub mod Device

@@ -1,0 +1,80 @@
+ghost use Rattle.std.specs.Prelude.{◌≡◌, Bool, true, false};
+ghost use Rattle.octet_devices.specs.Device.{device_inner, device_failed};
+
+use crate::failed::Failed;
+use crate::sink::Sink;
+use crate::source::Source;
+use std::io::{Read, Write};
+
+/// A reader or a writer of std as a source or a sink. It tells the octets that its reader or writer tells.
+///
+/// It retries nothing: each error of the reader or writer is a failure, and so is a write that takes none
+/// of a slice that is not empty.
+#[derive(Drop)]
+pub struct Device<T> {
+    inner: T,
+    failed: bool,
+}
+
+impl<T> Device<T> {
+    /// A device that has not failed yet.
+    pub fn new(inner: T) -> Device<T>
+        ensures inner { device_inner result ≡ inner }
+        ensures failed { device_failed result ≡ false }
+    {
+        Device {
+            inner,
+            failed: false,
+        }
+    }
+
+    /// Whether a read or a write has failed.
+    pub fn has_failed(&self) -> bool
+        ensures { result ≡ device_failed self.now }
+    {
+        self.failed
+    }
+
+    /// Keeps that the device has failed.
+    fn fail(&mut self) -> Failed
+        ensures failed { device_failed self.new ≡ true }
+        ensures inner { device_inner self.new ≡ device_inner self.old }
+    {
+        self.failed = true;
+        Failed
+    }
+
+    /// The reader or writer again.
+    pub fn into_inner(self) -> T
+        ensures { result ≡ device_inner self }
+    {
+        let Device { inner, failed: _ } = self;
+        inner
+    }
+}
+
+impl<T: Read> Source for Device<T> {
+    ghost remaining = { λ d. T.remaining (device_inner d) };
+
+    ghost has_failed = { device_failed };
+
+    fn read(&mut self, buffer: &mut [u8]) -> Result<usize, Failed> {
+        match self.inner.read(buffer) {
+            Ok(count) => Ok(count),
+            Err(_) => Err(self.fail()),
+        }
+    }
+}
+
+impl<T: Write> Sink for Device<T> {
+    ghost contents = { λ d. T.contents (device_inner d) };
+
+    ghost has_failed = { device_failed };
+
+    fn write(&mut self, octets: &[u8]) -> Result<usize, Failed> {
+        match self.inner.write(octets) {
+            Ok(count) if count > 0 || octets.is_empty() => Ok(count),
+            Err(_) | Ok(_) => Err(self.fail()),
+        }
+    }
+}
