@@ -11,3 +11,6 @@ pub mod RoundLaws
 pub mod SoundLaws
 pub mod KeptLaws
 pub mod SpellLaws
+pub mod PlaceLaws
+pub mod FreshLaws
+pub mod KindLaws

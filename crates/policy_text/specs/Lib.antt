@@ -17,3 +17,4 @@ pub mod Parsing
 pub mod Grammar
 pub mod Printing
 pub mod Spelling
+pub mod FirstFault
