@@ -14,3 +14,4 @@ pub mod SpellLaws
 pub mod PlaceLaws
 pub mod FreshLaws
 pub mod KindLaws
+pub mod LinePlaceLaws
