@@ -15,3 +15,4 @@ pub mod PlaceLaws
 pub mod FreshLaws
 pub mod KindLaws
 pub mod LinePlaceLaws
+pub mod FirstFaultLaws

@@ -106,7 +106,7 @@ dead {B} here part read word kind h k = record {
   kind_is = k;
 }
 
-kind_behind : (part : Part) (parts : List Part) (word : Word) (front rest : List Word) (kind : FaultKind) → IsKindBehind (parts_after part word parts) front rest kind → IsKindBehind (part ∷ parts) (word ∷ front) rest kind
+pub kind_behind : (part : Part) (parts : List Part) (word : Word) (front rest : List Word) (kind : FaultKind) → IsKindBehind (parts_after part word parts) front rest kind → IsKindBehind (part ∷ parts) (word ∷ front) rest kind
 kind_behind part parts word front [] kind h = h
 kind_behind part parts word front (next ∷ rest) kind h = h
 
