@@ -1,6 +1,5 @@
 -- The fault that reading answers is the first fault of the text.
-use Rattle.std.proofs.Common.{◌≡◌, ◌⊎◌, inl, inr, ℕ, ◌+◌, ◌<◌, ◌≤◌, Bool, true, false, cond, leb, ◌||◌, List, [], ◌∷◌, ◌++◌, length, get_or, Option, Some, None, Result, Ok, Err, refl, sym, ap, ◌∙◌, subst, arith, ⊎_elim, append_assoc, append-nil, codes, suc}
-use Rattle.std.specs.List.{AllByRecursion}
+use Rattle.std.proofs.Common.{◌≡◌, ◌⊎◌, inl, inr, ℕ, ◌+◌, ◌<◌, ◌≤◌, Bool, true, false, cond, leb, List, [], ◌∷◌, ◌++◌, length, get_or, Option, Some, None, Result, Ok, Err, refl, sym, ap, ◌∙◌, subst, arith, ⊎_elim, append_assoc, append-nil, codes}
 use Rattle.std.specs.Str.{bytes_eq}
 use Rattle.std.proofs.lemmas.Slice.Eq.{bytes_eq-Decides}
 use Rattle.std.proofs.lemmas.Bool.{cases_Bool, leb-true, leb-false, lt-leb, le-leb, false≢true}
@@ -15,22 +14,22 @@ use Rattle.policy_text.specs.Lines.{next_of, rule_of, aggregate_of, rule_line, a
 use Rattle.policy_text.specs.Parsing.{is_header, step, line_step, read_lines, policy_of}
 use Rattle.policy_text.specs.Grammar.{IsAggregate, IsPolicy}
 use Rattle.policy_text.specs.Printing.{header}
-use Rattle.policy_text.specs.Spelling.{AddsRule, AddsAggregate, AfterLine, AreLines, AreAllLines}
-use Rattle.policy_text.specs.FirstFault.{MayStand, AwaitsAggregate, Begins, IsKindOf, IsKindBehind, IsFaulty, IsLineFault, SpellSoFar, IsFaultAt, IsFirstFault, FirstFault, rule_parts, aggregate_parts}
+use Rattle.policy_text.specs.Spelling.{AddsRule, AddsAggregate, AfterLine, AreLines}
+use Rattle.policy_text.specs.FirstFault.{MayStand, AwaitsAggregate, IsKindOf, IsFaulty, IsLineFault, SpellSoFar, IsFirstFault, rule_parts, aggregate_parts}
 use Rattle.policy_text.specs.FirstFault.Part.{first_word}
 use Rattle.policy_text.proofs.ParsingLaws.{read_lines-cons, read_lines-done, read_lines-empty}
 use Rattle.policy_text.proofs.KeptLaws.{IsPolicy-nothing, with_rule-kept, with_aggregate-kept}
 use Rattle.policy_text.proofs.SoundLaws.{err-Ok, bound}
-use Rattle.policy_text.proofs.SpellLaws.{rule_line-found, rule_line-only, line_of-found, line_of-only, LineRead, line_step-found, HeaderRead, header-found}
+use Rattle.policy_text.proofs.SpellLaws.{rule_line-found, rule_line-only, line_of-found, line_of-only, line_step-found, header-found}
 use Rattle.policy_text.proofs.PlaceLaws.{Completes, IsStuck, Place, ok_or_err, same_kind, kind_behind}
 use Rattle.policy_text.proofs.KindLaws.{bound_err}
 use Rattle.policy_text.proofs.LinePlaceLaws.{rule_reads, aggregate_reads}
 
 -- lines that may stand are those that are read
-stands_read : (policy : Meaning) (words : List Word) → MayStand (Some policy) words → (new : Meaning) × (line_of policy words ≡ Ok new)
+pub stands_read : (policy : Meaning) (words : List Word) → MayStand (Some policy) words → (new : Meaning) × (line_of policy words ≡ Ok new)
 stands_read policy words h = (h.0, line_of-only policy h.0 words h.1)
 
-read_stands : (policy new : Meaning) (words : List Word) → line_of policy words ≡ Ok new → MayStand (Some policy) words
+pub read_stands : (policy new : Meaning) (words : List Word) → line_of policy words ≡ Ok new → MayStand (Some policy) words
 read_stands policy new words e = (new, line_of-found policy new words e)
 
 -- behind `rule`
@@ -229,7 +228,7 @@ other_line_fault policy word words kind r a e =
     let P : FaultKind → Type 0 = λ k. IsLineFault (Some policy) (word ∷ words) k in
     subst P same (first_word_fault policy word words UnknownWord (λ more. unknown_word policy word more r a) (λ b more new adds. rule_first word more adds.tail r adds.words_are) (rw (r, a) refl))
 
-line_fault : (policy : Meaning) (words : List Word) (kind : FaultKind) → IsPolicy policy → is_skipped words ≡ false → line_of policy words ≡ Err kind → IsLineFault (Some policy) words kind
+pub line_fault : (policy : Meaning) (words : List Word) (kind : FaultKind) → IsPolicy policy → is_skipped words ≡ false → line_of policy words ≡ Err kind → IsLineFault (Some policy) words kind
 line_fault policy [] kind valid counts e = absurd (false≢true (sym counts))
 line_fault policy (word ∷ words) kind valid counts e =
     let P : Word → Type 0 = λ w. line_of policy (w ∷ words) ≡ Err kind → IsLineFault (Some policy) (w ∷ words) kind in
@@ -245,7 +244,7 @@ second_word : List Word → Word
 second_word [] = []
 second_word (word ∷ words) = front_word words
 
-is_policy : (word : Word) → bytes_eq word (codes "policy") ≡ true → word ∷ codes "1" ∷ [] ≡ header
+pub is_policy : (word : Word) → bytes_eq word (codes "policy") ≡ true → word ∷ codes "1" ∷ [] ≡ header
 is_policy word t = ap (λ w. w ∷ codes "1" ∷ []) ((bytes_eq-Decides word (codes "policy")).0 t)
 
 not_policy : (word : Word) (words : List Word) → bytes_eq word (codes "policy") ≡ false → IsLineFault None (word ∷ words) NoHeader
@@ -310,7 +309,7 @@ behind_policy word next (last ∷ words) t e =
     (λ (f : bytes_eq next (codes "1") ≡ false). not_one word next (last ∷ words) t f)
     (cases_Bool (bytes_eq next (codes "1")))
 
-header_fault : (words : List Word) → is_skipped words ≡ false → is_header words ≡ false → IsLineFault None words NoHeader
+pub header_fault : (words : List Word) → is_skipped words ≡ false → is_header words ≡ false → IsLineFault None words NoHeader
 header_fault [] counts e = absurd (false≢true (sym counts))
 header_fault (word ∷ []) counts e =
     ⊎_elim (λ (t : bytes_eq word (codes "policy") ≡ true). policy_alone word t)
@@ -322,7 +321,7 @@ header_fault (word ∷ next ∷ words) counts e =
     (cases_Bool (bytes_eq word (codes "policy")))
 
 -- the lines: a line keeps that the policy is one that a text may spell
-adds_kept : (p q : Meaning) (words : List Word) → IsPolicy p → AfterLine p words q → IsPolicy q
+pub adds_kept : (p q : Meaning) (words : List Word) → IsPolicy p → AfterLine p words q → IsPolicy q
 adds_kept p q words valid h =
     let P : Meaning → Type 0 = λ m. IsPolicy m in
     ⊎_elim (λ (skip : (is_skipped words ≡ true) × (p ≡ q)). subst P skip.1 valid)
@@ -471,9 +470,9 @@ all_fault n (line ∷ lines) fault e =
     all_by n line lines fault (λ f. all_fault (n + 1) lines fault f) (line_step false nothing line) refl (sym (read_lines-cons false nothing n line lines) ∙ e)
 
 -- a text's fault is its first fault
-pub first_fault : FirstFault
+pub fault_found : (text : List ℕ) (fault : PolicyFault) → policy_of text ≡ Err fault → IsFirstFault text fault
 unfolding policy_of
-first_fault text fault e =
+fault_found text fault e =
     ⊎_elim (λ (f : FaultIn SpellSoFar 1 (lines_of text) fault).
     let number = f.number_is in
     inl (record {

@@ -1,14 +1,14 @@
 -- Fewer than 256 aggregates leave a name.
-use Rattle.std.proofs.Common.{◌≡◌, ℕ, zero, suc, ◌+◌, ◌-◌, ◌*◌, ◌/◌, ◌%◌, ◌<◌, ◌≤◌, Bool, true, false, not, ◌||◌, eqb, ltb, List, [], ◌∷◌, length, filter, map, Option, Some, None, refl, sym, ap, ◌∙◌, subst, arith, ⊎_elim, mod-lt}
-use Rattle.std.specs.List.{AllByRecursion, list_any, list_all, position_or_len}
+use Rattle.std.proofs.Common.{◌≡◌, ℕ, zero, suc, ◌+◌, ◌-◌, ◌*◌, ◌/◌, ◌%◌, ◌<◌, ◌≤◌, true, false, not, eqb, List, [], ◌∷◌, length, filter, map, None, refl, sym, ap, ◌∙◌, subst, arith, ⊎_elim, mod-lt}
+use Rattle.std.specs.List.{AllByRecursion, list_any, position_or_len}
 use Rattle.std.specs.Str.{bytes_eq}
 use Rattle.std.proofs.lemmas.Slice.Eq.{bytes_eq-Decides}
 use Rattle.std.proofs.lemmas.List.{length-map}
-use Rattle.std.proofs.lemmas.Bool.{cases_Bool, ne_eqb, eqb-true, eqb-false, le-ltb, le-leb, false≢true}
+use Rattle.std.proofs.lemmas.Bool.{cases_Bool, ne_eqb, eqb-true, le-ltb, false≢true}
 use Rattle.std.proofs.lemmas.Bool.Decides.{nat_tests}
 use Rattle.std.proofs.Math.Nat.{div-add-mod}
 use Rattle.policy_text.specs.Words.{Word}
-use Rattle.policy_text.specs.Naming.{is_name, is_name_octet}
+use Rattle.policy_text.specs.Naming.{is_name}
 use Rattle.policy_text.specs.Policies.{Aggregate as Definition}
 use Rattle.policy_text.specs.Classes.{place_of}
 

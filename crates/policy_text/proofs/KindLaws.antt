@@ -1,5 +1,5 @@
 -- The kind of fault that each class of words gives.
-use Rattle.std.proofs.Common.{◌≡◌, ◌⊎◌, inl, inr, ℕ, Bool, true, false, cond, eqb, leb, ltb, List, [], ◌∷◌, ◌++◌, map, Option, Some, None, Result, Ok, Err, refl, sym, ap, ◌∙◌, subst, ⊎_elim, is_some}
+use Rattle.std.proofs.Common.{◌≡◌, ◌⊎◌, inl, inr, ℕ, Bool, true, false, cond, eqb, leb, ltb, List, [], ◌∷◌, ◌++◌, map, Option, Some, None, Result, Ok, Err, refl, sym, ap, ◌∙◌, ⊎_elim, is_some}
 use Rattle.std.specs.List.{slice_split}
 use Rattle.std.specs.Str.{bytes_eq}
 use Rattle.std.proofs.lemmas.Bool.{cases_Bool}
@@ -16,11 +16,11 @@ use Rattle.policy_text.specs.Naming.{is_name}
 use Rattle.policy_text.specs.Elements.{element_of}
 use Rattle.policy_text.specs.Policies.{Aggregate as Definition}
 use Rattle.policy_text.specs.Results.{◌>>=◌, or_fault}
-use Rattle.policy_text.specs.Classes.{name, number, element, prefix, prefix_or_fault, star, some_of, or_star, is_key_kind, with_key, add_piece, add_pieces, key_of, place_of, aggregate_place, new_name, interval, bits_within}
+use Rattle.policy_text.specs.Classes.{name, number, element, prefix, prefix_or_fault, star, some_of, or_star, with_key, add_piece, add_pieces, key_of, place_of, aggregate_place, new_name, interval, bits_within}
 use Rattle.policy_text.specs.Grammar.{IsKeyAfter}
 use Rattle.policy_text.specs.FirstFault.{IsKeyFault}
 use Rattle.policy_text.proofs.ElementLaws.{element_of-found, element_of-only}
-use Rattle.policy_text.proofs.SoundLaws.{err-Ok, same_Ok, bound, or_fault-Ok, with_key-sound}
+use Rattle.policy_text.proofs.SoundLaws.{err-Ok, bound, or_fault-Ok, with_key-sound}
 use Rattle.policy_text.proofs.PlaceLaws.{ok_or_err, same_kind}
 
 -- a step that failed
@@ -55,7 +55,7 @@ number_kind : (most : ℕ) (w : Word) (kind : FaultKind) → number most w ≡ E
 unfolding number
 number_kind most w kind e = or_fault_err BadNumber kind (number_of most w) e
 
-element_kind : (w : Word) (kind : FaultKind) → element w ≡ Err kind → kind ≡ BadName
+pub element_kind : (w : Word) (kind : FaultKind) → element w ≡ Err kind → kind ≡ BadName
 unfolding element
 element_kind w kind e = or_fault_err BadName kind (element_of w) e
 
@@ -127,15 +127,15 @@ record PieceFault (before : List Element) (pieces : List Word) (kind : FaultKind
   begun : IsKeyAfter before key
   faulty : (((e : Element) → IsElement e → piece ≡ element_name e → ⊥) × (kind ≡ BadName)) ⊎ ((e : Element) × IsElement e × (piece ≡ element_name e) × (IsKeyAfter before (key ++ e ∷ []) → ⊥) × (kind ≡ BadKey))
 
-element_here : (w : Word) (e : Element) → IsElement e → w ≡ element_name e → element w ≡ Ok e
+pub element_here : (w : Word) (e : Element) → IsElement e → w ≡ element_name e → element w ≡ Ok e
 unfolding element
 element_here w e ok is = rw (element_of-only w e ok is) refl
 
-element_word : (w : Word) (e : Element) → element w ≡ Ok e → IsElement e × (w ≡ element_name e)
+pub element_word : (w : Word) (e : Element) → element w ≡ Ok e → IsElement e × (w ≡ element_name e)
 unfolding element
 element_word w e h = element_of-found w e (or_fault-Ok BadName (element_of w) e h)
 
-with_key_kind : (key : List Element) (e : Element) (kind : FaultKind) → with_key key e ≡ Err kind → kind ≡ BadKey
+pub with_key_kind : (key : List Element) (e : Element) (kind : FaultKind) → with_key key e ≡ Err kind → kind ≡ BadKey
 unfolding with_key
 with_key_kind key e kind h = guarded_err _ BadKey kind (key ++ e ∷ []) h
 

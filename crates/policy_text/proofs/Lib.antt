@@ -16,3 +16,4 @@ pub mod FreshLaws
 pub mod KindLaws
 pub mod LinePlaceLaws
 pub mod FirstFaultLaws
+pub mod OneFaultLaws

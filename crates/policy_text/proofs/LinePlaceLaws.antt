@@ -1,5 +1,5 @@
 -- The places of faults in the lines of rules and aggregates.
-use Rattle.std.proofs.Common.{◌≡◌, ◌⊎◌, inl, inr, ℕ, ◌<◌, Bool, true, false, cond, List, [], ◌∷◌, ◌++◌, length, Option, Some, None, Result, Ok, Err, refl, sym, ap, ◌∙◌, subst, arith, ⊎_elim, codes}
+use Rattle.std.proofs.Common.{◌≡◌, ◌⊎◌, inl, inr, ℕ, ◌<◌, true, false, List, [], ◌∷◌, ◌++◌, length, Option, Some, None, Result, Ok, Err, refl, sym, ap, ◌∙◌, subst, arith, ⊎_elim, codes}
 use Rattle.std.specs.Str.{bytes_eq}
 use Rattle.std.specs.Fmt.{decimal}
 use Rattle.std.proofs.lemmas.Slice.Eq.{bytes_eq-Decides}
@@ -7,25 +7,23 @@ use Rattle.std.proofs.lemmas.Bool.{cases_Bool, lt-ltb}
 use Rattle.ipfix_element.specs.Element.{Element}
 use Rattle.ipfix_element.specs.Kinds.{kind_of}
 use Rattle.ipfix_element.specs.Registry.{registry}
-use Rattle.flow_prefix.specs.declared.prefix.Prefix.{Prefix}
 use Rattle.policy_text.specs.declared.fault.FaultKind.{FaultKind}
 use Rattle.policy_text.specs.declared.fault.FaultKind.TheVariants.{UnknownWord, BadTruncate}
-use Rattle.policy_text.specs.declared.rule.Rule.{Rule}
 use Rattle.policy_text.specs.declared.rule.Action.{Action}
 use Rattle.policy_text.specs.declared.rule.Action.TheVariants.{Pass, Withhold, Aggregate, Keep, Remove, Truncate}
 use Rattle.policy_text.specs.Words.{Word}
 use Rattle.policy_text.specs.Naming.{is_name}
 use Rattle.policy_text.specs.Policies.{Aggregate as Definition}
-use Rattle.policy_text.specs.Results.{◌>>=◌, or_fault}
-use Rattle.policy_text.specs.Classes.{name, number, element, prefix, star, or_star, with_key, key_of, place_of, width_at, aggregate_place, new_name, interval, bits_within}
-use Rattle.policy_text.specs.Lines.{next_of, next, after, ended, truncate_of, element_action, aggregate_action, on_element, action_of, rule_of, aggregate_of}
-use Rattle.policy_text.specs.Grammar.{IsAggregate, AreAggregates, IsKeyAfter}
+use Rattle.policy_text.specs.Results.{◌>>=◌}
+use Rattle.policy_text.specs.Classes.{name, number, element, prefix, star, or_star, with_key, key_of, width_at, aggregate_place, new_name, interval, bits_within}
+use Rattle.policy_text.specs.Lines.{next_of, next, ended, truncate_of, element_action, aggregate_action, on_element, action_of, rule_of, aggregate_of}
+use Rattle.policy_text.specs.Grammar.{IsAggregate, AreAggregates}
 use Rattle.policy_text.specs.Printing.{key_text}
 use Rattle.policy_text.specs.FirstFault.{Part, parts_after, rule_parts, aggregate_parts}
 use Rattle.policy_text.specs.FirstFault.Part.{keyword, who, domain, network, action, known_name, element_or_star, treatment, bits, unused_name, key_list, seconds}
 use Rattle.policy_text.proofs.PrintedClassLaws.{or_star-star, new_name-printed, number-printed, interval-printed, bits-printed, key-printed}
-use Rattle.policy_text.proofs.SoundLaws.{err-Ok, bound, rule_end, rule_action, rule_to, rule_behind_from, rule_from, rule_behind_domain, rule_domain, rule_behind_who, rule_who, aggregate_end, aggregate_grace, aggregate_behind_interval, aggregate_interval, aggregate_behind_key, aggregate_key, aggregate_behind_name}
-use Rattle.policy_text.proofs.PlaceLaws.{Reader, Completes, IsDead, Reads, Reads-same, Agree, Agree-all, behind, dead, ok_or_err, word_step, taken, class_step, keyword_step, ends, end_reads}
+use Rattle.policy_text.proofs.SoundLaws.{err-Ok, rule_action, rule_to, rule_behind_from, rule_from, rule_behind_domain, rule_domain, rule_behind_who, rule_who, aggregate_end, aggregate_grace, aggregate_behind_interval, aggregate_interval, aggregate_behind_key, aggregate_key, aggregate_behind_name}
+use Rattle.policy_text.proofs.PlaceLaws.{Reader, Completes, IsDead, Reads, Reads-same, Agree-all, behind, dead, ok_or_err, word_step, taken, class_step, keyword_step, ends, end_reads}
 use Rattle.policy_text.proofs.KindLaws.{who_kind, domain_kind, network_kind, element_or_star_kind, grace_kind, interval_kind, bits_kind, place_kind, new_name_kind, key_kind}
 use Rattle.policy_text.proofs.FreshLaws.{fresh_name}
 

@@ -1,5 +1,5 @@
 -- The place of a fault in a line: what is read word by word fails at the first word that no continuation mends.
-use Rattle.std.proofs.Common.{◌≡◌, ◌⊎◌, inl, inr, ℕ, Bool, true, false, cond, List, [], ◌∷◌, ◌++◌, Option, Some, None, Result, Ok, Err, refl, sym, ap, ◌∙◌, subst, ⊎_elim, append_assoc}
+use Rattle.std.proofs.Common.{◌≡◌, ◌⊎◌, inl, inr, true, false, List, [], ◌∷◌, ◌++◌, Result, Ok, Err, refl, sym, ap, ◌∙◌, subst, ⊎_elim}
 use Rattle.std.specs.Str.{bytes_eq}
 use Rattle.std.proofs.lemmas.Bool.{cases_Bool}
 use Rattle.policy_text.specs.declared.fault.FaultKind.{FaultKind}
@@ -9,7 +9,7 @@ use Rattle.policy_text.specs.Policies.{Aggregate as Definition}
 use Rattle.policy_text.specs.Results.{◌>>=◌}
 use Rattle.policy_text.specs.Lines.{next_of, next, after, ended}
 use Rattle.policy_text.specs.Grammar.{IsAggregate}
-use Rattle.policy_text.specs.FirstFault.{Part, parts_after, part_behind, IsKindOf, IsKindBehind}
+use Rattle.policy_text.specs.FirstFault.{Part, parts_after, IsKindOf, IsKindBehind}
 use Rattle.policy_text.specs.FirstFault.Part.{keyword, line_end}
 use Rattle.policy_text.proofs.SoundLaws.{err-Ok}
 use Rattle.std.proofs.lemmas.Slice.Eq.{bytes_eq-Decides}

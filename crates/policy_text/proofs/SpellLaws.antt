@@ -520,7 +520,7 @@ pub policy_of-found : (text : List ℕ) (q : Meaning) → policy_of text ≡ Ok 
 unfolding policy_of
 policy_of-found text q h = all-found q 1 (lines_of text) h
 
-line_step-only : (p m : Meaning) (line : List ℕ) → AfterLine p (words_of line) m → line_step true p line ≡ Ok (true, m)
+pub line_step-only : (p m : Meaning) (line : List ℕ) → AfterLine p (words_of line) m → line_step true p line ≡ Ok (true, m)
 unfolding line_step step
 line_step-only p m line h =
     ⊎_elim (λ (skip : (is_skipped (words_of line) ≡ true) × (p ≡ m)). rw skip.0 (ap (λ (x : Meaning). Ok (true, x)) skip.1))
@@ -531,11 +531,11 @@ lines-only : (p q : Meaning) (n : ℕ) (lines : List (List ℕ)) → AreLines p 
 lines-only p q n [] h = read_lines-done p n ∙ ap (λ (x : Meaning). Ok x) h
 lines-only p q n (line ∷ lines) h = read_lines-cons true p n line lines ∙ rw (line_step-only p h.0 line h.1) (lines-only h.0 q (n + 1) lines h.2)
 
-header-only : (line : List ℕ) → is_skipped (words_of line) ≡ false → words_of line ≡ header → line_step false nothing line ≡ Ok (true, nothing)
+pub header-only : (line : List ℕ) → is_skipped (words_of line) ≡ false → words_of line ≡ header → line_step false nothing line ≡ Ok (true, nothing)
 unfolding line_step step is_header
 header-only line kept e = rw e refl
 
-skip-only : (line : List ℕ) → is_skipped (words_of line) ≡ true → line_step false nothing line ≡ Ok (false, nothing)
+pub skip-only : (line : List ℕ) → is_skipped (words_of line) ≡ true → line_step false nothing line ≡ Ok (false, nothing)
 unfolding line_step
 skip-only line skip = rw skip refl
 

@@ -1,5 +1,5 @@
 -- The first fault of a text, in the terms of what is spelled: in the first faulty line the first word, from the left, that no continuation mends.
-use Rattle.std.specs.Prelude.{◌≡◌, ◌⊎◌, ℕ, ◌+◌, Bool, true, false, ◌||◌, List, [], ◌∷◌, ◌++◌, length, map, Option, Some, None, Err, if◌then◌else◌, is_some, codes, ◌==◌}
+use Rattle.std.specs.Prelude.{◌≡◌, ◌⊎◌, ℕ, ◌+◌, true, false, ◌||◌, List, [], ◌∷◌, ◌++◌, length, map, Option, Some, None, Err, if◌then◌else◌, is_some, codes, ◌==◌}
 use Rattle.std.specs.List.{AllByRecursion, slice_split}
 use Rattle.std.specs.Str.{bytes_eq}
 use Rattle.ipfix_element.specs.Element.{Element, IsElement}
@@ -13,7 +13,7 @@ use Rattle.policy_text.specs.Naming.{is_name}
 use Rattle.policy_text.specs.Policies.{Meaning, with_aggregate, Aggregate as Definition}
 use Rattle.policy_text.specs.Grammar.{IsAggregate, IsKeyAfter}
 use Rattle.policy_text.specs.Printing.{header}
-use Rattle.policy_text.specs.Spelling.{AddsRule, AddsAggregate, AreAllLines}
+use Rattle.policy_text.specs.Spelling.{AddsRule, AddsAggregate, AreAllLines, Spells}
 use Rattle.policy_text.specs.Parsing.{policy_of}
 
 -- a line that may stand after the policy so far; before the header it is the header
@@ -85,8 +85,8 @@ pub record IsKeyFault (word : Word) (kind : FaultKind) : Type 0 where
   pub pieces_are : slice_split (λ c. c == 44) word ≡ map element_name key ++ piece ∷ others
   pub begun : IsKeyAfter [] key
   pub faulty :
-    (((e : Element) → IsElement e → piece ≡ element_name e → ⊥) × (kind ≡ BadName))
-    ⊎ ((e : Element) × IsElement e × (piece ≡ element_name e) × (IsKeyAfter [] (key ++ e ∷ []) → ⊥) × (kind ≡ BadKey))
+      (((e : Element) → IsElement e → piece ≡ element_name e → ⊥) × (kind ≡ BadName))
+      ⊎ ((e : Element) × IsElement e × (piece ≡ element_name e) × (IsKeyAfter [] (key ++ e ∷ []) → ⊥) × (kind ≡ BadKey))
 
 -- the kind of a faulty word by its part
 abbrev pub IsKindOf : Part → Word → FaultKind → Type 0
@@ -151,6 +151,12 @@ IsFirstFault text fault =
     IsFaultAt (lines_of text) fault.line fault.kind
     ⊎ (SpellSoFar (lines_of text) None × (fault ≡ record { line = 1; kind = NoHeader }))
 
--- a text's fault is its first fault
+-- The fault that reading answers is the text's first fault, and no other is.
 abbrev pub FirstFault : Type 0
-FirstFault = (text : List ℕ) (fault : PolicyFault) → policy_of text ≡ Err fault → IsFirstFault text fault
+FirstFault = (text : List ℕ) (fault : PolicyFault) → (policy_of text ≡ Err fault → IsFirstFault text fault) × (IsFirstFault text fault → policy_of text ≡ Err fault)
+
+-- a text spells a policy and has no first fault, or it spells none and has exactly one
+abbrev pub PolicyOrFault : Type 0
+PolicyOrFault = (text : List ℕ) →
+    ((policy : Meaning) × Spells text policy × ((fault : PolicyFault) → IsFirstFault text fault → ⊥))
+    ⊎ ((fault : PolicyFault) × IsFirstFault text fault × ((other : PolicyFault) → IsFirstFault text other → other ≡ fault) × ((policy : Meaning) → Spells text policy → ⊥))
