@@ -15,8 +15,9 @@ use Rattle.policy_text.specs.Parsing.{is_header, step, line_step, read_lines, po
 use Rattle.policy_text.specs.Grammar.{IsAggregate, IsPolicy}
 use Rattle.policy_text.specs.Printing.{header}
 use Rattle.policy_text.specs.Spelling.{AddsRule, AddsAggregate, AfterLine, AreLines}
-use Rattle.policy_text.specs.FirstFault.{MayStand, AwaitsAggregate, IsKindOf, IsFaulty, IsLineFault, SpellSoFar, IsFirstFault, rule_parts, aggregate_parts}
-use Rattle.policy_text.specs.FirstFault.Part.{first_word}
+use Rattle.policy_text.specs.LineParts.{IsKindOf, rule_parts, aggregate_parts}
+use Rattle.policy_text.specs.FirstFault.{MayStand, AwaitsAggregate, IsFaulty, IsLineFault, SpellSoFar, IsFirstFault}
+use Rattle.policy_text.specs.LineParts.Part.{first_word}
 use Rattle.policy_text.proofs.ParsingLaws.{read_lines-cons, read_lines-done, read_lines-empty}
 use Rattle.policy_text.proofs.KeptLaws.{IsPolicy-nothing, with_rule-kept, with_aggregate-kept}
 use Rattle.policy_text.proofs.SoundLaws.{err-Ok, bound}

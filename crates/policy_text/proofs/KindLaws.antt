@@ -18,7 +18,7 @@ use Rattle.policy_text.specs.Policies.{Aggregate as Definition}
 use Rattle.policy_text.specs.Results.{◌>>=◌, or_fault}
 use Rattle.policy_text.specs.Classes.{name, number, element, prefix, prefix_or_fault, star, some_of, or_star, with_key, add_piece, add_pieces, key_of, place_of, aggregate_place, new_name, interval, bits_within}
 use Rattle.policy_text.specs.Grammar.{IsKeyAfter}
-use Rattle.policy_text.specs.FirstFault.{IsKeyFault}
+use Rattle.policy_text.specs.LineParts.{IsKeyFault}
 use Rattle.policy_text.proofs.ElementLaws.{element_of-found, element_of-only}
 use Rattle.policy_text.proofs.SoundLaws.{err-Ok, bound, or_fault-Ok, with_key-sound}
 use Rattle.policy_text.proofs.PlaceLaws.{ok_or_err, same_kind}

@@ -16,8 +16,9 @@ use Rattle.policy_text.specs.Parsing.{is_header, step, line_step, read_lines, po
 use Rattle.policy_text.specs.Grammar.{IsKeyAfter, IsPolicy}
 use Rattle.policy_text.specs.Printing.{header}
 use Rattle.policy_text.specs.Spelling.{AreLines, AreAllLines, Spells}
-use Rattle.policy_text.specs.FirstFault.{MayStand, AwaitsAggregate, Begins, Part, part_behind, IsKeyFault, IsKindOf, IsKind, IsFaulty, IsLineFault, SpellSoFar, IsFaultAt, IsFirstFault, FirstFault, PolicyOrFault}
-use Rattle.policy_text.specs.FirstFault.Part.{first_word, keyword, who, domain, network, action, known_name, element_or_star, treatment, bits, unused_name, key_list, seconds, line_end}
+use Rattle.policy_text.specs.LineParts.{Part, part_behind, IsKeyFault, IsKindOf}
+use Rattle.policy_text.specs.FirstFault.{MayStand, AwaitsAggregate, Begins, IsKind, IsFaulty, IsLineFault, SpellSoFar, IsFaultAt, IsFirstFault, FirstFault, PolicyOrFault}
+use Rattle.policy_text.specs.LineParts.Part.{first_word, keyword, who, domain, network, action, known_name, element_or_star, treatment, bits, unused_name, key_list, seconds, line_end}
 use Rattle.policy_text.proofs.ParsingLaws.{read_lines-cons, read_lines-empty}
 use Rattle.policy_text.proofs.KeptLaws.{IsPolicy-nothing}
 use Rattle.policy_text.proofs.SoundLaws.{key_push, with_key-sound}

@@ -9,8 +9,8 @@ use Rattle.policy_text.specs.Policies.{Aggregate as Definition}
 use Rattle.policy_text.specs.Results.{◌>>=◌}
 use Rattle.policy_text.specs.Lines.{next_of, next, after, ended}
 use Rattle.policy_text.specs.Grammar.{IsAggregate}
-use Rattle.policy_text.specs.FirstFault.{Part, parts_after, IsKindOf, IsKindBehind}
-use Rattle.policy_text.specs.FirstFault.Part.{keyword, line_end}
+use Rattle.policy_text.specs.LineParts.{Part, parts_after, IsKindOf, IsKindBehind}
+use Rattle.policy_text.specs.LineParts.Part.{keyword, line_end}
 use Rattle.policy_text.proofs.SoundLaws.{err-Ok}
 use Rattle.std.proofs.lemmas.Slice.Eq.{bytes_eq-Decides}
 
