@@ -13,11 +13,12 @@ pub fn one_policy()
 {}
 
 /// The fault of a text is its first: the lines before it spell a policy so far; in its line the words
-/// before it begin a line that may stand there, and with the faulty word no continuation does. Its kind
-/// is said by the place of that word in the line.
+/// before it begin a line that may stand there, and with the faulty word no continuation does. (Where no
+/// aggregate is defined, a rule as far as its `aggregate` counts as begun, so that the fault is the
+/// name's.) The kind is said by what the grammar has at that place.
 pub fn first_fault()
     // What reading answers is the first fault, and no other is.
     ensures answered { FirstFault }
-    // A text spells a policy or has exactly one first fault.
+    // A text spells a policy, or it has exactly one first fault.
     ensures one { PolicyOrFault }
 {}
