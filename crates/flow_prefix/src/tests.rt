@@ -29,7 +29,7 @@ fn kept<R: Abort + AllocGlobal>(rt: &R, octets: &[u8], n: usize) -> Result<Vec<u
 }
 
 /// A prefix's printed text; a call that is refused is made again.
-fn print(alloc: Global, prefix: Prefix) -> Result<String, AllocError> {
+fn print(alloc: Global, prefix: &Prefix) -> Result<String, AllocError> {
     match prefix.print(alloc) {
         Ok(text) => Ok(text),
         Err(_) => prefix.print(alloc),
@@ -106,7 +106,7 @@ fn kept_bits_of_mac(rt: HostRuntime) -> Result<(), Fail> {
 #[test]
 fn prefix_and_element_names(rt: HostRuntime) -> Result<(), Fail> {
     let documentation = Prefix::parse("2001:db8::/32").ok().ok_or("a prefix")?;
-    let text = print(rt.alloc(), documentation)?;
+    let text = print(rt.alloc(), &documentation)?;
     assert_eq!(rt; text.as_str(), "2001:db8:0:0:0:0:0:0/32");
     for (text, want) in [
         ("192.0.2.1/24", PrefixFault::HostBits),
@@ -116,6 +116,19 @@ fn prefix_and_element_names(rt: HostRuntime) -> Result<(), Fail> {
         assert_eq!(rt; Prefix::parse(text).err(), Some(want), "at {text}");
     }
     print_then_parse();
+    Ok(())
+}
+
+/// That the prefix of a text prints as the other text, which is read back.
+fn expect_print<R: Abort + AllocGlobal>(rt: &R, text: &str, want: &str) -> Result<(), Fail> {
+    let prefix = Prefix::parse(text).ok().ok_or("a prefix")?;
+    let printed = print(rt.alloc(), &prefix)?;
+    assert_eq!(rt; printed.as_str(), want, "of {text}");
+    assert_eq!(rt;
+        Prefix::parse_ascii(want.as_bytes()),
+        Ok(prefix),
+        "back from {want}"
+    );
     Ok(())
 }
 
@@ -142,14 +155,7 @@ fn canonical_texts(rt: HostRuntime) -> Result<(), Fail> {
         ("1:2:3:4:5:6:7::/112", "1:2:3:4:5:6:7:0/112"),
         ("::2:3:4:5:6:7:8/128", "0:2:3:4:5:6:7:8/128"),
     ] {
-        let prefix = Prefix::parse(text).ok().ok_or("a prefix")?;
-        let printed = print(rt.alloc(), prefix)?;
-        assert_eq!(rt; printed.as_str(), want, "of {text}");
-        assert_eq!(rt;
-            Prefix::parse_ascii(want.as_bytes()),
-            Ok(prefix),
-            "back from {want}"
-        );
+        expect_print(&rt, text, want)?;
     }
     Ok(())
 }

@@ -425,6 +425,7 @@ fn most_aggregates(rt: HostRuntime) -> Result<(), Fail> {
     )?;
     let policy = parse(&rt, text.as_str()).ok().ok_or("a policy")?;
     assert_eq!(rt; policy.aggregates().len(), 256);
+    assert_eq!(rt; policy.rules().len(), 1);
     assert_eq!(rt; policy.rules()[0].action, Action::Aggregate(255));
     push(&rt, &mut text, "aggregate")?;
     expect_fault(&rt, text.as_str(), 259, FaultKind::TooMany);
