@@ -1,18 +1,49 @@
 use crate::{
     Family, Prefix, PrefixFault, keep_bits, kept_bits_are_truncated, print_then_parse, read_number,
 };
+use std::alloc::{AllocError, Global};
 use std::process::Abort;
 use std::test::Fail;
 
-/// What is left of the octets; checks that the call leaves what stood before.
+/// These octets, in a list of their own; a list that is refused for memory is asked for again.
+fn owned(alloc: Global, octets: &[u8]) -> Result<Vec<u8>, AllocError> {
+    match Vec::from_slice(alloc, octets) {
+        Ok(list) => Ok(list),
+        Err(_) => Vec::from_slice(alloc, octets),
+    }
+}
+
+/// What is left of the octets. The call leaves what stood before; one that is refused changes nothing,
+/// and is made again.
 fn kept<R: Abort + AllocGlobal>(rt: &R, octets: &[u8], n: usize) -> Result<Vec<u8>, Fail> {
     assert!(rt; octets.len() <= 16);
     assert!(rt; n <= 8 * octets.len());
-    let mut out = Vec::from_slice(rt.alloc(), b"before")?;
-    keep_bits(octets, n, &mut out)?;
+    let mut out = owned(rt.alloc(), b"before")?;
+    if keep_bits(octets, n, &mut out).is_err() {
+        assert_eq!(rt; out.as_slice(), b"before".as_slice());
+        keep_bits(octets, n, &mut out)?;
+    }
     assert_eq!(rt; out.len(), 6 + octets.len());
     assert_eq!(rt; &out[..6], b"before".as_slice());
-    Ok(Vec::from_slice(rt.alloc(), &out[6..])?)
+    Ok(owned(rt.alloc(), &out[6..])?)
+}
+
+/// A prefix's printed text; a call that is refused is made again.
+fn print(alloc: Global, prefix: &Prefix) -> Result<String, AllocError> {
+    match prefix.print(alloc) {
+        Ok(text) => Ok(text),
+        Err(_) => prefix.print(alloc),
+    }
+}
+
+/// Appends to a text; a call that is refused leaves it as it was, and is made again.
+fn push<R: Abort>(rt: &R, text: &mut String, part: &str) -> Result<(), AllocError> {
+    let before = text.len();
+    if text.push_str(part).is_err() {
+        assert_eq!(rt; text.len(), before);
+        text.push_str(part)?;
+    }
+    Ok(())
 }
 
 #[test]
@@ -75,7 +106,7 @@ fn kept_bits_of_mac(rt: HostRuntime) -> Result<(), Fail> {
 #[test]
 fn prefix_and_element_names(rt: HostRuntime) -> Result<(), Fail> {
     let documentation = Prefix::parse("2001:db8::/32").ok().ok_or("a prefix")?;
-    let text = documentation.print(rt.alloc())?;
+    let text = print(rt.alloc(), &documentation)?;
     assert_eq!(rt; text.as_str(), "2001:db8:0:0:0:0:0:0/32");
     for (text, want) in [
         ("192.0.2.1/24", PrefixFault::HostBits),
@@ -85,6 +116,19 @@ fn prefix_and_element_names(rt: HostRuntime) -> Result<(), Fail> {
         assert_eq!(rt; Prefix::parse(text).err(), Some(want), "at {text}");
     }
     print_then_parse();
+    Ok(())
+}
+
+/// That the prefix of a text prints as the other text, which is read back.
+fn expect_print<R: Abort + AllocGlobal>(rt: &R, text: &str, want: &str) -> Result<(), Fail> {
+    let prefix = Prefix::parse(text).ok().ok_or("a prefix")?;
+    let printed = print(rt.alloc(), &prefix)?;
+    assert_eq!(rt; printed.as_str(), want, "of {text}");
+    assert_eq!(rt;
+        Prefix::parse_ascii(want.as_bytes()),
+        Ok(prefix),
+        "back from {want}"
+    );
     Ok(())
 }
 
@@ -111,14 +155,7 @@ fn canonical_texts(rt: HostRuntime) -> Result<(), Fail> {
         ("1:2:3:4:5:6:7::/112", "1:2:3:4:5:6:7:0/112"),
         ("::2:3:4:5:6:7:8/128", "0:2:3:4:5:6:7:8/128"),
     ] {
-        let prefix = Prefix::parse(text).ok().ok_or("a prefix")?;
-        let printed = prefix.print(rt.alloc())?;
-        assert_eq!(rt; printed.as_str(), want, "of {text}");
-        assert_eq!(rt;
-            Prefix::parse_ascii(want.as_bytes()),
-            Ok(prefix),
-            "back from {want}"
-        );
+        expect_print(&rt, text, want)?;
     }
     Ok(())
 }
@@ -168,23 +205,19 @@ fn refused_texts(rt: HostRuntime) {
 fn a_thousand_digits(rt: HostRuntime) -> Result<(), Fail> {
     let mut digits = String::new(rt.alloc());
     for _ in 0..1000 {
-        digits.push('9')?;
+        push(&rt, &mut digits, "9")?;
     }
-    let length = format!(in rt.alloc(); "10.0.0.0/{digits}")?;
-    assert_eq!(rt;
-        Prefix::parse(length.as_str()).err(),
-        Some(PrefixFault::BadText)
-    );
-    let octet = format!(in rt.alloc(); "{digits}.0.0.0/8")?;
-    assert_eq!(rt;
-        Prefix::parse(octet.as_str()).err(),
-        Some(PrefixFault::BadText)
-    );
-    let group = format!(in rt.alloc(); "{digits}::/16")?;
-    assert_eq!(rt;
-        Prefix::parse(group.as_str()).err(),
-        Some(PrefixFault::BadText)
-    );
+    for (front, back) in [("10.0.0.0/", ""), ("", ".0.0.0/8"), ("", "::/16")] {
+        let mut text = String::new(rt.alloc());
+        push(&rt, &mut text, front)?;
+        push(&rt, &mut text, digits.as_str())?;
+        push(&rt, &mut text, back)?;
+        assert_eq!(rt;
+            Prefix::parse(text.as_str()).err(),
+            Some(PrefixFault::BadText),
+            "of {front:?} and {back:?}"
+        );
+    }
     assert_eq!(rt; read_number(digits.as_bytes(), u32::MAX), None);
     Ok(())
 }
@@ -223,18 +256,4 @@ fn numbers_and_widths(rt: HostRuntime) {
     assert_eq!(rt; read_number(b"33", 32), None);
     assert_eq!(rt; Family::Ipv4.width(), 32);
     assert_eq!(rt; Family::Ipv6.width(), 128);
-}
-
-#[test]
-fn want_of_memory(rt: HostRuntime) -> Result<(), Fail> {
-    let prefix = Prefix::parse("2001:db8::/32").ok().ok_or("a prefix")?;
-    if let Ok(text) = prefix.print(rt.alloc()) {
-        assert_eq!(rt; text.as_str(), "2001:db8:0:0:0:0:0:0/32");
-    }
-    let mut out = Vec::new(rt.alloc());
-    match keep_bits(&[192, 0, 2, 77], 28, &mut out) {
-        Ok(()) => assert_eq!(rt; out.as_slice(), [192, 0, 2, 64].as_slice()),
-        Err(_) => assert_eq!(rt; out.len(), 0),
-    }
-    Ok(())
 }

@@ -11,3 +11,9 @@ pub mod RoundLaws
 pub mod SoundLaws
 pub mod KeptLaws
 pub mod SpellLaws
+pub mod PlaceLaws
+pub mod FreshLaws
+pub mod KindLaws
+pub mod LinePlaceLaws
+pub mod FirstFaultLaws
+pub mod OneFaultLaws

@@ -269,7 +269,7 @@ rule_of-sound aggregates words r h =
     })
 
 -- keys
-key_push : (before key : List Element) (e : Element) → IsKeyAfter before key → IsElement e → with_key (before ++ key) e ≡ Ok ((before ++ key) ++ e ∷ []) → IsKeyAfter before (key ++ e ∷ [])
+pub key_push : (before key : List Element) (e : Element) → IsKeyAfter before key → IsElement e → with_key (before ++ key) e ≡ Ok ((before ++ key) ++ e ∷ []) → IsKeyAfter before (key ++ e ∷ [])
 key_push before [] e h ok next =
     let same = append-nil before in
     let P : List Element → Type 0 = λ k. with_key k e ≡ Ok (k ++ e ∷ []) in

@@ -355,10 +355,10 @@ aggregate_words-found before words a h =
     ap (λ ws. codes "aggregate" ∷ ws) t0 ∙ ap aggregate_words (same_Ok (record { name = named.0.0; key = key.0.0; interval = seconds.0.0; grace = grace.0.0 }) a end.2)
 
 -- lines
-abbrev IsLine : Meaning → List Word → Meaning → Type 0
+abbrev pub IsLine : Meaning → List Word → Meaning → Type 0
 IsLine old words new = AddsRule old words new ⊎ AddsAggregate old words new
 
-rule_line-found : (p q : Meaning) (words tail : List Word) → words ≡ codes "rule" ∷ tail → rule_line p tail ≡ Ok q → AddsRule p words q
+pub rule_line-found : (p q : Meaning) (words tail : List Word) → words ≡ codes "rule" ∷ tail → rule_line p tail ≡ Ok q → AddsRule p words q
 unfolding rule_line
 rule_line-found p q words tail e h =
     ⊎_elim (λ (full : leb 4096 (length p.rules) ≡ true). absurd (err-Ok TooMany q (rw full at h)))
@@ -392,7 +392,7 @@ aggregate_line-found p q words tail e h =
     })
     (cases_Bool (leb 256 (length p.aggregates)))
 
-line_of-found : (p q : Meaning) (words : List Word) → line_of p words ≡ Ok q → IsLine p words q
+pub line_of-found : (p q : Meaning) (words : List Word) → line_of p words ≡ Ok q → IsLine p words q
 unfolding line_of
 line_of-found p q words h =
     let first = bound (next_of words) (λ w. cond (bytes_eq w.0 (codes "rule")) (rule_line p w.1) (cond (bytes_eq w.0 (codes "aggregate")) (aggregate_line p w.1) (Err UnknownWord))) q h in
@@ -425,7 +425,7 @@ rule_only aggregates words r h =
       action_back aggregates r.element r.action h.sound.element h.sound.action,
     ) refl
 
-rule_line-only : (p q : Meaning) (words : List Word) → AddsRule p words q → line_of p words ≡ Ok q
+pub rule_line-only : (p q : Meaning) (words : List Word) → AddsRule p words q → line_of p words ≡ Ok q
 unfolding line_of rule_line next_of
 rule_line-only p q words h =
     ap (line_of p) h.words_are ∙ rw (lt-leb 4096 (length p.rules) h.room, rule_only p.aggregates h.tail h.rule h.spelled) (ap (λ (m : Meaning). Ok m) h.added)
@@ -435,7 +435,7 @@ unfolding line_of aggregate_line next_of
 aggregate_line-only p q words h =
     ap (line_of p) h.words_are ∙ rw (lt-leb 256 (length p.aggregates) h.room, aggregate_back p.aggregates h.aggregate h.sound) (ap (λ (m : Meaning). Ok m) h.added)
 
-line_of-only : (p q : Meaning) (words : List Word) → IsLine p words q → line_of p words ≡ Ok q
+pub line_of-only : (p q : Meaning) (words : List Word) → IsLine p words q → line_of p words ≡ Ok q
 line_of-only p q words h = ⊎_elim (λ (r : AddsRule p words q). rule_line-only p q words r) (λ (a : AddsAggregate p words q). aggregate_line-only p q words a) h
 
 -- steps of reading, where a policy comes out
@@ -455,11 +455,11 @@ steps_by started p line n others q (Err kind) e h = absurd (fault_ok (record { l
 steps_of : (started : Bool) (p : Meaning) (line : List ℕ) (n : ℕ) (others : List (List ℕ)) (q : Meaning) → read_lines started p n (line ∷ others) ≡ Ok q → Steps started p line n others q
 steps_of started p line n others q h = steps_by started p line n others q (line_step started p line) refl (sym (read_lines-cons started p n line others) ∙ h)
 
-record LineRead (p : Meaning) (line : List ℕ) (x : Bool × Meaning) : Type 0 where
+pub record LineRead (p : Meaning) (line : List ℕ) (x : Bool × Meaning) : Type 0 where
   pub started_is : true ≡ x.0
   pub line_is : AfterLine p (words_of line) x.1
 
-line_step-found : (p : Meaning) (line : List ℕ) (x : Bool × Meaning) → line_step true p line ≡ Ok x → LineRead p line x
+pub line_step-found : (p : Meaning) (line : List ℕ) (x : Bool × Meaning) → line_step true p line ≡ Ok x → LineRead p line x
 unfolding line_step step
 line_step-found p line x h =
     ⊎_elim (λ (skip : is_skipped (words_of line) ≡ true).
@@ -482,7 +482,7 @@ lines-found p q n (line ∷ lines) h =
     let read = line_step-found p line (s.next_started, s.mid) s.stepped in
     (s.mid, read.line_is, lines-found s.mid q (n + 1) lines (ap (λ b. read_lines b s.mid (n + 1) lines) read.started_is ∙ s.rest))
 
-is_header-is : (words : List Word) → is_header words ≡ true → words ≡ header
+pub is_header-is : (words : List Word) → is_header words ≡ true → words ≡ header
 unfolding is_header
 is_header-is [] h = absurd (false≢true h)
 is_header-is (w ∷ []) h = absurd (false≢true h)
@@ -491,10 +491,10 @@ is_header-is (w ∷ v ∷ []) h =
     ap (λ x. x ∷ v ∷ []) ((bytes_eq-Decides w (codes "policy")).0 both.0) ∙ ap (λ x. codes "policy" ∷ x ∷ []) ((bytes_eq-Decides v (codes "1")).0 both.1)
 is_header-is (w ∷ v ∷ u ∷ words) h = absurd (false≢true h)
 
-record HeaderRead (line : List ℕ) (x : Bool × Meaning) : Type 0 where
+pub record HeaderRead (line : List ℕ) (x : Bool × Meaning) : Type 0 where
   pub how : ((is_skipped (words_of line) ≡ true) × ((false, nothing) ≡ x)) ⊎ ((is_skipped (words_of line) ≡ false) × (words_of line ≡ header) × ((true, nothing) ≡ x))
 
-header-found : (line : List ℕ) (x : Bool × Meaning) → line_step false nothing line ≡ Ok x → HeaderRead line x
+pub header-found : (line : List ℕ) (x : Bool × Meaning) → line_step false nothing line ≡ Ok x → HeaderRead line x
 unfolding line_step step
 header-found line x h =
     ⊎_elim (λ (skip : is_skipped (words_of line) ≡ true). record { how = inl (skip, same_Ok (false, nothing) x (rw skip at h)) })
@@ -520,7 +520,7 @@ pub policy_of-found : (text : List ℕ) (q : Meaning) → policy_of text ≡ Ok 
 unfolding policy_of
 policy_of-found text q h = all-found q 1 (lines_of text) h
 
-line_step-only : (p m : Meaning) (line : List ℕ) → AfterLine p (words_of line) m → line_step true p line ≡ Ok (true, m)
+pub line_step-only : (p m : Meaning) (line : List ℕ) → AfterLine p (words_of line) m → line_step true p line ≡ Ok (true, m)
 unfolding line_step step
 line_step-only p m line h =
     ⊎_elim (λ (skip : (is_skipped (words_of line) ≡ true) × (p ≡ m)). rw skip.0 (ap (λ (x : Meaning). Ok (true, x)) skip.1))
@@ -531,11 +531,11 @@ lines-only : (p q : Meaning) (n : ℕ) (lines : List (List ℕ)) → AreLines p 
 lines-only p q n [] h = read_lines-done p n ∙ ap (λ (x : Meaning). Ok x) h
 lines-only p q n (line ∷ lines) h = read_lines-cons true p n line lines ∙ rw (line_step-only p h.0 line h.1) (lines-only h.0 q (n + 1) lines h.2)
 
-header-only : (line : List ℕ) → is_skipped (words_of line) ≡ false → words_of line ≡ header → line_step false nothing line ≡ Ok (true, nothing)
+pub header-only : (line : List ℕ) → is_skipped (words_of line) ≡ false → words_of line ≡ header → line_step false nothing line ≡ Ok (true, nothing)
 unfolding line_step step is_header
 header-only line kept e = rw e refl
 
-skip-only : (line : List ℕ) → is_skipped (words_of line) ≡ true → line_step false nothing line ≡ Ok (false, nothing)
+pub skip-only : (line : List ℕ) → is_skipped (words_of line) ≡ true → line_step false nothing line ≡ Ok (false, nothing)
 unfolding line_step
 skip-only line skip = rw skip refl
 

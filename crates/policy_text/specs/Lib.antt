@@ -17,3 +17,5 @@ pub mod Parsing
 pub mod Grammar
 pub mod Printing
 pub mod Spelling
+pub mod LineParts
+pub mod FirstFault

@@ -7,7 +7,7 @@
 //! - `aggregate`: [`AggregateDef`], whose ranges its type keeps.
 //! - `name`: [`Name`] of a subscriber or an aggregate, and the test [`is_name`].
 //! - `fault`: [`PolicyFault`] and [`FaultKind`], why a text is no policy.
-//! - `laws`: [`print_then_parse`] and [`one_policy`], proved over the definitions.
+//! - `laws`: [`print_then_parse`], [`one_policy`] and [`first_fault`], proved over the definitions.
 //! - `words`, `classes`, `lines`: how a line is read, word by word.
 #![tactic(auto)]
 
@@ -26,7 +26,7 @@ mod words;
 
 pub use aggregate::AggregateDef;
 pub use fault::{FaultKind, PolicyFault};
-pub use laws::{one_policy, print_then_parse};
+pub use laws::{first_fault, one_policy, print_then_parse};
 pub use name::{Name, is_name};
 pub use policy::Policy;
 pub use rule::{Action, Rule};

@@ -1,9 +1,10 @@
-ghost use Rattle.std.specs.Prelude.{◌≡◌, Ok, IfOk, string_bytes};
+ghost use Rattle.std.specs.Prelude.{◌≡◌, false, Ok, IfOk, IfErr, string_bytes};
 ghost use Rattle.policy_text.specs.Grammar.{IsPolicy};
 ghost use Rattle.policy_text.specs.Policies.{Meaning};
 ghost use Rattle.policy_text.specs.Spelling.{Spells};
 ghost use Rattle.policy_text.specs.Printing.{policy_text};
-ghost use Rattle.policy_text.specs.Results.{Gives, Parses, fault_at};
+ghost use Rattle.policy_text.specs.FirstFault.{IsFirstFault};
+ghost use Rattle.policy_text.specs.Results.{Gives, Parses, fault_at, is_memory};
 ghost use Rattle.policy_text.specs.Lines.{rule_line, aggregate_line, line_of};
 ghost use Rattle.policy_text.specs.Words.{words_of, is_skipped};
 ghost use Rattle.policy_text.specs.Parsing.{is_header, line_step, policy_of};
@@ -51,6 +52,8 @@ impl Policy {
         // What is spelled so is read, unless memory runs out.
         ensures only { (policy : Meaning) → Spells text.now policy
             → Parses (λ p. p) result (Ok policy) }
+        // What is refused has this first fault, unless memory ran out.
+        ensures first { IfErr result (λ fault. is_memory fault.kind ≡ false → IsFirstFault text.now fault) }
         // Which fault it is.
         ensures exact { Parses (λ p. p) result (policy_of text.now) }
     {

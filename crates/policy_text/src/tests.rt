@@ -1,4 +1,7 @@
-use crate::{Action, FaultKind, Policy, is_name, one_policy, print_then_parse};
+use crate::{
+    Action, FaultKind, Policy, PolicyFault, first_fault, is_name, one_policy, print_then_parse,
+};
+use std::alloc::{AllocError, Global};
 use std::process::Abort;
 use std::test::Fail;
 
@@ -201,24 +204,96 @@ const POLICIES: [(&str, usize, usize); 4] = [
 const PASS: &str =
     "policy 1\nrule for * in * from * to * pass\nrule for * in * from * to * element * keep\n";
 
+/// The answer for a text. A call that is refused for memory has line 0, and is made again.
+fn parse<R: Abort + AllocGlobal>(rt: &R, text: &str) -> Result<Policy, PolicyFault> {
+    let answer = Policy::parse(rt.alloc(), text);
+    if let Err(refused) = &answer {
+        if refused.kind == FaultKind::OutOfMemory {
+            assert_eq!(rt; refused.line, 0, "of {text:?}");
+            return Policy::parse(rt.alloc(), text);
+        }
+    }
+    answer
+}
+
+/// A policy's printed text. A call that is refused leaves the policy as it was, and is made again.
+fn print<R: Abort + AllocGlobal>(rt: &R, policy: &Policy) -> Result<String, AllocError> {
+    let (rules, aggregates) = (policy.rules().len(), policy.aggregates().len());
+    match policy.print(rt.alloc()) {
+        Ok(text) => Ok(text),
+        Err(_) => {
+            assert_eq!(rt; policy.rules().len(), rules);
+            assert_eq!(rt; policy.aggregates().len(), aggregates);
+            policy.print(rt.alloc())
+        }
+    }
+}
+
+/// Appends to a text; a call that is refused leaves it as it was, and is made again.
+fn push<R: Abort>(rt: &R, text: &mut String, part: &str) -> Result<(), AllocError> {
+    let before = text.len();
+    if text.push_str(part).is_err() {
+        assert_eq!(rt; text.len(), before);
+        text.push_str(part)?;
+    }
+    Ok(())
+}
+
+/// The line of an aggregate `aPLACE`.
+fn aggregate_line(alloc: Global, place: u32) -> Result<String, AllocError> {
+    match format!(in alloc; "aggregate a{place} key vlanId interval 1 grace 0\n") {
+        Ok(line) => Ok(line),
+        Err(_) => format!(in alloc; "aggregate a{place} key vlanId interval 1 grace 0\n"),
+    }
+}
+
 /// That the text has this fault.
 fn expect_fault<R: Abort + AllocGlobal>(rt: &R, text: &str, line: usize, kind: FaultKind) {
-    let fault = Policy::parse(rt.alloc(), text).err();
-    let found = fault.map(|fault| (fault.line, fault.kind));
+    let found = parse(rt, text).err().map(|fault| (fault.line, fault.kind));
     assert_eq!(rt; found, Some((line, kind)), "of {text:?}");
 }
 
-#[test]
-fn faults(rt: HostRuntime) {
-    for (text, line, kind) in FAULTS {
-        expect_fault(&rt, text, line, kind);
+/// Six lines of the table: few, so that each allocation of a test can be refused in turn.
+fn expect_faults<R: Abort + AllocGlobal>(rt: &R, from: usize) {
+    for (text, line, kind) in FAULTS.iter().skip(from).take(6) {
+        expect_fault(rt, text, *line, *kind);
     }
+}
+
+#[test]
+fn faults_from_the_first(rt: HostRuntime) {
+    expect_faults(&rt, 0);
+}
+
+#[test]
+fn faults_from_the_seventh(rt: HostRuntime) {
+    expect_faults(&rt, 6);
+}
+
+#[test]
+fn faults_from_the_13th(rt: HostRuntime) {
+    expect_faults(&rt, 12);
+}
+
+#[test]
+fn faults_from_the_19th(rt: HostRuntime) {
+    expect_faults(&rt, 18);
+}
+
+#[test]
+fn faults_from_the_25th(rt: HostRuntime) {
+    expect_faults(&rt, 24);
+}
+
+#[test]
+fn faults_from_the_31st(rt: HostRuntime) {
+    expect_faults(&rt, 30);
 }
 
 #[test]
 fn policies(rt: HostRuntime) -> Result<(), Fail> {
     for (text, rules, aggregates) in POLICIES {
-        let policy = Policy::parse(rt.alloc(), text).ok().ok_or("a policy")?;
+        let policy = parse(&rt, text).ok().ok_or("a policy")?;
         assert_eq!(rt; policy.rules().len(), rules, "of {text:?}");
         assert_eq!(rt; policy.aggregates().len(), aggregates, "of {text:?}");
     }
@@ -226,47 +301,46 @@ fn policies(rt: HostRuntime) -> Result<(), Fail> {
 }
 
 #[test]
-fn bad_lines(rt: HostRuntime) -> Result<(), Fail> {
-    for (line, kind) in [
+fn bad_lines(rt: HostRuntime) {
+    for (text, kind) in [
         (
-            "rule for acme in 4294967296 from * to * pass",
+            "policy 1\nrule for acme in 4294967296 from * to * pass",
             FaultKind::BadNumber,
         ),
         (
-            "rule for acme in * from * to * pass pass",
+            "policy 1\nrule for acme in * from * to * pass pass",
             FaultKind::UnknownWord,
         ),
         (
-            "rule for acme in * from * to * element e8 keep",
+            "policy 1\nrule for acme in * from * to * element e8 keep",
             FaultKind::BadName,
         ),
         (
-            "rule for acme in * from * to * element * truncate 8",
+            "policy 1\nrule for acme in * from * to * element * truncate 8",
             FaultKind::BadTruncate,
         ),
         (
-            "rule for acme in * from * to * element sourceIPv4Address truncate 33",
+            "policy 1\nrule for acme in * from * to * element sourceIPv4Address truncate 33",
             FaultKind::BadTruncate,
         ),
         (
-            "rule for acme in * from * to * element sourceIPv4Address truncate 1000",
+            "policy 1\nrule for acme in * from * to * element sourceIPv4Address truncate 1000",
             FaultKind::BadNumber,
         ),
         (
-            "rule for acme in * from * to * aggregate web",
+            "policy 1\nrule for acme in * from * to * aggregate web",
             FaultKind::UnknownAggregate,
         ),
         (
-            "aggregate a key flowId interval 300 grace 0",
+            "policy 1\naggregate a key flowId interval 300 grace 0",
             FaultKind::BadKey,
         ),
         (
-            "aggregate a key vlanId,vlanId interval 300 grace 0",
+            "policy 1\naggregate a key vlanId,vlanId interval 300 grace 0",
             FaultKind::BadKey,
         ),
     ] {
-        let text = format!(in rt.alloc(); "policy 1\n{line}")?;
-        expect_fault(&rt, text.as_str(), 2, kind);
+        expect_fault(&rt, text, 2, kind);
     }
     expect_fault(&rt, "", 1, FaultKind::NoHeader);
     expect_fault(&rt, "policy 2\nrule", 1, FaultKind::NoHeader);
@@ -276,18 +350,18 @@ fn bad_lines(rt: HostRuntime) -> Result<(), Fail> {
         2,
         FaultKind::BadPrefix,
     );
-    Ok(())
 }
 
 #[test]
 fn check_policy(rt: HostRuntime) -> Result<(), Fail> {
-    let policy = Policy::parse(rt.alloc(), PASS).ok().ok_or("a policy")?;
+    let policy = parse(&rt, PASS).ok().ok_or("a policy")?;
     assert_eq!(rt; policy.rules().len(), 2);
     assert_eq!(rt; policy.aggregates().len(), 0);
-    let text = policy.print(rt.alloc())?;
+    let text = print(&rt, &policy)?;
     assert_eq!(rt; text.as_str(), PASS);
     print_then_parse();
     one_policy();
+    first_fault();
     Ok(())
 }
 
@@ -295,8 +369,8 @@ fn check_policy(rt: HostRuntime) -> Result<(), Fail> {
 fn tabs_comments_and_carriage_returns(rt: HostRuntime) -> Result<(), Fail> {
     let text =
         "\t# a comment\r\n\r\n policy\t1 \r\naggregate web\tkey vlanId,protocolIdentifier interval 300 grace 60\r\n#\nrule for acme in 7 from 2001:DB8::/32 to 192.0.2.0/24 aggregate web\r\nrule for * in * from * to * element sourceIPv4Address truncate 24";
-    let policy = Policy::parse(rt.alloc(), text).ok().ok_or("a policy")?;
-    let printed = policy.print(rt.alloc())?;
+    let policy = parse(&rt, text).ok().ok_or("a policy")?;
+    let printed = print(&rt, &policy)?;
     assert_eq!(rt;
         printed.as_str(),
         "policy 1\naggregate web key vlanId,protocolIdentifier interval 300 grace 60\nrule for acme in 7 from 2001:db8:0:0:0:0:0:0/32 to 192.0.2.0/24 aggregate web\nrule for * in * from * to * element sourceIPv4Address truncate 24\n"
@@ -319,22 +393,42 @@ fn tabs_comments_and_carriage_returns(rt: HostRuntime) -> Result<(), Fail> {
 }
 
 #[test]
-fn greatest_policy(rt: HostRuntime) -> Result<(), Fail> {
-    let mut text = String::from_str(rt.alloc(), "policy 1\n")?;
-    for place in 0..256u32 {
-        let line = format!(in rt.alloc(); "aggregate a{place} key vlanId interval 1 grace 0\n")?;
-        text.push_str(line.as_str())?;
-    }
+fn most_rules(rt: HostRuntime) -> Result<(), Fail> {
+    let mut text = String::new(rt.alloc());
+    push(
+        &rt,
+        &mut text,
+        "policy 1\naggregate a key vlanId interval 1 grace 0\n",
+    )?;
     for _ in 0..4096u32 {
-        text.push_str("rule for * in * from * to * aggregate a255\n")?;
+        push(&rt, &mut text, "rule for * in * from * to * aggregate a\n")?;
     }
-    let policy = Policy::parse(rt.alloc(), text.as_str())
-        .ok()
-        .ok_or("a policy")?;
+    let policy = parse(&rt, text.as_str()).ok().ok_or("a policy")?;
     assert_eq!(rt; policy.rules().len(), 4096);
+    push(&rt, &mut text, "rule")?;
+    expect_fault(&rt, text.as_str(), 4099, FaultKind::TooMany);
+    Ok(())
+}
+
+#[test]
+fn most_aggregates(rt: HostRuntime) -> Result<(), Fail> {
+    let mut text = String::new(rt.alloc());
+    push(&rt, &mut text, "policy 1\n")?;
+    for place in 0..256u32 {
+        let line = aggregate_line(rt.alloc(), place)?;
+        push(&rt, &mut text, line.as_str())?;
+    }
+    push(
+        &rt,
+        &mut text,
+        "rule for * in * from * to * aggregate a255\n",
+    )?;
+    let policy = parse(&rt, text.as_str()).ok().ok_or("a policy")?;
     assert_eq!(rt; policy.aggregates().len(), 256);
-    text.push_str("rule")?;
-    expect_fault(&rt, text.as_str(), 4354, FaultKind::TooMany);
+    assert_eq!(rt; policy.rules().len(), 1);
+    assert_eq!(rt; policy.rules()[0].action, Action::Aggregate(255));
+    push(&rt, &mut text, "aggregate")?;
+    expect_fault(&rt, text.as_str(), 259, FaultKind::TooMany);
     Ok(())
 }
 
@@ -357,16 +451,12 @@ fn names(rt: HostRuntime) {
 }
 
 #[test]
-fn want_of_memory(rt: HostRuntime) {
+fn want_of_memory(rt: HostRuntime) -> Result<(), Fail> {
     let text =
         "policy 1\naggregate web key vlanId interval 300 grace 60\nrule for acme in * from * to * aggregate web\n";
-    match Policy::parse(rt.alloc(), text) {
-        Ok(policy) => {
-            assert_eq!(rt; policy.rules().len(), 1);
-            if let Ok(printed) = policy.print(rt.alloc()) {
-                assert_eq!(rt; printed.as_str(), text);
-            }
-        }
-        Err(fault) => assert_eq!(rt; (fault.line, fault.kind), (0, FaultKind::OutOfMemory)),
-    }
+    let policy = parse(&rt, text).ok().ok_or("a policy")?;
+    assert_eq!(rt; policy.rules().len(), 1);
+    let printed = print(&rt, &policy)?;
+    assert_eq!(rt; printed.as_str(), text);
+    Ok(())
 }

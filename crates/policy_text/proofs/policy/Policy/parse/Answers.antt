@@ -1,4 +1,5 @@
 use Rattle.policy_text.proofs.SpellLaws.{parses-found, parses-only}
+use Rattle.policy_text.proofs.OneFaultLaws.{parses-first}
 use Rattle.policy_text.proofs.policy.Policy.parse.Goals as goal
 
 pub returns-clause-found : goal.returns-clause-found
@@ -6,3 +7,6 @@ returns-clause-found c = parses-found c.args.text.now c.read.result c.read.ensur
 
 pub returns-clause-only : goal.returns-clause-only
 returns-clause-only c = λ policy spelled. parses-only c.args.text.now c.read.result policy c.read.ensures.exact spelled
+
+pub returns-clause-first : goal.returns-clause-first
+returns-clause-first c = parses-first c.args.text.now c.read.result c.read.ensures.exact

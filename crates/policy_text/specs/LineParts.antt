@@ -1,0 +1,91 @@
+-- What each word of a line is to be, and the kind of fault where it is not.
+use Rattle.std.specs.Prelude.{◌≡◌, ◌⊎◌, ◌||◌, List, [], ◌∷◌, ◌++◌, map, if◌then◌else◌, is_some, codes, ◌==◌}
+use Rattle.std.specs.List.{slice_split}
+use Rattle.std.specs.Str.{bytes_eq}
+use Rattle.ipfix_element.specs.Element.{Element, IsElement}
+use Rattle.ipfix_element.specs.Names.{element_name}
+use Rattle.flow_prefix.specs.Numerals.{number_of}
+use Rattle.policy_text.specs.declared.fault.FaultKind.{FaultKind}
+use Rattle.policy_text.specs.declared.fault.FaultKind.TheVariants.{UnknownWord, BadName, BadNumber, BadPrefix, BadTruncate, UnknownAggregate, DoubleAggregate, BadKey, TooMany}
+use Rattle.policy_text.specs.Words.{Word}
+use Rattle.policy_text.specs.Naming.{is_name}
+use Rattle.policy_text.specs.Grammar.{IsKeyAfter}
+
+-- what a word of a line is to be
+pub data Part : Type 0 where
+  -- `rule` or `aggregate`
+  first_word : Part
+  -- the one word that the grammar has there
+  keyword : Part
+  who : Part
+  domain : Part
+  network : Part
+  -- `pass`, `withhold`, `aggregate` or `element`
+  action : Part
+  -- the NAME of an aggregate that a line before defines
+  known_name : Part
+  element_or_star : Part
+  -- `keep`, `remove` or `truncate`
+  treatment : Part
+  bits : Part
+  -- the NAME of an aggregate that no line before defines
+  unused_name : Part
+  key_list : Part
+  seconds : Part
+  -- no word
+  line_end : Part
+
+-- the parts of a line's words
+abbrev pub rule_parts : List Part
+rule_parts = keyword ∷ who ∷ keyword ∷ domain ∷ keyword ∷ network ∷ keyword ∷ network ∷ action ∷ []
+
+abbrev pub aggregate_parts : List Part
+aggregate_parts = unused_name ∷ keyword ∷ key_list ∷ keyword ∷ seconds ∷ keyword ∷ seconds ∷ []
+
+-- The parts behind a word: those that follow, or those of the line, the action or the treatment that the word names.
+abbrev pub parts_after : Part → Word → List Part → List Part
+parts_after first_word word parts = if bytes_eq word (codes "rule") then rule_parts else aggregate_parts
+parts_after action word parts =
+    if bytes_eq word (codes "aggregate") then known_name ∷ []
+    else if bytes_eq word (codes "element") then element_or_star ∷ treatment ∷ [] else []
+parts_after treatment word parts = if bytes_eq word (codes "truncate") then bits ∷ [] else []
+parts_after part word parts = parts
+
+-- the part that stands behind these words
+abbrev pub part_behind : List Part → List Word → Part
+part_behind [] front = line_end
+part_behind (part ∷ parts) [] = part
+part_behind (part ∷ parts) (word ∷ front) = part_behind (parts_after part word parts) front
+
+-- The first piece of a key that doesn't fit: no element has the name, or the element may not stand after those before it.
+pub record IsKeyFault (word : Word) (kind : FaultKind) : Type 0 where
+  pub key : List Element
+  pub piece : Word
+  pub others : List Word
+  pub pieces_are : slice_split (λ c. c == 44) word ≡ map element_name key ++ piece ∷ others
+  pub begun : IsKeyAfter [] key
+  pub faulty :
+      (((e : Element) → IsElement e → piece ≡ element_name e → ⊥) × (kind ≡ BadName))
+      ⊎ ((e : Element) × IsElement e × (piece ≡ element_name e) × (IsKeyAfter [] (key ++ e ∷ []) → ⊥) × (kind ≡ BadKey))
+
+-- the kind of a faulty word by its part
+abbrev pub IsKindOf : Part → Word → FaultKind → Type 0
+IsKindOf first_word word kind = kind ≡ (if bytes_eq word (codes "rule") || bytes_eq word (codes "aggregate") then TooMany else UnknownWord)
+IsKindOf keyword word kind = kind ≡ UnknownWord
+IsKindOf who word kind = kind ≡ BadName
+IsKindOf domain word kind = kind ≡ BadNumber
+IsKindOf network word kind = kind ≡ BadPrefix
+IsKindOf action word kind = kind ≡ UnknownWord
+IsKindOf known_name word kind = kind ≡ (if is_name word then UnknownAggregate else BadName)
+IsKindOf element_or_star word kind = kind ≡ BadName
+IsKindOf treatment word kind = kind ≡ (if bytes_eq word (codes "truncate") then BadTruncate else UnknownWord)
+IsKindOf bits word kind = kind ≡ (if is_some (number_of 999 word) then BadTruncate else BadNumber)
+IsKindOf unused_name word kind = kind ≡ (if is_name word then DoubleAggregate else BadName)
+IsKindOf key_list word kind = IsKeyFault word kind
+IsKindOf seconds word kind = kind ≡ BadNumber
+IsKindOf line_end word kind = kind ≡ UnknownWord
+
+-- the kind of a fault behind these words: a line that ends early, or the next word
+abbrev pub IsKindBehind : List Part → List Word → List Word → FaultKind → Type 0
+IsKindBehind parts front [] kind = kind ≡ UnknownWord
+IsKindBehind parts front (word ∷ words) kind = IsKindOf (part_behind parts front) word kind
