@@ -1,0 +1,4 @@
+pub mod Picks
+pub mod Turns
+pub mod Bounds
+pub mod Sound

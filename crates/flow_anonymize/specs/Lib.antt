@@ -5,3 +5,4 @@ pub use Rattle.policy_judge.specs.Verdicts
 pub mod Outcome
 pub mod Remaining
 pub mod Disclosed
+pub mod Within

@@ -3,10 +3,15 @@
 //! (RFC 6235, sections 4.1.1 and 4.4: truncation and removal).
 //!
 //! - `disclosure`: [`Disclosure`], with [`RemovedField`] and [`Reason`].
-//! - `disclose`: [`disclose`].
+//! - `transform`: [`disclose`].
+//! - `fields`: the verdict on each field, and which fields stay.
+//! - `values`: what is shown of their values.
 #![tactic(auto)]
 
-mod disclose;
 mod disclosure;
+mod fields;
+mod transform;
+mod values;
 
 pub use disclosure::{Disclosure, Reason, RemovedField};
+pub use transform::disclose;

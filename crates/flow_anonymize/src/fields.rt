@@ -1,24 +1,28 @@
+//! The verdict on each field of a record, and which fields stay.
 ghost use Rattle.std.specs.Prelude.{◌≡◌, ◌<◌, ◌≤◌, length, map, filter, not, IfOk};
 ghost use Rattle.std.specs.List.{zip};
-ghost use Rattle.flow_anonymize.specs.Outcome.{shown};
-ghost use Rattle.flow_anonymize.specs.Remaining.{verdicts_of, is_kept, kept_fields, kept_values, removed_fields};
+ghost use Rattle.flow_anonymize.specs.Remaining.{verdicts_of, is_kept, kept_fields, removed_fields};
+ghost use Rattle.flow_anonymize.specs.Within.{AreJudged};
 
-use crate::disclosure::{Disclosure, Reason, RemovedField};
+use crate::disclosure::RemovedField;
 use ipfix_template::{FieldSpec, Record};
 use policy_judge::{ElementAction, ElementVerdict, element_verdict};
 use policy_text::Policy;
 use std::alloc::{AllocError, Global};
 
 /// The verdict on each field of the record.
-fn judge_fields(
+pub(crate) fn judge_fields(
     alloc: Global,
     policy: &Policy,
     name: &str,
     domain: u32,
     flow_record: &Record,
 ) -> Result<Vec<ElementVerdict>, AllocError>
-    ensures { IfOk result (λ verdicts. verdicts.items ≡ verdicts_of name.now domain flow_record.now policy.now.rules) }
+    ensures exact { IfOk result (λ verdicts. verdicts.items ≡ verdicts_of name.now domain flow_record.now policy.now.rules) }
+    ensures judged { IfOk result (λ verdicts. AreJudged flow_record.now verdicts.items) }
 {
+    // Each rule is one of the grammar, so it keeps no more bits than a value of its element has.
+    let _rules = policy.rules();
     let count = flow_record.template().fields.len();
     let mut verdicts = Vec::with_capacity(alloc, count)?;
     for field in 0..count {
@@ -38,7 +42,7 @@ fn is_kept(verdict: &ElementVerdict) -> bool
 }
 
 /// The fields that stay.
-fn kept_fields(
+pub(crate) fn kept_fields(
     alloc: Global,
     fields: &[FieldSpec],
     verdicts: &[ElementVerdict],
@@ -53,8 +57,8 @@ fn kept_fields(
         .collect(alloc)
 }
 
-/// The fields that are left out.
-fn removed_fields(
+/// The fields that are left out, in the order of their places.
+pub(crate) fn removed_fields(
     alloc: Global,
     verdicts: &[ElementVerdict],
 ) -> Result<Vec<RemovedField>, AllocError>
