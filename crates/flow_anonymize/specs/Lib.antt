@@ -6,3 +6,6 @@ pub mod Outcome
 pub mod Remaining
 pub mod Disclosed
 pub mod Within
+pub mod Permitted
+pub mod Secrecy
+pub mod OtherRules

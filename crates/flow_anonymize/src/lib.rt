@@ -6,12 +6,18 @@
 //! - `transform`: [`disclose`].
 //! - `fields`: the verdict on each field, and which fields stay.
 //! - `values`: what is shown of their values.
+//! - `laws`: [`only_permitted_passes`], [`denied_is_secret`], [`others_never_matter`] and
+//!   [`later_rules_never_matter`], proved over the definitions.
 #![tactic(auto)]
 
 mod disclosure;
 mod fields;
+mod laws;
 mod transform;
 mod values;
 
 pub use disclosure::{Disclosure, Reason, RemovedField};
+pub use laws::{
+    denied_is_secret, later_rules_never_matter, only_permitted_passes, others_never_matter,
+};
 pub use transform::disclose;
