@@ -1,7 +1,7 @@
 -- A rule of a policy keeps no more bits than the values of its element have.
 use Rattle.std.proofs.Common.{◌≡◌, ℕ, zero, suc, ◌+◌, ◌*◌, ◌<◌, ◌≤◌, Bool, true, false, cond, eqb, List, [], ◌∷◌, ◌++◌, length, map, get_or, Option, Some, None, refl, sym, ap, ◌∙◌, arith, not}
 use Rattle.std.specs.Prelude.{◌&&◌, ◌==◌}
-use Rattle.std.specs.List.{zip, find, enumerate_from, range_with_len, list_all, AllByRecursion}
+use Rattle.std.specs.List.{find, enumerate_from, range_with_len, list_all, AllByRecursion}
 use Rattle.std.proofs.lemmas.Bool.{and_parts, eqb-true}
 use Rattle.std.proofs.lemmas.List.FromFn.{get_or-map-range_with_len, length-map-range_with_len, map-range_with_len_more}
 use Rattle.ipfix_element.specs.Element.{Element}
@@ -12,7 +12,7 @@ use Rattle.ipfix_template.specs.declared.field.FieldSpec.{FieldSpec}
 use Rattle.ipfix_template.specs.declared.template.Template.{Template}
 use Rattle.ipfix_template.specs.declared.template.Refused.TheVariants.{BadLength, BadScope, EmptyRecord}
 use Rattle.ipfix_template.specs.Template.{is_variable, has_allowed_length, has_bad_scope, shortest_record, refusal_of, is_options, IsAccepted}
-use Rattle.ipfix_template.specs.Values.{fits_field, fit_fields}
+use Rattle.ipfix_template.specs.Values.{fits_field}
 use Rattle.ipfix_template.specs.DataRecord.{DataRecord, IsSound}
 use Rattle.ipfix_template.proofs.Encoding.{fit_fields-at, fit_fields-length}
 use Rattle.policy_text.specs.declared.rule.Rule.{Rule}
@@ -22,7 +22,7 @@ use Rattle.policy_text.specs.Policies.{Meaning, Aggregate as Definition}
 use Rattle.policy_text.specs.Classes.{width_of_kind, width_at}
 use Rattle.policy_text.specs.Grammar.{IsAction, IsRule, IsPolicy}
 use Rattle.policy_judge.specs.declared.verdict.ElementVerdict.{ElementVerdict}
-use Rattle.policy_judge.specs.Match.{is_met, is_on_records, is_for, covers, is_same_pen, is_same_element, is_element, element_at, matches_field}
+use Rattle.policy_judge.specs.Match.{is_met, is_on_records, is_for, covers, is_same_pen, is_same_element, is_element, matches_field}
 use Rattle.policy_judge.specs.Verdicts.{element_action, element_verdict_by, element_verdict_of}
 use Rattle.policy_judge.proofs.FirstRuleLaws.{element_there}
 use Rattle.flow_anonymize.specs.Remaining.{verdicts_of}

@@ -1,12 +1,10 @@
 -- Rules that never matter.
-use Rattle.std.proofs.Common.{◌≡◌, ℕ, zero, suc, ◌+◌, ◌<◌, ◌≤◌, Bool, true, false, cond, ltb, eqb, List, [], ◌∷◌, ◌++◌, length, map, filter, Option, Some, None, refl, sym, ap, ◌∙◌, arith, not}
+use Rattle.std.proofs.Common.{◌≡◌, ℕ, ◌+◌, true, false, cond, ltb, eqb, List, [], ◌∷◌, ◌++◌, length, map, filter, Option, Some, None, refl, sym, ap, ◌∙◌, arith, not}
 use Rattle.std.specs.Prelude.{option_map}
-use Rattle.std.specs.List.{zip, find, enumerate_from, range_with_len, list_any, AllZip}
+use Rattle.std.specs.List.{zip, enumerate_from, AllZip}
 use Rattle.ipfix_template.specs.declared.field.FieldSpec.{FieldSpec}
-use Rattle.ipfix_template.specs.declared.template.Template.{Template}
 use Rattle.ipfix_template.specs.Template.{shortest_record}
 use Rattle.ipfix_template.specs.DataRecord.{DataRecord}
-use Rattle.policy_text.specs.declared.rule.Rule.{Rule}
 use Rattle.policy_judge.specs.declared.verdict.RecordAction.{RecordAction}
 use Rattle.policy_judge.specs.declared.verdict.RecordAction.TheVariants.{Pass, Withhold, Aggregate}
 use Rattle.policy_judge.specs.declared.verdict.ElementVerdict.{ElementVerdict}
@@ -16,10 +14,10 @@ use Rattle.policy_judge.specs.Laws.{concerning}
 use Rattle.policy_judge.proofs.NeverLaws.{acts_alone}
 use Rattle.flow_anonymize.specs.declared.disclosure.RemovedField.{RemovedField}
 use Rattle.flow_anonymize.specs.declared.disclosure.Reason.TheVariants as because
-use Rattle.flow_anonymize.specs.Outcome.{Outcome, Passes, Aggregates, Withholds}
+use Rattle.flow_anonymize.specs.Outcome.{Outcome, Passes, Withholds}
 use Rattle.flow_anonymize.specs.Remaining.{verdicts_of, keeps, is_kept, shown_value, kept_fields, kept_values, removed_fields}
-use Rattle.flow_anonymize.specs.Disclosed.{remaining_template, remaining, first_lost, first_rule_of, unless_empty, unless_lost, transformed, by_action, disclosure_of}
-use Rattle.flow_anonymize.specs.OtherRules.{unnumbered_field, unnumbered, OthersNeverMatter, Decide, LaterNeverMatter}
+use Rattle.flow_anonymize.specs.Disclosed.{remaining_template, remaining, first_lost, first_rule_of, unless_lost, transformed, by_action}
+use Rattle.flow_anonymize.specs.OtherRules.{unnumbered_field, unnumbered, OthersNeverMatter, LaterNeverMatter}
 use Rattle.flow_anonymize.proofs.Places.{range_alike, range_zip, find_front}
 
 -- ---- verdicts that do the same

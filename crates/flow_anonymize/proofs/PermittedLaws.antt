@@ -1,11 +1,10 @@
 -- What passes is what the rules permit.
-use Rattle.std.proofs.Common.{◌≡◌, ℕ, zero, suc, ◌+◌, ◌*◌, ◌-◌, ◌^◌, ◌/◌, ◌%◌, ◌<◌, ◌≤◌, Bool, true, false, cond, ltb, eqb, List, [], ◌∷◌, length, map, filter, take, Option, Some, None, refl, sym, ap, ◌∙◌, arith, not}
+use Rattle.std.proofs.Common.{◌≡◌, ℕ, zero, suc, ◌+◌, ◌*◌, ◌-◌, ◌^◌, ◌/◌, Bool, true, false, cond, ltb, eqb, List, [], ◌∷◌, length, map, filter, take, Option, Some, None, refl, sym, ap, ◌∙◌, arith, not}
 use Rattle.std.proofs.Math.Nat.{mul-mod_left}
 use Rattle.std.proofs.lemmas.Bool.{ltb-false}
 use Rattle.std.specs.Prelude.{slice_get, option_map}
-use Rattle.std.specs.List.{zip, find, enumerate_from, range_with_len, AllByRecursion}
+use Rattle.std.specs.List.{zip, find, enumerate_from, AllByRecursion}
 use Rattle.sequences.specs.Octets.{be_value, AreOctets}
-use Rattle.flow_prefix.specs.Bits.{kept_octets}
 use Rattle.flow_prefix.proofs.BitLaws.{KeepsBits-kept_octets}
 use Rattle.ipfix_template.specs.declared.field.FieldSpec.{FieldSpec}
 use Rattle.ipfix_template.specs.Template.{shortest_record}
@@ -20,10 +19,10 @@ use Rattle.policy_judge.specs.Match.{matches_field}
 use Rattle.policy_judge.specs.Verdicts.{first_rule, element_verdict_by, record_verdict_of, element_verdict_of}
 use Rattle.flow_anonymize.specs.declared.disclosure.RemovedField.{RemovedField}
 use Rattle.flow_anonymize.specs.declared.disclosure.Reason.TheVariants as because
-use Rattle.flow_anonymize.specs.Outcome.{Outcome, Passes, Aggregates, Withholds}
+use Rattle.flow_anonymize.specs.Outcome.{Passes, Withholds}
 use Rattle.flow_anonymize.specs.Remaining.{verdicts_of, keeps, is_kept, shown_value, kept_fields, kept_values, removed_fields}
-use Rattle.flow_anonymize.specs.Disclosed.{remaining, first_lost, first_rule_of, unless_empty, unless_lost, transformed, by_action, disclosure_of}
-use Rattle.flow_anonymize.specs.Permitted.{verdict_on, IsPermitted, ShowsPermitted, OnlyPermittedPasses}
+use Rattle.flow_anonymize.specs.Disclosed.{remaining, first_lost, first_rule_of, unless_lost, by_action}
+use Rattle.flow_anonymize.specs.Permitted.{verdict_on, IsPermitted, OnlyPermittedPasses}
 use Rattle.flow_anonymize.proofs.Places.{range_items}
 
 -- ---- one value

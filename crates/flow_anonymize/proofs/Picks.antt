@@ -1,5 +1,5 @@
 -- What a filter picks of a list.
-use Rattle.std.proofs.Common.{◌≡◌, ℕ, zero, suc, ◌+◌, ◌<◌, ◌≤◌, Bool, true, false, cond, List, [], ◌∷◌, ◌++◌, length, take, get_or, map, filter, refl, ap, arith, add-one}
+use Rattle.std.proofs.Common.{◌≡◌, ℕ, zero, suc, ◌+◌, ◌<◌, Bool, true, false, cond, List, [], ◌∷◌, ◌++◌, length, take, get_or, map, filter, refl, ap, arith, add-one}
 
 -- one item more
 pub picked-more : {A B : Type 0} (test : A → Bool) (view : A → B) (xs : List A) (i : ℕ) (d : A) → i < length xs

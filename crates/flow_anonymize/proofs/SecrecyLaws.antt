@@ -1,9 +1,8 @@
 -- What is denied changes nothing.
-use Rattle.std.proofs.Common.{◌≡◌, ℕ, zero, suc, ◌+◌, ◌*◌, ◌-◌, ◌^◌, ◌/◌, ◌<◌, ◌≤◌, Bool, true, false, cond, List, [], ◌∷◌, length, map, filter, Option, Some, None, refl, sym, ap, ◌∙◌, arith, not, nat_lt}
+use Rattle.std.proofs.Common.{◌≡◌, ℕ, suc, ◌*◌, ◌-◌, ◌^◌, ◌/◌, Bool, true, false, cond, List, [], ◌∷◌, length, map, filter, Option, Some, None, refl, sym, ap, ◌∙◌, arith, not, nat_lt}
 use Rattle.std.specs.Prelude.{slice_get, ◌&&◌, ◌||◌, option_map}
-use Rattle.std.specs.List.{zip, find, enumerate_from, range_with_len, list_any, list_all, AllByRecursion}
+use Rattle.std.specs.List.{zip, range_with_len, list_any, list_all, AllByRecursion}
 use Rattle.sequences.specs.Octets.{be_value, be_octets}
-use Rattle.ipfix_element.specs.Element.{Element}
 use Rattle.flow_prefix.specs.declared.prefix.Prefix.{Prefix}
 use Rattle.flow_prefix.specs.Prefixes.{contains}
 use Rattle.ipfix_template.specs.declared.template.Template.{Template}
@@ -17,8 +16,8 @@ use Rattle.policy_judge.specs.Match.{is_met, is_on_records, denies, are_inside, 
 use Rattle.policy_judge.specs.Verdicts.{first_rule, record_verdict_by, element_verdict_by, record_verdict_of, element_verdict_of}
 use Rattle.flow_anonymize.specs.Outcome.{Outcome}
 use Rattle.flow_anonymize.specs.Remaining.{verdicts_of, keeps, is_kept, shown_value, kept_values, removed_fields}
-use Rattle.flow_anonymize.specs.Disclosed.{remaining_template, first_lost, unless_lost, transformed, by_verdict, disclosure_of}
-use Rattle.flow_anonymize.specs.Secrecy.{AreValuesAlike, AreInsideAlike, AreCoveredAlike, AreAlike, DeniedIsSecret}
+use Rattle.flow_anonymize.specs.Disclosed.{remaining_template, first_lost, unless_lost, transformed, by_verdict}
+use Rattle.flow_anonymize.specs.Secrecy.{AreValuesAlike, AreInsideAlike, AreCoveredAlike, DeniedIsSecret}
 use Rattle.flow_anonymize.proofs.Places.{map_alike, range_at, find_alike, each_so}
 
 -- ---- rules match alike

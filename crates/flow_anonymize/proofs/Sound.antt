@@ -1,19 +1,18 @@
 -- What is left of a sound record is sound, unless a scope field is lost or no octets are left.
-use Rattle.std.proofs.Common.{◌≡◌, ℕ, zero, suc, ◌+◌, ◌<◌, ◌≤◌, Bool, true, false, cond, ltb, leb, eqb, List, [], ◌∷◌, ◌++◌, length, map, filter, Option, Some, None, refl, sym, ap, ◌∙◌, arith, not, length-append}
-use Rattle.std.specs.Prelude.{◌&&◌, ◌||◌, ◌==◌}
+use Rattle.std.proofs.Common.{◌≡◌, ℕ, suc, ◌+◌, ◌<◌, ◌≤◌, Bool, true, false, cond, ltb, leb, eqb, List, [], ◌∷◌, ◌++◌, length, map, filter, Option, Some, None, refl, sym, ap, ◌∙◌, arith, not, length-append}
+use Rattle.std.specs.Prelude.{◌==◌}
 use Rattle.std.specs.List.{zip, find, enumerate_from, list_all, flat_map}
-use Rattle.std.proofs.lemmas.Bool.{and_parts, and_from, ltb-true, ltb-false, le-ltb, eqb-true, eqb-false, or_from, or_parts, ne_eqb}
+use Rattle.std.proofs.lemmas.Bool.{and_parts, and_from, ltb-true, ltb-false, le-ltb, eqb-true, or_from, or_parts, ne_eqb}
 use Rattle.std.proofs.lemmas.List.Concat.{flat_map-cons}
 use Rattle.sequences.specs.Octets.{be_octets}
 use Rattle.sequences.proofs.OctetLaws.{length-be_octets}
-use Rattle.flow_prefix.specs.Bits.{kept_octets, truncated}
 use Rattle.ipfix_template.specs.declared.field.FieldSpec.{FieldSpec}
 use Rattle.ipfix_template.specs.declared.template.Template.{Template}
 use Rattle.ipfix_template.specs.declared.template.Refused.TheVariants.{BadLength, BadScope, EmptyRecord}
-use Rattle.ipfix_template.specs.Template.{is_variable, has_allowed_length, has_bad_scope, shortest_record, refusal_of, is_options, IsAccepted, specifier, template_record}
+use Rattle.ipfix_template.specs.Template.{is_variable, has_allowed_length, has_bad_scope, shortest_record, refusal_of, is_options, IsAccepted, specifier}
 use Rattle.ipfix_template.specs.Values.{fits_field, fit_fields, value_text, record_text}
 use Rattle.ipfix_template.specs.DataRecord.{DataRecord, IsSound}
-use Rattle.ipfix_template.proofs.Encoding.{octets_of_record, fit_fields-length}
+use Rattle.ipfix_template.proofs.Encoding.{octets_of_record}
 use Rattle.policy_judge.specs.declared.verdict.ElementAction.{ElementAction}
 use Rattle.policy_judge.specs.declared.verdict.ElementAction.TheVariants.{Keep, Remove, Truncate}
 use Rattle.policy_judge.specs.declared.verdict.ElementVerdict.{ElementVerdict}

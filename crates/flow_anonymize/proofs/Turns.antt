@@ -1,10 +1,10 @@
 -- The turns of the pass over values and verdicts.
-use Rattle.std.proofs.Common.{◌≡◌, ℕ, zero, suc, ◌+◌, ◌<◌, ◌≤◌, ◌*◌, Bool, true, false, cond, List, [], ◌∷◌, ◌++◌, length, take, get_or, map, filter, refl, sym, ap, ◌∙◌, arith, append-nil, min}
+use Rattle.std.proofs.Common.{◌≡◌, ℕ, zero, suc, ◌+◌, ◌<◌, ◌≤◌, true, false, cond, List, [], ◌∷◌, ◌++◌, length, take, get_or, map, filter, refl, sym, ap, ◌∙◌, arith, append-nil, min}
 use Rattle.std.specs.List.{zip}
 use Rattle.std.proofs.lemmas.List.{take_all}
 use Rattle.std.proofs.lemmas.Slice.Zip.{length-zip, get_or-zip}
 use Rattle.policy_judge.specs.declared.verdict.ElementVerdict.{ElementVerdict}
-use Rattle.flow_anonymize.specs.Remaining.{keeps, is_kept, shown_value, kept_values}
+use Rattle.flow_anonymize.specs.Remaining.{is_kept, shown_value, kept_values}
 use Rattle.flow_anonymize.specs.Within.{IsWithin, AreWithin}
 use Rattle.flow_anonymize.proofs.Picks.{picked-more}
 

@@ -10,7 +10,6 @@ use Rattle.policy_judge.specs.declared.verdict.RecordAction.TheVariants.{Pass, W
 use Rattle.policy_judge.specs.declared.verdict.RecordVerdict.{RecordVerdict}
 use Rattle.policy_judge.specs.declared.verdict.ElementVerdict.{ElementVerdict}
 use Rattle.policy_judge.specs.Verdicts.{record_verdict_of}
-use Rattle.flow_anonymize.specs.declared.disclosure.Reason.{Reason}
 use Rattle.flow_anonymize.specs.declared.disclosure.Reason.TheVariants as because
 use Rattle.flow_anonymize.specs.declared.disclosure.RemovedField.{RemovedField}
 use Rattle.flow_anonymize.specs.Outcome.{Outcome, Passes, Aggregates, Withholds}

@@ -12,7 +12,7 @@ use Rattle.policy_judge.specs.declared.verdict.ElementVerdict.{ElementVerdict}
 use Rattle.policy_judge.specs.Match.{matches_field}
 use Rattle.policy_judge.specs.Verdicts.{first_rule, element_verdict_by}
 use Rattle.flow_anonymize.specs.declared.disclosure.RemovedField.{RemovedField}
-use Rattle.flow_anonymize.specs.Outcome.{Outcome, Passes}
+use Rattle.flow_anonymize.specs.Outcome.{Passes}
 use Rattle.flow_anonymize.specs.Remaining.{is_kept}
 use Rattle.flow_anonymize.specs.Disclosed.{disclosure_of}
 

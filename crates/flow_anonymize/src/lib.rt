@@ -21,3 +21,6 @@ pub use laws::{
     denied_is_secret, later_rules_never_matter, only_permitted_passes, others_never_matter,
 };
 pub use transform::disclose;
+
+#[cfg(test)]
+mod tests;

@@ -1,4 +1,4 @@
-use Rattle.std.proofs.Common.{◌≡◌, ◌≤◌, length, ap, ◌∙◌, refl, sym, arith, map}
+use Rattle.std.proofs.Common.{◌≡◌, length, ap, ◌∙◌, arith, map}
 use Rattle.std.specs.List.{range_with_len}
 use Rattle.policy_judge.specs.Verdicts.{element_verdict_of}
 use Rattle.flow_anonymize.specs.Remaining.{verdicts_of}

@@ -1,7 +1,5 @@
-use Rattle.std.proofs.Common.{◌≡◌, ◌≤◌, length, ap, ◌∙◌, sym, arith, IfOk, eqb, rules}
-use Rattle.std.specs.Arc.{arc_value}
+use Rattle.std.proofs.Common.{◌≡◌, length, ap, ◌∙◌, sym, arith, rules}
 use Rattle.std.proofs.lemmas.Bool.{eqb-true}
-use Rattle.ipfix_template.specs.declared.template.Template.{Template}
 use Rattle.flow_anonymize.specs.Remaining.{removed_fields}
 use Rattle.flow_anonymize.proofs.Sound.{template_stays, few_left}
 use Rattle.flow_anonymize.proofs.transform.remaining_template.Goals as goal

@@ -1,9 +1,7 @@
-use Rattle.std.proofs.Common.{◌≡◌, ℕ, ap, ◌∙◌, sym, None, arith, List}
+use Rattle.std.proofs.Common.{ℕ, ap, ◌∙◌, sym, List}
 use Rattle.ipfix_template.specs.declared.template.Template.{Template}
 use Rattle.ipfix_template.specs.Template.{shortest_record}
-use Rattle.ipfix_template.specs.DataRecord.{DataRecord}
-use Rattle.flow_anonymize.specs.Remaining.{removed_fields, kept_values}
-use Rattle.flow_anonymize.specs.Disclosed.{first_lost}
+use Rattle.flow_anonymize.specs.Remaining.{kept_values}
 use Rattle.flow_anonymize.proofs.Sound.{found_sound}
 use Rattle.flow_anonymize.proofs.transform.transform.Goals as goal
 

@@ -1,8 +1,7 @@
-use Rattle.std.proofs.Common.{◌≡◌, Bool, true, false, List, ℕ, length, ap, ◌∙◌, refl, sym}
+use Rattle.std.proofs.Common.{◌≡◌, true, false, List, ℕ, length, ap, ◌∙◌, sym}
 use Rattle.std.proofs.lemmas.List.{length_push}
 use Rattle.std.proofs.lemmas.Slice.Zip.{zip_turn, zip_end}
 use Rattle.flow_anonymize.specs.Remaining.{keeps, is_kept, shown_value}
-use Rattle.flow_anonymize.specs.Within.{IsWithin}
 use Rattle.flow_anonymize.proofs.Turns.{turn_kept, turn_removed, shown_all, within_at}
 use Rattle.flow_anonymize.proofs.values.kept_values.Goals as goal
 
