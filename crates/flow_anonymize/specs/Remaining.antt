@@ -1,4 +1,5 @@
--- What is left of a record's fields, by the verdict on each (RFC 6235, sections 4.1.1 and 4.4: truncation and removal).
+-- What is left of a record's fields, by the verdict on each (RFC 6235: truncation, in sections 4.1.1 and 4.2.1, and
+-- black-marker anonymization, which removes a field).
 use Rattle.std.specs.Prelude.{ℕ, Bool, true, false, not, List, [], length, map, filter}
 use Rattle.std.specs.List.{zip, enumerate_from, range_with_len}
 use Rattle.ipfix_template.specs.declared.field.FieldSpec.{FieldSpec}

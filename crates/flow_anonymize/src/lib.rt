@@ -1,6 +1,6 @@
 //! What an IPFIX mediator hands on of a record to a subscriber: the record without the fields that a policy
 //! removes and with the addresses that it truncates, nothing of it, or its count in an aggregate
-//! (RFC 6235, sections 4.1.1 and 4.4: truncation and removal).
+//! (RFC 6235: truncation, in sections 4.1.1 and 4.2.1, and black-marker anonymization, which removes a field).
 //!
 //! - `disclosure`: [`Disclosure`], with [`RemovedField`] and [`Reason`].
 //! - `transform`: [`disclose`].

@@ -1,4 +1,4 @@
-//! Worked cases of disclosure. Where memory is refused once, the same record is asked for again.
+//! Worked cases of disclosure. What is refused memory once is asked for again, and answers as ever.
 use crate::{
     Disclosure, Reason, RemovedField, denied_is_secret, disclose, later_rules_never_matter,
     only_permitted_passes, others_never_matter,
@@ -46,34 +46,47 @@ type Field = (u16, u16, &'static [u8]);
 
 /// A record of registered elements, the first `scope` of them scope fields.
 fn record_of(alloc: Global, fields: &[Field], scope: u16) -> Result<Record, Fail> {
+    let built = match build_record(alloc, fields, scope) {
+        Some(flow_record) => Some(flow_record),
+        None => build_record(alloc, fields, scope),
+    };
+    Ok(built.ok_or("no record")?)
+}
+
+fn build_record(alloc: Global, fields: &[Field], scope: u16) -> Option<Record> {
     let mut specs = Vec::new(alloc);
     let mut values = Vec::new(alloc);
     for (number, length, value) in fields {
-        let element = ElementId::new(None, *number).ok_or("an element")?;
-        specs.push(FieldSpec {
-            element,
-            length: *length,
-        })?;
-        values.push(Bytes::from_static(value))?;
+        let element = ElementId::new(None, *number)?;
+        let length = *length;
+        specs.push(FieldSpec { element, length }).ok()?;
+        values.push(Bytes::from_static(value)).ok()?;
     }
-    let fields = Fields::from_vec(specs)?;
-    let template = Arc::new(alloc, Template { fields, scope })?;
-    match Record::try_new(template, Values::from_vec(values)) {
-        Ok(flow_record) => Ok(flow_record),
-        Err(_) => Err(Fail::new("no record")),
-    }
+    let fields = Fields::from_vec(specs).ok()?;
+    let template = Arc::new(alloc, Template { fields, scope }).ok()?;
+    Record::try_new(template, Values::from_vec(values)).ok()
 }
 
+/// A policy of these rules, which may name the aggregates `old` and `web`.
 fn policy_of(alloc: Global, rules: &[&str]) -> Result<Policy, Fail> {
+    let built = match build_policy(alloc, rules) {
+        Some(policy) => Some(policy),
+        None => build_policy(alloc, rules),
+    };
+    Ok(built.ok_or("no policy")?)
+}
+
+fn build_policy(alloc: Global, rules: &[&str]) -> Option<Policy> {
     let mut text = String::from_str(
         alloc,
         "policy 1\naggregate old key vlanId interval 1 grace 0\naggregate web key vlanId interval 1 grace 0\n",
-    )?;
+    )
+    .ok()?;
     for rule in rules {
-        text.push_str(rule)?;
-        text.push_str("\n")?;
+        text.push_str(rule).ok()?;
+        text.push_str("\n").ok()?;
     }
-    Ok(Policy::parse(alloc, text.as_str())?)
+    Policy::parse(alloc, text.as_str()).ok()
 }
 
 /// What is disclosed to acme. Where memory is refused once, it is asked for again.
@@ -391,6 +404,22 @@ fn aggregated(rt: HostRuntime) -> Result<(), Fail> {
         } => Err(Fail::new("passed")),
         Disclosure::Withheld { rule: _, reason: _ } => Err(Fail::new("withheld")),
     }
+}
+
+#[test]
+fn shared_template(rt: HostRuntime) -> Result<(), Fail> {
+    let fields = [
+        (PROTOCOL, 1, b"\x06".as_slice()),
+        (SOURCE_PORT, 2, b"\x01\xbb"),
+    ];
+    let flow_record = record_of(rt.alloc(), &fields, 0)?;
+    let port = "rule for * in * from * to * element sourceTransportPort remove";
+    for (rules, holders) in [([PASS, KEEP, port], 2), ([PASS, port, KEEP], 1)] {
+        let disclosure = disclosed(rt.alloc(), &rules, &flow_record)?;
+        assert_eq!(rt; Arc::strong_count(flow_record.shared_template()), holders);
+        drop(disclosure);
+    }
+    Ok(())
 }
 
 #[test]
