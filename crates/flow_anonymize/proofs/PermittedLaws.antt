@@ -2,7 +2,7 @@
 use Rattle.std.proofs.Common.{◌≡◌, ℕ, zero, suc, ◌+◌, ◌*◌, ◌-◌, ◌^◌, ◌/◌, Bool, true, false, cond, ltb, eqb, List, [], ◌∷◌, length, map, filter, take, Option, Some, None, refl, sym, ap, ◌∙◌, arith, not}
 use Rattle.std.proofs.Math.Nat.{mul-mod_left}
 use Rattle.std.proofs.lemmas.Bool.{ltb-false}
-use Rattle.std.specs.Prelude.{slice_get, option_map}
+use Rattle.std.specs.Prelude.{slice_get, option_map, ◌==◌}
 use Rattle.std.specs.List.{zip, find, enumerate_from, AllByRecursion}
 use Rattle.sequences.specs.Octets.{be_value, AreOctets}
 use Rattle.flow_prefix.proofs.BitLaws.{KeepsBits-kept_octets}
@@ -22,7 +22,9 @@ use Rattle.flow_anonymize.specs.declared.disclosure.Reason.TheVariants as becaus
 use Rattle.flow_anonymize.specs.Outcome.{Passes, Withholds}
 use Rattle.flow_anonymize.specs.Remaining.{verdicts_of, keeps, is_kept, shown_value, kept_fields, kept_values, removed_fields}
 use Rattle.flow_anonymize.specs.Disclosed.{remaining, first_lost, first_rule_of, unless_lost, by_action}
-use Rattle.flow_anonymize.specs.Permitted.{verdict_on, IsPermitted, OnlyPermittedPasses}
+use Rattle.flow_anonymize.specs.Permitted.{verdict_on, IsPermitted, OnlyPermittedPasses, PassedIsSound}
+use Rattle.flow_anonymize.proofs.Sound.{left_is_sound}
+use Rattle.std.proofs.lemmas.List.FromFn.{length-map-range_with_len}
 use Rattle.flow_anonymize.proofs.Places.{range_items}
 
 -- ---- one value
@@ -121,6 +123,7 @@ scope_kept scope n (f ∷ fs) (w ∷ ws) each none =
 
 pub record Passed (o : Option RemovedField) (left : DataRecord) (found : List RemovedField) (kept : DataRecord) (removed : List RemovedField) : Type 0 where
   pub none_lost : o ≡ None
+  pub has_octets : (shortest_record left.template == 0) ≡ false
   pub record_is : left ≡ kept
   pub removed_is : found ≡ removed
 
@@ -129,10 +132,10 @@ passed_by : (a : RecordAction) (rule : ℕ) (o : Option RemovedField) (left : Da
 passed_by Withhold rule o left found kept removed e = absurd cc
 passed_by (Aggregate definition) rule o left found kept removed e = absurd cc
 passed_by Pass rule (Some field) left found kept removed e = absurd cc
-passed_by Pass rule None left found kept removed e = by (eqb (shortest_record left.template) 0) e where
-  by : (b : Bool) → cond b (Withholds (first_rule_of found) because.Empty) (Passes left found) ≡ Passes kept removed → Passed None left found kept removed
-  by true e = absurd cc
-  by false e = record { none_lost = refl; record_is = cc; removed_is = cc }
+passed_by Pass rule None left found kept removed e = by (eqb (shortest_record left.template) 0) refl e where
+  by : (b : Bool) → eqb (shortest_record left.template) 0 ≡ b → cond b (Withholds (first_rule_of found) because.Empty) (Passes left found) ≡ Passes kept removed → Passed None left found kept removed
+  by true is e = absurd cc
+  by false is e = record { none_lost = refl; has_octets = is; record_is = cc; removed_is = cc }
 
 on_elements : (name : List ℕ) (domain : ℕ) (r : DataRecord) (rules : List Rule)
     → verdicts_of name domain r rules ≡ map (λ f. verdict_on name domain r rules f.element) r.template.fields
@@ -163,3 +166,11 @@ only_permitted_passes name domain r rules kept removed octets is =
       scope_fields = ap (take r.template.scope) (sym fields) ∙ scope_stays;
       others = sym passed.removed_is ∙ fields_removed on 0 r.template.fields;
     }
+
+pub passed_is_sound : PassedIsSound
+passed_is_sound name domain r rules kept removed sound is =
+    let ws = verdicts_of name domain r rules in
+    let passed = passed_by (record_verdict_of name domain r rules).action (record_verdict_of name domain r rules).rule (first_lost r.template.scope (removed_fields ws)) (remaining r ws) (removed_fields ws) kept removed is in
+    let each = length-map-range_with_len (λ (place : ℕ). element_verdict_of name domain r place rules) 0 (length r.template.fields) in
+    let left = left_is_sound r ws sound each passed.none_lost passed.has_octets in
+    rw (← passed.record_is) left

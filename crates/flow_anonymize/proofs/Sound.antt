@@ -178,23 +178,24 @@ unfolding refusal_of
 accepted_of t allowed within octets =
     accepts (list_all has_allowed_length t.fields) (has_bad_scope (is_options t) t) (shortest_record t == 0) allowed (no_bad_scope (is_options t) t refl within) octets
 
-pub left_is_sound : (r : DataRecord) (ws : List ElementVerdict) → AreJudged r ws → first_lost r.template.scope (removed_fields ws) ≡ None
+pub left_is_sound : (r : DataRecord) (ws : List ElementVerdict) → IsSound r → length ws ≡ length r.template.fields
+    → first_lost r.template.scope (removed_fields ws) ≡ None
     → (shortest_record (remaining_template r.template ws) == 0) ≡ false → IsSound (remaining r ws)
 unfolding removed_from
-left_is_sound r ws judged none octets =
+left_is_sound r ws sound each none octets =
     let t = r.template in
-    let left = left_of t.fields r.values ws judged.sound.fit in
-    let passes = passes_of t judged.sound.accepted in
+    let left = left_of t.fields r.values ws sound.fit in
+    let passes = passes_of t sound.accepted in
     let within = scope_within (is_options t) t passes.scope in
-    let scope = scope_stays t.scope 0 t.fields ws none judged.each (omega (arith, within)) in
+    let scope = scope_stays t.scope 0 t.fields ws none each (omega (arith, within)) in
     let before = octets_of_record 256 t in
     let after = octets_of_record 256 (remaining_template t ws) in
     let fewer = specifiers_left t.fields ws in
     record {
       accepted = accepted_of (remaining_template t ws) (allowed_left t.fields ws passes.allowed) (omega (arith, scope)) octets;
       fit = left.fit;
-      template_fits = omega (arith, before, after, fewer, judged.sound.template_fits);
-      record_fits = omega (arith, left.octets, judged.sound.record_fits);
+      template_fits = omega (arith, before, after, fewer, sound.template_fits);
+      record_fits = omega (arith, left.octets, sound.record_fits);
     }
 
 -- the same of a template and values that are found to be what is left
@@ -204,4 +205,4 @@ pub found_sound : (r : DataRecord) (ws : List ElementVerdict) (scope : ℕ) (rem
 found_sound r ws scope removed t vs judged is-scope is-removed none is-t octets is-vs =
     let some : (shortest_record (remaining_template r.template ws) == 0) ≡ false = ap (λ (x : Template). shortest_record x == 0) (sym is-t) ∙ ne_eqb (shortest_record t) 0 octets in
     let stays : first_lost r.template.scope (removed_fields ws) ≡ None = rw (← is-scope, ← is-removed) none in
-    rw (is-t, is-vs) (left_is_sound r ws judged stays some)
+    rw (is-t, is-vs) (left_is_sound r ws judged.sound judged.each stays some)

@@ -1,7 +1,14 @@
+pub use Rattle.sequences.specs.Octets
+pub use Rattle.ipfix_element.specs.Element
+pub use Rattle.ipfix_template.specs.Template
 pub use Rattle.ipfix_template.specs.DataRecord
+pub use Rattle.flow_prefix.specs.Bits
+pub use Rattle.flow_prefix.specs.Prefixes
 pub use Rattle.policy_text.specs.Policies
+pub use Rattle.policy_judge.specs.Occurrences
 pub use Rattle.policy_judge.specs.Match
 pub use Rattle.policy_judge.specs.Verdicts
+pub use Rattle.policy_judge.specs.Laws
 pub mod Outcome
 pub mod Remaining
 pub mod Disclosed

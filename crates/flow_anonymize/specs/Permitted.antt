@@ -4,7 +4,7 @@ use Rattle.std.specs.List.{enumerate_from, AllByRecursion}
 use Rattle.sequences.specs.Octets.{be_value, AreOctets}
 use Rattle.ipfix_element.specs.Element.{Element}
 use Rattle.ipfix_template.specs.declared.field.FieldSpec.{FieldSpec}
-use Rattle.ipfix_template.specs.DataRecord.{DataRecord}
+use Rattle.ipfix_template.specs.DataRecord.{DataRecord, IsSound}
 use Rattle.policy_text.specs.declared.rule.Rule.{Rule}
 use Rattle.policy_judge.specs.declared.verdict.ElementAction.{ElementAction}
 use Rattle.policy_judge.specs.declared.verdict.ElementAction.TheVariants.{Keep, Remove, Truncate}
@@ -43,3 +43,8 @@ pub record ShowsPermitted (name : List ℕ) (domain : ℕ) (r : DataRecord) (rul
 abbrev pub OnlyPermittedPasses : Type 0
 OnlyPermittedPasses = (name : List ℕ) (domain : ℕ) (r : DataRecord) (rules : List Rule) (kept : DataRecord) (removed : List RemovedField)
     → AllByRecursion AreOctets r.values → disclosure_of name domain r rules ≡ Passes kept removed → ShowsPermitted name domain r rules kept removed
+
+-- what passes of a sound record is a sound record
+abbrev pub PassedIsSound : Type 0
+PassedIsSound = (name : List ℕ) (domain : ℕ) (r : DataRecord) (rules : List Rule) (kept : DataRecord) (removed : List RemovedField)
+    → IsSound r → disclosure_of name domain r rules ≡ Passes kept removed → IsSound kept

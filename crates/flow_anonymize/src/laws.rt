@@ -1,5 +1,5 @@
 //! Laws over the definitions that `disclose` cites: no code stands behind them.
-ghost use Rattle.flow_anonymize.specs.Permitted.{OnlyPermittedPasses};
+ghost use Rattle.flow_anonymize.specs.Permitted.{OnlyPermittedPasses, PassedIsSound};
 ghost use Rattle.flow_anonymize.specs.Secrecy.{DeniedIsSecret};
 ghost use Rattle.flow_anonymize.specs.OtherRules.{OthersNeverMatter, LaterNeverMatter};
 
@@ -8,6 +8,11 @@ ghost use Rattle.flow_anonymize.specs.OtherRules.{OthersNeverMatter, LaterNeverM
 /// in their order, and each that is not is named with the first rule that removes it.
 pub fn only_permitted_passes()
     ensures { OnlyPermittedPasses }
+{}
+
+/// What passes of a sound record is a sound record: its template may be announced, and its values fit it.
+pub fn passed_is_sound()
+    ensures { PassedIsSound }
 {}
 
 /// What is denied is secret: two records that differ only in values that are removed and in bits that are cut

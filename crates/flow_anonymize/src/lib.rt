@@ -6,8 +6,8 @@
 //! - `transform`: [`disclose`].
 //! - `fields`: the verdict on each field, and which fields stay.
 //! - `values`: what is shown of their values.
-//! - `laws`: [`only_permitted_passes`], [`denied_is_secret`], [`others_never_matter`] and
-//!   [`later_rules_never_matter`], proved over the definitions.
+//! - `laws`: [`only_permitted_passes`], [`passed_is_sound`], [`denied_is_secret`], [`others_never_matter`]
+//!   and [`later_rules_never_matter`], proved over the definitions.
 #![tactic(auto)]
 
 mod disclosure;
@@ -19,6 +19,7 @@ mod values;
 pub use disclosure::{Disclosure, Reason, RemovedField};
 pub use laws::{
     denied_is_secret, later_rules_never_matter, only_permitted_passes, others_never_matter,
+    passed_is_sound,
 };
 pub use transform::disclose;
 

@@ -1,7 +1,7 @@
 //! Worked cases of disclosure. What is refused memory once is asked for again, and answers as ever.
 use crate::{
     Disclosure, Reason, RemovedField, denied_is_secret, disclose, later_rules_never_matter,
-    only_permitted_passes, others_never_matter,
+    only_permitted_passes, others_never_matter, passed_is_sound,
 };
 use bytes::Bytes;
 use ipfix_element::ElementId;
@@ -201,6 +201,7 @@ fn first_rule_decides(rt: HostRuntime) -> Result<(), Fail> {
         (1, Reason::Rule),
     )?;
     only_permitted_passes();
+    passed_is_sound();
     denied_is_secret();
     others_never_matter();
     later_rules_never_matter();
