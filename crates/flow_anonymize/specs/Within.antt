@@ -1,0 +1,21 @@
+-- What is known of the verdicts on a record's fields: one for each, and no more bits are kept than a value has.
+use Rattle.std.specs.Prelude.{◌≡◌, ℕ, ◌≤◌, ◌*◌, List, length}
+use Rattle.std.specs.List.{zip, AllByRecursion}
+use Rattle.ipfix_template.specs.DataRecord.{DataRecord, IsSound}
+use Rattle.policy_judge.specs.declared.verdict.ElementAction.{ElementAction}
+use Rattle.policy_judge.specs.declared.verdict.ElementAction.TheVariants.{Keep, Remove, Truncate}
+use Rattle.policy_judge.specs.declared.verdict.ElementVerdict.{ElementVerdict}
+
+abbrev pub IsWithin : List ℕ → ElementAction → Type 0
+IsWithin value Keep = Unit {0}
+IsWithin value Remove = Unit {0}
+IsWithin value (Truncate bits) = bits ≤ 8 * length value
+
+abbrev pub AreWithin : List (List ℕ) → List ElementVerdict → Type 0
+AreWithin values verdicts = AllByRecursion (λ p. IsWithin p.0 p.1.action) (zip values verdicts)
+
+pub record AreJudged (r : DataRecord) (verdicts : List ElementVerdict) : Type 0 where
+  pub sound : IsSound r
+  pub few : length verdicts ≤ 65535
+  pub each : length verdicts ≡ length r.template.fields
+  pub within : AreWithin r.values verdicts

@@ -1,0 +1,33 @@
+//! Laws over the definitions that `disclose` cites: no code stands behind them.
+ghost use Rattle.flow_anonymize.specs.Permitted.{OnlyPermittedPasses, PassedIsSound};
+ghost use Rattle.flow_anonymize.specs.Secrecy.{DeniedIsSecret};
+ghost use Rattle.flow_anonymize.specs.OtherRules.{OthersNeverMatter, LaterNeverMatter};
+
+/// What passes is what the rules permit: at no place stands a field that its first matching rule removes, or
+/// that no rule matches, and no bit is set that its rule cuts off. All other fields of the record are there,
+/// in their order, and each that is not is named with the first rule that removes it.
+pub fn only_permitted_passes()
+    ensures { OnlyPermittedPasses }
+{}
+
+/// What passes of a sound record is a sound record: its template may be announced, and its values fit it.
+pub fn passed_is_sound()
+    ensures { PassedIsSound }
+{}
+
+/// What is denied is secret: two records that differ only in values that are removed and in bits that are cut
+/// off, and whose addresses are inside the same prefixes of the rules, look alike in all that is disclosed.
+pub fn denied_is_secret()
+    ensures { DeniedIsSecret }
+{}
+
+/// A rule that names another subscriber never matters: without such rules the same is disclosed. (The numbers
+/// of the rules may be others.)
+pub fn others_never_matter()
+    ensures { OthersNeverMatter }
+{}
+
+/// Rules behind those that decide on a record and on its fields never matter.
+pub fn later_rules_never_matter()
+    ensures { LaterNeverMatter }
+{}

@@ -1,0 +1,50 @@
+-- What the audit names: each record that is kept from a subscription or loses fields, and each cut.
+use Rattle.std.specs.Prelude.{ℕ, List, [], ◌∷◌, length, map}
+use Rattle.std.specs.List.{flat_map}
+use Rattle.sequences.specs.Before.{each_with_before}
+use Rattle.disclosure_audit.specs.declared.reason.Reason.{Reason}
+use Rattle.disclosure_audit.specs.declared.reason.Reason.TheVariants as named
+use Rattle.disclosure_audit.specs.declared.entry.RemovedField.{RemovedField}
+use Rattle.disclosure_audit.specs.declared.entry.What.{What}
+use Rattle.disclosure_audit.specs.declared.entry.What.TheVariants.{Withheld, Aggregated, Removed, Cut as CutOff}
+use Rattle.disclosure_audit.specs.declared.entry.AuditEntry.{AuditEntry}
+use Rattle.flow_anonymize.specs.declared.disclosure.Reason.{Reason as Because}
+use Rattle.flow_anonymize.specs.declared.disclosure.Reason.TheVariants as because
+use Rattle.flow_anonymize.specs.Outcome.{Outcome, Passes, Aggregates, Withholds}
+use Rattle.mediator_history.specs.Entries.{Entry, Message, Cut}
+use Rattle.mediator_history.specs.Subscriptions.{served}
+use Rattle.mediator_history.specs.Accepted.{Accepted, accepted_at}
+use Rattle.mediator_history.specs.Disclosed.{outcome_for}
+
+abbrev pub reason_named : Because → Reason
+reason_named because.Rule = named.Rule
+reason_named because.ScopeLost = named.ScopeLost
+reason_named because.Empty = named.Empty
+
+-- what was kept back of a record; nothing of one that passes with all its fields
+abbrev pub removed_of : List RemovedField → List What
+removed_of [] = []
+removed_of (field ∷ fields) = Removed (field ∷ fields) ∷ []
+
+abbrev pub kept_back : Outcome → List What
+kept_back (Passes kept removed) = removed_of removed
+kept_back (Aggregates rule definition) = Aggregated rule ∷ []
+kept_back (Withholds rule reason) = Withheld rule (reason_named reason) ∷ []
+
+abbrev pub audit_entry : ℕ → ℕ → ℕ → What → AuditEntry
+audit_entry position index sub what = record { position = position; index = index; sub = sub; what = what }
+
+-- what is kept back of an accepted record from a subscription
+abbrev pub audit_of : List Entry → Accepted → ℕ → List AuditEntry
+audit_of before a sub = map (audit_entry a.position a.index sub) (kept_back (outcome_for sub before a.domain a.flow))
+
+-- the audit entries of an entry, by what stands before it: for each accepted record, for each subscription that is served
+abbrev pub audit_at : List Entry → Entry → List AuditEntry
+audit_at before (Message session number octets) =
+    flat_map (λ a. flat_map (audit_of before a) (served before)) (accepted_at before (Message session number octets))
+audit_at before (Cut sub) = audit_entry (length before) 0 sub CutOff ∷ []
+audit_at before _ = []
+
+-- all audit entries of a history, in the order of position, index and subscription
+abbrev pub audit_list : List Entry → List AuditEntry
+audit_list h = each_with_before audit_at h

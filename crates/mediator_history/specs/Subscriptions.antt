@@ -1,0 +1,48 @@
+-- The policy in force, and who is subscribed.
+use Rattle.std.specs.Prelude.{ℕ, Bool, true, false, List, [], ◌∷◌, filter, Option, Some, None, Result, Ok, Err, if◌then◌else◌, ◌==◌}
+use Rattle.std.specs.List.{flat_map}
+use Rattle.sequences.specs.Before.{last_of}
+use Rattle.policy_text.specs.Policies.{Meaning as Policy, nothing as no_policy}
+use Rattle.policy_text.specs.Parsing.{policy_of}
+use Rattle.policy_text.specs.declared.fault.PolicyFault.{PolicyFault}
+use Rattle.mediator_history.specs.Entries.{Entry, Edit, Subscribe, Unsubscribe, Cut}
+
+abbrev pub policy_or_none : Result Policy PolicyFault → Option Policy
+policy_or_none (Ok policy) = Some policy
+policy_or_none (Err fault) = None
+
+-- the policy that an entry brings into force
+abbrev pub edited : Entry → Option Policy
+edited (Edit text) = policy_or_none (policy_of text)
+edited _ = None
+
+-- the policy of the last edit; before the first one a policy without rules
+abbrev pub policy_in_force : List Entry → Policy
+policy_in_force h = last_of edited no_policy h
+
+abbrev pub named : ℕ → Entry → Option (List ℕ)
+named sub (Subscribe s name) = if s == sub then Some name else None
+named sub _ = None
+
+-- the name of a subscription
+abbrev pub name_of : ℕ → List Entry → List ℕ
+name_of sub h = last_of (named sub) [] h
+
+-- whether the entry makes the subscription get records, or ends that
+abbrev pub switched : ℕ → Entry → Option Bool
+switched sub (Subscribe s name) = if s == sub then Some true else None
+switched sub (Unsubscribe s) = if s == sub then Some false else None
+switched sub (Cut s) = if s == sub then Some false else None
+switched sub _ = None
+
+-- subscribed, not unsubscribed, and not cut
+abbrev pub is_served : ℕ → List Entry → Bool
+is_served sub h = last_of (switched sub) false h
+
+abbrev pub subscribed_in : Entry → List ℕ
+subscribed_in (Subscribe sub name) = sub ∷ []
+subscribed_in _ = []
+
+-- those that are served, in the order of their numbers, in which they came
+abbrev pub served : List Entry → List ℕ
+served h = filter (λ sub. is_served sub h) (flat_map subscribed_in h)
