@@ -1,3 +1,4 @@
+pub mod ShelfSteps
 pub mod TableSteps
 pub mod Soundness
 pub mod ItemsStand

@@ -18,11 +18,10 @@ use Rattle.ipfix_session.specs.declared.domain.Domain.{Domain}
 use Rattle.ipfix_session.specs.InForce.{template_in_force}
 use Rattle.ipfix_session.specs.Contents.{Contents, contents_after}
 use Rattle.ipfix_session.specs.Meaning.{domain_of, items_or_none, items_of_domain, read_items, contents_of, number_after, next_number, expected_number, gap_between, Meaning, gap_of, meaning_of}
-use Rattle.ipfix_session.specs.Keeping.{at_key, Keeps}
+use Rattle.ipfix_session.specs.Keeping.{at_key, Keeps, AreInForce}
 use Rattle.ipfix_session.specs.Standing.{kept_of, StandsFor}
 use Rattle.ipfix_session.specs.Answers.{Fails, read_fault}
-use Rattle.ipfix_session.specs.Walking.{table_of}
-use Rattle.ipfix_session.specs.Settling.{settled, Sets}
+use Rattle.ipfix_session.specs.Settling.{Settles}
 
 -- ---- octets that are no message
 
@@ -125,10 +124,6 @@ found_meaning held older message h g said c gap found reads same gap_is =
 
 -- ---- what the session stands for then
 
-domain_by : (b : Bool) (q d : ℕ) (kept other : Domain) (older : List (List ℕ)) (here there : Option ℕ) → kept.expected ≡ here → other.expected ≡ there → (cond b kept other).expected ≡ cond b here there
-domain_by true q d kept other older here there p r = p
-domain_by false q d kept other older here there p r = r
-
 expected_then : (q : ℕ) (message : List ℕ) (older : List (List ℕ)) → expected_number q (message ∷ older) ≡ cond (eqb q (domain_of message)) (next_number (header_of message) (contents_of older message)) (expected_number q older)
 unfolding expected_number
 expected_then q message older = refl
@@ -137,28 +132,31 @@ items_then : (q : ℕ) (message : List ℕ) (older : List (List ℕ)) → items_
 unfolding items_of_domain
 items_then q message older = refl
 
-templates_by : (b : Bool) (id q d : ℕ) (kept other : Domain) (said : List Item) (older : List (List ℕ)) → (b ≡ true → q ≡ d) → at_key id kept.templates ≡ template_in_force id (reverse said ++ items_of_domain d older) → at_key id other.templates ≡ template_in_force id (items_of_domain q older)
-    → at_key id (cond b kept other).templates ≡ template_in_force id (cond b (reverse said) [] ++ items_of_domain q older)
-templates_by true id q d kept other said older same here there = here ∙ ap (λ (n : ℕ). template_in_force id (reverse said ++ items_of_domain n older)) (sym (same refl))
-templates_by false id q d kept other said older same here there = there
+templates_by : (b : Bool) (id q d : ℕ) (here there : Option Template) (said : List Item) (older : List (List ℕ)) → (b ≡ true → q ≡ d) → here ≡ template_in_force id (reverse said ++ items_of_domain d older) → there ≡ template_in_force id (items_of_domain q older)
+    → cond b here there ≡ template_in_force id (cond b (reverse said) [] ++ items_of_domain q older)
+templates_by true id q d here there said older same h t = h ∙ ap (λ (n : ℕ). template_in_force id (reverse said ++ items_of_domain n older)) (sym (same refl))
+templates_by false id q d here there said older same h t = t
 
-pub found_stands : (held new : List (ℕ × Domain)) (older : List (List ℕ)) (message : List ℕ) (h : Header) (said : List Item) (c : Contents) (changed : Option (List (ℕ × Template))) (next : Option ℕ) → Found held older message h said
+both_by : (b : Bool) (here here' there there' : Option ℕ) → here ≡ here' → there ≡ there' → cond b here there ≡ cond b here' there'
+both_by b here here' there there' h t = λ i. cond b (h i) (t i)
+
+pub found_stands : (held new : List (ℕ × Domain)) (older : List (List ℕ)) (message : List ℕ) (h : Header) (said : List Item) (c : Contents) (found_then : ℕ → Option Template) (next : Option ℕ) → Found held older message h said
     → ((done : List Item) → Keeps (kept_of h.domain held).templates done → contents_after done message said ≡ Ok c)
-    → ((done : List Item) → Keeps (kept_of h.domain held).templates done → Keeps (table_of (kept_of h.domain held).templates changed) (reverse said ++ done))
-    → next ≡ number_after h c → Sets held new h.domain (settled (kept_of h.domain held) changed next) → StandsFor new (message ∷ older)
-found_stands held new older message h said c changed next found reads keeps next_is sets =
+    → ((done : List Item) → Keeps (kept_of h.domain held).templates done → AreInForce found_then (reverse said ++ done))
+    → next ≡ number_after h c → Settles held new h.domain found_then next → StandsFor new (message ∷ older)
+found_stands held new older message h said c found_then next found reads keeps next_is settles =
     let d = domain_of message in
-    let kept = settled (kept_of h.domain held) changed next in
     let own : h.domain ≡ d = ap (λ (x : Header). x.domain) found.header in
-    let here : (q : ℕ) → kept_of q new ≡ cond (eqb q d) kept (kept_of q held) = λ q. sets q ∙ ap (λ (n : ℕ). cond (eqb q n) kept (kept_of q held)) own in
     let number : next ≡ next_number (header_of message) (contents_of older message) = next_is ∙ ap (λ (x : Header). number_after x c) found.header ∙ ap (next_number (header_of message)) (sym (contents_found held older message h said c found reads)) in
     let items : items_or_none (items_of message) ≡ said = ap items_or_none found.items in
     record {
-      templates = λ q id. ap (λ (k : Domain). at_key id k.templates) (here q)
-          ∙ templates_by (eqb q d) id q d kept (kept_of q held) said older (eqb-true q d) (keeps (before older message) (keeps_before held older message h said found) id) (found.stands.templates q id)
+      templates = λ q id. settles.templates q id
+          ∙ ap (λ (n : ℕ). cond (eqb q n) (found_then id) (at_key id (kept_of q held).templates)) own
+          ∙ templates_by (eqb q d) id q d (found_then id) (at_key id (kept_of q held).templates) said older (eqb-true q d) (keeps (before older message) (keeps_before held older message h said found) id) (found.stands.templates q id)
           ∙ ap (λ (xs : List Item). template_in_force id (cond (eqb q d) (reverse xs) [] ++ items_of_domain q older)) (sym items)
           ∙ ap (template_in_force id) (sym (items_then q message older));
-      expected = λ q. ap (λ (k : Domain). k.expected) (here q)
-          ∙ domain_by (eqb q d) q d kept (kept_of q held) older (next_number (header_of message) (contents_of older message)) (expected_number q older) number (found.stands.expected q)
+      expected = λ q. settles.expected q
+          ∙ ap (λ (n : ℕ). cond (eqb q n) next (kept_of q held).expected) own
+          ∙ both_by (eqb q d) next (next_number (header_of message) (contents_of older message)) (kept_of q held).expected (expected_number q older) number (found.stands.expected q)
           ∙ sym (expected_then q message older);
     }

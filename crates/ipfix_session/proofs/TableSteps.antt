@@ -1,79 +1,139 @@
--- What stands under each ID after a change of a table, whose entries hold their templates behind something shared.
-use Rattle.std.proofs.Common.{inl, inr, ◌≡◌, ℕ, Bool, true, false, cond, eqb, List, [], ◌∷◌, map, Option, Some, None, refl, sym, ap, subst, ◌∙◌}
+-- What a table has under each ID, by what its two kinds have there.
+use Rattle.std.proofs.Common.{◌≡◌, ℕ, Bool, true, false, cond, not, List, [], ◌∷◌, ◌++◌, Option, Some, None, refl, sym, ap, ◌∙◌}
 use Rattle.std.specs.Prelude.{IfSome}
-use Rattle.std.specs.Cmp.{unsigned_tied, eq_by_cmp_equiv}
 use Rattle.std.specs.Ordering.{nat_cmp}
-use Rattle.std.specs.Option.{option_map}
-use Rattle.std.specs.Map.{keys_of}
+use Rattle.std.specs.Option.{option_or}
 use Rattle.std.specs.BTreeMap.{is_at}
-use Rattle.std.specs.List.{filter, AllZip}
-use Rattle.std.specs.List.Sorted.{IsStrictlySortedBy}
-use Rattle.std.proofs.lemmas.Bool.{cases_eq, ne_eqb}
-use Rattle.std.proofs.lemmas.Cmp.{nat_cmp_total}
-use Rattle.std.proofs.lemmas.Map.Keys.{IsDistinct-from_sorted}
-use Rattle.std.proofs.lemmas.Map.Made.{lookup-map_values}
-use Rattle.std.proofs.lemmas.Map.Entries.{lookup-filter-values, option_filter}
 use Rattle.ipfix_template.specs.declared.template.Template.{Template}
-use Rattle.ipfix_session.specs.InForce.{is_other_kind, unless_of_kind}
-use Rattle.ipfix_session.specs.Keeping.{at_key, IsKeepable, AreKeepable}
+use Rattle.ipfix_template.specs.Template.{is_options}
+use Rattle.ipfix_session.specs.declared.shelf.Shelf.{Shelf}
+use Rattle.ipfix_session.specs.InForce.{same_kind, unless_of_kind}
+use Rattle.ipfix_session.specs.Keeping.{at_key, IsKeepable}
+use Rattle.ipfix_session.specs.Shelves.{shown_on, on_shelf}
+use Rattle.ipfix_session.specs.Tables.{IsOfKind, IsOneOfKind, unless_withdrawn, template_after}
+use Rattle.ipfix_session.proofs.ShelfSteps.{shown-at}
 
-abbrev pub viewed : {X : Type 0} → (X → Template) → List (ℕ × X) → List (ℕ × Template)
-viewed f entries = map (λ e. (e.0, f e.1)) entries
+-- ---- the plain template of an ID, or else its options template
 
-pub at_view : {X : Type 0} (f : X → Template) (q : ℕ) (entries : List (ℕ × X)) → at_key q (viewed f entries) ≡ option_map f (at_key q entries)
-at_view f q entries = lookup-map_values f (is_at (nat_cmp q)) entries
+or-plain : (here : Bool) (t : Template) (plain options : Option Template) → option_or (cond here (Some t) plain) options ≡ cond here (Some t) (option_or plain options)
+or-plain true t plain options = refl
+or-plain false t plain options = refl
 
-eqb_sym : (k q : ℕ) → eqb k q ≡ eqb q k
-eqb_sym k q = elim (cases_eq k q) [ inl e ↦ ap (λ (m : ℕ). eqb k m) (sym e) ∙ ap (λ (m : ℕ). eqb m k) e | inr ne ↦ ne_eqb k q ne ∙ sym (ne_eqb q k (λ e. ne (sym e))) ]
+at_append : (q : ℕ) (xs ys : List (ℕ × Template)) → at_key q (xs ++ ys) ≡ option_or (at_key q xs) (at_key q ys)
+at_append q [] ys = refl
+at_append q (x ∷ xs) ys = ap (cond (is_at (nat_cmp q) x.0) (Some x.1)) (at_append q xs ys) ∙ sym (or-plain (is_at (nat_cmp q) x.0) x.1 (at_key q xs) (at_key q ys))
 
-map_cond : {X : Type 0} (f : X → Template) (b : Bool) (x y : Option X) → option_map f (cond b x y) ≡ cond b (option_map f x) (option_map f y)
-map_cond f true x y = refl
-map_cond f false x y = refl
+pub table-at : (plain options : Shelf) (q : ℕ) → at_key q (shown_on plain ++ shown_on options) ≡ option_or (on_shelf plain q) (on_shelf options q)
+table-at plain options q = at_append q (shown_on plain) (shown_on options) ∙ (λ i. option_or (shown-at plain q i) (shown-at options q i))
 
--- a change at one ID
-pub changed_at : {X : Type 0} (f : X → Template) (old new : List (ℕ × X)) (k : ℕ) (w : Option X) → ((q : ℕ) → at_key q new ≡ cond (is_at (nat_cmp k) q) w (at_key q old)) → (q : ℕ) → at_key q (viewed f new) ≡ cond (eqb q k) (option_map f w) (at_key q (viewed f old))
-changed_at f old new k w is q =
-    at_view f q new ∙ ap (option_map f) (is q) ∙ map_cond f (is_at (nat_cmp k) q) w (at_key q old)
-    ∙ ap (λ (b : Bool). cond b (option_map f w) (option_map f (at_key q old))) (unsigned_tied k q ∙ eqb_sym k q)
-    ∙ ap (λ (o : Option Template). cond (eqb q k) (option_map f w) o) (sym (at_view f q old))
+-- the same by what a table was seen as
+pub table-now : (plain options : Shelf) (now : List (ℕ × Template)) → shown_on plain ++ shown_on options ≡ now → (q : ℕ) → option_or (on_shelf plain q) (on_shelf options q) ≡ at_key q now
+table-now plain options now is q = sym (table-at plain options q) ∙ ap (at_key q) is
 
-if_some_cond : (b : Bool) (x y : Option Template) → IfSome x IsKeepable → IfSome y IsKeepable → IfSome (cond b x y) IsKeepable
-if_some_cond true x y p q = p
-if_some_cond false x y p q = q
+pub keepable_of : (plain options : Option Template) → IsOneOfKind plain options → IfSome (option_or plain options) IsKeepable
+keepable_of None None one = tt
+keepable_of (Some t) None one = one.keepable
+keepable_of None (Some t) one = one.keepable
+keepable_of (Some t) (Some u) one = absurd one
 
-pub keepable_after : (old new : List (ℕ × Template)) (k : ℕ) (w : Option Template) → ((q : ℕ) → at_key q new ≡ cond (eqb q k) w (at_key q old)) → IfSome w IsKeepable → AreKeepable old → AreKeepable new
-keepable_after old new k w is here others q =
-    let P : Option Template → Type 0 = λ o. IfSome o IsKeepable in
-    subst P (sym (is q)) (if_some_cond (eqb q k) w (at_key q old) here (others q))
+-- ---- a template less, or one more
 
--- ---- a withdrawal of all templates of a kind
+pub fewer : (p o : Bool) (plain options : Option Template) → IsOneOfKind plain options → IsOneOfKind (cond p None plain) (cond o None options)
+fewer true true plain options one = tt
+fewer false false plain options one = one
+fewer true false None options one = one
+fewer true false (Some t) None one = tt
+fewer true false (Some t) (Some u) one = absurd one
+fewer false true plain None one = one
+fewer false true None (Some u) one = tt
+fewer false true (Some t) (Some u) one = absurd one
 
-left_of : {X : Type 0} (f : X → Template) (options : Bool) (o : Option X) → option_map f (option_filter (λ x. is_other_kind options (f x)) o) ≡ unless_of_kind options (option_map f o)
-left_of f options None = refl
-left_of f options (Some x) = left_by (is_other_kind options (f x)) where
-  left_by : (b : Bool) → option_map f (cond b (Some x) None) ≡ cond b (Some (f x)) None
-  left_by true = refl
-  left_by false = refl
+pub or-removed : (here : Bool) (plain options : Option Template) → option_or (cond here None plain) (cond here None options) ≡ cond here None (option_or plain options)
+or-removed true plain options = refl
+or-removed false plain options = refl
 
-pub left_at : {X : Type 0} (f : X → Template) (options : Bool) (old new : List (ℕ × X)) → IsStrictlySortedBy nat_cmp (keys_of old) → new ≡ filter (λ e. is_other_kind options (f e.1)) old → (q : ℕ) → at_key q (viewed f new) ≡ unless_of_kind options (at_key q (viewed f old))
-left_at {X} f options old new sorted is q =
-    at_view f q new ∙ ap (λ (es : List (ℕ × X)). option_map f (at_key q es)) is
-    ∙ ap (option_map f) (lookup-filter-values (eq_by_cmp_equiv nat_cmp_total) (λ x. is_other_kind options (f x)) q old (IsDistinct-from_sorted nat_cmp (keys_of old) sorted))
-    ∙ left_of f options (at_key q old) ∙ ap (unless_of_kind options) (sym (at_view f q old))
+pub one_plain : (here : Bool) (t : Template) (plain options : Option Template) → IsOfKind false t → IsOneOfKind plain options → IsOneOfKind (cond here (Some t) plain) (cond here None options)
+one_plain true t plain options kind one = kind
+one_plain false t plain options kind one = one
 
-unless_keepable : (options : Bool) (o : Option Template) → IfSome o IsKeepable → IfSome (unless_of_kind options o) IsKeepable
-unless_keepable options None h = h
-unless_keepable options (Some t) h = if_some_cond (is_other_kind options t) (Some t) None h tt
+pub one_options : (here : Bool) (t : Template) (plain options : Option Template) → IsOfKind true t → IsOneOfKind plain options → IsOneOfKind (cond here None plain) (cond here (Some t) options)
+one_options true t plain options kind one = kind
+one_options false t plain options kind one = one
 
-pub keepable_left : (options : Bool) (old new : List (ℕ × Template)) → ((q : ℕ) → at_key q new ≡ unless_of_kind options (at_key q old)) → AreKeepable old → AreKeepable new
-keepable_left options old new is others q =
-    let P : Option Template → Type 0 = λ o. IfSome o IsKeepable in
-    subst P (sym (is q)) (unless_keepable options (at_key q old) (others q))
+pub or-one_plain : (here : Bool) (t : Template) (plain options : Option Template) → option_or (cond here (Some t) plain) (cond here None options) ≡ cond here (Some t) (option_or plain options)
+or-one_plain true t plain options = refl
+or-one_plain false t plain options = refl
 
--- ---- a clone
+pub or-one_options : (here : Bool) (t : Template) (plain options : Option Template) → option_or (cond here None plain) (cond here (Some t) options) ≡ cond here (Some t) (option_or plain options)
+or-one_options true t plain options = refl
+or-one_options false t plain options = refl
 
-pub viewed_clone : {X : Type 0} (f : X → Template) (old new : List (ℕ × X)) → AllZip (λ p q. (q.0 ≡ p.0) × (f q.1 ≡ f p.1)) old new → viewed f new ≡ viewed f old
-viewed_clone f [] [] a = refl
-viewed_clone f [] (y ∷ ys) a = absurd a
-viewed_clone f (x ∷ xs) [] a = absurd a
-viewed_clone f (x ∷ xs) (y ∷ ys) a = λ i. (a.0.0 i, a.0.1 i) ∷ viewed_clone f xs ys a.1 i
+-- ---- a withdrawal of all of a kind
+
+left_by : (kind options : Bool) (t : Template) → kind ≡ options → cond (not (same_kind options kind)) (Some t) None ≡ None
+left_by true true t e = refl
+left_by false false t e = refl
+left_by true false t e = absurd cc
+left_by false true t e = absurd cc
+
+kept_by : (kind options : Bool) (t : Template) → kind ≡ not options → Some t ≡ cond (not (same_kind options kind)) (Some t) None
+kept_by true false t e = refl
+kept_by false true t e = refl
+kept_by true true t e = absurd cc
+kept_by false false t e = absurd cc
+
+pub left-options : (plain options : Option Template) → IsOneOfKind plain options → option_or None options ≡ unless_of_kind false (option_or plain options)
+left-options None None one = refl
+left-options (Some t) None one = sym (left_by (is_options t) false t one.kind)
+left-options None (Some t) one = kept_by (is_options t) false t one.kind
+left-options (Some t) (Some u) one = absurd one
+
+pub left-plain : (plain options : Option Template) → IsOneOfKind plain options → option_or plain None ≡ unless_of_kind true (option_or plain options)
+left-plain None None one = refl
+left-plain (Some t) None one = kept_by (is_options t) true t one.kind
+left-plain None (Some t) one = sym (left_by (is_options t) true t one.kind)
+left-plain (Some t) (Some u) one = absurd one
+
+-- ---- what a message decides is taken over
+
+same_both : (b : Bool) (x : Option Template) → cond b x x ≡ x
+same_both true x = refl
+same_both false x = refl
+
+after_decided : (x : Option Template) (p o : Bool) (before : Option Template) → x ≡ template_after x true p o before
+after_decided None p o before = refl
+after_decided (Some t) p o before = refl
+
+kind_plain : (k p o : Bool) (t : Template) → k ≡ false → option_or (cond p None (Some t)) (cond o None None) ≡ cond (cond k o p) None (Some t)
+kind_plain true p o t is = absurd cc
+kind_plain false true o t is = same_both o None
+kind_plain false false o t is = refl
+
+kind_options : (k p o : Bool) (t : Template) → k ≡ true → option_or (cond p None None) (cond o None (Some t)) ≡ cond (cond k o p) None (Some t)
+kind_options false p o t is = absurd cc
+kind_options true true o t is = refl
+kind_options true false o t is = refl
+
+left_value : (p o : Bool) (plain options : Option Template) → IsOneOfKind plain options → option_or (cond p None plain) (cond o None options) ≡ unless_withdrawn p o (option_or plain options)
+left_value true o None None one = same_both o None
+left_value false o None None one = same_both o None
+left_value p o (Some t) None one = kind_plain (is_options t) p o t one.kind
+left_value p o None (Some t) one = kind_options (is_options t) p o t one.kind
+left_value p o (Some t) (Some u) one = absurd one
+
+pub taken-value : (d p o : Bool) (new_plain new_options plain options : Option Template) → (d ≡ false → option_or new_plain new_options ≡ None) → IsOneOfKind plain options
+    → option_or (cond p new_plain (cond d new_plain plain)) (cond o new_options (cond d new_options options)) ≡ template_after (option_or new_plain new_options) d p o (option_or plain options)
+taken-value true p o x y plain options none one = (λ i. option_or (same_both p x i) (same_both o y i)) ∙ after_decided (option_or x y) p o (option_or plain options)
+taken-value false p o None None plain options none one = left_value p o plain options one
+taken-value false p o (Some t) y plain options none one = absurd (let e = none refl in cc)
+taken-value false p o None (Some t) plain options none one = absurd (let e = none refl in cc)
+
+pub taken_kinds : (d p o : Bool) (new_plain new_options plain options : Option Template) → (d ≡ false → option_or new_plain new_options ≡ None) → IsOneOfKind new_plain new_options → IsOneOfKind plain options
+    → IsOneOfKind (cond p new_plain (cond d new_plain plain)) (cond o new_options (cond d new_options options))
+taken_kinds true true true x y plain options none new one = new
+taken_kinds true true false x y plain options none new one = new
+taken_kinds true false true x y plain options none new one = new
+taken_kinds true false false x y plain options none new one = new
+taken_kinds false p o None None plain options none new one = fewer p o plain options one
+taken_kinds false p o (Some t) y plain options none new one = absurd (let e = none refl in cc)
+taken_kinds false p o None (Some t) plain options none new one = absurd (let e = none refl in cc)

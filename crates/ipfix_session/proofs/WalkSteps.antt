@@ -14,9 +14,11 @@ use Rattle.ipfix_session.specs.declared.read_error.ReadError.{ReadError}
 use Rattle.ipfix_session.specs.declared.read_error.ReadError.TheVariants.{Malformed, RecordOverrun, OutOfMemory}
 use Rattle.ipfix_session.specs.InForce.{template_in_force, unless_of_kind}
 use Rattle.ipfix_session.specs.Contents.{Contents, nothing, skips_of, both, only_skips, only_records, record_of, rows_of, set_contents, item_contents, contents_after, ◌>>=◌}
-use Rattle.ipfix_session.specs.Keeping.{at_key, Keeps}
+use Rattle.ipfix_session.specs.Keeping.{AreInForce}
+use Rattle.ipfix_session.specs.declared.changes.Changes.{Changes}
+use Rattle.ipfix_session.specs.Changing.{after}
 use Rattle.ipfix_session.specs.Answers.{Fails}
-use Rattle.ipfix_session.specs.Walking.{Adds, table_of, IsCounted}
+use Rattle.ipfix_session.specs.Walking.{Adds, IsCounted}
 use Rattle.ipfix_session.specs.DataSets.{AddsRecords}
 
 -- ---- the contents so far, and those of the items that are left
@@ -45,37 +47,37 @@ both-both a b c = same_contents (both (both a b) c) (both a (both b c)) (append_
 
 -- ---- what an item changes of the templates
 
-pub keeps_define : (old new : List (ℕ × Template)) (item : Item) (id : ℕ) (t : Template) → item ≡ Define id t → ((q : ℕ) → at_key q new ≡ cond (eqb q id) (Some t) (at_key q old)) → (done : List Item) → Keeps old done → Keeps new (item ∷ done)
+pub keeps_define : (old new : ℕ → Option Template) (item : Item) (id : ℕ) (t : Template) → item ≡ Define id t → ((q : ℕ) → new q ≡ cond (eqb q id) (Some t) (old q)) → (done : List Item) → AreInForce old done → AreInForce new (item ∷ done)
 unfolding template_in_force
 keeps_define old new item id t is change done keeps q = rw is (change q ∙ ap (cond (eqb q id) (Some t)) (keeps q))
 
-pub keeps_withdraw : (old new : List (ℕ × Template)) (item : Item) (id : ℕ) → item ≡ Withdraw id → ((q : ℕ) → at_key q new ≡ cond (eqb q id) None (at_key q old)) → (done : List Item) → Keeps old done → Keeps new (item ∷ done)
+pub keeps_withdraw : (old new : ℕ → Option Template) (item : Item) (id : ℕ) → item ≡ Withdraw id → ((q : ℕ) → new q ≡ cond (eqb q id) None (old q)) → (done : List Item) → AreInForce old done → AreInForce new (item ∷ done)
 unfolding template_in_force
 keeps_withdraw old new item id is change done keeps q = rw is (change q ∙ ap (cond (eqb q id) None) (keeps q))
 
-pub keeps_refused : (old new : List (ℕ × Template)) (item : Item) (id : ℕ) (why : Why) → item ≡ Refused id why → ((q : ℕ) → at_key q new ≡ cond (eqb q id) None (at_key q old)) → (done : List Item) → Keeps old done → Keeps new (item ∷ done)
+pub keeps_refused : (old new : ℕ → Option Template) (item : Item) (id : ℕ) (why : Why) → item ≡ Refused id why → ((q : ℕ) → new q ≡ cond (eqb q id) None (old q)) → (done : List Item) → AreInForce old done → AreInForce new (item ∷ done)
 unfolding template_in_force
 keeps_refused old new item id why is change done keeps q = rw is (change q ∙ ap (cond (eqb q id) None) (keeps q))
 
-pub keeps_withdraw_all : (old new : List (ℕ × Template)) (item : Item) (options : Bool) → item ≡ WithdrawAll options → ((q : ℕ) → at_key q new ≡ unless_of_kind options (at_key q old)) → (done : List Item) → Keeps old done → Keeps new (item ∷ done)
+pub keeps_withdraw_all : (old new : ℕ → Option Template) (item : Item) (options : Bool) → item ≡ WithdrawAll options → ((q : ℕ) → new q ≡ unless_of_kind options (old q)) → (done : List Item) → AreInForce old done → AreInForce new (item ∷ done)
 unfolding template_in_force
 keeps_withdraw_all old new item options is change done keeps q = rw is (change q ∙ ap (unless_of_kind options) (keeps q))
 
-pub keeps_skipped : (table : List (ℕ × Template)) (item : Item) (set : ℕ) → item ≡ Skipped set → (done : List Item) → Keeps table done → Keeps table (item ∷ done)
+pub keeps_skipped : (found : ℕ → Option Template) (item : Item) (set : ℕ) → item ≡ Skipped set → (done : List Item) → AreInForce found done → AreInForce found (item ∷ done)
 unfolding template_in_force
-keeps_skipped table item set is done keeps q = rw is (keeps q)
+keeps_skipped found item set is done keeps q = rw is (keeps q)
 
-keeps_data_set : (table : List (ℕ × Template)) (item : Item) (id start len : ℕ) → item ≡ DataSet id start len → (done : List Item) → Keeps table done → Keeps table (item ∷ done)
+keeps_data_set : (found : ℕ → Option Template) (item : Item) (id start len : ℕ) → item ≡ DataSet id start len → (done : List Item) → AreInForce found done → AreInForce found (item ∷ done)
 unfolding template_in_force
-keeps_data_set table item id start len is done keeps q = rw is (keeps q)
+keeps_data_set found item id start len is done keeps q = rw is (keeps q)
 
 on_any : {T E P : Type 0} (r : Result T E) → P → OnOk r P
 on_any (Ok x) p = p
 on_any (Err e) p = tt
 
-pub keeps_data : (r : Result (Unit {0}) ReadError) (base : List (ℕ × Template)) (old new : Option (List (ℕ × Template))) (item : Item) (id start len : ℕ) → item ≡ DataSet id start len → new ≡ old → (done : List Item) → Keeps (table_of base old) done → OnOk r (Keeps (table_of base new) (item ∷ done))
+pub keeps_data : (r : Result (Unit {0}) ReadError) (base : List (ℕ × Template)) (old new : Changes) (item : Item) (id start len : ℕ) → item ≡ DataSet id start len → new ≡ old → (done : List Item) → AreInForce (after old base) done → OnOk r (AreInForce (after new base) (item ∷ done))
 keeps_data r base old new item id start len is same done keeps =
-    on_any r (subst (λ (o : Option (List (ℕ × Template))). Keeps (table_of base o) (item ∷ done)) (sym same) (keeps_data_set (table_of base old) item id start len is done keeps))
+    on_any r (subst (λ (o : Changes). AreInForce (after o base) (item ∷ done)) (sym same) (keeps_data_set (after old base) item id start len is done keeps))
 
 -- ---- what an item holds
 
@@ -117,9 +119,9 @@ added_records t found content expected old new s (Err RecordOverrun) is same add
 added_records t found content expected old new s (Err (Malformed why)) is same adds = absurd adds
 
 -- a Data Set is read by the template in force
-pub in_force : (done : List Item) (message : List ℕ) (item : Item) (id start len : ℕ) (table : List (ℕ × Template)) (old new : Contents) (r : Result (Unit {0}) ReadError) → item ≡ DataSet id start len → Keeps table done → Adds old new (set_contents (at_key id table) (take len (drop start message))) r → Adds old new (item_contents done message item) r
-in_force done message item id start len table old new r is keeps adds =
-    let same : set_contents (at_key id table) (take len (drop start message)) ≡ item_contents done message item = ap (λ (o : Option Template). set_contents o (take len (drop start message))) (keeps id) ∙ ap (item_contents done message) (sym is) in
+pub in_force : (done : List Item) (message : List ℕ) (item : Item) (id start len : ℕ) (found : ℕ → Option Template) (old new : Contents) (r : Result (Unit {0}) ReadError) → item ≡ DataSet id start len → AreInForce found done → Adds old new (set_contents (found id) (take len (drop start message))) r → Adds old new (item_contents done message item) r
+in_force done message item id start len found old new r is keeps adds =
+    let same : set_contents (found id) (take len (drop start message)) ≡ item_contents done message item = ap (λ (o : Option Template). set_contents o (take len (drop start message))) (keeps id) ∙ ap (item_contents done message) (sym is) in
     subst (λ (read : Result Contents ReadError). Adds old new read r) same adds
 
 -- what a look-up found
@@ -130,9 +132,9 @@ none_there f (Some x) o none is = absurd (none x refl)
 -- ---- all items
 
 -- some items were read, and those that are left are read after them
-pub record Walks (message : List ℕ) (table : List (ℕ × Template)) (rest : List Item) (so_far : Contents) (older said : List Item) : Type 0 where
+pub record Walks (message : List ℕ) (found : ℕ → Option Template) (rest : List Item) (so_far : Contents) (older said : List Item) : Type 0 where
   pub done : List Item
-  pub keeps : Keeps table done
+  pub keeps : AreInForce found done
   pub read : with_contents so_far (contents_after done message rest) ≡ contents_after older message said
   pub order : reverse rest ++ done ≡ reverse said ++ older
 
@@ -143,8 +145,8 @@ with_nothing : (r : Result Contents ReadError) → with_contents nothing r ≡ r
 with_nothing (Ok c) = ap read_contents (nothing-both c)
 with_nothing (Err e) = refl
 
-pub walks_first : (message : List ℕ) (table : List (ℕ × Template)) (older said : List Item) → Keeps table older → Walks message table said nothing older said
-walks_first message table older said keeps = record { done = older; keeps = keeps; read = with_nothing (contents_after older message said); order = refl }
+pub walks_first : (message : List ℕ) (found : ℕ → Option Template) (older said : List Item) → AreInForce found older → Walks message found said nothing older said
+walks_first message found older said keeps = record { done = older; keeps = keeps; read = with_nothing (contents_after older message said); order = refl }
 
 with_both : (a b : Contents) (r : Result Contents ReadError) → with_contents (both a b) r ≡ with_contents a (r >>= λ o. Ok (both b o))
 with_both a b (Ok c) = ap read_contents (both-both a b c)
@@ -154,8 +156,8 @@ at_item : (done : List Item) (message : List ℕ) (item : Item) (rest : List Ite
 unfolding contents_after
 at_item done message item rest first is = ap (λ (r : Result Contents ReadError). r >>= λ f. contents_after (item ∷ done) message rest >>= λ o. Ok (both f o)) is
 
-pub walks_more : (message : List ℕ) (table after : List (ℕ × Template)) (item : Item) (rest : List Item) (so_far new : Contents) (older said : List Item) → ((done : List Item) → Keeps table done → Added so_far new (item_contents done message item)) → ((done : List Item) → Keeps table done → Keeps after (item ∷ done)) → Walks message table (item ∷ rest) so_far older said → Walks message after rest new older said
-walks_more message table after item rest so_far new older said reads keeps walks =
+pub walks_more : (message : List ℕ) (found then : ℕ → Option Template) (item : Item) (rest : List Item) (so_far new : Contents) (older said : List Item) → ((done : List Item) → AreInForce found done → Added so_far new (item_contents done message item)) → ((done : List Item) → AreInForce found done → AreInForce then (item ∷ done)) → Walks message found (item ∷ rest) so_far older said → Walks message then rest new older said
+walks_more message found then item rest so_far new older said reads keeps walks =
     let added = reads walks.done walks.keeps in
     record {
       done = item ∷ walks.done;
@@ -166,22 +168,22 @@ walks_more message table after item rest so_far new older said reads keeps walks
       order = sym (append_assoc (reverse rest) (item ∷ []) walks.done) ∙ ap (λ (xs : List Item). xs ++ walks.done) (sym (reverse-append (item ∷ []) rest)) ∙ walks.order;
     }
 
-fault_is : (message : List ℕ) (table : List (ℕ × Template)) (item : Item) (rest : List Item) (so_far : Contents) (older said : List Item) (e : ReadError) (walks : Walks message table (item ∷ rest) so_far older said) → item_contents walks.done message item ≡ Err e → contents_after older message said ≡ Err e
+fault_is : (message : List ℕ) (found : ℕ → Option Template) (item : Item) (rest : List Item) (so_far : Contents) (older said : List Item) (e : ReadError) (walks : Walks message found (item ∷ rest) so_far older said) → item_contents walks.done message item ≡ Err e → contents_after older message said ≡ Err e
 unfolding contents_after
-fault_is message table item rest so_far older said e walks is =
+fault_is message found item rest so_far older said e walks is =
     sym walks.read ∙ ap (λ (r : Result Contents ReadError). with_contents so_far (r >>= λ f. contents_after (item ∷ walks.done) message rest >>= λ o. Ok (both f o))) is
 
-pub walks_fault : (message : List ℕ) (table : List (ℕ × Template)) (item : Item) (rest : List Item) (so_far : Contents) (older said : List Item) (e : ReadError) → ((done : List Item) → Keeps table done → Fails e (item_contents done message item)) → Walks message table (item ∷ rest) so_far older said → Fails e (contents_after older message said)
-walks_fault message table item rest so_far older said OutOfMemory fails walks = tt
-walks_fault message table item rest so_far older said RecordOverrun fails walks = fault_is message table item rest so_far older said RecordOverrun walks (fails walks.done walks.keeps)
-walks_fault message table item rest so_far older said (Malformed why) fails walks = fault_is message table item rest so_far older said (Malformed why) walks (fails walks.done walks.keeps)
+pub walks_fault : (message : List ℕ) (found : ℕ → Option Template) (item : Item) (rest : List Item) (so_far : Contents) (older said : List Item) (e : ReadError) → ((done : List Item) → AreInForce found done → Fails e (item_contents done message item)) → Walks message found (item ∷ rest) so_far older said → Fails e (contents_after older message said)
+walks_fault message found item rest so_far older said OutOfMemory fails walks = tt
+walks_fault message found item rest so_far older said RecordOverrun fails walks = fault_is message found item rest so_far older said RecordOverrun walks (fails walks.done walks.keeps)
+walks_fault message found item rest so_far older said (Malformed why) fails walks = fault_is message found item rest so_far older said (Malformed why) walks (fails walks.done walks.keeps)
 
-pub walks_read : (message : List ℕ) (table : List (ℕ × Template)) (so_far : Contents) (older said : List Item) → Walks message table [] so_far older said → contents_after older message said ≡ Ok so_far
+pub walks_read : (message : List ℕ) (found : ℕ → Option Template) (so_far : Contents) (older said : List Item) → Walks message found [] so_far older said → contents_after older message said ≡ Ok so_far
 unfolding contents_after
-walks_read message table so_far older said walks = sym walks.read ∙ ap read_contents (both-nothing so_far)
+walks_read message found so_far older said walks = sym walks.read ∙ ap read_contents (both-nothing so_far)
 
-pub walks_keeps : (message : List ℕ) (table : List (ℕ × Template)) (so_far : Contents) (older said : List Item) → Walks message table [] so_far older said → Keeps table (reverse said ++ older)
-walks_keeps message table so_far older said walks = subst (λ (items : List Item). Keeps table items) walks.order walks.keeps
+pub walks_keeps : (message : List ℕ) (found : ℕ → Option Template) (so_far : Contents) (older said : List Item) → Walks message found [] so_far older said → AreInForce found (reverse said ++ older)
+walks_keeps message found so_far older said walks = subst (λ (items : List Item). AreInForce found items) walks.order walks.keeps
 
 pub no_items : (items : List Item) → length items ≡ 0 → items ≡ []
 no_items [] e = refl

@@ -1,5 +1,5 @@
 -- What a session keeps of a domain: templates by their IDs.
-use Rattle.std.specs.Prelude.{◌≡◌, ◌≤◌, ◌+◌, ℕ, List, Option, IfSome}
+use Rattle.std.specs.Prelude.{◌≡◌, ◌≤◌, ◌+◌, ℕ, List, Option}
 use Rattle.std.specs.Ordering.{nat_cmp}
 use Rattle.std.specs.Map.{lookup}
 use Rattle.std.specs.BTreeMap.{is_at}
@@ -20,12 +20,13 @@ pub record IsKeepable (t : Template) : Type 0 where
   pub accepted : IsAccepted t
   pub fits : FitsOneMessage (template_record 256 (is_options t) t)
 
-abbrev pub AreKeepable : List (ℕ × Template) → Type 0
-AreKeepable kept = (id : ℕ) → IfSome (at_key id kept) IsKeepable
+-- each ID has the template that is in force after these items, newest first
+abbrev pub AreInForce : (ℕ → Option Template) → List Item → Type 0
+AreInForce found items = (id : ℕ) → found id ≡ template_in_force id items
 
--- what is kept is what is in force after these items, newest first
+-- what is kept is what is in force after these items
 abbrev pub Keeps : List (ℕ × Template) → List Item → Type 0
-Keeps kept items = (id : ℕ) → at_key id kept ≡ template_in_force id items
+Keeps kept items = AreInForce (λ id. at_key id kept) items
 
 -- an item that stands in a message of so many octets: what it defines may be kept, and its Data Set lies behind the
 -- headers of message and set

@@ -12,6 +12,9 @@ pub mod InForce
 pub mod Contents
 pub mod Meaning
 pub mod Keeping
+pub mod Shelves
+pub mod Tables
+pub mod Changing
 pub mod Standing
 pub mod DataSets
 pub mod Answers

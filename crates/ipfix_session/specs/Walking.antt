@@ -1,16 +1,10 @@
 -- What the functions that walk over a message's items answer.
-use Rattle.std.specs.Prelude.{◌≡◌, ◌≤◌, ℕ, List, Option, Some, None, Result, Ok, Err, IfSome}
-use Rattle.ipfix_template.specs.declared.template.Template.{Template}
+use Rattle.std.specs.Prelude.{◌≡◌, ◌≤◌, ℕ, List, Option, Result, Ok, Err, IfSome}
 use Rattle.ipfix_session.specs.declared.read.Skips.{Skips}
 use Rattle.ipfix_session.specs.declared.read_error.ReadError.{ReadError}
 use Rattle.ipfix_session.specs.declared.walk.Walk.{Walk}
 use Rattle.ipfix_session.specs.Contents.{Contents, both}
 use Rattle.ipfix_session.specs.Answers.{Fails}
-
--- the templates of a domain after a message that changed them or not
-abbrev pub table_of : List (ℕ × Template) → Option (List (ℕ × Template)) → List (ℕ × Template)
-table_of base None = base
-table_of base (Some changed) = changed
 
 -- what was read so far
 abbrev pub contents_in : Walk → Contents

@@ -9,13 +9,16 @@
 //! - [`laws`]: messages mean what the first of them mean, and then the others.
 #![tactic(auto)]
 
+mod changes;
 mod data_set;
 mod domain;
 pub mod laws;
 pub mod read;
 pub mod read_error;
-mod same_template;
 pub mod session;
+mod shelf;
+#[cfg(test)]
+mod speed;
 mod table;
 #[cfg(test)]
 mod tests;

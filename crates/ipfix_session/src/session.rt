@@ -5,11 +5,13 @@ ghost use Rattle.ipfix_message.specs.declared.item.Item.{Item};
 ghost use Rattle.ipfix_session.specs.InForce.{template_in_force};
 ghost use Rattle.ipfix_session.specs.Contents.{contents_after};
 ghost use Rattle.ipfix_session.specs.Meaning.{items_of_domain, number_after, gap_between, meaning_of};
-ghost use Rattle.ipfix_session.specs.Keeping.{at_key, Keeps, StandIn};
+ghost use Rattle.ipfix_session.specs.Keeping.{at_key, Keeps, AreInForce, StandIn};
 ghost use Rattle.ipfix_session.specs.Standing.{kept_of, StandsFor};
 ghost use Rattle.ipfix_session.specs.Answers.{Gives, shown};
-ghost use Rattle.ipfix_session.specs.Walking.{table_of, contents_in};
+ghost use Rattle.ipfix_session.specs.Walking.{contents_in};
+ghost use Rattle.ipfix_session.specs.Changing.{after};
 
+use crate::changes::Changes;
 use crate::domain::Domain;
 use crate::read::{Gap, Read};
 use crate::read_error::ReadError;
@@ -45,15 +47,15 @@ impl Model for Session {
 /// What a message brings and changes.
 #[derive(Drop)]
 struct Outcome {
-    /// The domain's templates, where the message changed them.
-    changed: Option<Table>,
+    /// What it changes of its domain's templates.
+    changes: Changes,
     /// The sequence number that the domain's next message is to have, where it is known.
     next: Option<u32>,
     read: Read,
 }
 
 impl Session {
-    ghost use Rattle.ipfix_session.specs.Settling.{contents_read, settled, Sets};
+    ghost use Rattle.ipfix_session.specs.Settling.{contents_read, Settles};
 
     /// A session without a message.
     pub fn new(alloc: Global) -> Session
@@ -82,7 +84,7 @@ impl Session {
         let header = read_header(message)?;
         let said = items(self.alloc, message)?;
         let found = self.read_message(header, message, said)?;
-        self.keep(header.domain, found.changed, found.next)?;
+        self.keep(header.domain, found.changes, found.next)?;
         Ok(found.read)
     }
 
@@ -122,7 +124,7 @@ impl Session {
         ensures reads { (older : List Item) → Keeps (kept_of header.domain self.now).templates older
             → Gives contents_read result (contents_after older message.now said.items) }
         ensures keeps { (older : List Item) → Keeps (kept_of header.domain self.now).templates older
-            → IfOk result (λ o. Keeps (table_of (kept_of header.domain self.now).templates o.changed) (reverse said.items ++ older)) }
+            → IfOk result (λ o. AreInForce (after o.changes (kept_of header.domain self.now).templates) (reverse said.items ++ older)) }
         ensures header { IfOk result (λ o. o.read.header ≡ header) }
         ensures gap { IfOk result (λ o. o.read.gap ≡ gap_between (kept_of header.domain self.now).expected header.sequence) }
         ensures next { IfOk result (λ o. o.next ≡ number_after header (contents_read o)) }
@@ -135,7 +137,7 @@ impl Session {
         let walk = walk_items(self.alloc, base, message, said)?;
         Ok(Outcome {
             next: number_after(header, &walk),
-            changed: walk.changed,
+            changes: walk.changes,
             read: Read {
                 header,
                 records: walk.records,
@@ -145,27 +147,23 @@ impl Session {
         })
     }
 
-    /// Keeps what a message of a domain changed.
+    /// Keeps what a message of a domain changes.
     fn keep(
         &mut self,
         domain: u32,
-        changed: Option<Table>,
+        changes: Changes,
         expected: Option<u32>,
     ) -> Result<(), AllocError>
-        ensures ok { OnOk result (Sets self.old self.new domain (settled (kept_of domain self.old) changed expected)) }
+        ensures ok { OnOk result (Settles self.old self.new domain (after changes (kept_of domain self.old).templates) expected) }
         ensures err { OnErr result (self.new ≡ self.old) }
     {
-        let alloc = self.alloc;
-        let templates = match changed {
-            Some(templates) => templates,
-            None => {
-                if let Some(kept) = self.domains.get_mut(&domain) {
-                    kept.expected = expected;
-                    return Ok(());
-                }
-                Table::new(alloc)
-            }
-        };
+        if let Some(kept) = self.domains.get_mut(&domain) {
+            changes.make(&mut kept.templates)?;
+            kept.expected = expected;
+            return Ok(());
+        }
+        let mut templates = Table::new(self.alloc);
+        changes.make(&mut templates)?;
         let kept = Domain {
             templates,
             expected,

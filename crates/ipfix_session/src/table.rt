@@ -1,21 +1,27 @@
 //! The templates of one domain.
-ghost use Rattle.std.specs.Prelude.{◌≡◌, ℕ, [], Some, None, ◌==◌, if◌then◌else◌, IfSome, OnOk};
+ghost use Rattle.std.specs.Prelude.{◌≡◌, ℕ, [], Some, None, false, ◌==◌, if◌then◌else◌, IfSome, OnOk, OnErr};
 ghost use Rattle.std.specs.Option.{option_map, option_copied};
 ghost use Rattle.std.specs.Arc.{arc_value};
-ghost use Rattle.ipfix_session.specs.InForce.{unless_of_kind, is_other_kind};
+ghost use Rattle.std.specs.Ordering.{nat_cmp};
+ghost use Rattle.std.specs.BTreeSet.{contains};
+ghost use Rattle.ipfix_session.specs.InForce.{unless_of_kind};
 ghost use Rattle.ipfix_session.specs.Keeping.{at_key, IsKeepable};
+ghost use Rattle.ipfix_session.specs.Tables.{template_after};
 
+use crate::shelf::Shelf;
 use ipfix_template::Template;
 use std::alloc::{AllocError, Global};
-use std::collections::BTreeMap;
+use std::collections::BTreeSet;
 use std::marker::Model;
 use std::sync::Arc;
 
-/// The templates of one domain by their IDs, each of which is accepted and fits one message. Records share
-/// them. Contracts see the list of IDs and templates.
+/// The templates of one domain by their IDs, each of which is accepted and fits one message. The two kinds stand apart,
+/// so that a withdrawal of all of a kind lets go of that kind alone, and each template is let go once. Contracts see the
+/// list of IDs and templates.
 #[derive(Drop)]
 pub(crate) struct Table {
-    templates: BTreeMap<u16, Arc<Template>>,
+    plain: Shelf,
+    options: Shelf,
 }
 
 impl Model for Table {
@@ -24,13 +30,13 @@ impl Model for Table {
 
     ghost Value = { List (ℕ × Template) };
 
-    ghost use Rattle.std.specs.Prelude.{map};
-    ghost use Rattle.std.specs.Arc.{arc_value};
-    ghost use Rattle.ipfix_session.specs.Keeping.{AreKeepable};
+    ghost use Rattle.std.specs.Prelude.{◌++◌};
+    ghost use Rattle.ipfix_session.specs.Shelves.{shown_on, on_shelf};
+    ghost use Rattle.ipfix_session.specs.Tables.{IsOneOfKind};
 
-    ghost view = { λ t. map (λ e. (e.0, arc_value e.1)) t.templates.entries };
+    ghost view = { λ t. shown_on t.plain ++ shown_on t.options };
 
-    ghost invariant = { λ t. AreKeepable (map (λ e. (e.0, arc_value e.1)) t.templates.entries) };
+    ghost invariant = { λ t. (id : ℕ) → IsOneOfKind (on_shelf t.plain id) (on_shelf t.options id) };
 }
 
 impl Clone for Table {
@@ -40,7 +46,8 @@ impl Clone for Table {
 
     fn clone(&self) -> Result<Table, AllocError> {
         Ok(Table {
-            templates: self.templates.clone()?,
+            plain: self.plain.clone()?,
+            options: self.options.clone()?,
         })
     }
 }
@@ -51,7 +58,8 @@ impl Table {
         ensures { result ≡ [] }
     {
         Table {
-            templates: BTreeMap::new(alloc),
+            plain: Shelf::new(alloc),
+            options: Shelf::new(alloc),
         }
     }
 
@@ -60,7 +68,10 @@ impl Table {
         ensures value { option_map (λ t. arc_value t.now) result ≡ at_key id self.now }
         ensures keepable { IfSome result (λ t. IsKeepable (arc_value t.now)) }
     {
-        self.templates.get(&id)
+        match self.plain.get(id) {
+            Some(template) => Some(template),
+            None => self.options.get(id),
+        }
     }
 
     /// The template of an ID, without the share in it.
@@ -85,9 +96,17 @@ impl Table {
     ) -> Result<(), AllocError>
         requires { IsKeepable template }
         ensures ok { OnOk result ((q : ℕ) → at_key q self.new ≡ (if q == id then Some template else at_key q self.old)) }
+        ensures err { OnErr result (self.new ≡ self.old) }
     {
+        let is_options = template.is_options();
         let shared = Arc::new(alloc, template)?;
-        self.templates.insert(id, shared)?;
+        if is_options {
+            self.options.put(id, shared)?;
+            self.plain.remove(id);
+        } else {
+            self.plain.put(id, shared)?;
+            self.options.remove(id);
+        }
         Ok(())
     }
 
@@ -95,21 +114,43 @@ impl Table {
     pub(crate) fn withdraw(&mut self, id: u16)
         ensures { (q : ℕ) → at_key q self.new ≡ (if q == id then None else at_key q self.old) }
     {
-        let _ = self.templates.remove(&id);
+        self.plain.remove(id);
+        self.options.remove(id);
     }
 
     /// Takes out all options templates, or all plain ones.
-    pub(crate) fn withdraw_all(&mut self, options: bool)
+    pub(crate) fn withdraw_all(&mut self, alloc: Global, options: bool)
         ensures { (q : ℕ) → at_key q self.new ≡ unless_of_kind options (at_key q self.old) }
     {
-        self.templates
-            .retain(|_, template| is_other_kind(template, options));
+        if options {
+            self.options = Shelf::new(alloc);
+        } else {
+            self.plain = Shelf::new(alloc);
+        }
     }
-}
 
-/// Whether a withdrawal of all templates of a kind leaves the template.
-fn is_other_kind(template: &Template, options: bool) -> bool
-    ensures { result ≡ is_other_kind options template.now }
-{
-    template.is_options() != options
+    /// Takes over what a message decides: the templates that it defines, the IDs that it decided, and whether it
+    /// withdraws all plain templates, or all options templates, that stood before it.
+    ///
+    /// # Errors
+    /// Want of memory, and then the table is as it was.
+    pub(crate) fn take_over(
+        &mut self,
+        defined: Table,
+        decided: &BTreeSet<u16>,
+        plain_withdrawn: bool,
+        options_withdrawn: bool,
+    ) -> Result<(), AllocError>
+        requires { (q : ℕ) → contains nat_cmp decided.now q ≡ false → at_key q defined ≡ None }
+        ensures ok { OnOk result ((q : ℕ) → at_key q self.new
+            ≡ template_after (at_key q defined) (contains nat_cmp decided.now q) plain_withdrawn options_withdrawn (at_key q self.old)) }
+        ensures err { OnErr result (self.new ≡ self.old) }
+    {
+        self.plain.make_room(&defined.plain)?;
+        self.options.make_room(&defined.options)?;
+        let Table { plain, options } = defined;
+        self.plain.take_over(plain_withdrawn, decided, plain);
+        self.options.take_over(options_withdrawn, decided, options);
+        Ok(())
+    }
 }

@@ -9,10 +9,18 @@ const ONE_RECORD: &[u8] = b"\x00\x0a\x00\x32\x65\x53\xf1\x00\x00\x00\x00\x00\x00
 \x00\x02\x00\x14\x01\x00\x00\x03\x00\x08\x00\x04\x00\x07\x00\x02\x00\x01\x00\x04\
 \x01\x00\x00\x0e\xc0\x00\x02\x4d\x01\xbb\x00\x00\x05\xdc";
 
-/// The answer for a message. Where memory is refused once, the same message is read again.
+/// The scope counts of the templates in force for domain 7 and the IDs from 256 on.
+fn known(session: &Session) -> [Option<u16>; 5] {
+    [256, 257, 258, 259, 260].map(|id| session.template(7, id).map(|template| template.scope))
+}
+
+/// The answer for a message. Where memory is refused once, the session is as it was, and the same message is
+/// read again.
 fn read(rt: &impl Abort, session: &mut Session, message: &[u8]) -> Result<Read, Fail> {
+    let before = known(session);
     match session.apply(message) {
         Err(ReadError::OutOfMemory) => {
+            assert_eq!(rt; known(session), before);
             let again = session.apply(message);
             assert!(rt; again.is_ok(), "the same message with memory");
             Ok(again?)
@@ -38,6 +46,18 @@ fn has_values(rt: &impl Abort, record: Option<&Record>, wanted: &[&[u8]]) {
     assert_eq!(rt; record.values().len(), wanted.len());
     for (value, octets) in record.values().as_slice().iter().zip(wanted) {
         assert_eq!(rt; &value[..], *octets);
+    }
+}
+
+/// A copy of a session, which is as it was where memory is refused.
+fn copy_of(rt: &impl Abort, session: &Session) -> Result<Session, Fail> {
+    let before = known(session);
+    match session.copy() {
+        Ok(copied) => Ok(copied),
+        Err(_) => {
+            assert_eq!(rt; known(session), before);
+            Ok(session.copy()?)
+        }
     }
 }
 
@@ -244,10 +264,7 @@ fn withdraw_all(rt: HostRuntime) -> Result<(), Fail> {
 \x00\x03\x00\x12\x01\x01\x00\x02\x00\x01\x00\x0a\x00\x04\x00\x04\x00\x01\
 \x00\x02\x00\x08\x00\x02\x00\x00",
     )?;
-    let mut copied = match session.copy() {
-        Ok(copied) => copied,
-        Err(_) => session.copy()?,
-    };
+    let mut copied = copy_of(&rt, &session)?;
     let data = b"\x00\x0a\x00\x1e\x65\x53\xf1\x00\x00\x00\x00\x00\x00\x00\x00\x07\
 \x01\x00\x00\x05\x06\x01\x01\x00\x09\x00\x00\x00\x01\x11";
     knows_only_the_options_template(&rt, &mut session, data)?;
@@ -300,5 +317,88 @@ fn session_end(rt: HostRuntime) -> Result<(), Fail> {
     )?;
     assert_eq!(rt; answer.records.len(), 0);
     assert_eq!(rt; answer.skips.unknown, 1);
+    Ok(())
+}
+
+#[test]
+fn withdrawals_within_a_message(rt: HostRuntime) -> Result<(), Fail> {
+    let mut session = Session::new(rt.alloc());
+    // Template 256 and options template 257; all templates are withdrawn; then 258 is defined, and a record of
+    // each: 256 is unknown, though the message itself defined it.
+    let answer = read(
+        &rt,
+        &mut session,
+        b"\x00\x0a\x00\x51\x65\x53\xf1\x00\x00\x00\x00\x00\x00\x00\x00\x07\
+\x00\x02\x00\x0c\x01\x00\x00\x01\x00\x04\x00\x01\
+\x00\x03\x00\x12\x01\x01\x00\x02\x00\x01\x00\x0a\x00\x04\x00\x04\x00\x01\
+\x00\x02\x00\x10\x00\x02\x00\x00\x01\x02\x00\x01\x00\x04\x00\x01\
+\x01\x00\x00\x05\x06\x01\x01\x00\x09\x00\x00\x00\x01\x11\x01\x02\x00\x05\x32",
+    )?;
+    assert_eq!(rt; answer.skips.unknown, 1);
+    assert_eq!(rt; answer.records.len(), 2);
+    let mut records = answer.records.iter();
+    has_values(&rt, records.next(), &[b"\x00\x00\x00\x01", b"\x11"]);
+    has_values(&rt, records.next(), &[b"\x32"]);
+    assert_eq!(rt; known(&session), [None, Some(1), Some(0), None, None]);
+    Ok(())
+}
+
+/// Template 256 and options template 257, and a record of each.
+const BOTH_KINDS: &[u8] = b"\x00\x0a\x00\x3c\x65\x53\xf1\x00\x00\x00\x00\x00\x00\x00\x00\x07\
+\x00\x02\x00\x0c\x01\x00\x00\x01\x00\x04\x00\x01\
+\x00\x03\x00\x12\x01\x01\x00\x02\x00\x01\x00\x0a\x00\x04\x00\x04\x00\x01\
+\x01\x00\x00\x05\x06\x01\x01\x00\x09\x00\x00\x00\x01\x11";
+
+/// 256 becomes an options template, 257 is withdrawn, 258 is a template of interfaceName, and a record of each
+/// of the two.
+const CHANGED_KIND: &[u8] = b"\x00\x0a\x00\x47\x65\x53\xf1\x00\x00\x00\x00\x02\x00\x00\x00\x07\
+\x00\x03\x00\x12\x01\x00\x00\x02\x00\x01\x00\x0a\x00\x04\x00\x04\x00\x01\
+\x00\x02\x00\x08\x01\x01\x00\x00\
+\x00\x02\x00\x0c\x01\x02\x00\x01\x00\x52\xff\xff\
+\x01\x00\x00\x09\x00\x00\x00\x02\x06\x01\x02\x00\x08\x03abc";
+
+/// All templates are withdrawn, 259 is defined, all options templates are withdrawn, and a record of 256 and of 259.
+const ALL_WITHDRAWN: &[u8] = b"\x00\x0a\x00\x36\x65\x53\xf1\x00\x00\x00\x00\x04\x00\x00\x00\x07\
+\x00\x02\x00\x10\x00\x02\x00\x00\x01\x03\x00\x01\x00\x04\x00\x01\
+\x00\x03\x00\x08\x00\x03\x00\x00\
+\x01\x00\x00\x09\x00\x00\x00\x03\x06\x01\x03\x00\x05\x11";
+
+/// 256 is a template of interfaceName, 259 is withdrawn, and a record of 256 goes past its set.
+const REFUSED: &[u8] = b"\x00\x0a\x00\x2b\x65\x53\xf1\x00\x00\x00\x00\x05\x00\x00\x00\x07\
+\x00\x02\x00\x0c\x01\x00\x00\x01\x00\x52\xff\xff\x00\x02\x00\x08\x01\x03\x00\x00\
+\x01\x00\x00\x07\x03ab";
+
+#[test]
+fn each_refusal_of_memory(rt: HostRuntime) -> Result<(), Fail> {
+    let mut session = Session::new(rt.alloc());
+    let answer = read(&rt, &mut session, BOTH_KINDS)?;
+    assert_eq!(rt; (answer.skips, answer.gap), (NO_SKIPS, None));
+    let mut records = answer.records.iter();
+    has_values(&rt, records.next(), &[b"\x06"]);
+    has_values(&rt, records.next(), &[b"\x00\x00\x00\x01", b"\x11"]);
+    assert_eq!(rt; known(&session), [Some(0), Some(1), None, None, None]);
+
+    let mut copied = copy_of(&rt, &session)?;
+    reads_the_changes(&rt, &mut session)?;
+    reads_the_changes(&rt, &mut copied)
+}
+
+/// Reads on after both kinds of templates, up to a refused message.
+fn reads_the_changes(rt: &impl Abort, session: &mut Session) -> Result<(), Fail> {
+    let answer = read(rt, session, CHANGED_KIND)?;
+    assert_eq!(rt; (answer.skips, answer.gap), (NO_SKIPS, None));
+    let mut records = answer.records.iter();
+    has_values(rt, records.next(), &[b"\x00\x00\x00\x02", b"\x06"]);
+    has_values(rt, records.next(), &[b"abc"]);
+    assert_eq!(rt; known(session), [Some(1), None, Some(0), None, None]);
+
+    let answer = read(rt, session, ALL_WITHDRAWN)?;
+    assert_eq!(rt; (answer.skips.unknown, answer.gap), (1, None));
+    assert_eq!(rt; answer.records.len(), 1);
+    has_values(rt, answer.records.first(), &[b"\x11"]);
+    assert_eq!(rt; known(session), [None, None, None, Some(0), None]);
+
+    assert_eq!(rt; fault(session, REFUSED), Some(ReadError::RecordOverrun));
+    assert_eq!(rt; known(session), [None, None, None, Some(0), None]);
     Ok(())
 }

@@ -2,25 +2,26 @@
 ghost use Rattle.std.specs.Prelude.{◌≡◌, ◌+◌, ◌-◌, ◌≤◌, ◌<◌, ◌^◌, ◌++◌, ℕ, List, ◌∷◌, length, take, drop, reverse, IfOk, OnOk, None, Some, IsTrue, if◌then◌else◌, ◌==◌};
 ghost use Rattle.ipfix_message.specs.declared.item.Item.{Item};
 ghost use Rattle.ipfix_session.specs.Contents.{set_contents, item_contents, contents_after};
-ghost use Rattle.ipfix_session.specs.Keeping.{at_key, IsKeepable, Keeps, StandsIn, StandIn};
+ghost use Rattle.ipfix_session.specs.Keeping.{Keeps, AreInForce, StandsIn, StandIn};
 ghost use Rattle.ipfix_session.specs.Answers.{Gives};
-ghost use Rattle.ipfix_session.specs.Walking.{table_of, contents_in, Adds, IsCopy, IsCounted};
+ghost use Rattle.ipfix_session.specs.Walking.{contents_in, Adds, IsCopy, IsCounted};
+ghost use Rattle.ipfix_session.specs.Changing.{after};
 
+use crate::changes::Changes;
 use crate::data_set::read_set;
 use crate::read::Skips;
 use crate::read_error::ReadError;
-use crate::same_template::is_same;
 use crate::table::Table;
 use bytes::Bytes;
 use ipfix_message::Item;
-use ipfix_template::{Record, Template};
+use ipfix_template::Record;
 use std::alloc::{AllocError, Global};
 
 /// What was read of a message so far.
 #[derive(Drop)]
 pub(crate) struct Walk {
-    /// The domain's templates, where the message changed them.
-    pub(crate) changed: Option<Table>,
+    /// What the message changes of the domain's templates.
+    pub(crate) changes: Changes,
     pub(crate) records: Vec<Record>,
     pub(crate) skips: Skips,
     /// The message's octets, of which values are cut: made for its first Data Set with a template.
@@ -42,11 +43,11 @@ pub(crate) fn walk_items(
     ensures reads { (older : List Item) → Keeps base.now older
         → Gives contents_in result (contents_after older message.now said.items) }
     ensures keeps { (older : List Item) → Keeps base.now older
-        → IfOk result (λ w. Keeps (table_of base.now w.changed) (reverse said.items ++ older)) }
+        → IfOk result (λ w. AreInForce (after w.changes base.now) (reverse said.items ++ older)) }
 {
     let total = said.len();
     let mut state = Walk {
-        changed: None,
+        changes: Changes::new(alloc),
         records: Vec::new(alloc),
         skips: Skips {
             unknown: 0,
@@ -74,10 +75,10 @@ fn read_item(
     requires stands { StandsIn (length message.now) item }
     requires copy { IsCopy message.now state.old.block }
     requires room { IsCounted state.old.skips (2 ^ 64 - 2) }
-    ensures reads { (done : List Item) → Keeps (table_of base.now state.old.changed) done
+    ensures reads { (done : List Item) → AreInForce (after state.old.changes base.now) done
         → Adds (contents_in state.old) (contents_in state.new) (item_contents done message.now item) result }
-    ensures keeps { (done : List Item) → Keeps (table_of base.now state.old.changed) done
-        → OnOk result (Keeps (table_of base.now state.new.changed) (item ∷ done)) }
+    ensures keeps { (done : List Item) → AreInForce (after state.old.changes base.now) done
+        → OnOk result (AreInForce (after state.new.changes base.now) (item ∷ done)) }
     ensures copy { OnOk result (IsCopy message.now state.new.block) }
     ensures counts { (n : ℕ) → IsCounted state.old.skips n → OnOk result (IsCounted state.new.skips (n + 1)) }
 {
@@ -91,21 +92,19 @@ fn read_item(
         }
         Item::Refused { id, .. } => {
             state.skips.refused += 1;
-            withdraw(base, &mut state.changed, id)?;
+            state.changes.withdraw(base, id)?;
             Ok(())
         }
         Item::Withdraw { id } => {
-            withdraw(base, &mut state.changed, id)?;
+            state.changes.withdraw(base, id)?;
             Ok(())
         }
         Item::WithdrawAll { options } => {
-            let mut table = own_table(base, &mut state.changed)?;
-            table.withdraw_all(options);
-            state.changed = Some(table);
+            state.changes.withdraw_all(options);
             Ok(())
         }
         Item::Define { id, template } => {
-            define(alloc, base, &mut state.changed, id, template)?;
+            state.changes.define(base, id, template)?;
             Ok(())
         }
     }
@@ -127,12 +126,12 @@ fn read_data_set(
     requires copy { IsCopy message.now state.old.block }
     requires room { IsCounted state.old.skips (2 ^ 64 - 2) }
     ensures reads { Adds (contents_in state.old) (contents_in state.new)
-        (set_contents (at_key id (table_of base.now state.old.changed)) (take len (drop start message.now))) result }
-    ensures table { state.new.changed ≡ state.old.changed }
+        (set_contents (after state.old.changes base.now id) (take len (drop start message.now))) result }
+    ensures changes { state.new.changes ≡ state.old.changes }
     ensures copy { OnOk result (IsCopy message.now state.new.block) }
     ensures counts { (n : ℕ) → IsCounted state.old.skips n → OnOk result (IsCounted state.new.skips (n + 1)) }
 {
-    let Some(template) = current(base, &state.changed).get(id) else {
+    let Some(template) = state.changes.get(base, id) else {
         state.skips.unknown += 1;
         return Ok(());
     };
@@ -161,71 +160,4 @@ fn content_of(
     let content = whole.slice(start..start + len)?;
     *block = Some(whole);
     Ok(content)
-}
-
-/// The domain's templates as they stand now.
-fn current<'a>(base: &'a Table, changed: &'a Option<Table>) -> &'a Table
-    ensures { result.now ≡ table_of base.now changed.now }
-{
-    match changed {
-        None => base,
-        Some(table) => table,
-    }
-}
-
-/// The domain's templates as they stand now, to be changed: a copy of those before the message, unless
-/// there is one already.
-fn own_table(base: &Table, changed: &mut Option<Table>) -> Result<Table, AllocError>
-    ensures { IfOk result (λ table. table ≡ table_of base.now changed.old) }
-{
-    match changed.take() {
-        None => base.clone(),
-        Some(table) => Ok(table),
-    }
-}
-
-/// Takes out the template of an ID, if there is one.
-fn withdraw(base: &Table, changed: &mut Option<Table>, id: u16) -> Result<(), AllocError>
-    ensures { OnOk result ((q : ℕ) → at_key q (table_of base.now changed.new)
-        ≡ (if q == id then None else at_key q (table_of base.now changed.old))) }
-{
-    if current(base, changed).get(id).is_none() {
-        return Ok(());
-    }
-    let mut table = own_table(base, changed)?;
-    table.withdraw(id);
-    *changed = Some(table);
-    Ok(())
-}
-
-/// Sets the template of an ID. One that is in force already changes nothing, so exporters may repeat their
-/// templates at no cost.
-fn define(
-    alloc: Global,
-    base: &Table,
-    changed: &mut Option<Table>,
-    id: u16,
-    template: Template,
-) -> Result<(), AllocError>
-    requires { IsKeepable template }
-    ensures { OnOk result ((q : ℕ) → at_key q (table_of base.now changed.new)
-        ≡ (if q == id then Some template else at_key q (table_of base.now changed.old))) }
-{
-    if repeats(current(base, changed), id, &template) {
-        return Ok(());
-    }
-    let mut table = own_table(base, changed)?;
-    table.define(alloc, id, template)?;
-    *changed = Some(table);
-    Ok(())
-}
-
-/// Whether the ID has this template already.
-fn repeats(table: &Table, id: u16, template: &Template) -> bool
-    ensures { IsTrue result → at_key id table.now ≡ Some template.now }
-{
-    match table.template(id) {
-        Some(kept) => is_same(kept, template),
-        None => false,
-    }
 }

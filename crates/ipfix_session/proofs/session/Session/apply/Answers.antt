@@ -1,5 +1,7 @@
 use Rattle.std.proofs.lemmas.Result.{err_from_is_err_and}
 use Rattle.ipfix_session.proofs.ItemsStand.{items_stand}
+use Rattle.ipfix_session.specs.Changing.{after}
+use Rattle.ipfix_session.specs.Standing.{kept_of}
 use Rattle.ipfix_session.specs.Settling.{contents_read}
 use Rattle.ipfix_session.proofs.SessionSteps.{Found, header_fault, header_is, items_fault, found_fault, found_meaning, found_stands}
 use Rattle.ipfix_session.proofs.session.Session.apply.Goals as goal
@@ -32,4 +34,4 @@ returns-clause-meaning c = λ older stands.
 pub returns-clause-stands : goal.returns-clause-stands
 returns-clause-stands c = λ older stands.
     let found : Found c.args.self.now older c.args.message.now c.in_ok-header.header c.in_ok-said.said.items = record { header = header_is c.args.message.now c.in_ok-header.header c.in_ok-header.ensures.exact; items = c.in_ok-said.ensures.exact; stands = stands } in
-    found_stands c.args.self.now c.keep.new.self older c.args.message.now c.in_ok-header.header c.in_ok-said.said.items (contents_read c.in_ok-found.found) c.in_ok-found.found.changed c.in_ok-found.found.next found c.in_ok-found.ensures.reads c.in_ok-found.ensures.keeps c.in_ok-found.ensures.next c.in_ok-keep.ensures.ok
+    found_stands c.args.self.now c.keep.new.self older c.args.message.now c.in_ok-header.header c.in_ok-said.said.items (contents_read c.in_ok-found.found) (after c.in_ok-found.found.changes (kept_of c.in_ok-header.header.domain c.args.self.now).templates) c.in_ok-found.found.next found c.in_ok-found.ensures.reads c.in_ok-found.ensures.keeps c.in_ok-found.ensures.next c.in_ok-keep.ensures.ok

@@ -1,25 +1,16 @@
-use Rattle.std.proofs.Common.{◌≡◌, ap, ◌∙◌, sym, Option, Some, None, Bor, subst}
-use Rattle.std.specs.Prelude.{IfSome}
-use Rattle.std.specs.Option.{option_map, option_copied}
-use Rattle.std.specs.Arc.{arc_value}
+use Rattle.std.proofs.Common.{Option, ap, ◌∙◌}
+use Rattle.std.specs.Option.{option_or}
 use Rattle.ipfix_template.specs.declared.template.Template.{Template}
-use Rattle.ipfix_session.specs.Keeping.{IsKeepable}
-use Rattle.ipfix_session.proofs.TableSteps.{at_view}
+use Rattle.ipfix_session.specs.Shelves.{on_shelf}
+use Rattle.ipfix_session.proofs.TableSteps.{table-now}
 use Rattle.ipfix_session.proofs.table.Table.get.Goals as goal
 
-found_by : {X : Type 0} (f : X → Template) (r : Option (Bor X)) (o : Option X) → option_copied r ≡ o → option_map (λ (t : Bor X). f t.now) r ≡ option_map f o
-found_by f None o e = ap (option_map f) e
-found_by f (Some x) o e = ap (option_map f) e
+pub returns-in-Some-clause-value : goal.returns-in-Some-clause-value
+returns-in-Some-clause-value c =
+    let s = c.self.inside in
+    ap (λ (o : Option Template). option_or o (on_shelf s.options c.args.id)) c.in-Some.ensures ∙ table-now s.plain s.options c.args.self.now c.self.view_is c.args.id
 
-keepable_by : {X : Type 0} (f : X → Template) (r : Option (Bor X)) → IfSome (option_map (λ (t : Bor X). f t.now) r) IsKeepable → IfSome r (λ t. IsKeepable (f t.now))
-keepable_by f None h = tt
-keepable_by f (Some x) h = h
-
-pub returns-clause-value : goal.returns-clause-value
-returns-clause-value c =
-    rw (← c.self.view_is) (found_by arc_value c.get.result _ c.get.ensures.value ∙ sym (at_view arc_value c.args.id c.self.inside.templates.entries))
-
-pub returns-clause-keepable : goal.returns-clause-keepable
-returns-clause-keepable c =
-    let P : Option Template → Type 0 = λ o. IfSome o IsKeepable in
-    keepable_by arc_value c.get.result (subst P (sym (found_by arc_value c.get.result _ c.get.ensures.value ∙ sym (at_view arc_value c.args.id c.self.inside.templates.entries))) (c.self.invariant c.args.id))
+pub returns-in-None-clause-value : goal.returns-in-None-clause-value
+returns-in-None-clause-value c =
+    let s = c.self.inside in
+    c.get-in-None.ensures ∙ ap (λ (o : Option Template). option_or o (on_shelf s.options c.args.id)) c.in-None.ensures ∙ table-now s.plain s.options c.args.self.now c.self.view_is c.args.id

@@ -1,12 +1,13 @@
-use Rattle.std.proofs.Common.{None}
-use Rattle.std.specs.Arc.{arc_value}
-use Rattle.ipfix_session.proofs.TableSteps.{changed_at, keepable_after}
+use Rattle.std.proofs.Common.{cond, eqb, None, ap, ◌∙◌}
+use Rattle.std.specs.Option.{option_or}
+use Rattle.ipfix_session.specs.Shelves.{on_shelf}
+use Rattle.ipfix_session.proofs.TableSteps.{table-at, table-now, or-removed}
 use Rattle.ipfix_session.proofs.table.Table.withdraw.Goals as goal
 
-pub invariant_of-self : goal.invariant_of-self
-invariant_of-self c =
-    keepable_after _ _ c.args.id None (changed_at arc_value c.self.inside.templates.entries c.remove.new.self.entries c.args.id None c.remove.ensures.updates.0) tt c.self.invariant
-
 pub returns : goal.returns
-returns c =
-    rw (← c.self.view_is) (changed_at arc_value c.self.inside.templates.entries c.remove.new.self.entries c.args.id None c.remove.ensures.updates.0)
+returns c = λ q.
+    let s = c.self.inside in
+    table-at c.remove.new.self c.remove-2.new.self q
+    ∙ (λ i. option_or (c.remove.ensures.others q i) (c.remove-2.ensures.others q i))
+    ∙ or-removed (eqb q c.args.id) (on_shelf s.plain q) (on_shelf s.options q)
+    ∙ ap (cond (eqb q c.args.id) None) (table-now s.plain s.options c.args.self.now c.self.view_is q)

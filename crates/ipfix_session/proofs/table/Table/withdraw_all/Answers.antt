@@ -1,16 +1,27 @@
-use Rattle.std.proofs.Common.{rules}
-use Rattle.std.specs.Arc.{arc_value}
-use Rattle.std.proofs.lemmas.Map.Made.{filter_same_pairs}
-use Rattle.ipfix_session.specs.InForce.{is_other_kind}
-use Rattle.ipfix_session.proofs.TableSteps.{left_at, keepable_left}
+use Rattle.std.proofs.Common.{Bool, true, false, Option, sym, ap, ◌∙◌}
+use Rattle.std.specs.Option.{option_or}
+use Rattle.ipfix_template.specs.declared.template.Template.{Template}
+use Rattle.ipfix_session.specs.InForce.{unless_of_kind}
+use Rattle.ipfix_session.specs.Keeping.{at_key}
+use Rattle.ipfix_session.specs.Shelves.{on_shelf}
+use Rattle.ipfix_session.proofs.ShelfSteps.{on_shelf-none}
+use Rattle.ipfix_session.proofs.TableSteps.{table-at, table-now, left-plain, left-options}
 use Rattle.ipfix_session.proofs.table.Table.withdraw_all.Goals as goal
 
-pub invariant_of-self : goal.invariant_of-self
-invariant_of-self c =
-    let kept = filter_same_pairs _ (λ e. is_other_kind c.args.options (arc_value e.1)) _ (λ k v b w g t. search rules) c.self.inside.templates.entries c.retain.new.self.entries c.retain.ensures.filtered in
-    keepable_left c.args.options _ _ (left_at arc_value c.args.options c.self.inside.templates.entries c.retain.new.self.entries c.retain.ensures.was_ordered kept) c.self.invariant
+pub returns-then-options : goal.returns-then-options
+returns-then-options c = λ q.
+    let s = c.self.inside in
+    table-at s.plain c.new.result q
+    ∙ ap (option_or (on_shelf s.plain q)) (on_shelf-none c.new.result c.new.ensures q)
+    ∙ left-plain (on_shelf s.plain q) (on_shelf s.options q) (c.self.invariant q)
+    ∙ ap (unless_of_kind true) (table-now s.plain s.options c.args.self.now c.self.view_is q)
+    ∙ ap (λ (b : Bool). unless_of_kind b (at_key q c.args.self.now)) (sym c.if-options.true)
 
-pub returns : goal.returns
-returns c =
-    let kept = filter_same_pairs _ (λ e. is_other_kind c.args.options (arc_value e.1)) _ (λ k v b w g t. search rules) c.self.inside.templates.entries c.retain.new.self.entries c.retain.ensures.filtered in
-    rw (← c.self.view_is) (left_at arc_value c.args.options c.self.inside.templates.entries c.retain.new.self.entries c.retain.ensures.was_ordered kept)
+pub returns-else-options : goal.returns-else-options
+returns-else-options c = λ q.
+    let s = c.self.inside in
+    table-at c.new-else-options.result s.options q
+    ∙ ap (λ (o : Option Template). option_or o (on_shelf s.options q)) (on_shelf-none c.new-else-options.result c.new-else-options.ensures q)
+    ∙ left-options (on_shelf s.plain q) (on_shelf s.options q) (c.self.invariant q)
+    ∙ ap (unless_of_kind false) (table-now s.plain s.options c.args.self.now c.self.view_is q)
+    ∙ ap (λ (b : Bool). unless_of_kind b (at_key q c.args.self.now)) (sym c.if-options.false)

@@ -1,14 +1,12 @@
-use Rattle.std.proofs.Common.{ℕ, List, ◌∙◌, sym, subst}
-use Rattle.std.specs.Arc.{arc_value}
+use Rattle.std.proofs.Common.{Option, sym, subst}
 use Rattle.ipfix_template.specs.declared.template.Template.{Template}
-use Rattle.ipfix_session.specs.Keeping.{AreKeepable}
-use Rattle.ipfix_session.proofs.TableSteps.{viewed_clone}
+use Rattle.ipfix_session.specs.Shelves.{on_shelf}
+use Rattle.ipfix_session.specs.Tables.{IsOneOfKind}
+use Rattle.ipfix_session.proofs.ShelfSteps.{same_shown}
 use Rattle.ipfix_session.proofs.table.TableClone.clone.Goals as goal
 
 pub invariant_of-result : goal.invariant_of-result
-invariant_of-result c =
-    let P : List (ℕ × Template) → Type 0 = λ kept. AreKeepable kept in
-    subst P (sym (viewed_clone arc_value c.self.inside.templates.entries c.in_ok-clone.field-0.entries c.in_ok-clone.ensures.cases)) c.self.invariant
-
-pub returns : goal.returns
-returns c = record { cases = viewed_clone arc_value c.self.inside.templates.entries c.in_ok-clone.field-0.entries c.in_ok-clone.ensures.cases ∙ c.self.view_is }
+invariant_of-result c = λ q.
+    let s = c.self.inside in
+    subst (λ (p : Option Template). IsOneOfKind p (on_shelf c.in_ok-clone-2.field-0 q)) (sym (same_shown c.in_ok-clone.field-0 s.plain c.in_ok-clone.ensures.cases q))
+    (subst (λ (o : Option Template). IsOneOfKind (on_shelf s.plain q) o) (sym (same_shown c.in_ok-clone-2.field-0 s.options c.in_ok-clone-2.ensures.cases q)) (c.self.invariant q))
