@@ -1,0 +1,10 @@
+pub mod ShareSteps
+pub mod Messages
+pub mod Receiving
+pub mod Sizes
+pub mod Received
+pub mod Delivering
+pub mod Lines
+pub mod InHand
+pub mod Streams
+pub mod Ends

@@ -1,0 +1,17 @@
+pub use Rattle.mediator_history.specs.Entries
+pub use Rattle.mediator_history.specs.Sessions
+pub use Rattle.mediator_history.specs.Subscriptions
+pub use Rattle.mediator_history.specs.Accepted
+pub use Rattle.mediator_history.specs.Disclosed
+pub use Rattle.mediator_history.specs.Auditing
+pub use Rattle.mediator_history.specs.Cuts
+pub mod Faults
+pub mod Shares
+pub mod Recording
+pub mod Offline
+pub mod Opening
+pub mod Desks
+pub mod Steps
+pub mod Pulling
+pub mod Running
+pub mod Reading

@@ -1,0 +1,34 @@
+//! A message is handled: accepted, delivered and recorded.
+ghost use Rattle.std.specs.Prelude.{◌≡◌, IfErr, OnOk};
+ghost use Rattle.mediator_core.specs.Running.{Runs, HandlesOn, StopsOn};
+
+use crate::desk::Desk;
+use crate::job::OfflineFault;
+use octet_devices::Sink;
+
+impl<'a> Desk<'a> {
+    /// Accepts a message, writes what it gives the subscriber, and then what the audit says of it.
+    ///
+    /// # Errors
+    /// The message is refused, or cuts the subscription; or a writer failed, or memory ran out.
+    pub(crate) fn handle<W: Sink, A: Sink>(
+        &mut self,
+        message: &[u8],
+        writer: &mut W,
+        audit_writer: &mut A,
+    ) -> Result<(), OfflineFault>
+        requires running { Runs self.old (W.contents writer.old) (A.contents audit_writer.old) }
+        ensures ok { OnOk result (HandlesOn self.old self.new message.now (W.contents writer.old) (W.contents writer.new) (A.contents audit_writer.old) (A.contents audit_writer.new)) }
+        ensures stays { OnOk result (W.has_failed writer.new ≡ W.has_failed writer.old) }
+        ensures audit_stays { OnOk result (A.has_failed audit_writer.new ≡ A.has_failed audit_writer.old) }
+        ensures err { IfErr result (λ e. StopsOn e self.old message.now (W.contents writer.old) (W.contents writer.new) (A.contents audit_writer.old) (A.contents audit_writer.new) (W.has_failed writer.new) (A.has_failed audit_writer.new)) }
+    {
+        if self.receive(message)? {
+            self.record(audit_writer)?;
+            return Err(OfflineFault::Cut);
+        }
+        self.deliver(writer)?;
+        self.record(audit_writer)?;
+        Ok(())
+    }
+}

@@ -1,0 +1,81 @@
+//! What `offline` is asked for, and what it answers.
+
+use crate::fault::Fault;
+use thiserror::Error;
+
+/// One stream to be filtered for one subscriber.
+#[derive(Clone, Copy, Debug)]
+pub struct OfflineJob<'a> {
+    /// The text of the policy.
+    pub policy: &'a str,
+    /// The subscriber's name.
+    pub name: &'a str,
+    /// The Export Time of each message that is written, in seconds since 1970 (RFC 7011, section 3.1).
+    pub now: u32,
+    /// How long a written message may be, in octets; one with a single template or record may be longer.
+    pub target: u16,
+    /// The most reads.
+    pub turns: u64,
+}
+
+/// What was done with a whole stream.
+#[derive(Clone, Copy, Debug, PartialEq, Eq)]
+pub struct OfflineReport {
+    /// The messages that were read.
+    pub messages: u64,
+    /// The records that were accepted.
+    pub records: u64,
+    /// The records that were written.
+    pub disclosed: u64,
+}
+
+/// Why octets that were read are no stream of messages (RFC 7011, sections 3.1 and 10.4).
+#[derive(Clone, Copy, Debug, PartialEq, Eq, Error)]
+pub enum FramingFault {
+    /// A header with another version than 10.
+    #[error("BadVersion")]
+    BadVersion,
+    /// A header with a length under 16.
+    #[error("BadLength")]
+    BadLength,
+    /// The input ends inside a message.
+    #[error("CutOff")]
+    CutOff,
+}
+
+/// Why a stream was not read to its end.
+#[derive(Clone, Copy, Debug, PartialEq, Eq, Error)]
+pub enum OfflineFault {
+    /// The reader failed.
+    #[error("Read")]
+    Read,
+    /// The writer failed, after so many octets.
+    #[error("Write")]
+    Write { sent: u64 },
+    /// What was read is no stream of messages.
+    #[error("Framing")]
+    Framing(FramingFault),
+    /// So many reads were made as are allowed, and the end was not read.
+    #[error("Turns")]
+    Turns,
+    /// The core refused the job, or a message.
+    #[error("Core")]
+    Core(Fault),
+    /// The subscription was cut: a message would have given it records of more shapes than it may use.
+    #[error("Cut")]
+    Cut,
+    /// The writer of the audit failed.
+    #[error("AuditWrite")]
+    AuditWrite,
+}
+
+impl From<Fault> for OfflineFault {
+    ghost use Rattle.std.specs.Prelude.{◌≡◌};
+    ghost use Rattle.mediator_core.specs.declared.job.OfflineFault.TheVariants.{Core};
+
+    ghost from_gives = { λ f e. e ≡ Core f };
+
+    fn from(fault: Fault) -> OfflineFault {
+        OfflineFault::Core(fault)
+    }
+}

@@ -1,0 +1,28 @@
+//! The core of an IPFIX mediator. So far it works on one stream: [`offline`] reads the messages of one exporter,
+//! and writes those of one subscriber, with the audit of what was kept back.
+//!
+//! - `engine`: [`offline`].
+//! - `fault`: [`Fault`], why the core refuses something.
+//! - `job`: [`OfflineJob`], [`OfflineReport`], and [`OfflineFault`] with [`FramingFault`].
+//! - `desk`: one session and one subscription under one policy; `opening`, `handling`, `delivery` and `recording`
+//!   say what is done with a message.
+//! - `share`: what a message gives to the subscription, and what the audit says of it.
+#![tactic(auto)]
+
+mod delivery;
+mod desk;
+mod engine;
+mod fault;
+mod handling;
+mod job;
+mod opening;
+mod recording;
+mod share;
+
+pub use engine::offline;
+pub use fault::Fault;
+pub use job::{FramingFault, OfflineFault, OfflineJob, OfflineReport};
+pub use octet_devices::{Device, Failed, Sink, Source};
+
+#[cfg(test)]
+mod tests;
