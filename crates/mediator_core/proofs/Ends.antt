@@ -20,6 +20,7 @@ use Rattle.mediator_core.specs.Desks.{Stands}
 use Rattle.mediator_core.specs.Steps.{end_of}
 use Rattle.mediator_core.specs.Running.{AreAccepted, IsOpened, IsRunning}
 use Rattle.mediator_core.specs.Reading.{IsDone, StopsIn, FeedsOn, StopsFeeding, IsAfter, ReachesEnd, StopsReading, Finishes}
+use Rattle.mediator_core.proofs.Streams.{means_of}
 use Rattle.mediator_core.proofs.InHand.{fold-snoc, ended}
 use Rattle.mediator_core.proofs.Delivering.{streamable_of}
 
@@ -91,7 +92,7 @@ reading_stops e d f job given mid left held holds writes aheld aholds awrites rf
 
 pub done_after : (d : Desk) (f : FramerState) (job : OfflineJob) (given left held holds aheld aholds : Option (List ℕ)) (k : ℕ) → (so : IsAfter d f job given left held holds aheld aholds k)
     → IsDone job so.octets so.messages None f.pending held holds aheld aholds
-done_after d f job given left held holds aheld aholds k so = record { framed = so.reading.framed; all = so.reading.running.accepted; written = so.reading.running.written; audited = so.reading.running.audited }
+done_after d f job given left held holds aheld aholds k so = record { framed = so.reading.framed; all = so.reading.running.accepted; written = so.reading.running.written; means = means_of d job so.messages held holds aheld aholds so.reading.running; audited = so.reading.running.audited }
 
 pub read_fails : (d : Desk) (f : FramerState) (job : OfflineJob) (given left held holds aheld aholds : Option (List ℕ)) (rfailed failed afailed : Bool) (k : ℕ) → IsAfter d f job given left held holds aheld aholds k → rfailed ≡ true
     → StopsReading Read job given left held holds aheld aholds rfailed failed afailed
@@ -154,23 +155,18 @@ history_length job before (m ∷ messages) so =
     one = ap length (fold-snoc after_message (started job) before m ∙ ap (λ cuts. history_of job before ++ (cuts ++ next_entry (history_of job before) m ∷ [])) so.0.1)
         ∙ length-append (history_of job before) (next_entry (history_of job before) m ∷ [])
 
-pub finishes : (d : Desk) (job : OfflineJob) (report : OfflineReport) (given left held holds aheld aholds : Option (List ℕ)) → ReachesEnd d job given left held holds aheld aholds → job.now < 2 ^ 32 → job.target < 2 ^ 16
+pub finishes : (d : Desk) (job : OfflineJob) (report : OfflineReport) (given left held holds aheld aholds : Option (List ℕ)) → ReachesEnd d job given left held holds aheld aholds
     → report.messages + 3 ≡ d.entries → report.records ≡ d.records → report.disclosed ≡ d.stream.standing.handed → Finishes job report given left held holds aheld aholds
-finishes d job report given left held holds aheld aholds r now_below below entries records handed = record {
+finishes d job report given left held holds aheld aholds r entries records handed = record {
   octets = r.octets;
   messages = r.messages;
   taken = r.taken;
   end = r.end;
-  done = record { framed = r.framed; all = r.running.accepted; written = r.running.written; audited = r.running.audited };
+  done = record { framed = r.framed; all = r.running.accepted; written = r.running.written; means = means_of d job r.messages held holds aheld aholds r.running; audited = r.running.audited };
   counted = omega (arith, entries, r.running.stands.entries, history_length job [] r.messages r.running.accepted);
   recorded = records ∙ r.running.stands.records;
   disclosed = handed ∙ r.running.stands.stream.handed ∙ ap (λ ps. length (records_in ps)) (take_all (end_of (history_of job r.messages)) (parts (disclosed_by job r.messages)) (omega arith)) ∙ ap length (parts_bring (disclosed_by job r.messages));
-  means = handed_whole (due job r.messages) (disclosed_by job r.messages) (end_of (history_of job r.messages)) job.now job.target r.running.handed (streamable_of (history_of job r.messages) r.running.small)
-      (ended (disclosed_by job r.messages) job.now job.target);
 }
 
 pub at_least_three : (d : Desk) (job : OfflineJob) (given left held holds aheld aholds : Option (List ℕ)) → ReachesEnd d job given left held holds aheld aholds → 3 ≤ d.entries
 at_least_three d job given left held holds aheld aholds r = omega (arith, r.running.stands.entries, history_length job [] r.messages r.running.accepted)
-
-pub job_after : (d : Desk) (job : OfflineJob) (given left held holds aheld aholds : Option (List ℕ)) → ReachesEnd d job given left held holds aheld aholds → d.job ≡ job
-job_after d job given left held holds aheld aholds r = r.running.job_is

@@ -1,5 +1,5 @@
 -- Messages of a stream that are handled one after another.
-use Rattle.std.proofs.Common.{◌≡◌, ◌≢◌, ℕ, ◌+◌, ◌≤◌, ◌<◌, Bool, List, [], ◌∷◌, ◌++◌, length, take, drop, Option, Some, None, refl, sym, ap, ◌∙◌, subst, append-nil, append_assoc}
+use Rattle.std.proofs.Common.{◌≡◌, ◌≢◌, ℕ, ◌+◌, ◌≤◌, ◌<◌, Bool, List, [], ◌∷◌, ◌++◌, length, take, drop, Option, Some, None, refl, sym, ap, ◌∙◌, subst, append-nil, append_assoc, arith}
 use Rattle.std.specs.Prelude.{get_or}
 use Rattle.std.proofs.Common.{inl, inr}
 use Rattle.std.proofs.lemmas.List.{take_more, take-append-drop, take_all}
@@ -11,6 +11,13 @@ use Rattle.mediator_core.specs.declared.job.OfflineJob.{OfflineJob}
 use Rattle.mediator_core.specs.declared.job.OfflineFault.{OfflineFault}
 use Rattle.mediator_core.specs.declared.job.OfflineFault.TheVariants.{Read, Write, Framing, Turns, Core, Cut, AuditWrite}
 use Rattle.mediator_core.specs.declared.desk.Desk.{Desk}
+use Rattle.subscriber_stream.specs.Parts.{parts, records_in}
+use Rattle.subscriber_stream.proofs.CallLaws.{parts_bring}
+use Rattle.stream_meaning.specs.Means.{Means}
+use Rattle.stream_meaning.proofs.Handing.{handed_means}
+use Rattle.mediator_core.specs.Offline.{history_of, disclosed_by, due}
+use Rattle.mediator_core.specs.Steps.{end_of}
+use Rattle.mediator_core.proofs.Delivering.{streamable_of}
 use Rattle.mediator_core.specs.Faults.{stream_refusal}
 use Rattle.mediator_core.specs.Running.{IsRunning, Runs, HandlesOn, StopsOn}
 use Rattle.mediator_core.specs.Reading.{IsDone, StopsInHand, StopsIn, HandlesAll, StopsAmong, FeedsOn, StopsFeeding}
@@ -37,6 +44,12 @@ all_handled old d all i holds writes aholds awrites past so = subst (λ ms. Hand
 pub runs_on : (old d : Desk) (more : List (List ℕ)) (holds mid aholds amid : Option (List ℕ)) → Runs old holds aholds → HandlesAll old d more holds mid aholds amid → Runs d mid amid
 runs_on old d more holds mid aholds amid r so = record { job = r.job; messages = r.messages ++ more; held = r.held; aheld = r.aheld; running = so.after r.job r.messages r.held r.aheld r.running }
 
+-- what was written for a run means what its messages disclose
+pub means_of : (d : Desk) (job : OfflineJob) (messages : List (List ℕ)) (held holds aheld aholds : Option (List ℕ)) → IsRunning d job messages held holds aheld aholds → Means (due job messages) (disclosed_by job messages)
+means_of d job messages held holds aheld aholds r =
+    subst (Means (due job messages)) (ap records_in (take_all (end_of (history_of job messages)) (parts (disclosed_by job messages)) (omega arith)) ∙ parts_bring (disclosed_by job messages))
+    (handed_means (due job messages) (disclosed_by job messages) (end_of (history_of job messages)) r.handed (streamable_of (history_of job messages) r.small))
+
 pub one_stops : (e : OfflineFault) (old d : Desk) (all : List (List ℕ)) (i : ℕ) (m : List ℕ) (holds mid writes aholds amid awrites : Option (List ℕ)) (failed afailed : Bool) → i < length all → m ≡ get_or all i m
     → HandlesAll old d (take i all) holds mid aholds amid → StopsOn e d m mid writes amid awrites failed afailed → StopsAmong e old all holds writes aholds awrites failed afailed
 one_stops e old d all i m holds mid writes aholds amid awrites failed afailed within at so stop = record {
@@ -46,7 +59,7 @@ one_stops e old d all i m holds mid writes aholds amid awrites failed afailed wi
   parts = sym (take-append-drop (i + 1) all) ∙ ap (λ t. t ++ drop (i + 1) all) (take-next all i m within at) ∙ append_assoc (take i all) (m ∷ []) (drop (i + 1) all);
   after = λ job messages held aheld r.
       let there = so.after job messages held aheld r in
-      (there.accepted, stop.after job (messages ++ take i all) held aheld there);
+      (there.accepted, means_of d job (messages ++ take i all) held mid aheld amid there, stop.after job (messages ++ take i all) held aheld there);
 }
 
 -- ---- a piece
@@ -72,7 +85,7 @@ fed_on old new f g piece out holds writes aholds awrites sound on none so = reco
 -- all messages of a run that goes on
 done_of : (d : Desk) (job : OfflineJob) (octets : List ℕ) (messages : List (List ℕ)) (fault : Option FrameError) (pending : List ℕ) (held holds aheld aholds : Option (List ℕ)) → IsRunning d job messages held holds aheld aholds
     → IsFramed octets messages fault pending → IsDone job octets messages fault pending held holds aheld aholds
-done_of d job octets messages fault pending held holds aheld aholds r framed = record { framed = framed; all = r.accepted; written = r.written; audited = r.audited }
+done_of d job octets messages fault pending held holds aheld aholds r framed = record { framed = framed; all = r.accepted; written = r.written; means = means_of d job messages held holds aheld aholds r; audited = r.audited }
 
 emptied : (w : FrameError) (octets : List ℕ) (messages : List (List ℕ)) (pending : List ℕ) → IsFramed octets messages (Some w) pending → IsFramed octets messages (Some w) []
 emptied w octets messages pending framed = subst (IsFramed octets messages (Some w)) framed.ends.0 framed
@@ -127,7 +140,8 @@ message_stops e old f g piece out holds writes aholds awrites failed afailed sou
         pending = g.pending;
         framed = subst (λ ms. IsFramed (octets ++ piece) ms g.fault g.pending) (ap (λ t. messages ++ t) stop.parts ∙ sym (append_assoc messages stop.before (stop.message ∷ stop.later))) (framed_on f g octets piece messages out sound on r.framed);
         all = (stop.after job messages held aheld r.running).0;
-        stops = (stop.after job messages held aheld r.running).1;
+        means = (stop.after job messages held aheld r.running).1;
+        stops = (stop.after job messages held aheld r.running).2;
       });
 }
   where

@@ -20,12 +20,13 @@ use Rattle.mediator_core.specs.Offline.{history_of, disclosed_by, due, audit_due
 use Rattle.mediator_core.specs.Opening.{RefusesJob}
 use Rattle.mediator_core.specs.Running.{AreAccepted, IsRunning, StopsAt}
 
--- these octets are these messages, and then this fault or these octets that are pending; all messages were accepted, and
--- what is due for them was written
+-- these octets are these messages, and then this fault or these octets that are pending; all messages were accepted, what
+-- is due for them was written, and it means what they disclose
 pub record IsDone (job : OfflineJob) (octets : List ℕ) (messages : List (List ℕ)) (frame_fault : Option FrameError) (pending : List ℕ) (held holds aheld aholds : Option (List ℕ)) : Type 0 where
   pub framed : IsFramed octets messages frame_fault pending
   pub all : AreAccepted job [] messages
   pub written : Appends held holds (concat (due job messages))
+  pub means : Means (due job messages) (disclosed_by job messages)
   pub audited : Appends aheld aholds (audit_due job messages)
 
 -- the messages before the one in hand were accepted, and the run stops there
@@ -37,6 +38,7 @@ pub record StopsInHand (e : OfflineFault) (job : OfflineJob) (octets : List ℕ)
   pub pending : List ℕ
   pub framed : IsFramed octets (before ++ message ∷ later) frame_fault pending
   pub all : AreAccepted job [] before
+  pub means : Means (due job before) (disclosed_by job before)
   pub stops : StopsAt e job before message held holds aheld aholds failed afailed
 
 -- a piece that was read last found no memory; the octets before it were done
@@ -88,7 +90,7 @@ pub record StopsAmong (e : OfflineFault) (old : Desk) (more : List (List ℕ)) (
   pub later : List (List ℕ)
   pub parts : more ≡ before ++ message ∷ later
   pub after : (job : OfflineJob) (messages : List (List ℕ)) (held aheld : Option (List ℕ)) → IsRunning old job messages held holds aheld aholds
-      → AreAccepted job [] (messages ++ before) × StopsAt e job (messages ++ before) message held writes aheld awrites failed afailed
+      → AreAccepted job [] (messages ++ before) × Means (due job (messages ++ before)) (disclosed_by job (messages ++ before)) × StopsAt e job (messages ++ before) message held writes aheld awrites failed afailed
 
 -- a piece more was read
 pub record FeedsOn (old new : Desk) (f g : FramerState) (piece : List ℕ) (holds writes aholds awrites : Option (List ℕ)) : Type 0 where
@@ -139,7 +141,7 @@ StopsReading AuditWrite job given left held holds aheld aholds rfailed failed af
 
 -- ---- a whole run
 
--- all was read, it is whole messages, and all of them were accepted; what is due was written, and means what they disclose
+-- all was read, it is whole messages, and it was done; the report counts messages, records and what was disclosed of them
 pub record Finishes (job : OfflineJob) (report : OfflineReport) (given left held holds aheld aholds : Option (List ℕ)) : Type 0 where
   pub octets : List ℕ
   pub messages : List (List ℕ)
@@ -149,7 +151,6 @@ pub record Finishes (job : OfflineJob) (report : OfflineReport) (given left held
   pub counted : report.messages ≡ length messages
   pub recorded : report.records ≡ length (accepted (history_of job messages))
   pub disclosed : report.disclosed ≡ length (disclosed_by job messages)
-  pub means : Means (due job messages) (disclosed_by job messages)
 
 -- nothing was read or written
 pub record IsUntouched (given left held holds aheld aholds : Option (List ℕ)) : Type 0 where

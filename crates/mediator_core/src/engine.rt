@@ -153,10 +153,7 @@ impl<'a> Desk<'a> {
         ensures messages { result.messages + 3 ≡ self.now.entries }
         ensures records { result.records ≡ self.now.records }
         ensures disclosed { result.disclosed ≡ self.now.stream.standing.handed }
-        ensures ranges { (self.now.job.now < 2 ^ 32) × (self.now.job.target < 2 ^ 16) }
     {
-        let _now = self.job.now;
-        let _target = self.job.target;
         OfflineReport {
             messages: self.entries - 3,
             records: self.records,

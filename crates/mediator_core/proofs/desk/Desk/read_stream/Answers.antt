@@ -3,7 +3,7 @@ use Rattle.std.proofs.lemmas.List.{length-take-le}
 use Rattle.std.specs.Io.KnownBytes.{Consumes}
 use Rattle.mediator_core.specs.Reading.{StopsFeeding, StopsReading}
 use Rattle.mediator_core.proofs.Receiving.{err_gives}
-use Rattle.mediator_core.proofs.Ends.{reading_starts, reads_on, reading_stops, read_fails, stream_ends, stream_cut_off, still_after, kept_after}
+use Rattle.mediator_core.proofs.Ends.{turns_end, reading_starts, reads_on, reading_stops, read_fails, stream_ends, stream_cut_off, still_after, kept_after}
 use Rattle.mediator_core.proofs.desk.Desk.read_stream.Goals as goal
 
 pub reads-init : goal.reads-init
@@ -36,3 +36,6 @@ reads-preserved g c = (
       (omega (arith, c.if-count-eq0.false, length-take-le c.in_ok-count.count c.as_slice.result.now (omega (arith, c.in_ok-count.ensures.ok.0, ap length c.as_slice.ensures.value)))) c.in_ok-feed.ensures.ok,
   omega (arith, c.reads.invariant.1, c.read_piece.ensures.length),
 )
+
+pub returns-clause-err : goal.returns-clause-err
+returns-clause-err g c = turns_end c.reads.self c.reads.framer c.args.self.now.job (g.R.Source.remaining c.args.reader.now) (g.R.Source.remaining c.reads.reader) (g.W.Sink.contents c.args.writer.now) (g.W.Sink.contents c.reads.writer) (g.A.Sink.contents c.args.audit_writer.now) (g.A.Sink.contents c.reads.audit_writer) (g.R.Source.has_failed c.reads.reader) (g.W.Sink.has_failed c.reads.writer) (g.A.Sink.has_failed c.reads.audit_writer) c.reads.counter c.reads.invariant.0 (omega (arith, c.reads-test.false))
