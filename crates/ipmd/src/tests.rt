@@ -1,0 +1,1 @@
+//! The texts, statuses and streams of the program.
