@@ -105,51 +105,78 @@ fn full_audit(rt: HostRuntime) -> Result<(), Fail> {
     expect_texts(&rt, &ran, 3, "", DEVICE)
 }
 
+/// A run with an audit file that held a text before, and what it must say and leave there.
+#[derive(Drop)]
+struct AuditCase<'a> {
+    policy_option: &'a str,
+    policy: &'a str,
+    input: &'a str,
+    errors: &'a str,
+    audit: &'a str,
+}
+
+/// That the case runs so.
+fn expect_audit<R: Files + AllocGlobal + Abort>(
+    rt: &R,
+    path: &str,
+    case: &AuditCase<'_>,
+) -> Result<(), Fail> {
+    fs::write(rt, path, "before\n")?;
+    let words = [
+        "offline",
+        case.policy_option,
+        case.policy,
+        "--subscriber",
+        "acme",
+        "--audit",
+        path,
+        "--hex",
+    ];
+    let ran = run_on(rt, &words, case.input.as_bytes())?;
+    assert_eq!(rt; str::from_utf8(ran.errors.as_slice())?, case.errors);
+    let left = fs::read_to_string(rt, path)?;
+    assert_eq!(rt; left.as_str(), case.audit);
+    fs::remove_file(rt, path)?;
+    Ok(())
+}
+
 /// The policy's file comes before the audit file, which is made empty; then the input is read, and then
 /// the policy.
+const ORDER: [(&str, &str, &str, &str, &str); 7] = [
+    ("--policy", "/nowhere/policy", "0g", DEVICE, "before\n"),
+    ("--policy-text", "no policy", "0g", "ipmd: hex\n", ""),
+    ("--policy-text", "no policy", "000", "ipmd: hex\n", ""),
+    (
+        "--policy-text",
+        "no policy",
+        "00",
+        "ipmd: policy line 1: NoHeader\n",
+        "",
+    ),
+    ("--policy-text", PASS, "00", "ipmd: framing CutOff\n", ""),
+    ("--policy-text", PASS, FLOW, FLOW_REPORT, ""),
+    (
+        "--policy-text",
+        WITHHOLD,
+        FLOW,
+        "messages 1 records 1 disclosed 0\n",
+        "3 0 1 withheld 1 rule\n",
+    ),
+];
+
 #[test]
 fn order_of_faults(rt: HostRuntime) -> Result<(), Fail> {
     let path = scratch_path(&rt, "audit")?;
-    let text = "--policy-text";
-    let cases = [
-        ("--policy", "/nowhere/policy", "0g", DEVICE, "before\n"),
-        (text, "no policy", "0g", "ipmd: hex\n", ""),
-        (text, "no policy", "000", "ipmd: hex\n", ""),
-        (
-            text,
-            "no policy",
-            "00",
-            "ipmd: policy line 1: NoHeader\n",
-            "",
-        ),
-        (text, PASS, "00", "ipmd: framing CutOff\n", ""),
-        (text, PASS, FLOW, FLOW_REPORT, ""),
-        (
-            text,
-            WITHHOLD,
-            FLOW,
-            "messages 1 records 1 disclosed 0\n",
-            "3 0 1 withheld 1 rule\n",
-        ),
-    ];
-    for (policy_option, policy, input, errors, audit) in cases {
-        fs::write(&rt, path.as_str(), "before\n")?;
-        let words = [
-            "offline",
+    for (policy_option, policy, input, errors, audit) in ORDER {
+        let case = AuditCase {
             policy_option,
             policy,
-            "--subscriber",
-            "acme",
-            "--audit",
-            path.as_str(),
-            "--hex",
-        ];
-        let ran = run_on(&rt, &words, input.as_bytes())?;
-        assert_eq!(rt; str::from_utf8(ran.errors.as_slice())?, errors);
-        let left = fs::read_to_string(&rt, path.as_str())?;
-        assert_eq!(rt; left.as_str(), audit);
+            input,
+            errors,
+            audit,
+        };
+        expect_audit(&rt, path.as_str(), &case)?;
     }
-    fs::remove_file(&rt, path.as_str())?;
     Ok(())
 }
 

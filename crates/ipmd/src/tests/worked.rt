@@ -302,10 +302,13 @@ fn value_lengths(rt: HostRuntime) -> Result<(), Fail> {
     push_octets(&mut output, "2e", 255)?;
     output.push_str("03616263\n")?;
     let case = Case {
+        policy: PASS,
+        target: "1400",
         input: input.as_str(),
         output: output.as_str(),
+        audit: "",
         errors: "messages 1 records 4 disclosed 4\n",
-        ..NOTHING
+        status: 0,
     };
     expect_case(&rt, scratch_path(&rt, "value_lengths")?, &case)
 }
