@@ -44,14 +44,22 @@ struct Ran {
     errors: Vec<u8>,
 }
 
+/// Room for what the program writes. Where memory is refused, it is asked for again.
+fn some_room(alloc: Global) -> Result<Vec<u8>, AllocError> {
+    match Vec::with_capacity(alloc, ROOM) {
+        Ok(octets) => Ok(octets),
+        Err(_) => Vec::with_capacity(alloc, ROOM),
+    }
+}
+
 /// Runs the program on streams in memory.
 fn run_on<R: Files + AllocGlobal, I: Read + Drop>(
     rt: &R,
     words: &[&str],
     input: I,
 ) -> Result<Ran, AllocError> {
-    let mut output = Vec::with_capacity(rt.alloc(), ROOM)?;
-    let mut errors = Vec::with_capacity(rt.alloc(), ROOM)?;
+    let mut output = some_room(rt.alloc())?;
+    let mut errors = some_room(rt.alloc())?;
     let status = program(rt, words, input, &mut output, &mut errors);
     Ok(Ran {
         status,

@@ -1,5 +1,6 @@
 //! One allocation refused in a run: the answer says so, and what was written is a front of what is due.
-//! Run with each number of the allocation that is to fail; without one, nothing is refused.
+//! Run with each number of the allocation that is to fail; without one, nothing is refused. A run that was refused
+//! memory is made again, and gives all.
 
 use super::*;
 
@@ -17,7 +18,7 @@ const WORDS: [&str; 10] = [
 ];
 
 const OUTPUT: &str =
-    "000a002c 6553f13c 00000000 00000000  00020010 01000002 00080004 00010004  0100000c c000024d 000005dc\n";
+    "000a002c6553f13c0000000000000000000200100100000200080004000100040100000cc000024d000005dc\n";
 
 /// That a run was refused memory, and wrote a front of the output.
 fn expect_out_of_memory<R: Files + AllocGlobal + Abort>(
@@ -35,23 +36,22 @@ fn expect_out_of_memory<R: Files + AllocGlobal + Abort>(
 
 #[test]
 fn each_refusal_of_memory(rt: HostRuntime) -> Result<(), Fail> {
-    let output = without_blanks(rt.alloc(), OUTPUT)?;
-    let first = run_on(&rt, &WORDS, FLOW.as_bytes())?;
-    if first.status != 0 {
-        expect_out_of_memory(&rt, &first, output.as_str())?;
+    let mut ran = run_on(&rt, &WORDS, FLOW.as_bytes())?;
+    if ran.status != 0 {
+        expect_out_of_memory(&rt, &ran, OUTPUT)?;
+        ran = run_on(&rt, &WORDS, FLOW.as_bytes())?;
     }
-    let second = run_on(&rt, &WORDS, FLOW.as_bytes())?;
-    expect_texts(&rt, &second, 0, output.as_str(), FLOW_REPORT)
+    expect_texts(&rt, &ran, 0, OUTPUT, FLOW_REPORT)
 }
 
 #[test]
 fn each_refusal_of_memory_for_a_check(rt: HostRuntime) -> Result<(), Fail> {
     let words = ["check-policy", "--policy-text", PASS];
     let output = "rules 2 aggregates 0\n";
-    let first = run_on(&rt, &words, b"".as_slice())?;
-    if first.status != 0 {
-        expect_out_of_memory(&rt, &first, output)?;
+    let mut ran = run_on(&rt, &words, b"".as_slice())?;
+    if ran.status != 0 {
+        expect_out_of_memory(&rt, &ran, output)?;
+        ran = run_on(&rt, &words, b"".as_slice())?;
     }
-    let second = run_on(&rt, &words, b"".as_slice())?;
-    expect_texts(&rt, &second, 0, output, "")
+    expect_texts(&rt, &ran, 0, output, "")
 }
