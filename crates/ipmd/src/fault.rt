@@ -1,4 +1,5 @@
 //! Why a run ends without having done what was asked.
+ghost use Rattle.std.specs.Prelude.{◌≡◌};
 
 use mediator_core::{Fault, FramingFault, OfflineFault};
 use policy_text::{FaultKind, PolicyFault};
@@ -45,8 +46,12 @@ pub enum ProgramFault {
 }
 
 impl ProgramFault {
+    ghost use Rattle.ipmd.specs.Status.{status_of};
+
     /// Says the fault on `errors`, and answers its exit status. What can't be written is dropped.
-    pub fn report<E: Write>(self, errors: &mut E) -> u8 {
+    pub fn report<E: Write>(self, errors: &mut E) -> u8
+        ensures { result ≡ status_of self }
+    {
         let _ = match self {
             ProgramFault::CommandLine(_) => write!(errors, "{self}"),
             _ => writeln!(errors, "{self}"),
@@ -55,7 +60,9 @@ impl ProgramFault {
     }
 
     /// The exit status of a run that ends so.
-    fn status(&self) -> u8 {
+    fn status(&self) -> u8
+        ensures { result ≡ status_of self.now }
+    {
         match self {
             ProgramFault::CommandLine(_) => BAD_COMMAND_LINE,
             ProgramFault::Policy(_)

@@ -10,6 +10,8 @@
 //! - `fault`: why a run ends without having done what was asked, with the texts and exit statuses.
 #![tactic(auto)]
 
+ghost use Rattle.std.specs.Prelude.{◌≤◌};
+
 mod check;
 mod command_line;
 mod fault;
@@ -57,7 +59,9 @@ pub fn program<R: Files + AllocGlobal, S: AsStr, I: Read + Drop, O: Write + Drop
     input: I,
     output: O,
     mut errors: E,
-) -> u8 {
+) -> u8
+    ensures { result ≤ 3 }
+{
     match run(rt, words, input, output) {
         Ok(Some(report)) => {
             let OfflineReport {
