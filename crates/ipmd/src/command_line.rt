@@ -1,0 +1,178 @@
+//! What may be asked for, and what a command line asks for.
+
+use crate::fault::ProgramFault;
+use crate::policy_source::PolicySource;
+use clap::error::ErrorKind;
+use clap::{Arg, ArgAction, ArgGroup, ArgMatches, Command, value_parser};
+use std::alloc::{AllocError, Global};
+use std::convert::AsStr;
+
+const OFFLINE: &str = "offline";
+
+const CHECK_POLICY: &str = "check-policy";
+
+const POLICY: &str = "policy";
+
+const POLICY_TEXT: &str = "policy-text";
+
+const SUBSCRIBER: &str = "subscriber";
+
+const NOW: &str = "now";
+
+const TARGET: &str = "target";
+
+const AUDIT: &str = "audit";
+
+const HEX: &str = "hex";
+
+const OFFLINE_EXAMPLE: &str =
+    "Example:\n  ipmd offline --policy policy.txt --subscriber acme --audit audit.txt < in.ipfix > out.ipfix";
+
+const CHECK_POLICY_EXAMPLE: &str =
+    "Example:\n  ipmd check-policy --policy-text 'policy 1;rule for acme in * from * to * pass'";
+
+/// What `ipmd offline` is to do.
+#[derive(Clone, Copy, Debug)]
+pub struct OfflineOptions<'a> {
+    pub policy: PolicySource<'a>,
+    /// The name of the subscriber.
+    pub subscriber: &'a str,
+    /// The Export Time of each written message, in seconds since 1970 (RFC 7011, section 3.1).
+    pub now: u32,
+    /// How long a written message may be, in octets.
+    pub target: u16,
+    /// The file that gets the audit lines; where there is none, they are dropped.
+    pub audit: Option<&'a str>,
+    /// Whether input and output are hexadecimal text.
+    pub hex: bool,
+}
+
+/// What a command line asks for.
+#[derive(Debug, Drop)]
+pub enum Task<'a> {
+    /// To filter the input for one subscriber.
+    Offline(OfflineOptions<'a>),
+    /// To say whether a text is a policy.
+    CheckPolicy(PolicySource<'a>),
+    /// To show the help or the version.
+    Show(clap::Error),
+}
+
+/// What the words after the program's name ask for.
+///
+/// # Errors
+/// `CommandLine` where they ask for nothing that there is, `OutOfMemory`.
+pub fn read_command_line<'a, S: AsStr>(
+    alloc: Global,
+    words: &'a [S],
+) -> Result<Task<'a>, ProgramFault> {
+    let mut command = whole_command(alloc)?;
+    let matches = match command.try_get_matches_from_mut(words) {
+        Ok(matches) => matches,
+        Err(error) if error.use_stderr() => return Err(ProgramFault::from(error)),
+        Err(error) => return Ok(Task::Show(error)),
+    };
+    match task_of(&matches) {
+        Some(task) => Ok(task),
+        // The parser has seen to it that there is a subcommand with all that it requires.
+        None => Err(ProgramFault::from(command.error(
+            ErrorKind::MissingSubcommand,
+            "no command was given",
+        )?)),
+    }
+}
+
+/// The task of a command line that the parser has accepted.
+fn task_of<'a>(matches: &ArgMatches<'a>) -> Option<Task<'a>> {
+    match matches.subcommand()? {
+        (OFFLINE, chosen) => Some(Task::Offline(OfflineOptions {
+            policy: policy_source(chosen)?,
+            subscriber: chosen.get_str(SUBSCRIBER)?,
+            now: chosen.get_one::<u32>(NOW)?,
+            target: chosen.get_one::<u16>(TARGET)?,
+            audit: chosen.get_str(AUDIT),
+            hex: chosen.get_flag(HEX),
+        })),
+        (CHECK_POLICY, chosen) => Some(Task::CheckPolicy(policy_source(chosen)?)),
+        _ => None,
+    }
+}
+
+fn policy_source<'a>(matches: &ArgMatches<'a>) -> Option<PolicySource<'a>> {
+    match matches.get_str(POLICY) {
+        Some(path) => Some(PolicySource::File(path)),
+        None => matches.get_str(POLICY_TEXT).map(PolicySource::Text),
+    }
+}
+
+/// The command with its subcommands. The words begin after the program's name.
+fn whole_command<'a>(alloc: Global) -> Result<Command<'a>, AllocError> {
+    Command::new(alloc, "ipmd")
+        .bin_name("ipmd")?
+        .no_binary_name(true)
+        .version("0.1.0")
+        .about("Passes on the IPFIX flow records that a written policy discloses")
+        .subcommand_required(true)
+        .subcommand(offline_command(alloc)?)?
+        .subcommand(check_policy_command(alloc)?)
+}
+
+fn offline_command<'a>(alloc: Global) -> Result<Command<'a>, AllocError> {
+    with_policy(alloc, Command::new(alloc, OFFLINE))?
+        .about("Filters IPFIX messages from standard input to standard output for one subscriber")
+        .after_help(OFFLINE_EXAMPLE)
+        .arg(
+            option(alloc, SUBSCRIBER, "NAME")
+                .required(true)
+                .help("The subscriber's name, as rules name it"),
+        )?
+        .arg(
+            option(alloc, NOW, "SECONDS")
+                .default_value("0")
+                .value_parser(value_parser!(u32))
+                .help("The Export Time of each written message, in seconds since 1970"),
+        )?
+        .arg(
+            option(alloc, TARGET, "OCTETS")
+                .default_value("1400")
+                .value_parser(value_parser!(u16))
+                .help("How long a written message may be"),
+        )?
+        .arg(option(alloc, AUDIT, "FILE").help(
+            "Where to name each record that was withheld or cut down",
+        ))?
+        .arg(
+            Arg::new(alloc, HEX)
+                .long(HEX)
+                .action(ArgAction::SetTrue)
+                .help("Read hexadecimal text, and write each message as a line of it"),
+        )
+}
+
+fn check_policy_command<'a>(alloc: Global) -> Result<Command<'a>, AllocError> {
+    Ok(
+        with_policy(alloc, Command::new(alloc, CHECK_POLICY))?
+            .about("Says whether a text is a policy, and how many rules and aggregates it has")
+            .after_help(CHECK_POLICY_EXAMPLE),
+    )
+}
+
+/// The command with the two options of which one names the policy.
+fn with_policy<'a>(alloc: Global, command: Command<'a>) -> Result<Command<'a>, AllocError> {
+    command
+        .arg(option(alloc, POLICY, "FILE").help("The file with the policy"))?
+        .arg(option(alloc, POLICY_TEXT, "TEXT").help(
+            "The policy itself, with `;` for each line end",
+        ))?
+        .group(
+            ArgGroup::new(alloc, "policies")
+                .arg(POLICY)?
+                .arg(POLICY_TEXT)?
+                .required(true),
+        )
+}
+
+/// An option with a value, under its long name.
+fn option<'a>(alloc: Global, name: &'a str, value_name: &'a str) -> Arg<'a> {
+    Arg::new(alloc, name).long(name).value_name(value_name)
+}

@@ -1,0 +1,132 @@
+//! Why a run ends without having done what was asked.
+ghost use Rattle.std.specs.Prelude.{◌≡◌};
+
+use mediator_core::{Fault, FramingFault, OfflineFault};
+use policy_text::{FaultKind, PolicyFault};
+use std::alloc::{AllocError, AllocFailed};
+use std::io::{self, ErrorKind, Write};
+use thiserror::Error;
+
+/// The exit status where the input is refused, or memory runs out.
+const REFUSED: u8 = 1;
+
+/// The exit status of a refused command line.
+const BAD_COMMAND_LINE: u8 = 2;
+
+/// The exit status where a file or a stream fails.
+const DEVICE_FAILED: u8 = 3;
+
+/// Why a run ends without having done what was asked. Its text is what the program says of it.
+#[derive(Debug, Drop, Error)]
+pub enum ProgramFault {
+    /// The command line asks for nothing that there is; the text is the parser's, with its line feeds.
+    #[error("{0}")]
+    CommandLine(clap::Error),
+    /// The text is no policy.
+    #[error("ipmd: policy line {line}: {kind}", line = .0.line, kind = .0.kind)]
+    Policy(PolicyFault),
+    /// The input is not hexadecimal.
+    #[error("ipmd: hex")]
+    Hex,
+    /// The input is no stream of messages.
+    #[error("ipmd: framing {0}")]
+    Framing(FramingFault),
+    /// The mediator refused something else.
+    #[error("ipmd: {0}")]
+    Core(Fault),
+    /// The subscription was cut.
+    #[error("ipmd: Cut")]
+    Cut,
+    /// Want of memory.
+    #[error("ipmd: OutOfMemory")]
+    OutOfMemory,
+    /// A file can't be opened, read or written, is not text where text is read, or a stream failed.
+    #[error("ipmd: device")]
+    Device,
+}
+
+impl ProgramFault {
+    ghost use Rattle.ipmd.specs.Status.{status_of};
+
+    /// Says the fault on `errors`, and answers its exit status. What can't be written is dropped.
+    pub fn report<E: Write>(self, errors: &mut E) -> u8
+        ensures { result ≡ status_of self }
+    {
+        let _ = match self {
+            ProgramFault::CommandLine(_) => write!(errors, "{self}"),
+            _ => writeln!(errors, "{self}"),
+        };
+        self.status()
+    }
+
+    /// The exit status of a run that ends so.
+    fn status(&self) -> u8
+        ensures { result ≡ status_of self.now }
+    {
+        match self {
+            ProgramFault::CommandLine(_) => BAD_COMMAND_LINE,
+            ProgramFault::Policy(_)
+            | ProgramFault::Hex
+            | ProgramFault::Framing(_)
+            | ProgramFault::Core(_)
+            | ProgramFault::Cut
+            | ProgramFault::OutOfMemory => REFUSED,
+            ProgramFault::Device => DEVICE_FAILED,
+        }
+    }
+}
+
+impl From<AllocError> for ProgramFault {
+    fn from(_e: AllocError) -> ProgramFault {
+        ProgramFault::OutOfMemory
+    }
+}
+
+impl<T: Drop> From<AllocFailed<T>> for ProgramFault {
+    fn from(_e: AllocFailed<T>) -> ProgramFault {
+        ProgramFault::OutOfMemory
+    }
+}
+
+impl From<io::Error> for ProgramFault {
+    fn from(error: io::Error) -> ProgramFault {
+        match error.kind() {
+            ErrorKind::OutOfMemory => ProgramFault::OutOfMemory,
+            _ => ProgramFault::Device,
+        }
+    }
+}
+
+impl From<clap::Error> for ProgramFault {
+    fn from(error: clap::Error) -> ProgramFault {
+        match error.kind() {
+            clap::error::ErrorKind::OutOfMemory => ProgramFault::OutOfMemory,
+            _ => ProgramFault::CommandLine(error),
+        }
+    }
+}
+
+impl From<PolicyFault> for ProgramFault {
+    fn from(fault: PolicyFault) -> ProgramFault {
+        match fault.kind {
+            FaultKind::OutOfMemory => ProgramFault::OutOfMemory,
+            _ => ProgramFault::Policy(fault),
+        }
+    }
+}
+
+impl From<OfflineFault> for ProgramFault {
+    fn from(fault: OfflineFault) -> ProgramFault {
+        match fault {
+            OfflineFault::Read
+            | OfflineFault::Write { .. }
+            | OfflineFault::Turns
+            | OfflineFault::AuditWrite => ProgramFault::Device,
+            OfflineFault::Framing(why) => ProgramFault::Framing(why),
+            OfflineFault::Core(Fault::Policy(why)) => ProgramFault::from(why),
+            OfflineFault::Core(Fault::OutOfMemory) => ProgramFault::OutOfMemory,
+            OfflineFault::Core(why) => ProgramFault::Core(why),
+            OfflineFault::Cut => ProgramFault::Cut,
+        }
+    }
+}

@@ -1,0 +1,102 @@
+//! `ipmd`, an IPFIX mediator on the command line: it filters a stream of messages (RFC 7011) for one
+//! subscriber by a written policy, and checks policies.
+//!
+//! - [`program`]: all that the process does, over streams and files that it is handed.
+//! - `command_line`: what may be asked for, and what a command line asks for.
+//! - `policy_source`: where the text of a policy comes from.
+//! - `filter`: `ipmd offline`.
+//! - `check`: `ipmd check-policy`.
+//! - `hex_input`, `hex_lines`: streams as hexadecimal text.
+//! - `fault`: why a run ends without having done what was asked, with the texts and exit statuses.
+#![tactic(auto)]
+
+ghost use Rattle.std.specs.Prelude.{◌≤◌};
+
+mod check;
+mod command_line;
+mod fault;
+mod filter;
+mod hex_input;
+mod hex_lines;
+mod policy_source;
+#[cfg(test)]
+mod tests;
+
+use crate::check::check_policy;
+use crate::command_line::{Task, read_command_line};
+use crate::fault::ProgramFault;
+use crate::filter::filter;
+use mediator_core::OfflineReport;
+use std::convert::AsStr;
+use std::env;
+use std::io::{Read, Write};
+use std::process::ExitCode;
+use std::rt::{Env, Files};
+
+/// The exit status of a run that did what was asked.
+const DONE: u8 = 0;
+
+fn main(rt: HostRuntime) -> ExitCode {
+    let status = match words_after_name(&rt) {
+        Ok(words) => program(&rt, words.as_slice(), rt.stdin(), rt.stdout(), rt.stderr()),
+        Err(fault) => fault.report(&mut rt.stderr()),
+    };
+    ExitCode::from(status)
+}
+
+/// The words of the command line after the program's name.
+fn words_after_name<R: Env + AllocGlobal>(rt: &R) -> Result<Vec<String>, ProgramFault> {
+    let words = env::args(rt)?;
+    Ok(words.skip(1).collect(rt.alloc())?)
+}
+
+/// Does what the words ask for, and answers the exit status: 0 where it is done, 1 where the input is
+/// refused, 2 for a refused command line, 3 where a device fails. `output` gets what was asked for, and
+/// `errors` the report or the fault; what `errors` doesn't take is dropped.
+pub fn program<R: Files + AllocGlobal, S: AsStr, I: Read + Drop, O: Write + Drop, E: Write + Drop>(
+    rt: &R,
+    words: &[S],
+    input: I,
+    output: O,
+    mut errors: E,
+) -> u8
+    ensures { result ≤ 3 }
+{
+    match run(rt, words, input, output) {
+        Ok(Some(report)) => {
+            let OfflineReport {
+                messages,
+                records,
+                disclosed,
+            } = report;
+            let _ = writeln!(
+                errors,
+                "messages {messages} records {records} disclosed {disclosed}"
+            );
+            DONE
+        }
+        Ok(None) => DONE,
+        Err(fault) => fault.report(&mut errors),
+    }
+}
+
+/// Does what the words ask for. The report is that of `ipmd offline`.
+fn run<R: Files + AllocGlobal, S: AsStr, I: Read + Drop, O: Write + Drop>(
+    rt: &R,
+    words: &[S],
+    input: I,
+    mut output: O,
+) -> Result<Option<OfflineReport>, ProgramFault> {
+    match read_command_line(rt.alloc(), words)? {
+        Task::Offline(options) => Ok(Some(filter(rt, &options, input, output)?)),
+        Task::CheckPolicy(source) => {
+            check_policy(rt, source, &mut output)?;
+            Ok(None)
+        }
+        Task::Show(text) => {
+            write!(output, "{text}")?;
+            output.flush()?;
+            Ok(None)
+        }
+    }
+}

@@ -1,0 +1,154 @@
+//! What the words ask for, and `check-policy`.
+
+use super::*;
+
+#[test]
+fn check_policy(rt: HostRuntime) -> Result<(), Fail> {
+    let cases = [
+        (
+            "policy 1;rule for a in * from 192.0.2.1/24 to * pass",
+            1,
+            "",
+            "ipmd: policy line 2: BadPrefix\n",
+        ),
+        (PASS, 0, "rules 2 aggregates 0\n", ""),
+        (
+            "policy 1;aggregate web key destinationTransportPort interval 300 grace 60;rule for acme in * from * to * aggregate web",
+            0,
+            "rules 1 aggregates 1\n",
+            "",
+        ),
+        ("", 1, "", "ipmd: policy line 1: NoHeader\n"),
+        (
+            "policy 1;;# pass;rule",
+            1,
+            "",
+            "ipmd: policy line 4: UnknownWord\n",
+        ),
+    ];
+    for (text, status, output, errors) in cases {
+        let ran = run_on(
+            &rt,
+            &["check-policy", "--policy-text", text],
+            b"".as_slice(),
+        )?;
+        expect_texts(&rt, &ran, status, output, errors)?;
+    }
+    Ok(())
+}
+
+/// That the command line is refused with a text that has this part.
+fn expect_refused<R: Files + AllocGlobal + Abort>(
+    rt: &R,
+    words: &[&str],
+    part: &str,
+) -> Result<(), Fail> {
+    let ran = run_on(rt, words, b"".as_slice())?;
+    let errors = str::from_utf8(ran.errors.as_slice())?;
+    assert!(rt; errors.starts_with("error: "), "{errors}");
+    assert!(rt; errors.contains(part), "{errors}");
+    assert!(rt; errors.ends_with('\n'), "{errors}");
+    assert_eq!(rt; ran.output.len(), 0);
+    assert_eq!(rt; ran.status, 2);
+    Ok(())
+}
+
+#[test]
+fn refused_command_lines(rt: HostRuntime) -> Result<(), Fail> {
+    expect_refused(&rt, &[], "requires a subcommand")?;
+    expect_refused(&rt, &["ofline"], "unrecognized subcommand 'ofline'")?;
+    expect_refused(&rt, &["check-policy"], "Usage: ipmd check-policy")?;
+    expect_refused(
+        &rt,
+        &["check-policy", "--policy", "a", "--policy-text", "b"],
+        "cannot be used with",
+    )?;
+    expect_refused(&rt, &["check-policy", "--policy"], "a value is required")?;
+    expect_refused(
+        &rt,
+        &["check-policy", "--policy", "a", "b"],
+        "unexpected argument 'b' found",
+    )?;
+    expect_refused(&rt, &["offline", "--policy", "a"], "--subscriber <NAME>")?;
+    expect_refused(
+        &rt,
+        &["offline", "--subscriber", "acme"],
+        "--policy <FILE>|--policy-text <TEXT>",
+    )
+}
+
+#[test]
+fn refused_numbers(rt: HostRuntime) -> Result<(), Fail> {
+    for (option, number) in [
+        ("--now", "4294967296"),
+        ("--now", "x"),
+        ("--now", ""),
+        ("--target", "65536"),
+        ("--target", "1e3"),
+    ] {
+        let words = [
+            "offline",
+            "--policy-text",
+            PASS,
+            "--subscriber",
+            "acme",
+            option,
+            number,
+        ];
+        expect_refused(&rt, &words, option)?;
+    }
+    let greatest = [
+        "offline",
+        "--policy-text",
+        PASS,
+        "--subscriber",
+        "acme",
+        "--now",
+        "4294967295",
+        "--target",
+        "65535",
+    ];
+    let ran = run_on(&rt, &greatest, b"".as_slice())?;
+    expect_texts(&rt, &ran, 0, "", "messages 0 records 0 disclosed 0\n")
+}
+
+/// Where no time and no target are given, they are 0 and 1400.
+#[test]
+fn default_numbers(rt: HostRuntime) -> Result<(), Fail> {
+    let words = [
+        "offline",
+        "--policy-text",
+        PASS,
+        "--subscriber",
+        "acme",
+        "--hex",
+    ];
+    let ran = run_on(&rt, &words, FLOW.as_bytes())?;
+    let output =
+        "000a0032 00000000 00000000 00000000  00020014 01000003 00080004 00070002 00010004  0100000e c000024d 01bb 000005dc\n";
+    let output = without_blanks(rt.alloc(), output)?;
+    expect_texts(&rt, &ran, 0, output.as_str(), FLOW_REPORT)
+}
+
+#[test]
+fn help(rt: HostRuntime) -> Result<(), Fail> {
+    let cases = [
+        (["--help"].as_slice(), "check-policy"),
+        (&["help"], "Usage: ipmd <COMMAND>"),
+        (&["offline", "--help"], "--audit <FILE>"),
+        (&["offline", "-h"], "\n  ipmd offline --policy"),
+        (
+            &["check-policy", "--help"],
+            "\n  ipmd check-policy --policy-text",
+        ),
+        (&["--version"], "ipmd 0.1.0\n"),
+    ];
+    for (words, part) in cases {
+        let ran = run_on(&rt, words, b"".as_slice())?;
+        let output = str::from_utf8(ran.output.as_slice())?;
+        assert!(rt; output.contains(part), "{output}");
+        assert_eq!(rt; ran.errors.len(), 0);
+        assert_eq!(rt; ran.status, 0);
+    }
+    Ok(())
+}

@@ -1,0 +1,310 @@
+//! Streams that do less than they are asked, or fail.
+
+use super::*;
+use std::io::{self, ErrorKind, Write};
+
+/// The words of a run on octets, and of one on hexadecimal text.
+const OCTETS: [&str; 9] = [
+    "offline",
+    "--policy-text",
+    PASS,
+    "--subscriber",
+    "acme",
+    "--now",
+    NOW,
+    "--target",
+    "16",
+];
+
+const HEXADECIMAL: [&str; 10] = [
+    "offline",
+    "--policy-text",
+    PASS,
+    "--subscriber",
+    "acme",
+    "--now",
+    NOW,
+    "--target",
+    "16",
+    "--hex",
+];
+
+const DEVICE: &str = "ipmd: device\n";
+
+/// A message with two records, and the three messages of 36, 30 and 30 octets that it becomes.
+const TWO_FLOWS: &str =
+    "000a003c 6553f100 00000000 00000007  00020014 01000003 00080004 00070002 00010004  01000018 c000024d 01bb 000005dc c000024e 01bb 000005dd";
+
+const TWO_FLOWS_PASSED: &str =
+    "000a0024 6553f13c 00000000 00000000  00020014 01000003 00080004 00070002 00010004
+000a001e 6553f13c 00000000 00000000  0100000e c000024d 01bb 000005dc
+000a001e 6553f13c 00000001 00000000  0100000e c000024e 01bb 000005dd
+";
+
+const TWO_FLOWS_REPORT: &str = "messages 1 records 2 disclosed 2\n";
+
+/// Where the messages end, as octets and as lines.
+const OCTET_ENDS: [usize; 3] = [36, 66, 96];
+
+const LINE_ENDS: [usize; 3] = [73, 134, 195];
+
+/// A writer that takes at most `most` octets at a call, and fails at one of its calls.
+#[derive(Drop)]
+struct Narrow {
+    octets: Vec<u8>,
+    most: usize,
+    /// How many calls are left before the one that fails.
+    until_failure: usize,
+}
+
+impl Write for Narrow {
+    fn write(&mut self, octets: &[u8]) -> io::Result<usize> {
+        let fails = self.until_failure == 0;
+        self.until_failure = self.until_failure.wrapping_sub(1);
+        if fails {
+            return Err(io::Error::from(ErrorKind::Other));
+        }
+        let count = octets.len().min(self.most);
+        self.octets.write(&octets[..count])
+    }
+
+    fn flush(&mut self) -> io::Result<()> {
+        Ok(())
+    }
+}
+
+/// A writer that takes all, and fails when it is flushed.
+#[derive(Drop)]
+struct Unflushed;
+
+impl Write for Unflushed {
+    fn write(&mut self, octets: &[u8]) -> io::Result<usize> {
+        Ok(octets.len())
+    }
+
+    fn flush(&mut self) -> io::Result<()> {
+        Err(io::Error::from(ErrorKind::Other))
+    }
+}
+
+/// A reader that gives at most `most` octets at a call, and fails at one of its calls.
+#[derive(Drop)]
+struct Sparing<'a> {
+    rest: &'a [u8],
+    most: usize,
+    /// How many calls are left before the one that fails.
+    until_failure: usize,
+}
+
+impl Read for Sparing<'_> {
+    fn read(&mut self, buffer: &mut [u8]) -> io::Result<usize> {
+        let fails = self.until_failure == 0;
+        self.until_failure = self.until_failure.wrapping_sub(1);
+        if fails {
+            return Err(io::Error::from(ErrorKind::Other));
+        }
+        if buffer.len() <= self.most {
+            self.rest.read(buffer)
+        } else {
+            self.rest.read(&mut buffer[..self.most])
+        }
+    }
+}
+
+/// That a run writes this front of the whole, and fails or is done.
+fn expect_front<R: Files + AllocGlobal + Abort>(
+    rt: &R,
+    words: &[&str],
+    input: &[u8],
+    writer: Narrow,
+    whole: &[u8],
+    sent: usize,
+) -> Result<(), Fail> {
+    let mut writer = writer;
+    let mut errors = Vec::with_capacity(rt.alloc(), ROOM)?;
+    let status = program(rt, words, input, &mut writer, &mut errors);
+    let (text, wanted) = if sent == whole.len() {
+        (TWO_FLOWS_REPORT, 0)
+    } else {
+        (DEVICE, 3)
+    };
+    assert_eq!(rt; str::from_utf8(errors.as_slice())?, text);
+    assert_eq!(rt; status, wanted);
+    assert_eq!(rt; Some(writer.octets.as_slice()), whole.get(..sent));
+    Ok(())
+}
+
+fn narrow_writer(alloc: Global, most: usize, until_failure: usize) -> Result<Narrow, AllocError> {
+    Ok(Narrow {
+        octets: Vec::with_capacity(alloc, ROOM)?,
+        most,
+        until_failure,
+    })
+}
+
+/// Each message is one write; one that fails is the end of what is written.
+#[test]
+fn each_write_fails(rt: HostRuntime) -> Result<(), Fail> {
+    let input = octets_of(rt.alloc(), TWO_FLOWS)?;
+    let whole = octets_of(rt.alloc(), TWO_FLOWS_PASSED)?;
+    let mut sent = 0;
+    for (calls, end) in OCTET_ENDS.into_iter().enumerate() {
+        let writer = narrow_writer(rt.alloc(), ROOM, calls)?;
+        expect_front(
+            &rt,
+            &OCTETS,
+            input.as_slice(),
+            writer,
+            whole.as_slice(),
+            sent,
+        )?;
+        sent = end;
+    }
+    let writer = narrow_writer(rt.alloc(), ROOM, 3)?;
+    expect_front(
+        &rt,
+        &OCTETS,
+        input.as_slice(),
+        writer,
+        whole.as_slice(),
+        sent,
+    )
+}
+
+/// Each line is one write.
+#[test]
+fn each_line_fails(rt: HostRuntime) -> Result<(), Fail> {
+    let whole = without_blanks(rt.alloc(), TWO_FLOWS_PASSED)?;
+    let mut sent = 0;
+    for (calls, end) in LINE_ENDS.into_iter().enumerate() {
+        let writer = narrow_writer(rt.alloc(), ROOM, calls)?;
+        let input = TWO_FLOWS.as_bytes();
+        expect_front(&rt, &HEXADECIMAL, input, writer, whole.as_bytes(), sent)?;
+        sent = end;
+    }
+    let writer = narrow_writer(rt.alloc(), ROOM, 3)?;
+    expect_front(
+        &rt,
+        &HEXADECIMAL,
+        TWO_FLOWS.as_bytes(),
+        writer,
+        whole.as_bytes(),
+        sent,
+    )
+}
+
+/// A writer of one octet at a time gets all, and each octet that it took stays.
+#[test]
+fn one_octet_at_a_time(rt: HostRuntime) -> Result<(), Fail> {
+    let input = octets_of(rt.alloc(), TWO_FLOWS)?;
+    let whole = octets_of(rt.alloc(), TWO_FLOWS_PASSED)?;
+    for sent in 0..97 {
+        let writer = narrow_writer(rt.alloc(), 1, sent)?;
+        expect_front(
+            &rt,
+            &OCTETS,
+            input.as_slice(),
+            writer,
+            whole.as_slice(),
+            sent,
+        )?;
+    }
+    let lines = without_blanks(rt.alloc(), TWO_FLOWS_PASSED)?;
+    for sent in 0..196 {
+        let writer = narrow_writer(rt.alloc(), 1, sent)?;
+        let input = TWO_FLOWS.as_bytes();
+        expect_front(&rt, &HEXADECIMAL, input, writer, lines.as_bytes(), sent)?;
+    }
+    Ok(())
+}
+
+/// A writer that takes nothing has failed.
+#[test]
+fn none_taken(rt: HostRuntime) -> Result<(), Fail> {
+    let input = octets_of(rt.alloc(), TWO_FLOWS)?;
+    let whole = octets_of(rt.alloc(), TWO_FLOWS_PASSED)?;
+    let writer = narrow_writer(rt.alloc(), 0, ROOM)?;
+    expect_front(&rt, &OCTETS, input.as_slice(), writer, whole.as_slice(), 0)?;
+    let writer = narrow_writer(rt.alloc(), 0, ROOM)?;
+    let input = TWO_FLOWS.as_bytes();
+    expect_front(&rt, &HEXADECIMAL, input, writer, whole.as_slice(), 0)
+}
+
+#[test]
+fn flush_fails(rt: HostRuntime) -> Result<(), Fail> {
+    let cases = [
+        HEXADECIMAL.as_slice(),
+        &["check-policy", "--policy-text", PASS],
+        &["--version"],
+    ];
+    for words in cases {
+        let mut errors = Vec::with_capacity(rt.alloc(), ROOM)?;
+        let status = program(&rt, words, TWO_FLOWS.as_bytes(), Unflushed, &mut errors);
+        assert_eq!(rt; str::from_utf8(errors.as_slice())?, DEVICE);
+        assert_eq!(rt; status, 3);
+    }
+    Ok(())
+}
+
+/// A reader of one octet, or of seven, gives what one of all gives.
+#[test]
+fn octet_by_octet(rt: HostRuntime) -> Result<(), Fail> {
+    let input = octets_of(rt.alloc(), TWO_FLOWS)?;
+    let whole = octets_of(rt.alloc(), TWO_FLOWS_PASSED)?;
+    for most in [1, 7, ROOM] {
+        let reader = Sparing {
+            rest: input.as_slice(),
+            most,
+            until_failure: ROOM,
+        };
+        let ran = run_on(&rt, &OCTETS, reader)?;
+        assert_eq!(rt; ran.output.as_slice(), whole.as_slice());
+        assert_eq!(rt; str::from_utf8(ran.errors.as_slice())?, TWO_FLOWS_REPORT);
+        assert_eq!(rt; ran.status, 0);
+    }
+    Ok(())
+}
+
+/// A read that fails is the end of the stream; what came before it is written.
+#[test]
+fn each_read_fails(rt: HostRuntime) -> Result<(), Fail> {
+    let input = octets_of(rt.alloc(), TWO_FLOWS)?;
+    let whole = octets_of(rt.alloc(), TWO_FLOWS_PASSED)?;
+    // Sixty octets take nine reads of seven, and a tenth meets the end.
+    for calls in 0..10 {
+        let reader = Sparing {
+            rest: input.as_slice(),
+            most: 7,
+            until_failure: calls,
+        };
+        let ran = run_on(&rt, &OCTETS, reader)?;
+        let sent = if calls < 9 { 0 } else { whole.len() };
+        assert_eq!(rt; Some(ran.output.as_slice()), whole.get(..sent));
+        assert_eq!(rt; str::from_utf8(ran.errors.as_slice())?, DEVICE);
+        assert_eq!(rt; ran.status, 3);
+    }
+    let text = Sparing {
+        rest: TWO_FLOWS.as_bytes(),
+        most: 7,
+        until_failure: 3,
+    };
+    let ran = run_on(&rt, &HEXADECIMAL, text)?;
+    expect_texts(&rt, &ran, 3, "", DEVICE)
+}
+
+/// What the errors' stream doesn't take is dropped.
+#[test]
+fn errors_fail(rt: HostRuntime) -> Result<(), Fail> {
+    let whole = without_blanks(rt.alloc(), TWO_FLOWS_PASSED)?;
+    for calls in 0..3 {
+        let mut output = Vec::with_capacity(rt.alloc(), ROOM)?;
+        let errors = narrow_writer(rt.alloc(), 4, calls)?;
+        let status = program(&rt, &HEXADECIMAL, TWO_FLOWS.as_bytes(), &mut output, errors);
+        assert_eq!(rt; output.as_slice(), whole.as_bytes());
+        assert_eq!(rt; status, 0);
+        let errors = narrow_writer(rt.alloc(), 4, calls)?;
+        let status = program(&rt, &HEXADECIMAL, b"0g".as_slice(), &mut output, errors);
+        assert_eq!(rt; status, 1);
+    }
+    Ok(())
+}
