@@ -1,3 +1,7 @@
+ghost use Rattle.std.specs.Prelude.{◌≡◌, IfOk, IfSome};
+ghost use Rattle.std.specs.List.{filter};
+ghost use Rattle.ipmd.specs.HexText.{is_no_white_space, SpelledBy};
+
 use crate::fault::ProgramFault;
 use hex::FromHexError;
 use std::alloc::Global;
@@ -7,13 +11,22 @@ use std::io::Read;
 ///
 /// # Errors
 /// `Device` where a read fails, `Hex` where the text is not hexadecimal, `OutOfMemory`.
-pub fn read_hex<I: Read + Drop>(alloc: Global, mut input: I) -> Result<Vec<u8>, ProgramFault> {
+pub fn read_hex<I: Read + Drop>(alloc: Global, mut input: I) -> Result<Vec<u8>, ProgramFault>
+    ensures { IfOk result (λ octets. IfSome (I.remaining input) (λ text. SpelledBy text octets.items)) }
+{
     let mut text = Vec::new(alloc);
     input.read_to_end(&mut text)?;
-    text.retain(|octet| !octet.is_ascii_whitespace());
+    skip_white_space(&mut text);
     match hex::decode(alloc, text.as_slice()) {
         Ok(octets) => Ok(octets),
         Err(FromHexError::OutOfMemory) => Err(ProgramFault::OutOfMemory),
         Err(_) => Err(ProgramFault::Hex),
     }
+}
+
+/// Removes the white space of a text.
+fn skip_white_space(text: &mut Vec<u8>)
+    ensures { text.new.items ≡ filter is_no_white_space text.old.items }
+{
+    text.retain(|octet| !octet.is_ascii_whitespace());
 }
