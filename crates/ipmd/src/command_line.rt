@@ -1,6 +1,7 @@
 //! What may be asked for, and what a command line asks for.
 
 use crate::fault::ProgramFault;
+use crate::help;
 use crate::policy_source::PolicySource;
 use clap::error::ErrorKind;
 use clap::{Arg, ArgAction, ArgGroup, ArgMatches, Command, value_parser};
@@ -24,12 +25,6 @@ const TARGET: &str = "target";
 const AUDIT: &str = "audit";
 
 const HEX: &str = "hex";
-
-const OFFLINE_EXAMPLE: &str =
-    "Example:\n  ipmd offline --policy policy.txt --subscriber acme --audit audit.txt < in.ipfix > out.ipfix";
-
-const CHECK_POLICY_EXAMPLE: &str =
-    "Example:\n  ipmd check-policy --policy-text 'policy 1;rule for acme in * from * to * pass'";
 
 /// What `ipmd offline` is to do.
 #[derive(Clone, Copy, Debug)]
@@ -112,6 +107,7 @@ fn whole_command<'a>(alloc: Global) -> Result<Command<'a>, AllocError> {
         .no_binary_name(true)
         .version("0.1.0")
         .about("Passes on the IPFIX flow records that a written policy discloses")
+        .after_help(help::COMMANDS)
         .subcommand_required(true)
         .subcommand(offline_command(alloc)?)?
         .subcommand(check_policy_command(alloc)?)
@@ -120,7 +116,7 @@ fn whole_command<'a>(alloc: Global) -> Result<Command<'a>, AllocError> {
 fn offline_command<'a>(alloc: Global) -> Result<Command<'a>, AllocError> {
     with_policy(alloc, Command::new(alloc, OFFLINE))?
         .about("Filters IPFIX messages from standard input to standard output for one subscriber")
-        .after_help(OFFLINE_EXAMPLE)
+        .after_help(help::OFFLINE)
         .arg(
             option(alloc, SUBSCRIBER, "NAME")
                 .required(true)
@@ -153,7 +149,7 @@ fn check_policy_command<'a>(alloc: Global) -> Result<Command<'a>, AllocError> {
     Ok(
         with_policy(alloc, Command::new(alloc, CHECK_POLICY))?
             .about("Says whether a text is a policy, and how many rules and aggregates it has")
-            .after_help(CHECK_POLICY_EXAMPLE),
+            .after_help(help::CHECK_POLICY),
     )
 }
 

@@ -2,7 +2,7 @@
 //! subscriber by a written policy, and checks policies.
 //!
 //! - [`program`]: all that the process does, over streams and files that it is handed.
-//! - `command_line`: what may be asked for, and what a command line asks for.
+//! - `command_line`, `help`: what may be asked for, what a command line asks for, and what the help says.
 //! - `policy_source`: where the text of a policy comes from.
 //! - `filter`: `ipmd offline`.
 //! - `check`: `ipmd check-policy`.
@@ -16,6 +16,7 @@ mod check;
 mod command_line;
 mod fault;
 mod filter;
+mod help;
 mod hex_input;
 mod hex_lines;
 mod policy_source;

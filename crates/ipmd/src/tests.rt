@@ -3,8 +3,11 @@
 mod command_lines;
 mod cut;
 mod devices;
+mod example_files;
+mod examples;
 mod files;
 mod memory;
+mod misuse;
 mod worked;
 
 use crate::program;

@@ -1,0 +1,65 @@
+//! What the help says below the options: an example of each command, and what its answers mean.
+
+/// Below the help of `ipmd` itself.
+pub const COMMANDS: &str = "\
+Begin with a policy, see that it is one, and filter a stream by it:
+  ipmd check-policy --policy policy.txt
+  ipmd offline --policy policy.txt --subscriber acme --audit audit.txt < in.ipfix > out.ipfix";
+
+/// Below the help of `ipmd offline`.
+pub const OFFLINE: &str = "\
+The input is IPFIX messages one after another (RFC 7011), as a file or a TCP connection has them.
+The output is the subscriber's own messages. When all is read, standard error says
+`messages M records R disclosed D`: messages read, records in them, and records written.
+
+Example:
+  ipmd offline --policy policy.txt --subscriber acme --audit audit.txt < in.ipfix > out.ipfix
+
+Each line of the audit names a message (the first is 3), a record in it (the first is 0), the
+subscription (1), and what was kept back by which rule; rule 0 stands for no rule at all:
+  3 0 1 removed 2:7          of record 0 the field at place 2 (the first is 0), by rule 7
+  3 1 1 withheld 0 rule      record 1, since no rule lets it pass
+
+What standard error says, and what to do:
+  ipmd: framing BadVersion   no message of version 10 stands there: the input is not IPFIX
+                             (NetFlow is not), is packed (unpack it), or is text (give --hex)
+  ipmd: framing BadLength    a message's length is below that of its header
+  ipmd: framing CutOff       the input ends inside a message
+  ipmd: hex                  with --hex: the input is not hexadecimal text (leave --hex out)
+  ipmd: Malformed            a message's sets or records go past their end
+  ipmd: BadName              the subscriber's name is not 1 to 32 of a-z, 0-9, - and _,
+                             beginning with a letter
+  ipmd: policy line N: KIND  line N of the policy is at fault; see ipmd check-policy --help
+  ipmd: Cut                  the records for the subscriber have more than 65,280 layouts, so that
+                             no template ID is left
+  ipmd: device               a file or a stream can't be opened, read or written (a folder, a
+                             full disk, a closed pipe), or the policy is not UTF-8
+  ipmd: JournalFull          more than 100,000,000 messages, or a terabyte of them
+  ipmd: OutOfMemory          no memory is left
+The messages before the one at fault are filtered and written all the same.
+
+Exit status: 0 done, 1 refused or out of memory, 2 wrong command line, 3 device.";
+
+/// Below the help of `ipmd check-policy`.
+pub const CHECK_POLICY: &str = "\
+Example:
+  ipmd check-policy --policy-text 'policy 1;rule for acme in * from * to * pass'
+
+It answers `rules N aggregates M`; or `ipmd: policy line N: KIND`, the first line that is at
+fault and what is wrong with the first faulty word in it:
+  NoHeader          the first line that has words is not `policy 1`
+  UnknownWord       another word is due here, or the line ends early, or goes on too long
+  BadName           no name (1 to 32 of a-z, 0-9, - and _, a letter first), or no element's name
+  BadNumber         no number, or one out of range
+  BadPrefix         no address with a length, or a bit is set past the length
+  BadTruncate       the element is no address, or has fewer bits
+  UnknownAggregate  no line above defines this aggregate
+  DoubleAggregate   a line above defines this aggregate
+  BadKey            this element can't be a key, or is named twice, or is the seventeenth
+  TooMany           more than 4,096 rules or 256 aggregates
+
+A rule's line is, in this order of words, with * for any:
+  rule for NAME in DOMAIN from PREFIX to PREFIX ACTION
+ACTION is pass, withhold, aggregate NAME, or element ELEMENT with keep, remove or truncate BITS.
+
+Exit status: 0 a policy, 1 no policy or out of memory, 2 wrong command line, 3 device.";
