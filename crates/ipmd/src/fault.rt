@@ -89,6 +89,11 @@ impl<T: Drop> From<AllocFailed<T>> for ProgramFault {
 }
 
 impl From<io::Error> for ProgramFault {
+    ghost use Rattle.std.specs.Prelude.{◌≡◌, ◌⊎◌};
+    ghost use Rattle.ipmd.specs.declared.fault.ProgramFault.TheVariants.{OutOfMemory, Device};
+
+    ghost from_gives = { λ _ e. (e ≡ OutOfMemory) ⊎ (e ≡ Device) };
+
     fn from(error: io::Error) -> ProgramFault {
         match error.kind() {
             ErrorKind::OutOfMemory => ProgramFault::OutOfMemory,

@@ -1,6 +1,7 @@
-ghost use Rattle.std.specs.Prelude.{◌≡◌, IfOk, IfSome};
+ghost use Rattle.std.specs.Prelude.{◌≡◌, IfOk, IfErr, IfSome};
 ghost use Rattle.std.specs.List.{filter};
-ghost use Rattle.ipmd.specs.HexText.{is_no_white_space, SpelledBy};
+ghost use Rattle.ipmd.specs.HexText.{is_no_white_space, SpelledBy, SpellsNothing};
+ghost use Rattle.ipmd.specs.declared.fault.ProgramFault.TheVariants.{Hex};
 
 use crate::fault::ProgramFault;
 use hex::FromHexError;
@@ -12,7 +13,8 @@ use std::io::Read;
 /// # Errors
 /// `Device` where a read fails, `Hex` where the text is not hexadecimal, `OutOfMemory`.
 pub fn read_hex<I: Read + Drop>(alloc: Global, mut input: I) -> Result<Vec<u8>, ProgramFault>
-    ensures { IfOk result (λ octets. IfSome (I.remaining input) (λ text. SpelledBy text octets.items)) }
+    ensures ok { IfOk result (λ octets. IfSome (I.remaining input) (λ text. SpelledBy text octets.items)) }
+    ensures hex { IfErr result (λ e. e ≡ Hex → IfSome (I.remaining input) SpellsNothing) }
 {
     let mut text = Vec::new(alloc);
     input.read_to_end(&mut text)?;
