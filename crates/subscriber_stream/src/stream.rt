@@ -58,6 +58,8 @@ impl Stream {
         requires { limits.shapes ≤ MOST_SHAPES }
         ensures value { result ≡ record { standing = at_start; limits = limits; spare = 0 } }
         ensures stands { StandsAt result.standing [] 0 }
+        // Each ID from 256 to 65,535 is one that a template can have (RFC 7011, section 3.4.1).
+        ensures ids { 256 + MOST_SHAPES ≡ 2 ^ 16 }
     {
         Stream {
             alloc,
