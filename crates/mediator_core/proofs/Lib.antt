@@ -9,4 +9,3 @@ pub mod Blaming
 pub mod InHand
 pub mod Streams
 pub mod Ends
-pub mod Openings

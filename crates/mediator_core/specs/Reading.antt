@@ -47,6 +47,7 @@ pub record LacksMemory (f : Fault) (job : OfflineJob) (octets : List ℕ) (held 
   pub fed : List ℕ
   pub more : List ℕ
   pub parts : octets ≡ fed ++ more
+  pub piece : length more ≤ 65536
   pub messages : List (List ℕ)
   pub pending : List ℕ
   pub done : IsDone job fed messages None pending held holds aheld aholds

@@ -47,6 +47,7 @@ impl<'a> Desk<'a> {
         writer: &mut W,
         audit_writer: &mut A,
     ) -> Result<(), OfflineFault>
+        requires few { length piece.now ≤ 65536 }
         requires reading { Reads self.old framer.old (W.contents writer.old) (A.contents audit_writer.old) }
         ensures ok { OnOk result (FeedsOn self.old self.new framer.old framer.new piece.now (W.contents writer.old) (W.contents writer.new) (A.contents audit_writer.old) (A.contents audit_writer.new)) }
         ensures stays { OnOk result (W.has_failed writer.new ≡ W.has_failed writer.old) }

@@ -8,7 +8,7 @@ use Rattle.mediator_core.proofs.desk.Desk.feed.Goals as goal
 pub returns-in-Err-clause-err : goal.returns-in-Err-clause-err
 returns-in-Err-clause-err g c =
     subst (λ e. StopsFeeding e c.args.self.now c.args.framer.now c.args.piece.now (g.W.Sink.contents c.args.writer.now) (g.W.Sink.contents c.args.writer.now) (g.A.Sink.contents c.args.audit_writer.now) (g.A.Sink.contents c.args.audit_writer.now) (g.W.Sink.has_failed c.args.writer.now) (g.A.Sink.has_failed c.args.audit_writer.now)) (sym c.stream_fault.ensures)
-    (piece_refused c.in-Err.fault c.args.self.now c.args.framer.now c.feed.new.self c.args.piece.now (g.W.Sink.contents c.args.writer.now) (g.A.Sink.contents c.args.audit_writer.now) (g.W.Sink.has_failed c.args.writer.now) (g.A.Sink.has_failed c.args.audit_writer.now) c.requires.reading.reading.sound c.in-Err.ensures.err)
+    (piece_refused c.in-Err.fault c.args.self.now c.args.framer.now c.feed.new.self c.args.piece.now (g.W.Sink.contents c.args.writer.now) (g.A.Sink.contents c.args.audit_writer.now) (g.W.Sink.has_failed c.args.writer.now) (g.A.Sink.has_failed c.args.audit_writer.now) c.requires.reading.reading.sound c.requires.few c.in-Err.ensures.err)
 
 pub returns-in_err-handle_all-clause-err : goal.returns-in_err-handle_all-clause-err
 returns-in_err-handle_all-clause-err g c =

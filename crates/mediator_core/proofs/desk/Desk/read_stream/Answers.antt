@@ -76,3 +76,6 @@ returns-then-count-eq0-clause-audit_stays g c = c.reads.invariant.6
 
 pub returns-clause-fails : goal.returns-clause-fails
 returns-clause-fails g c = record { reader = c.reads.invariant.4; writer = c.reads.invariant.5; audit = c.reads.invariant.6 }
+
+pub feed-requires-clause-few : goal.feed-requires-clause-few
+feed-requires-clause-few g c = omega (arith, c.reads.invariant.2, c.read_piece.ensures.length, c.in_ok-count.ensures.ok.0, length-take-le c.in_ok-count.count c.as_slice.result.now (omega (arith, c.in_ok-count.ensures.ok.0, ap length c.as_slice.ensures.value)))
