@@ -26,6 +26,11 @@ Fails OutOfMemory read = Unit {0}
 Fails (Malformed why) read = read ≡ Err (Malformed why)
 Fails RecordOverrun read = read ≡ Err RecordOverrun
 
+-- a header that is refused is answered by its fault, and by no other
+abbrev pub NamesFault : {X Y : Type 0} → Result X DecodeError → Result Y ReadError → Type 0
+NamesFault (Ok header) answer = Unit {0}
+NamesFault (Err fault) answer = answer ≡ Err (read_fault fault)
+
 -- what is read is answered
 abbrev pub Gives : {X Y : Type 0} → (X → Y) → Result X ReadError → Result Y ReadError → Type 0
 Gives view (Ok x) read = read ≡ Ok (view x)

@@ -7,7 +7,8 @@ ghost use Rattle.ipfix_session.specs.Contents.{contents_after};
 ghost use Rattle.ipfix_session.specs.Meaning.{items_of_domain, number_after, gap_between, meaning_of};
 ghost use Rattle.ipfix_session.specs.Keeping.{at_key, Keeps, AreInForce, StandIn};
 ghost use Rattle.ipfix_session.specs.Standing.{kept_of, StandsFor};
-ghost use Rattle.ipfix_session.specs.Answers.{Gives, shown};
+ghost use Rattle.ipfix_message.specs.Reading as reading;
+ghost use Rattle.ipfix_session.specs.Answers.{Gives, NamesFault, shown};
 ghost use Rattle.ipfix_session.specs.Walking.{contents_in};
 ghost use Rattle.ipfix_session.specs.Changing.{after};
 
@@ -80,6 +81,8 @@ impl Session {
         ensures stands { (older : List (List ℕ)) → StandsFor self.old older
             → OnOk result (StandsFor self.new (message.now ∷ older)) }
         ensures err { OnErr result (self.new ≡ self.old) }
+        // No memory is taken for a header, so that one that is refused is named by its fault alone.
+        ensures header { NamesFault (reading.read_header message.now) result }
     {
         let header = read_header(message)?;
         let said = items(self.alloc, message)?;

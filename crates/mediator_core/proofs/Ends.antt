@@ -19,7 +19,7 @@ use Rattle.mediator_core.specs.Offline.{started, history_of, disclosed_by, due, 
 use Rattle.mediator_core.specs.Desks.{Stands}
 use Rattle.mediator_core.specs.Steps.{end_of}
 use Rattle.mediator_core.specs.Running.{AreAccepted, IsOpened, IsRunning}
-use Rattle.mediator_core.specs.Reading.{IsDone, StopsIn, FeedsOn, StopsFeeding, IsAfter, ReachesEnd, StopsReading, Finishes}
+use Rattle.mediator_core.specs.Reading.{IsDone, StopsIn, FeedsOn, StopsFeeding, AreRead, IsAfter, ReachesEnd, StopsReading, Finishes}
 use Rattle.mediator_core.proofs.Streams.{means_of}
 use Rattle.mediator_core.proofs.InHand.{fold-snoc, ended}
 use Rattle.mediator_core.proofs.Delivering.{streamable_of}
@@ -58,11 +58,12 @@ reading_starts d f job given held aheld o new = record {
   taken = Consumes-nil given;
   reading = record { running = running_starts d job held aheld o; framed = subst (λ x. IsFramed [] [] None x.pending) (sym new) nothing_framed; sound = ap (λ x. x.fault) new };
   many = omega arith;
+  few = omega arith;
 }
 
 pub reads_on : (d e : Desk) (f g : FramerState) (job : OfflineJob) (given mid left held holds writes aheld aholds awrites : Option (List ℕ)) (k : ℕ) (piece : List ℕ) → IsAfter d f job given mid held holds aheld aholds k
-    → Consumes mid left piece → 0 < length piece → FeedsOn d e f g piece holds writes aholds awrites → IsAfter e g job given left held writes aheld awrites (k + 1)
-reads_on d e f g job given mid left held holds writes aheld aholds awrites k piece so taking some feeds =
+    → Consumes mid left piece → 0 < length piece → length piece ≤ 65536 → FeedsOn d e f g piece holds writes aholds awrites → IsAfter e g job given left held writes aheld awrites (k + 1)
+reads_on d e f g job given mid left held holds writes aheld aholds awrites k piece so taking some short feeds =
     let next = feeds.after job so.octets so.messages held aheld so.reading in
     record {
       octets = so.octets ++ piece;
@@ -70,23 +71,27 @@ reads_on d e f g job given mid left held holds writes aheld aholds awrites k pie
       taken = Consumes-trans given mid left so.octets piece so.taken taking;
       reading = next.1;
       many = omega (arith, so.many, some, length-append so.octets piece);
+      few = omega (arith, so.few, short, length-append so.octets piece);
     }
 
 pub reading_stops : (e : OfflineFault) (d : Desk) (f : FramerState) (job : OfflineJob) (given mid left held holds writes aheld aholds awrites : Option (List ℕ)) (rfailed failed afailed : Bool) (k : ℕ) (piece : List ℕ) → IsAfter d f job given mid held holds aheld aholds k
-    → Consumes mid left piece → StopsFeeding e d f piece holds writes aholds awrites failed afailed → StopsReading e job given left held writes aheld awrites rfailed failed afailed
-reading_stops e d f job given mid left held holds writes aheld aholds awrites rfailed failed afailed k piece so taking stop = by e (stop.after job so.octets so.messages held aheld so.reading)
+    → Consumes mid left piece → length piece ≤ 65536 → k < job.turns → StopsFeeding e d f piece holds writes aholds awrites failed afailed → StopsReading e job given left held writes aheld awrites rfailed failed afailed
+reading_stops e d f job given mid left held holds writes aheld aholds awrites rfailed failed afailed k piece so taking short within stop = by e (stop.after job so.octets so.messages held aheld so.reading)
   where
     taken : Consumes given left (so.octets ++ piece)
     taken = Consumes-trans given mid left so.octets piece so.taken taking
 
+    few : AreRead job.turns (so.octets ++ piece)
+    few = omega (arith, so.few, short, within, length-append so.octets piece)
+
     by : (x : OfflineFault) → StopsIn x job (so.octets ++ piece) held writes aheld awrites failed afailed → StopsReading x job given left held writes aheld awrites rfailed failed afailed
-    by (Framing framing.BadVersion) s = record { octets = so.octets ++ piece; taken = taken; stops = s }
-    by (Framing framing.BadLength) s = record { octets = so.octets ++ piece; taken = taken; stops = s }
+    by (Framing framing.BadVersion) s = record { octets = so.octets ++ piece; taken = taken; stops = (few, s) }
+    by (Framing framing.BadLength) s = record { octets = so.octets ++ piece; taken = taken; stops = (few, s) }
     by (Framing framing.CutOff) s = absurd s
-    by (Core f) s = record { octets = so.octets ++ piece; taken = taken; stops = s }
-    by (Write sent) s = record { octets = so.octets ++ piece; taken = taken; stops = s }
-    by Cut s = record { octets = so.octets ++ piece; taken = taken; stops = s }
-    by AuditWrite s = record { octets = so.octets ++ piece; taken = taken; stops = s }
+    by (Core f) s = record { octets = so.octets ++ piece; taken = taken; stops = (few, s) }
+    by (Write sent) s = record { octets = so.octets ++ piece; taken = taken; stops = (few, s) }
+    by Cut s = record { octets = so.octets ++ piece; taken = taken; stops = (few, s) }
+    by AuditWrite s = record { octets = so.octets ++ piece; taken = taken; stops = (few, s) }
     by Read s = absurd s
     by Turns s = absurd s
 
@@ -94,30 +99,31 @@ pub done_after : (d : Desk) (f : FramerState) (job : OfflineJob) (given left hel
     → IsDone job so.octets so.messages None f.pending held holds aheld aholds
 done_after d f job given left held holds aheld aholds k so = record { framed = so.reading.framed; all = so.reading.running.accepted; written = so.reading.running.written; means = means_of d job so.messages held holds aheld aholds so.reading.running; audited = so.reading.running.audited }
 
-pub read_fails : (d : Desk) (f : FramerState) (job : OfflineJob) (given left held holds aheld aholds : Option (List ℕ)) (rfailed failed afailed : Bool) (k : ℕ) → IsAfter d f job given left held holds aheld aholds k → rfailed ≡ true
+pub read_fails : (d : Desk) (f : FramerState) (job : OfflineJob) (given left held holds aheld aholds : Option (List ℕ)) (rfailed failed afailed : Bool) (k : ℕ) → IsAfter d f job given left held holds aheld aholds k → k < job.turns → rfailed ≡ true
     → StopsReading Read job given left held holds aheld aholds rfailed failed afailed
-read_fails d f job given left held holds aheld aholds rfailed failed afailed k so fails =
-    (record { octets = so.octets; taken = so.taken; stops = (so.messages, f.pending, done_after d f job given left held holds aheld aholds k so) }, fails)
+read_fails d f job given left held holds aheld aholds rfailed failed afailed k so within fails =
+    (record { octets = so.octets; taken = so.taken; stops = (so.messages, f.pending, done_after d f job given left held holds aheld aholds k so, omega (arith, so.few, within)) }, fails)
 
-pub turns_end : (d : Desk) (f : FramerState) (job : OfflineJob) (given left held holds aheld aholds : Option (List ℕ)) (rfailed failed afailed : Bool) (k : ℕ) → IsAfter d f job given left held holds aheld aholds k → job.turns ≤ k
+pub turns_end : (d : Desk) (f : FramerState) (job : OfflineJob) (given left held holds aheld aholds : Option (List ℕ)) (rfailed failed afailed : Bool) (k : ℕ) → IsAfter d f job given left held holds aheld aholds k → job.turns ≡ k
     → StopsReading Turns job given left held holds aheld aholds rfailed failed afailed
 turns_end d f job given left held holds aheld aholds rfailed failed afailed k so enough =
-    record { octets = so.octets; taken = so.taken; stops = (so.messages, f.pending, done_after d f job given left held holds aheld aholds k so, omega (arith, so.many, enough)) }
+    record { octets = so.octets; taken = so.taken; stops = (so.messages, f.pending, done_after d f job given left held holds aheld aholds k so, omega (arith, so.many, enough), omega (arith, so.few, enough)) }
 
-pub stream_ends : (d : Desk) (f : FramerState) (job : OfflineJob) (given left held holds aheld aholds : Option (List ℕ)) (k : ℕ) → IsAfter d f job given left held holds aheld aholds k → IsAtEnd left → f.pending ≡ [] → ReachesEnd d job given left held holds aheld aholds
-stream_ends d f job given left held holds aheld aholds k so end none = record {
+pub stream_ends : (d : Desk) (f : FramerState) (job : OfflineJob) (given left held holds aheld aholds : Option (List ℕ)) (k : ℕ) → IsAfter d f job given left held holds aheld aholds k → k < job.turns → IsAtEnd left → f.pending ≡ [] → ReachesEnd d job given left held holds aheld aholds
+stream_ends d f job given left held holds aheld aholds k so within end none = record {
   octets = so.octets;
   messages = so.messages;
   taken = so.taken;
   end = end;
   framed = subst (IsFramed so.octets so.messages None) none so.reading.framed;
+  turns = omega (arith, so.few, within);
   running = so.reading.running;
 }
 
-pub stream_cut_off : (d : Desk) (f : FramerState) (job : OfflineJob) (given left held holds aheld aholds : Option (List ℕ)) (rfailed failed afailed : Bool) (k : ℕ) → IsAfter d f job given left held holds aheld aholds k → IsAtEnd left → 0 < length f.pending
+pub stream_cut_off : (d : Desk) (f : FramerState) (job : OfflineJob) (given left held holds aheld aholds : Option (List ℕ)) (rfailed failed afailed : Bool) (k : ℕ) → IsAfter d f job given left held holds aheld aholds k → k < job.turns → IsAtEnd left → 0 < length f.pending
     → StopsReading (Framing framing.CutOff) job given left held holds aheld aholds rfailed failed afailed
-stream_cut_off d f job given left held holds aheld aholds rfailed failed afailed k so end inside =
-    (record { octets = so.octets; taken = so.taken; stops = (so.messages, f.pending, done_after d f job given left held holds aheld aholds k so, inside) }, end)
+stream_cut_off d f job given left held holds aheld aholds rfailed failed afailed k so within end inside =
+    (record { octets = so.octets; taken = so.taken; stops = (so.messages, f.pending, done_after d f job given left held holds aheld aholds k so, inside, omega (arith, so.few, within)) }, end)
 
 -- a read that gave nothing leaves all as it was
 pub still_after : (d : Desk) (f : FramerState) (job : OfflineJob) (given mid left held holds aheld aholds : Option (List ℕ)) (k : ℕ) (n : ℕ) (buffer : List ℕ) → IsAfter d f job given mid held holds aheld aholds k → n ≡ 0 → Consumes mid left (take n buffer)
@@ -128,6 +134,7 @@ still_after d f job given mid left held holds aheld aholds k n buffer so none ta
   taken = subst (Consumes given left) (append-nil so.octets) (Consumes-trans given mid left so.octets [] so.taken (subst (λ m. Consumes mid left (take m buffer)) none taking));
   reading = so.reading;
   many = so.many;
+  few = so.few;
 }
 
 pub kept_after : (d : Desk) (f : FramerState) (job : OfflineJob) (given mid left held holds aheld aholds : Option (List ℕ)) (k : ℕ) → IsAfter d f job given mid held holds aheld aholds k → Keeps mid left
@@ -138,6 +145,7 @@ kept_after d f job given mid left held holds aheld aholds k so kept = record {
   taken = Consumes-kept given mid left so.octets so.taken kept;
   reading = so.reading;
   many = so.many;
+  few = so.few;
 }
 
 -- ---- the report of a run that read all
@@ -162,6 +170,7 @@ finishes d job report given left held holds aheld aholds r entries records hande
   messages = r.messages;
   taken = r.taken;
   end = r.end;
+  turns = r.turns;
   done = record { framed = r.framed; all = r.running.accepted; written = r.running.written; means = means_of d job r.messages held holds aheld aholds r.running; audited = r.running.audited };
   counted = omega (arith, entries, r.running.stands.entries, history_length job [] r.messages r.running.accepted);
   recorded = records ∙ r.running.stands.records;

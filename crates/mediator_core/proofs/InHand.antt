@@ -30,10 +30,10 @@ use Rattle.subscriber_stream.specs.Standing.{StandsAt}
 use Rattle.std.proofs.Math.Seq.{drop-append_seam}
 use Rattle.mediator_core.specs.declared.desk.Desk.{Desk}
 use Rattle.mediator_core.specs.declared.job.OfflineJob.{OfflineJob}
-use Rattle.mediator_core.specs.Recording.{lines_of, KeepsDesk, WritesSome, StopsLines}
+use Rattle.mediator_core.specs.Recording.{lines_of, KeepsDesk, WritesSome, WritesOn, StopsLines}
 use Rattle.mediator_core.specs.Offline.{started, after_message, history_of, disclosed_by, and_then, pulled as pulled_list, pulled_to_end, due_by, due, audit_due, cuts_by, next_message as next_entry}
 use Rattle.mediator_core.specs.Desks.{Stands, Small}
-use Rattle.mediator_core.specs.Steps.{end_of, Accepts, Receives, RefusesMessage}
+use Rattle.mediator_core.specs.Steps.{end_of, Accepts, Receives, NamesRoom, RefusesMessage}
 use Rattle.mediator_core.specs.Pulling.{HandsOut, Delivers, StopsDelivery, FailsDelivery}
 use Rattle.mediator_core.specs.Running.{AreAccepted, IsRunning, WritesInHand, StopsAt}
 use Rattle.mediator_core.specs.declared.fault.Fault.{Fault}
@@ -258,9 +258,10 @@ handled d1 d3 d4 job messages octets held holds writes aheld aholds awrites r k 
 none_more : (messages : List (List ℕ)) → concat (messages ++ []) ≡ concat messages
 none_more messages = ap concat (append-nil messages)
 
-some_after : (a b c : Option (List ℕ)) (xs ys : List ℕ) → Appends a b xs → WritesSome b c ys → WritesSome a c (xs ++ ys)
+some_after : (a b c : Option (List ℕ)) (xs ys : List ℕ) → Appends a b xs → WritesSome b c ys → WritesOn a c xs (xs ++ ys)
 some_after a b c xs ys so some = record {
   count = length xs + some.count;
+  least = omega arith;
   within = omega (arith, length-append xs ys, some.within);
   written = subst (Appends a c) (sym (take-add-append xs ys some.count)) (Appends-trans a b c xs (take some.count ys) so some.written);
 }
@@ -275,18 +276,18 @@ nothing_in_hand d job messages octets held holds aheld aholds r =
       others = due_by job messages octets;
       front = refl;
       written = subst (Appends held holds) (sym (none_more (due job messages))) r.written;
-      audited = subst (WritesSome aheld aholds) (sym (lines_more job messages octets more.0 more.1))
+      audited = subst (WritesOn aheld aholds (audit_due job messages)) (sym (lines_more job messages octets more.0 more.1))
           (some_after aheld aholds aholds (audit_due job messages) (lines_of more.0) r.audited (record { count = 0; within = omega arith; written = Appends-nil aholds }));
     }
 
 pub stops_refused : (f : Fault) (d : Desk) (job : OfflineJob) (messages : List (List ℕ)) (octets : List ℕ) (held holds aheld aholds : Option (List ℕ)) (failed afailed : Bool) → IsRunning d job messages held holds aheld aholds
-    → RefusesMessage f (history_of job messages) octets → StopsAt (Core f) job messages octets held holds aheld aholds failed afailed
-stops_refused fault.OutOfMemory d job messages octets held holds aheld aholds failed afailed r refuses = nothing_in_hand d job messages octets held holds aheld aholds r
-stops_refused (fault.Malformed why) d job messages octets held holds aheld aholds failed afailed r refuses = (refuses, record { written = r.written; audited = r.audited })
-stops_refused fault.JournalFull d job messages octets held holds aheld aholds failed afailed r refuses = (refuses, record { written = r.written; audited = r.audited })
-stops_refused (fault.AuditFull need room) d job messages octets held holds aheld aholds failed afailed r refuses = (refuses, record { written = r.written; audited = r.audited })
-stops_refused (fault.Policy why) d job messages octets held holds aheld aholds failed afailed r refuses = absurd refuses
-stops_refused fault.BadName d job messages octets held holds aheld aholds failed afailed r refuses = absurd refuses
+    → RefusesMessage f (history_of job messages) octets → NamesRoom f d → StopsAt (Core f) job messages octets held holds aheld aholds failed afailed
+stops_refused fault.OutOfMemory d job messages octets held holds aheld aholds failed afailed r refuses names = nothing_in_hand d job messages octets held holds aheld aholds r
+stops_refused (fault.Malformed why) d job messages octets held holds aheld aholds failed afailed r refuses names = (refuses, record { written = r.written; audited = r.audited })
+stops_refused fault.JournalFull d job messages octets held holds aheld aholds failed afailed r refuses names = (refuses, record { written = r.written; audited = r.audited })
+stops_refused (fault.AuditFull need room) d job messages octets held holds aheld aholds failed afailed r refuses names = (refuses, omega (arith, names, ap length r.quiet, r.stands.audit_limit), record { written = r.written; audited = r.audited })
+stops_refused (fault.Policy why) d job messages octets held holds aheld aholds failed afailed r refuses names = absurd refuses
+stops_refused fault.BadName d job messages octets held holds aheld aholds failed afailed r refuses names = absurd refuses
 
 -- the message was delivered, and its lines stop
 pub stops_recording : (f : OfflineFault) (d1 d3 : Desk) (job : OfflineJob) (messages : List (List ℕ)) (octets : List ℕ) (held holds writes aheld aholds awrites : Option (List ℕ)) (failed afailed : Bool)
@@ -294,8 +295,8 @@ pub stops_recording : (f : OfflineFault) (d1 d3 : Desk) (job : OfflineJob) (mess
     → StopsAt f job messages octets held writes aheld awrites failed afailed
 stops_recording f d1 d3 job messages octets held holds writes aheld aholds awrites failed afailed r k cause some = by f cause
   where
-    lines : WritesSome aheld awrites (audit_due job (messages ++ octets ∷ []))
-    lines = subst (WritesSome aheld awrites) (sym (lines_more job messages octets k.added k.adds))
+    lines : WritesOn aheld awrites (audit_due job messages) (audit_due job (messages ++ octets ∷ []))
+    lines = subst (WritesOn aheld awrites (audit_due job messages)) (sym (lines_more job messages octets k.added k.adds))
         (some_after aheld aholds awrites (audit_due job messages) (lines_of k.added) r.audited (subst (λ l. WritesSome aholds awrites (lines_of l)) k.waits some))
 
     by : (e : OfflineFault) → StopsLines e afailed → StopsAt e job messages octets held writes aheld awrites failed afailed
@@ -456,8 +457,8 @@ pub stops_cut_recording : (f : OfflineFault) (d1 d2 : Desk) (job : OfflineJob) (
     → StopsAt f job messages octets held holds aheld awrites failed afailed
 stops_cut_recording f d1 d2 job messages octets held holds aheld aholds awrites failed afailed r k cause some = by f cause
   where
-    lines : WritesSome aheld awrites (audit_due job (messages ++ octets ∷ []))
-    lines = subst (WritesSome aheld awrites) (sym (lines_more job messages octets k.added k.adds))
+    lines : WritesOn aheld awrites (audit_due job messages) (audit_due job (messages ++ octets ∷ []))
+    lines = subst (WritesOn aheld awrites (audit_due job messages)) (sym (lines_more job messages octets k.added k.adds))
         (some_after aheld aholds awrites (audit_due job messages) (lines_of k.added) r.audited (subst (λ l. WritesSome aholds awrites (lines_of l)) k.waits some))
 
     by : (e : OfflineFault) → StopsLines e afailed → StopsAt e job messages octets held holds aheld awrites failed afailed

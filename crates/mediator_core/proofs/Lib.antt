@@ -5,6 +5,7 @@ pub mod Sizes
 pub mod Received
 pub mod Delivering
 pub mod Lines
+pub mod Blaming
 pub mod InHand
 pub mod Streams
 pub mod Ends

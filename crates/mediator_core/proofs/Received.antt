@@ -23,7 +23,7 @@ use Rattle.mediator_core.specs.Shares.{given, notes_from}
 use Rattle.mediator_core.specs.Offline.{stream_limits}
 use Rattle.mediator_core.specs.Desks.{Stands}
 use Rattle.mediator_core.specs.Steps.{end_of, Receives, Refuses, Counts, HandsOver, LacksRoom}
-use Rattle.mediator_core.proofs.Receiving.{fits_same, fits_back, overflown, fitting, room_taken, room_cut, fits_journal, refused_taken, refused_cut, taken, was_cut}
+use Rattle.mediator_core.proofs.Receiving.{fits_same, fits_back, overflown, fitting, room_taken, room_cut, fits_journal, refused_taken, refused_cut, names_room, taken, was_cut}
 
 -- what was read of a message, and what it gives
 pub record IsJudged (old : Desk) (octets : List ℕ) (session : List (ℕ × Domain)) (m : Meaning) (gives : List DataRecord) (notes : List AuditEntry) : Type 0 where
@@ -106,6 +106,7 @@ pub refuses_taken : (e : Fault) (old : Desk) (octets : List ℕ) (session : List
 refuses_taken e old octets session m gives notes j says lacks = record {
   after = λ h so small.
       refused_taken e old h octets m gives notes so (j.means (messages_of 1 h) so.session) j.giving j.noting (fits_of old gives says h so) lacks;
+  room = names_room e old 1 (21 + length octets) (length notes) lacks;
 }
 
 pub refuses_cut : (e : Fault) (old : Desk) (octets : List ℕ) (session : List (ℕ × Domain)) (m : Meaning) (gives : List DataRecord) (notes : List AuditEntry) → IsJudged old octets session m gives notes
@@ -113,6 +114,7 @@ pub refuses_cut : (e : Fault) (old : Desk) (octets : List ℕ) (session : List (
 refuses_cut e old octets session m gives notes j says lacks = record {
   after = λ h so small.
       refused_cut e old h octets m gives so small (j.means (messages_of 1 h) so.session) j.giving (over_of old gives says h so) lacks;
+  room = names_room e old 2 (30 + length octets) 1 lacks;
 }
 
 -- the same of a desk that has another session: room and counts are told of the rest
@@ -121,7 +123,12 @@ lacks_same e f d old m n k is entries octets audit lacks = rw is (same e lacks)
   where
     same : (w : Fault) → LacksRoom w d m n k → LacksRoom w old m n k
     same fault.JournalFull x = ap (λ v. nat_le (v + m) 100000000 && nat_le (old.octets + n) (2 ^ 40)) (sym entries) ∙ ap (λ v. nat_le (d.entries + m) 100000000 && nat_le (v + n) (2 ^ 40)) (sym octets) ∙ x
-    same (fault.AuditFull need room) x = (x.0, x.1, subst (λ a. room + length a.standing.entries ≡ a.limit) audit x.2)
+    same (fault.AuditFull need room) x = (
+      x.0,
+      x.1,
+      subst (λ a. room + length a.standing.entries ≡ a.limit) audit x.2,
+      ap (λ v. nat_le (v + m) 100000000 && nat_le (old.octets + n) (2 ^ 40)) (sym entries) ∙ ap (λ v. nat_le (d.entries + m) 100000000 && nat_le (v + n) (2 ^ 40)) (sym octets) ∙ x.3,
+    )
     same fault.OutOfMemory x = tt
     same (fault.Malformed why) x = absurd x
     same (fault.Policy why) x = absurd x

@@ -41,7 +41,7 @@ use Rattle.mediator_core.specs.declared.fault.Fault.TheVariants as fault
 use Rattle.mediator_core.specs.Faults.{refusal_of}
 use Rattle.mediator_core.specs.Offline.{stream_limits, has_journal_room, next_message, cuts_by, after_message}
 use Rattle.mediator_core.specs.Desks.{Stands, Small}
-use Rattle.mediator_core.specs.Steps.{end_of, Counts, HandsOver, LacksRoom, RefusesMessage}
+use Rattle.mediator_core.specs.Steps.{end_of, Accepts, Counts, HandsOver, LacksRoom, NamesRoom, RefusesMessage}
 use Rattle.mediator_core.proofs.Messages.{filter-none, served_alone, given_message, audit_message, cuts_none, cuts_one}
 
 all-append : {A : Type 0} (P : A → Type 0) (xs ys : List A) → AllByRecursion P xs → AllByRecursion P ys → AllByRecursion P (xs ++ ys)
@@ -289,9 +289,13 @@ fits_journal a b p q = ap (λ x. x && nat_le b (2 ^ 40)) (le-leb a 100000000 p) 
 pub refused_taken : (e : Fault) (old : Desk) (h : List Entry) (octets : List ℕ) (m : Meaning) (gives : List DataRecord) (notes : List AuditEntry) → Stands old h (end_of h) → meaning_of (messages_of 1 h) octets ≡ Ok m
     → gives ≡ given old.job.name.now m.header.domain old.policy.rules m.records → notes ≡ notes_from old.entries 0 old.job.name.now m.header.domain old.policy.rules m.records
     → FitsLimits stream_limits (disclosed 1 h) (end_of h) gives → LacksRoom e old 1 (21 + length octets) (length notes) → RefusesMessage e h octets
-refused_taken fault.JournalFull old h octets m gives notes so means giving noting fits lacks = sym (room_taken old h octets so (fitting old h octets m gives so means giving fits)) ∙ lacks
-refused_taken (fault.AuditFull need room) old h octets m gives notes so means giving noting fits lacks = ((notes, audited, lacks.0), lacks.1)
+refused_taken fault.JournalFull old h octets m gives notes so means giving noting fits lacks =
+    (record { meaning = m; means = means }, sym (room_taken old h octets so (fitting old h octets m gives so means giving fits)) ∙ lacks)
+refused_taken (fault.AuditFull need room) old h octets m gives notes so means giving noting fits lacks = (accepts, (notes, audited, lacks.0), lacks.1)
   where
+    accepts : Accepts h octets
+    accepts = record { meaning = m; means = means; room = sym (room_taken old h octets so (fitting old h octets m gives so means giving fits)) ∙ lacks.3 }
+
     audited : audit_list (after_message h octets) ≡ audit_list h ++ notes
     audited = ap (λ cuts. audit_list (h ++ (cuts ++ next_message h octets ∷ []))) (fitting old h octets m gives so means giving fits)
         ∙ audit-push h (next_message h octets)
@@ -308,9 +312,13 @@ refused_taken fault.BadName old h octets m gives notes so means giving noting fi
 pub refused_cut : (e : Fault) (old : Desk) (h : List Entry) (octets : List ℕ) (m : Meaning) (gives : List DataRecord) → Stands old h (end_of h) → Small h → meaning_of (messages_of 1 h) octets ≡ Ok m
     → gives ≡ given old.job.name.now m.header.domain old.policy.rules m.records
     → (FitsLimits stream_limits (disclosed 1 h) (end_of h) gives → ⊥) → LacksRoom e old 2 (30 + length octets) 1 → RefusesMessage e h octets
-refused_cut fault.JournalFull old h octets m gives so small means giving over lacks = sym (room_cut old h octets so (overflown old h octets m gives so small means giving over)) ∙ lacks
-refused_cut (fault.AuditFull need room) old h octets m gives so small means giving over lacks =
-    ((audit_entry (length h) 0 1 CutOff ∷ [], audit_of_cut h octets so.alone (overflown old h octets m gives so small means giving over), lacks.0), lacks.1)
+refused_cut fault.JournalFull old h octets m gives so small means giving over lacks =
+    (record { meaning = m; means = means }, sym (room_cut old h octets so (overflown old h octets m gives so small means giving over)) ∙ lacks)
+refused_cut (fault.AuditFull need room) old h octets m gives so small means giving over lacks = (
+  record { meaning = m; means = means; room = sym (room_cut old h octets so (overflown old h octets m gives so small means giving over)) ∙ lacks.3 },
+  (audit_entry (length h) 0 1 CutOff ∷ [], audit_of_cut h octets so.alone (overflown old h octets m gives so small means giving over), lacks.0),
+  lacks.1,
+)
 refused_cut fault.OutOfMemory old h octets m gives so small means giving over lacks = tt
 refused_cut (fault.Malformed why) old h octets m gives so small means giving over lacks = absurd lacks
 refused_cut (fault.Policy why) old h octets m gives so small means giving over lacks = absurd lacks
@@ -327,6 +335,23 @@ pub refused_read : (w : ReadError) (e : Fault) (h : List Entry) (octets : List �
 refused_read read.OutOfMemory e h octets is fails = rw is tt
 refused_read (read.Malformed why) e h octets is fails = rw is fails
 refused_read read.RecordOverrun e h octets is fails = rw is fails
+
+-- the room that is named, where there is none
+pub names_room : (e : Fault) (d : Desk) (m n k : ℕ) → LacksRoom e d m n k → NamesRoom e d
+names_room fault.JournalFull d m n k lacks = tt
+names_room (fault.AuditFull need room) d m n k lacks = lacks.2
+names_room fault.OutOfMemory d m n k lacks = tt
+names_room (fault.Malformed why) d m n k lacks = tt
+names_room (fault.Policy why) d m n k lacks = tt
+names_room fault.BadName d m n k lacks = tt
+
+pub names_none : (w : ReadError) (e : Fault) (d : Desk) → e ≡ refusal_of w → NamesRoom e d
+names_none read.OutOfMemory e d is = rw is tt
+names_none (read.Malformed why) e d is = rw is tt
+names_none read.RecordOverrun e d is = rw is tt
+
+pub names_memory : (e : Fault) (d : Desk) → e ≡ fault.OutOfMemory → NamesRoom e d
+names_memory e d is = rw is tt
 
 pub refused_memory : (e : Fault) (h : List Entry) (octets : List ℕ) → e ≡ fault.OutOfMemory → RefusesMessage e h octets
 refused_memory e h octets is = rw is tt

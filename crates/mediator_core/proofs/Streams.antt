@@ -111,16 +111,17 @@ by_fault w old f g piece holds aholds failed afailed sound not (inl was) = absur
 by_fault w old f g piece holds aholds failed afailed sound not (inr new) = frame_stops w old old f g piece [] holds holds aholds aholds failed afailed sound new.2 new.1 not (none_handled old holds aholds)
 
 -- the framer refuses the piece
-pub piece_refused : (w : FrameError) (old : Desk) (f g : FramerState) (piece : List ℕ) (holds aholds : Option (List ℕ)) (failed afailed : Bool) → f.fault ≡ None → FailsBy w f piece g
+pub piece_refused : (w : FrameError) (old : Desk) (f g : FramerState) (piece : List ℕ) (holds aholds : Option (List ℕ)) (failed afailed : Bool) → f.fault ≡ None → length piece ≤ 65536 → FailsBy w f piece g
     → StopsFeeding (stream_refusal w) old f piece holds holds aholds aholds failed afailed
-piece_refused frame.BadVersion old f g piece holds aholds failed afailed sound fails = by_fault frame.BadVersion old f g piece holds aholds failed afailed sound (λ e. absurd cc) fails
-piece_refused frame.BadLength old f g piece holds aholds failed afailed sound fails = by_fault frame.BadLength old f g piece holds aholds failed afailed sound (λ e. absurd cc) fails
-piece_refused frame.OutOfMemory old f g piece holds aholds failed afailed sound fails = record {
+piece_refused frame.BadVersion old f g piece holds aholds failed afailed sound short fails = by_fault frame.BadVersion old f g piece holds aholds failed afailed sound (λ e. absurd cc) fails
+piece_refused frame.BadLength old f g piece holds aholds failed afailed sound short fails = by_fault frame.BadLength old f g piece holds aholds failed afailed sound (λ e. absurd cc) fails
+piece_refused frame.OutOfMemory old f g piece holds aholds failed afailed sound short fails = record {
   after = λ job octets messages held aheld r. inr (record {
     memory = refl;
     fed = octets;
     more = piece;
     parts = refl;
+    piece = short;
     messages = messages;
     pending = f.pending;
     done = done_of old job octets messages None f.pending held holds aheld aholds r.running r.framed;

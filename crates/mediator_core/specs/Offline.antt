@@ -25,6 +25,10 @@ audit_limit = 131072
 abbrev pub has_journal_room : List Entry → List Entry → Bool
 has_journal_room h more = nat_le (length h + length more) 100000000 && nat_le (history_octets h + history_octets more) (2 ^ 40)
 
+-- the policy comes first
+abbrev pub edited : OfflineJob → List Entry
+edited job = Edit job.policy.now ∷ []
+
 -- before the first message: the policy, the subscription and the session
 abbrev pub started : OfflineJob → List Entry
 started job = Edit job.policy.now ∷ Subscribe 1 job.name.now ∷ Open 1 ∷ []

@@ -1,5 +1,5 @@
 -- Which policies and names a run accepts.
-use Rattle.std.specs.Prelude.{◌≡◌, ◌≢◌, ◌⊎◌, ℕ, false, List, [], Ok, Err, if◌then◌else◌}
+use Rattle.std.specs.Prelude.{◌≡◌, ◌≢◌, ◌⊎◌, ℕ, true, false, List, [], Ok, Err, if◌then◌else◌}
 use Rattle.policy_text.specs.declared.fault.FaultKind.TheVariants.{UnknownWord}
 use Rattle.policy_text.specs.declared.fault.PolicyFault.{PolicyFault}
 use Rattle.policy_text.specs.Results.{is_memory}
@@ -9,7 +9,7 @@ use Rattle.policy_text.specs.Naming.{is_name}
 use Rattle.mediator_core.specs.declared.fault.Fault.{Fault}
 use Rattle.mediator_core.specs.declared.fault.Fault.TheVariants as fault
 use Rattle.mediator_core.specs.declared.job.OfflineJob.{OfflineJob}
-use Rattle.mediator_core.specs.Offline.{started, has_journal_room}
+use Rattle.mediator_core.specs.Offline.{edited, started, has_journal_room}
 
 -- the text spells this policy, and it defines no aggregate
 pub record IsAccepted (text : List ℕ) (policy : Policy) : Type 0 where
@@ -38,11 +38,18 @@ RefusesPolicy (fault.Malformed why) text = ⊥
 RefusesPolicy fault.JournalFull text = ⊥
 RefusesPolicy (fault.AuditFull need room) text = ⊥
 
--- the whole run is refused so: by its policy, then by its name
+-- the text spells a policy that a run accepts
+pub record HasPolicy (text : List ℕ) : Type 0 where
+  pub policy : Policy
+  pub accepted : IsAccepted text policy
+
+-- the whole run is refused so: the policy is judged first, then room for it in the journal, then the name, and then room
+-- for the rest
 abbrev pub RefusesJob : Fault → OfflineJob → Type 0
 RefusesJob (fault.Policy why) job = IsPolicyFault job.policy.now why
-RefusesJob fault.BadName job = is_name job.name.now ≡ false
-RefusesJob fault.JournalFull job = has_journal_room [] (started job) ≡ false
+RefusesJob fault.BadName job = HasPolicy job.policy.now × (has_journal_room [] (edited job) ≡ true) × (is_name job.name.now ≡ false)
+RefusesJob fault.JournalFull job =
+    HasPolicy job.policy.now × ((has_journal_room [] (edited job) ≡ false) ⊎ ((is_name job.name.now ≡ true) × (has_journal_room [] (started job) ≡ false)))
 RefusesJob fault.OutOfMemory job = Unit {0}
 RefusesJob (fault.Malformed why) job = ⊥
 RefusesJob (fault.AuditFull need room) job = ⊥

@@ -1,5 +1,5 @@
 -- What is read, and where a run over a whole stream ends or stops.
-use Rattle.std.specs.Prelude.{◌≡◌, ◌⊎◌, ℕ, ◌<◌, ◌≤◌, Bool, true, List, [], ◌∷◌, ◌++◌, length, Option, Some, None}
+use Rattle.std.specs.Prelude.{◌≡◌, ◌⊎◌, ℕ, ◌+◌, ◌*◌, ◌<◌, ◌≤◌, Bool, true, List, [], ◌∷◌, ◌++◌, length, Option, Some, None}
 use Rattle.std.specs.List.{concat}
 use Rattle.std.specs.Io.KnownBytes.{Appends, Consumes, IsAtEnd}
 use Rattle.ipfix_message.specs.declared.frame_error.FrameError.{FrameError}
@@ -47,6 +47,7 @@ pub record LacksMemory (f : Fault) (job : OfflineJob) (octets : List ℕ) (held 
   pub fed : List ℕ
   pub more : List ℕ
   pub parts : octets ≡ fed ++ more
+  pub piece : length more ≤ 65536
   pub messages : List (List ℕ)
   pub pending : List ℕ
   pub done : IsDone job fed messages None pending held holds aheld aholds
@@ -101,6 +102,14 @@ pub record StopsFeeding (e : OfflineFault) (old : Desk) (f : FramerState) (piece
   pub after : (job : OfflineJob) (octets : List ℕ) (messages : List (List ℕ)) (held aheld : Option (List ℕ)) → IsReading old f job octets messages held holds aheld aholds
       → StopsIn e job (octets ++ piece) held writes aheld awrites failed afailed
 
+-- so many reads, each of at most 65,536 octets, may have given these
+abbrev pub AreRead : ℕ → List ℕ → Type 0
+AreRead reads octets = length octets ≤ 65536 * reads
+
+-- the same, where one of the reads gave none
+abbrev pub AreReadBut : ℕ → List ℕ → Type 0
+AreReadBut reads octets = length octets + 65536 ≤ 65536 * reads
+
 -- after so many reads
 pub record IsAfter (d : Desk) (f : FramerState) (job : OfflineJob) (given left held holds aheld aholds : Option (List ℕ)) (reads : ℕ) : Type 0 where
   pub octets : List ℕ
@@ -108,6 +117,7 @@ pub record IsAfter (d : Desk) (f : FramerState) (job : OfflineJob) (given left h
   pub taken : Consumes given left octets
   pub reading : IsReading d f job octets messages held holds aheld aholds
   pub many : reads ≤ length octets
+  pub few : AreRead reads octets
 
 -- all was read, and all messages were handled
 pub record ReachesEnd (d : Desk) (job : OfflineJob) (given left held holds aheld aholds : Option (List ℕ)) : Type 0 where
@@ -116,6 +126,7 @@ pub record ReachesEnd (d : Desk) (job : OfflineJob) (given left held holds aheld
   pub taken : Consumes given left octets
   pub end : IsAtEnd left
   pub framed : IsFramed octets messages None []
+  pub turns : AreReadBut job.turns octets
   pub running : IsRunning d job messages held holds aheld aholds
 
 -- octets were read, and the run stops so
@@ -124,29 +135,31 @@ pub record StopsAfter (P : List ℕ → Type 0) (given left : Option (List ℕ))
   pub taken : Consumes given left octets
   pub stops : P octets
 
--- where the reading of a stream stops, and by what cause
+-- where the reading of a stream stops, and by what cause, within the reads that are allowed
 abbrev pub StopsReading : OfflineFault → OfflineJob → Option (List ℕ) → Option (List ℕ) → Option (List ℕ) → Option (List ℕ) → Option (List ℕ) → Option (List ℕ) → Bool → Bool → Bool → Type 0
 StopsReading Read job given left held holds aheld aholds rfailed failed afailed =
-    StopsAfter (λ octets. (messages : List (List ℕ)) × (pending : List ℕ) × IsDone job octets messages None pending held holds aheld aholds) given left × (rfailed ≡ true)
+    StopsAfter (λ octets. (messages : List (List ℕ)) × (pending : List ℕ) × IsDone job octets messages None pending held holds aheld aholds × AreReadBut job.turns octets) given left × (rfailed ≡ true)
 StopsReading Turns job given left held holds aheld aholds rfailed failed afailed =
-    StopsAfter (λ octets. (messages : List (List ℕ)) × (pending : List ℕ) × IsDone job octets messages None pending held holds aheld aholds × (job.turns ≤ length octets)) given left
+    StopsAfter (λ octets. (messages : List (List ℕ)) × (pending : List ℕ) × IsDone job octets messages None pending held holds aheld aholds × (job.turns ≤ length octets) × AreRead job.turns octets) given left
 StopsReading (Framing framing.CutOff) job given left held holds aheld aholds rfailed failed afailed =
-    StopsAfter (λ octets. (messages : List (List ℕ)) × (pending : List ℕ) × IsDone job octets messages None pending held holds aheld aholds × (0 < length pending)) given left × IsAtEnd left
-StopsReading (Framing framing.BadVersion) job given left held holds aheld aholds rfailed failed afailed = StopsAfter (λ octets. StopsIn (Framing framing.BadVersion) job octets held holds aheld aholds failed afailed) given left
-StopsReading (Framing framing.BadLength) job given left held holds aheld aholds rfailed failed afailed = StopsAfter (λ octets. StopsIn (Framing framing.BadLength) job octets held holds aheld aholds failed afailed) given left
-StopsReading (Core f) job given left held holds aheld aholds rfailed failed afailed = StopsAfter (λ octets. StopsIn (Core f) job octets held holds aheld aholds failed afailed) given left
-StopsReading (Write sent) job given left held holds aheld aholds rfailed failed afailed = StopsAfter (λ octets. StopsIn (Write sent) job octets held holds aheld aholds failed afailed) given left
-StopsReading Cut job given left held holds aheld aholds rfailed failed afailed = StopsAfter (λ octets. StopsIn Cut job octets held holds aheld aholds failed afailed) given left
-StopsReading AuditWrite job given left held holds aheld aholds rfailed failed afailed = StopsAfter (λ octets. StopsIn AuditWrite job octets held holds aheld aholds failed afailed) given left
+    StopsAfter (λ octets. (messages : List (List ℕ)) × (pending : List ℕ) × IsDone job octets messages None pending held holds aheld aholds × (0 < length pending) × AreReadBut job.turns octets) given left × IsAtEnd left
+StopsReading (Framing framing.BadVersion) job given left held holds aheld aholds rfailed failed afailed = StopsAfter (λ octets. AreRead job.turns octets × StopsIn (Framing framing.BadVersion) job octets held holds aheld aholds failed afailed) given left
+StopsReading (Framing framing.BadLength) job given left held holds aheld aholds rfailed failed afailed = StopsAfter (λ octets. AreRead job.turns octets × StopsIn (Framing framing.BadLength) job octets held holds aheld aholds failed afailed) given left
+StopsReading (Core f) job given left held holds aheld aholds rfailed failed afailed = StopsAfter (λ octets. AreRead job.turns octets × StopsIn (Core f) job octets held holds aheld aholds failed afailed) given left
+StopsReading (Write sent) job given left held holds aheld aholds rfailed failed afailed = StopsAfter (λ octets. AreRead job.turns octets × StopsIn (Write sent) job octets held holds aheld aholds failed afailed) given left
+StopsReading Cut job given left held holds aheld aholds rfailed failed afailed = StopsAfter (λ octets. AreRead job.turns octets × StopsIn Cut job octets held holds aheld aholds failed afailed) given left
+StopsReading AuditWrite job given left held holds aheld aholds rfailed failed afailed = StopsAfter (λ octets. AreRead job.turns octets × StopsIn AuditWrite job octets held holds aheld aholds failed afailed) given left
 
 -- ---- a whole run
 
--- all was read, it is whole messages, and it was done; the report counts messages, records and what was disclosed of them
+-- all was read within the reads that are allowed, it is whole messages, and it was done; the report counts messages, records
+-- and what was disclosed of them
 pub record Finishes (job : OfflineJob) (report : OfflineReport) (given left held holds aheld aholds : Option (List ℕ)) : Type 0 where
   pub octets : List ℕ
   pub messages : List (List ℕ)
   pub taken : Consumes given left octets
   pub end : IsAtEnd left
+  pub turns : AreReadBut job.turns octets
   pub done : IsDone job octets messages None [] held holds aheld aholds
   pub counted : report.messages ≡ length messages
   pub recorded : report.records ≡ length (accepted (history_of job messages))

@@ -19,6 +19,13 @@ pub record WritesSome (held holds : Option (List ℕ)) (octets : List ℕ) : Typ
   pub within : count ≤ length octets
   pub written : Appends held holds (take count octets)
 
+-- the octets begin with those that were due before: all of these were written, and a front of the rest
+pub record WritesOn (held holds : Option (List ℕ)) (before octets : List ℕ) : Type 0 where
+  pub count : ℕ
+  pub least : length before ≤ count
+  pub within : count ≤ length octets
+  pub written : Appends held holds (take count octets)
+
 -- all but the audit is as it was
 pub record KeepsDesk (d e : Desk) : Type 0 where
   pub job : e.job ≡ d.job

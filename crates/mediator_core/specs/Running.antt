@@ -10,8 +10,8 @@ use Rattle.mediator_core.specs.declared.job.OfflineJob.{OfflineJob}
 use Rattle.mediator_core.specs.declared.job.OfflineFault.{OfflineFault}
 use Rattle.mediator_core.specs.declared.job.OfflineFault.TheVariants.{Read, Write, Framing, Turns, Core, Cut, AuditWrite}
 use Rattle.mediator_core.specs.declared.desk.Desk.{Desk}
-use Rattle.mediator_core.specs.Recording.{WritesSome}
-use Rattle.mediator_core.specs.Offline.{started, cuts_by, history_of, disclosed_by, due_by, due, audit_due}
+use Rattle.mediator_core.specs.Recording.{WritesOn}
+use Rattle.mediator_core.specs.Offline.{audit_limit, started, cuts_by, history_of, disclosed_by, due_by, due, audit_due}
 use Rattle.mediator_core.specs.Desks.{Stands, Small}
 use Rattle.mediator_core.specs.Steps.{end_of, Accepts, RefusesMessage}
 
@@ -61,13 +61,13 @@ pub record WritesInHand (job : OfflineJob) (messages : List (List ℕ)) (octets 
   pub others : List (List ℕ)
   pub front : due_by job messages octets ≡ handed ++ others
   pub written : Appends held writes (concat (due job messages ++ handed))
-  pub audited : WritesSome aheld awrites (audit_due job (messages ++ octets ∷ []))
+  pub audited : WritesOn aheld awrites (audit_due job messages) (audit_due job (messages ++ octets ∷ []))
 
 pub record WritesNoMore (job : OfflineJob) (messages : List (List ℕ)) (held writes aheld awrites : Option (List ℕ)) : Type 0 where
   pub written : Appends held writes (concat (due job messages))
   pub audited : Appends aheld awrites (audit_due job messages)
 
--- where a run stops at the message in hand, and what was written by then
+-- where a run stops at the message in hand, and what was written by then; the audit is empty where a message comes in
 abbrev pub StopsAt : OfflineFault → OfflineJob → List (List ℕ) → List ℕ → Option (List ℕ) → Option (List ℕ) → Option (List ℕ) → Option (List ℕ) → Bool → Bool → Type 0
 StopsAt (Core fault.OutOfMemory) job messages octets held writes aheld awrites failed afailed = WritesInHand job messages octets held writes aheld awrites
 StopsAt (Core (fault.Malformed why)) job messages octets held writes aheld awrites failed afailed =
@@ -75,7 +75,7 @@ StopsAt (Core (fault.Malformed why)) job messages octets held writes aheld awrit
 StopsAt (Core fault.JournalFull) job messages octets held writes aheld awrites failed afailed =
     RefusesMessage fault.JournalFull (history_of job messages) octets × WritesNoMore job messages held writes aheld awrites
 StopsAt (Core (fault.AuditFull need room)) job messages octets held writes aheld awrites failed afailed =
-    RefusesMessage (fault.AuditFull need room) (history_of job messages) octets × WritesNoMore job messages held writes aheld awrites
+    RefusesMessage (fault.AuditFull need room) (history_of job messages) octets × (room ≡ audit_limit) × WritesNoMore job messages held writes aheld awrites
 StopsAt (Core (fault.Policy why)) job messages octets held writes aheld awrites failed afailed = ⊥
 StopsAt (Core fault.BadName) job messages octets held writes aheld awrites failed afailed = ⊥
 StopsAt (Write sent) job messages octets held writes aheld awrites failed afailed =
@@ -85,7 +85,7 @@ StopsAt Cut job messages octets held writes aheld awrites failed afailed =
     × Appends held writes (concat (due job messages)) × Appends aheld awrites (audit_due job (messages ++ octets ∷ []))
 StopsAt AuditWrite job messages octets held writes aheld awrites failed afailed =
     Accepts (history_of job messages) octets × Appends held writes (concat (due job (messages ++ octets ∷ [])))
-    × WritesSome aheld awrites (audit_due job (messages ++ octets ∷ [])) × (afailed ≡ true)
+    × WritesOn aheld awrites (audit_due job messages) (audit_due job (messages ++ octets ∷ [])) × (afailed ≡ true)
 StopsAt Read job messages octets held writes aheld awrites failed afailed = ⊥
 StopsAt (Framing why) job messages octets held writes aheld awrites failed afailed = ⊥
 StopsAt Turns job messages octets held writes aheld awrites failed afailed = ⊥

@@ -41,17 +41,32 @@ pub record Receives (old : Desk) (octets : List ℕ) (is_cut : Bool) (new : Desk
   pub drained : new.audit.standing.drained ≡ old.audit.standing.drained
   pub goes_on : (h : List Entry) → Stands old h (end_of h) → Small h → is_cut ≡ false → (cuts_by h octets ≡ []) × Stands new (after_message h octets) (end_of h) × Small (after_message h octets)
 
--- a message is refused so after a history
+-- the octets are a message of the session
+pub record HasMeaning (h : List Entry) (octets : List ℕ) : Type 0 where
+  pub meaning : Meaning
+  pub means : meaning_of (messages_of 1 h) octets ≡ Ok meaning
+
+-- a message is refused so after a history: it is read first, then the journal is judged, and then the audit
 abbrev pub RefusesMessage : Fault → List Entry → List ℕ → Type 0
 RefusesMessage (fault.Malformed why) h octets = meaning_of (messages_of 1 h) octets ≡ Err why
-RefusesMessage fault.JournalFull h octets = has_journal_room h (cuts_by h octets ++ next_message h octets ∷ []) ≡ false
+RefusesMessage fault.JournalFull h octets = HasMeaning h octets × (has_journal_room h (cuts_by h octets ++ next_message h octets ∷ []) ≡ false)
 RefusesMessage (fault.AuditFull need room) h octets =
-    ((d : List AuditEntry) × (audit_list (after_message h octets) ≡ audit_list h ++ d) × (need ≡ length d)) × (room < need)
+    Accepts h octets × ((d : List AuditEntry) × (audit_list (after_message h octets) ≡ audit_list h ++ d) × (need ≡ length d)) × (room < need)
 RefusesMessage fault.OutOfMemory h octets = Unit {0}
 RefusesMessage (fault.Policy why) h octets = ⊥
 RefusesMessage fault.BadName h octets = ⊥
 
+-- the room that is named is what the entries that wait leave of the audit
+abbrev pub NamesRoom : Fault → Desk → Type 0
+NamesRoom (fault.AuditFull need room) d = room + length d.audit.standing.entries ≡ d.audit.limit
+NamesRoom fault.JournalFull d = Unit {0}
+NamesRoom fault.OutOfMemory d = Unit {0}
+NamesRoom (fault.Malformed why) d = Unit {0}
+NamesRoom (fault.Policy why) d = Unit {0}
+NamesRoom fault.BadName d = Unit {0}
+
 pub record Refuses (e : Fault) (old : Desk) (octets : List ℕ) : Type 0 where
+  pub room : NamesRoom e old
   pub after : (h : List Entry) → Stands old h (end_of h) → Small h → RefusesMessage e h octets
 
 -- ---- the parts of that
@@ -95,8 +110,18 @@ pub record HasCounts (d : Desk) (records entries : ℕ) : Type 0 where
 -- there is no room in the journal for so many entries of so many octets; or none in the audit
 abbrev pub LacksRoom : Fault → Desk → ℕ → ℕ → ℕ → Type 0
 LacksRoom fault.JournalFull d entries octets noted = (nat_le (d.entries + entries) 100000000 && nat_le (d.octets + octets) (2 ^ 40)) ≡ false
-LacksRoom (fault.AuditFull need room) d entries octets noted = (need ≡ noted) × (room < need) × (room + length d.audit.standing.entries ≡ d.audit.limit)
+LacksRoom (fault.AuditFull need room) d entries octets noted =
+    (need ≡ noted) × (room < need) × (room + length d.audit.standing.entries ≡ d.audit.limit) × ((nat_le (d.entries + entries) 100000000 && nat_le (d.octets + octets) (2 ^ 40)) ≡ true)
 LacksRoom fault.OutOfMemory d entries octets noted = Unit {0}
 LacksRoom (fault.Malformed why) d entries octets noted = ⊥
 LacksRoom (fault.Policy why) d entries octets noted = ⊥
 LacksRoom fault.BadName d entries octets noted = ⊥
+
+-- there is no room in the audit for so many entries
+abbrev pub LacksAudit : Fault → Desk → ℕ → Type 0
+LacksAudit (fault.AuditFull need room) d noted = (need ≡ noted) × (room < need) × (room + length d.audit.standing.entries ≡ d.audit.limit)
+LacksAudit fault.OutOfMemory d noted = Unit {0}
+LacksAudit fault.JournalFull d noted = ⊥
+LacksAudit (fault.Malformed why) d noted = ⊥
+LacksAudit (fault.Policy why) d noted = ⊥
+LacksAudit fault.BadName d noted = ⊥

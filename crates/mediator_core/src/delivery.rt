@@ -4,6 +4,7 @@ ghost use Rattle.std.specs.Io.KnownBytes.{Appends};
 ghost use Rattle.subscriber_stream.specs.Calls.{Gives};
 ghost use Rattle.mediator_core.specs.declared.fault.Fault.TheVariants.{OutOfMemory};
 ghost use Rattle.mediator_core.specs.declared.job.OfflineFault.TheVariants.{Core};
+ghost use Rattle.mediator_core.specs.Failing.{writer_after};
 ghost use Rattle.mediator_core.specs.Pulling.{IsDelivering, SameElse, StopsWriting, Delivers, FailsDelivery};
 
 use crate::desk::Desk;
@@ -24,6 +25,7 @@ impl<'a> Desk<'a> {
         ensures below { self.old.job.target < 2 ^ 16 }
         ensures now_below { self.old.job.now < 2 ^ 32 }
         ensures stays { OnOk result (W.has_failed writer.new ≡ W.has_failed writer.old) }
+        ensures fails { IfErr result (λ e. W.has_failed writer.new ≡ writer_after e (W.has_failed writer.old)) }
         ensures err { IfErr result (λ e. FailsDelivery e self.old (W.contents writer.old) (W.contents writer.new) (W.has_failed writer.new)) }
     {
         'pulls: loop {
@@ -58,6 +60,7 @@ impl<'a> Desk<'a> {
         ensures ok { OnOk result (Appends (W.contents writer.old) (W.contents writer.new) message.now) }
         ensures sent { OnOk result (self.new.sent ≡ self.old.sent + length message.now) }
         ensures stays { OnOk result (W.has_failed writer.new ≡ W.has_failed writer.old) }
+        ensures fails { IfErr result (λ e. W.has_failed writer.new ≡ writer_after e (W.has_failed writer.old)) }
         ensures err { IfErr result (λ e. StopsWriting e self.old (W.contents writer.old) (W.contents writer.new) message.now (W.has_failed writer.new)) }
     {
         match write_all(writer, message) {

@@ -46,7 +46,7 @@ pub(crate) struct Desk<'a> {
 
 ghost use Rattle.std.specs.Prelude.{OnErr, IsFalse};
 ghost use Rattle.subscriber_stream.specs.Standing.{HasRoom, queued};
-ghost use Rattle.mediator_core.specs.Steps.{Counts, HasCounts, KeepsSession, KeepsCounts, HandsOver, LacksRoom};
+ghost use Rattle.mediator_core.specs.Steps.{Counts, HasCounts, KeepsSession, KeepsCounts, HandsOver, LacksRoom, LacksAudit};
 ghost use Rattle.mediator_history.specs.Auditing.{audit_entry};
 ghost use Rattle.disclosure_audit.specs.declared.entry.What.TheVariants.{Cut};
 ghost use Rattle.disclosure_audit.specs.Queue.{Takes};
@@ -84,7 +84,7 @@ impl<'a> Desk<'a> {
         ensures limit { self.new.audit.limit ≡ self.old.audit.limit }
         ensures ok { OnOk result (need ≤ self.new.audit.spare) }
         ensures room { OnOk result (length self.old.audit.standing.entries + need ≤ self.old.audit.limit) }
-        ensures err { IfErr result (λ e. LacksRoom e self.old 0 0 need) }
+        ensures err { IfErr result (λ e. LacksAudit e self.old need) }
     {
         let room = self.audit.room();
         if need > room as usize {

@@ -1,6 +1,7 @@
 //! A whole stream is read, and each of its messages handled.
 ghost use Rattle.std.specs.Prelude.{◌≡◌, ◌<◌, ◌≤◌, false, None, length, IfOk, IfErr, OnOk};
 ghost use Rattle.mediator_core.specs.Reading.{Reads, HandlesAll, StopsAmong, FeedsOn, StopsFeeding, Finishes, Halts};
+ghost use Rattle.mediator_core.specs.Failing.{FailsOnly};
 ghost use Rattle.mediator_core.specs.Running.{Runs};
 
 use crate::desk::Desk;
@@ -24,6 +25,9 @@ impl<'a> Desk<'a> {
     ) -> Result<(), OfflineFault>
         requires running { Runs self.old (W.contents writer.old) (A.contents audit_writer.old) }
         ensures ok { OnOk result (HandlesAll self.old self.new messages.now (W.contents writer.old) (W.contents writer.new) (A.contents audit_writer.old) (A.contents audit_writer.new)) }
+        ensures stays { OnOk result (W.has_failed writer.new ≡ W.has_failed writer.old) }
+        ensures audit_stays { OnOk result (A.has_failed audit_writer.new ≡ A.has_failed audit_writer.old) }
+        ensures fails { IfErr result (λ e. FailsOnly e (W.has_failed writer.old) (A.has_failed audit_writer.old) false (W.has_failed writer.new) (A.has_failed audit_writer.new)) }
         ensures err { IfErr result (λ e. StopsAmong e self.old messages.now (W.contents writer.old) (W.contents writer.new) (A.contents audit_writer.old) (A.contents audit_writer.new) (W.has_failed writer.new) (A.has_failed audit_writer.new)) }
     {
         'messages: for message in messages {
@@ -43,8 +47,12 @@ impl<'a> Desk<'a> {
         writer: &mut W,
         audit_writer: &mut A,
     ) -> Result<(), OfflineFault>
+        requires few { length piece.now ≤ 65536 }
         requires reading { Reads self.old framer.old (W.contents writer.old) (A.contents audit_writer.old) }
         ensures ok { OnOk result (FeedsOn self.old self.new framer.old framer.new piece.now (W.contents writer.old) (W.contents writer.new) (A.contents audit_writer.old) (A.contents audit_writer.new)) }
+        ensures stays { OnOk result (W.has_failed writer.new ≡ W.has_failed writer.old) }
+        ensures audit_stays { OnOk result (A.has_failed audit_writer.new ≡ A.has_failed audit_writer.old) }
+        ensures fails { IfErr result (λ e. FailsOnly e (W.has_failed writer.old) (A.has_failed audit_writer.old) false (W.has_failed writer.new) (A.has_failed audit_writer.new)) }
         ensures err { IfErr result (λ e. StopsFeeding e self.old framer.old piece.now (W.contents writer.old) (W.contents writer.new) (A.contents audit_writer.old) (A.contents audit_writer.new) (W.has_failed writer.new) (A.has_failed audit_writer.new)) }
     {
         let messages = match framer.feed(piece) {
@@ -98,8 +106,13 @@ impl<'a> Desk<'a> {
         requires opened { IsOpened self.old self.old.job }
         requires framer { framer.old ≡ nothing_fed }
         requires buffer { 0 < length buffer.old.items }
+        requires few { length buffer.old.items ≤ 65536 }
         requires reader { R.has_failed reader.old ≡ false }
         ensures ok { OnOk result (ReachesEnd self.new self.old.job (R.remaining reader.old) (R.remaining reader.new) (W.contents writer.old) (W.contents writer.new) (A.contents audit_writer.old) (A.contents audit_writer.new)) }
+        ensures reads { OnOk result (R.has_failed reader.new ≡ false) }
+        ensures stays { OnOk result (W.has_failed writer.new ≡ W.has_failed writer.old) }
+        ensures audit_stays { OnOk result (A.has_failed audit_writer.new ≡ A.has_failed audit_writer.old) }
+        ensures fails { IfErr result (λ e. FailsOnly e (W.has_failed writer.old) (A.has_failed audit_writer.old) (R.has_failed reader.new) (W.has_failed writer.new) (A.has_failed audit_writer.new)) }
         ensures err { IfErr result (λ e. StopsReading e self.old.job (R.remaining reader.old) (R.remaining reader.new) (W.contents writer.old) (W.contents writer.new) (A.contents audit_writer.old) (A.contents audit_writer.new) (R.has_failed reader.new) (W.has_failed writer.new) (A.has_failed audit_writer.new)) }
     {
         'reads: for _ in 0..self.job.turns {
@@ -123,6 +136,7 @@ fn read_piece<R: Source>(reader: &mut R, buffer: &mut Vec<u8>) -> Result<usize, 
     ensures length { length buffer.new.items ≡ length buffer.old.items }
     ensures ok { IfOk result (λ n. (n ≤ length buffer.new.items) × Consumes (R.remaining reader.old) (R.remaining reader.new) (take n buffer.new.items)) }
     ensures end { IfOk result (λ n. n ≡ 0 → IsAtEnd (R.remaining reader.new)) }
+    ensures stays { OnOk result (R.has_failed reader.new ≡ R.has_failed reader.old) }
     ensures err { IfErr result (λ e. (e ≡ Read) × Keeps (R.remaining reader.old) (R.remaining reader.new) × (R.has_failed reader.new ≡ true)) }
 {
     match reader.read(buffer.as_mut_slice()) {
@@ -186,6 +200,9 @@ pub fn offline<R: Source, W: Sink, A: Sink>(
     requires audit { A.has_failed audit_writer.old ≡ false }
     // All was read and accepted, what is due was written, and it means what is disclosed.
     ensures ok { IfOk result (λ report. Finishes job.entry.now report (R.remaining reader.old) (R.remaining reader.new) (W.contents writer.old) (W.contents writer.new) (A.contents audit_writer.old) (A.contents audit_writer.new)) }
+    // No device has failed, but the one that the fault names.
+    ensures sound { OnOk result ((R.has_failed reader.new ≡ false) × (W.has_failed writer.new ≡ false) × (A.has_failed audit_writer.new ≡ false)) }
+    ensures fails { IfErr result (λ e. FailsOnly e false false (R.has_failed reader.new) (W.has_failed writer.new) (A.has_failed audit_writer.new)) }
     // Where it stopped, by what cause, and what was written by then.
     ensures err { IfErr result (λ e. Halts e job.entry.now (R.remaining reader.old) (R.remaining reader.new) (W.contents writer.old) (W.contents writer.new) (A.contents audit_writer.old) (A.contents audit_writer.new) (R.has_failed reader.new) (W.has_failed writer.new) (A.has_failed audit_writer.new)) }
 {

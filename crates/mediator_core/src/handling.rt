@@ -1,5 +1,6 @@
 //! A message is handled: accepted, delivered and recorded.
-ghost use Rattle.std.specs.Prelude.{◌≡◌, IfErr, OnOk};
+ghost use Rattle.std.specs.Prelude.{◌≡◌, false, IfErr, OnOk};
+ghost use Rattle.mediator_core.specs.Failing.{FailsOnly};
 ghost use Rattle.mediator_core.specs.Running.{Runs, HandlesOn, StopsOn};
 
 use crate::desk::Desk;
@@ -21,6 +22,7 @@ impl<'a> Desk<'a> {
         ensures ok { OnOk result (HandlesOn self.old self.new message.now (W.contents writer.old) (W.contents writer.new) (A.contents audit_writer.old) (A.contents audit_writer.new)) }
         ensures stays { OnOk result (W.has_failed writer.new ≡ W.has_failed writer.old) }
         ensures audit_stays { OnOk result (A.has_failed audit_writer.new ≡ A.has_failed audit_writer.old) }
+        ensures fails { IfErr result (λ e. FailsOnly e (W.has_failed writer.old) (A.has_failed audit_writer.old) false (W.has_failed writer.new) (A.has_failed audit_writer.new)) }
         ensures err { IfErr result (λ e. StopsOn e self.old message.now (W.contents writer.old) (W.contents writer.new) (A.contents audit_writer.old) (A.contents audit_writer.new) (W.has_failed writer.new) (A.has_failed audit_writer.new)) }
     {
         if self.receive(message)? {

@@ -2,6 +2,7 @@
 ghost use Rattle.std.specs.Prelude.{◌≡◌, [], IfErr, OnOk, OnErr};
 ghost use Rattle.std.specs.Io.KnownBytes.{Appends};
 ghost use Rattle.disclosure_audit.specs.Lines.{line_of};
+ghost use Rattle.mediator_core.specs.Failing.{audit_after};
 ghost use Rattle.mediator_core.specs.Recording.{lines_of, WritesSome, StopsLines};
 
 use crate::desk::{AUDIT, Desk};
@@ -23,6 +24,7 @@ pub(crate) fn write_lines<A: Sink>(
     ensures ok { OnOk result (Appends (A.contents writer.old) (A.contents writer.new) (lines_of entries.now)) }
     ensures stays { OnOk result (A.has_failed writer.new ≡ A.has_failed writer.old) }
     ensures cause { IfErr result (λ e. StopsLines e (A.has_failed writer.new)) }
+    ensures fails { IfErr result (λ e. A.has_failed writer.new ≡ audit_after e (A.has_failed writer.old)) }
     ensures err { OnErr result (WritesSome (A.contents writer.old) (A.contents writer.new) (lines_of entries.now)) }
 {
     'lines: for entry in entries {
@@ -40,6 +42,7 @@ fn write_line<A: Sink>(
     ensures ok { OnOk result (Appends (A.contents writer.old) (A.contents writer.new) (line_of entry.now)) }
     ensures stays { OnOk result (A.has_failed writer.new ≡ A.has_failed writer.old) }
     ensures cause { IfErr result (λ e. StopsLines e (A.has_failed writer.new)) }
+    ensures fails { IfErr result (λ e. A.has_failed writer.new ≡ audit_after e (A.has_failed writer.old)) }
     ensures err { OnErr result (WritesSome (A.contents writer.old) (A.contents writer.new) (line_of entry.now)) }
 {
     let Ok(text) = line(alloc, entry) else {
@@ -70,6 +73,7 @@ impl<'a> Desk<'a> {
         ensures limit { OnOk result (self.new.audit.limit ≡ self.old.audit.limit) }
         ensures stays { OnOk result (A.has_failed writer.new ≡ A.has_failed writer.old) }
         ensures cause { IfErr result (λ e. StopsLines e (A.has_failed writer.new)) }
+        ensures fails { IfErr result (λ e. A.has_failed writer.new ≡ audit_after e (A.has_failed writer.old)) }
         ensures err { OnErr result (WritesSome (A.contents writer.old) (A.contents writer.new) (lines_of self.old.audit.standing.entries)) }
     {
         let waiting = AUDIT - self.audit.room();

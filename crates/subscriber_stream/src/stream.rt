@@ -1,5 +1,5 @@
 //! The stream of one subscriber.
-ghost use Rattle.std.specs.Prelude.{◌≡◌, ◌≤◌, ◌<◌, ◌+◌, ◌*◌, ◌^◌, ◌↔◌, ◌++◌, ℕ, List, [], length, IsTrue, IsNone, IfOk, OnOk, OnErr};
+ghost use Rattle.std.specs.Prelude.{◌≡◌, ◌≤◌, ◌<◌, ◌+◌, ◌*◌, ◌^◌, ◌↔◌, ◌++◌, ℕ, List, [], length, IsTrue, IsNone, IsOk, IfOk, OnOk, OnErr};
 ghost use Rattle.std.specs.VecDeque.{deque_capacity};
 ghost use Rattle.ipfix_template.specs.DataRecord.{DataRecord};
 ghost use Rattle.subscriber_stream.specs.declared.limits.TheConstants.{MOST_SHAPES};
@@ -58,6 +58,8 @@ impl Stream {
         requires { limits.shapes ≤ MOST_SHAPES }
         ensures value { result ≡ record { standing = at_start; limits = limits; spare = 0 } }
         ensures stands { StandsAt result.standing [] 0 }
+        // Each ID from 256 to 65,535 is one that a template can have (RFC 7011, section 3.4.1).
+        ensures ids { 256 + MOST_SHAPES ≡ 2 ^ 16 }
     {
         Stream {
             alloc,
@@ -119,6 +121,8 @@ impl Stream {
         ensures limits { self.new.limits ≡ self.old.limits }
         ensures kept { self.old.spare ≤ self.new.spare }
         ensures ok { OnOk result (length records.now ≤ self.new.spare) }
+        // Where the room is there already, no memory is taken.
+        ensures enough { length records.now ≤ self.old.spare → IsOk result }
     {
         let more = records.len();
         if more <= self.spare {
@@ -209,6 +213,8 @@ impl Stream {
         // stands after its parts.
         ensures ok { IfOk result (λ m. Gives self.old.standing now target m self.new.standing) }
         ensures end { IfOk result (λ m. IsNone m ↔ (queued self.old.standing ≡ 0)) }
+        // At the end no memory is taken.
+        ensures quiet { queued self.old.standing ≡ 0 → IsOk result }
         ensures limits { self.new.limits ≡ self.old.limits }
         ensures spare { self.new.spare ≡ self.old.spare }
         ensures err { OnErr result (self.new ≡ self.old) }

@@ -1,4 +1,6 @@
+use Rattle.std.proofs.Common.{refl, subst}
 use Rattle.std.proofs.lemmas.Result.{err_from_is_err_and}
+use Rattle.ipfix_session.specs.Answers.{NamesFault}
 use Rattle.ipfix_session.proofs.ItemsStand.{items_stand}
 use Rattle.ipfix_session.specs.Changing.{after}
 use Rattle.ipfix_session.specs.Standing.{kept_of}
@@ -10,6 +12,14 @@ pub returns-in_err-header-clause-meaning : goal.returns-in_err-header-clause-mea
 returns-in_err-header-clause-meaning c = λ older stands.
     let p = err_from_is_err_and c.from_residual.result c.from_residual.ensures.1 in
     rw (p.1, p.2) (header_fault older c.args.message.now c.in_err-header.field-0.0 c.in_err-header.ensures.exact)
+
+pub returns-in_err-header-clause-header : goal.returns-in_err-header-clause-header
+returns-in_err-header-clause-header c =
+    let p = err_from_is_err_and c.from_residual.result c.from_residual.ensures.1 in
+    subst (λ read. NamesFault read c.from_residual.result) c.in_err-header.ensures.exact (rw (p.1, p.2) refl)
+
+pub returns-in_err-said-clause-header : goal.returns-in_err-said-clause-header
+returns-in_err-said-clause-header c = subst (λ read. NamesFault read c.from_residual-in_err-said.result) c.in_ok-header.ensures.exact tt
 
 pub returns-in_err-said-clause-meaning : goal.returns-in_err-said-clause-meaning
 returns-in_err-said-clause-meaning c = λ older stands.

@@ -1,5 +1,7 @@
 use Rattle.std.proofs.Common.{sym, ◌∙◌, subst}
 use Rattle.subscriber_stream.specs.Calls.{Gives}
+use Rattle.mediator_core.specs.Failing.{writer_after}
+use Rattle.mediator_core.proofs.Blaming.{handed_on}
 use Rattle.mediator_core.proofs.Receiving.{err_gives}
 use Rattle.mediator_core.specs.Pulling.{StopsWriting}
 use Rattle.mediator_core.proofs.Delivering.{turn, turn_ends, turn_fits, turn_smaller, turn_fails, some_same}
@@ -28,3 +30,13 @@ pulls-smaller g c = turn_smaller c.args.self.now c.pulls.self c.pull.new.self c.
 
 pub pulls-preserved : goal.pulls-preserved
 pulls-preserved g c = (turn c.args.self.now c.pulls.self c.pull.new.self c.write.new.self _ _ _ c.as_slice.result.now c.pulls.invariant.0 (record { same = c.in_ok-message.ensures.same; sent = c.in_ok-message.ensures.sent; limits = c.in_ok-message.ensures.limits; gives = subst (λ a. Gives c.pulls.self.stream.standing c.pulls.self.job.now c.pulls.self.job.target a c.pull.new.self.stream.standing) (some_same c.in_ok-message.field-0 c.in-Some.message c.as_slice.result.now c.in-Some.is c.as_slice.ensures) c.in_ok-message.ensures.ok; below = c.in_ok-message.ensures.below }) c.in_ok-write.ensures.same c.in_ok-write.ensures.stream c.in_ok-write.ensures.ok c.in_ok-write.ensures.sent, c.in_ok-write.ensures.stays ∙ c.pulls.invariant.1)
+
+pub returns-in_err-write-clause-fails : goal.returns-in_err-write-clause-fails
+returns-in_err-write-clause-fails g c =
+    err_gives c.from_residual-in_err-write.result c.from_residual-in_err-write.ensures
+    (λ e is. handed_on writer_after e c.in_err-write.field-0.0 (g.W.Sink.has_failed c.args.writer.now) (g.W.Sink.has_failed c.pulls.writer) (g.W.Sink.has_failed c.write.new.writer) is c.in_err-write.ensures.fails c.pulls.invariant.1)
+
+pub returns-in_err-message-clause-fails : goal.returns-in_err-message-clause-fails
+returns-in_err-message-clause-fails g c =
+    err_gives c.from_residual.result c.from_residual.ensures
+    (λ e is. rw (is ∙ c.in_err-message.ensures.err) c.pulls.invariant.1)

@@ -5,14 +5,14 @@ use Rattle.std.specs.List.{AllByRecursion}
 use Rattle.mediator_history.specs.Sessions.{messages_of}
 use Rattle.mediator_core.specs.Steps.{end_of}
 use Rattle.mediator_core.proofs.Sizes.{short_message, has_counts}
-use Rattle.mediator_core.proofs.Receiving.{err_gives, refused_read, refused_memory, records-few, given-few, notes-few}
+use Rattle.mediator_core.proofs.Receiving.{err_gives, refused_read, refused_memory, names_none, names_memory, records-few, given-few, notes-few}
 use Rattle.mediator_core.proofs.Received.{judged, SaysRoom, received_taken, received_cut, refuses_taken, refuses_cut, lacks_same}
 use Rattle.mediator_core.proofs.desk.Desk.receive.Goals as goal
 
 pub returns-in_err-read-clause-err : goal.returns-in_err-read-clause-err
 returns-in_err-read-clause-err c =
     err_gives c.from_residual.result c.from_residual.ensures
-    (λ e is. record { after = λ h so small. refused_read c.in_err-read.field-0.0 e h c.args.message.now is (c.in_err-read.ensures.meaning (messages_of 1 h) so.session) })
+    (λ e is. record { room = names_none c.in_err-read.field-0.0 e c.args.self.now is; after = λ h so small. refused_read c.in_err-read.field-0.0 e h c.args.message.now is (c.in_err-read.ensures.meaning (messages_of 1 h) so.session) })
 
 pub of_records-requires : goal.of_records-requires
 of_records-requires c =
@@ -21,7 +21,7 @@ of_records-requires c =
 pub returns-in_err-share-clause-err : goal.returns-in_err-share-clause-err
 returns-in_err-share-clause-err c =
     err_gives c.from_residual-in_err-share.result c.from_residual-in_err-share.ensures
-    (λ e is. record { after = λ h so small. refused_memory e h c.args.message.now (is ∙ c.in_err-share.ensures.err) })
+    (λ e is. record { room = names_memory e c.args.self.now (is ∙ c.in_err-share.ensures.err); after = λ h so small. refused_memory e h c.args.message.now (is ∙ c.in_err-share.ensures.err) })
 
 pub take-requires-clause-counts : goal.take-requires-clause-counts
 take-requires-clause-counts c =
