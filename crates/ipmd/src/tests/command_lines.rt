@@ -130,6 +130,38 @@ fn default_numbers(rt: HostRuntime) -> Result<(), Fail> {
     expect_texts(&rt, &ran, 0, output.as_str(), FLOW_REPORT)
 }
 
+/// Adds so many records of the flow's template.
+fn push_records(text: &mut String, count: u16) -> Result<(), AllocError> {
+    for _ in 0..count {
+        text.push_str("c000024d01bb000005dc")?;
+    }
+    Ok(())
+}
+
+/// Of 137 records, 136 fill a message of 1,400 octets; one octet more would not be taken.
+#[test]
+fn default_target(rt: HostRuntime) -> Result<(), Fail> {
+    let words = [
+        "offline",
+        "--policy-text",
+        PASS,
+        "--subscriber",
+        "acme",
+        "--now",
+        NOW,
+        "--hex",
+    ];
+    let template = "0002001401000003000800040007000200010004";
+    let mut input = format!(in rt.alloc(); "000a05826553f1000000000000000007{template}0100055e")?;
+    push_records(&mut input, 137)?;
+    let mut output = format!(in rt.alloc(); "000a05786553f13c0000000000000000{template}01000554")?;
+    push_records(&mut output, 136)?;
+    output.push_str("\n000a001e6553f13c00000088000000000100000ec000024d01bb000005dc\n")?;
+    let ran = run_on(&rt, &words, input.as_bytes())?;
+    let report = "messages 1 records 137 disclosed 137\n";
+    expect_texts(&rt, &ran, 0, output.as_str(), report)
+}
+
 #[test]
 fn help(rt: HostRuntime) -> Result<(), Fail> {
     let cases = [
