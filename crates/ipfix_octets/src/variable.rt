@@ -1,4 +1,4 @@
-ghost use Rattle.std.specs.Prelude.{◌≡◌, ◌+◌, ◌-◌, ◌≤◌, ◌++◌, List, ℕ, length, take, drop, Some, IfSome, IsOk, OnOk, OnErr, vec_len, vec_capacity};
+ghost use Rattle.std.specs.Prelude.{◌≡◌, ◌+◌, ◌-◌, ◌<◌, ◌≤◌, ◌++◌, List, ℕ, length, take, drop, Some, IfSome, OnOk, OnErr, vec_len, vec_capacity};
 ghost use Rattle.ipfix_octets.specs.Variable.{IsVarText, shortest_text, varlen_at};
 ghost use Rattle.ipfix_octets.specs.declared.variable.TheConstants.{LONGEST_VALUE};
 
@@ -50,12 +50,12 @@ fn find_value(octets: &[u8]) -> Option<(usize, usize)>
 /// and two octets (RFC 7011, section 7).
 ///
 /// # Errors
-/// Want of memory, and then nothing is appended. It succeeds where `out` has room for the two.
+/// Want of memory, only where `out` had no room for the two, and then nothing is appended.
 pub fn write_varlen(value: &[u8], out: &mut Vec<u8>) -> Result<(), AllocError>
     requires { length value.now ≤ LONGEST_VALUE }
     ensures ok { OnOk result (out.new.items ≡ out.old.items ++ shortest_text value.now) }
     ensures err { OnErr result (out.new.items ≡ out.old.items) }
-    ensures succeeds { vec_len out.old + length (shortest_text value.now) ≤ vec_capacity out.old → IsOk result }
+    ensures full { OnErr result (vec_capacity out.old < vec_len out.old + length (shortest_text value.now)) }
     ensures capacity { vec_capacity out.old ≤ vec_capacity out.new }
 {
     let short = value.len() < usize::from(LONG_FORM);

@@ -1,5 +1,5 @@
 //! A record's values at the front of octets.
-ghost use Rattle.std.specs.Prelude.{◌≡◌, ◌≤◌, ◌+◌, ◌++◌, ℕ, List, length, Ok, IfOk, IfSome, ◌↔◌, ◌<◌};
+ghost use Rattle.std.specs.Prelude.{◌≡◌, ◌≤◌, ◌+◌, ◌++◌, ℕ, List, length, Ok, IsOk, IfOk, IfSome, ◌↔◌, ◌<◌};
 ghost use Rattle.ipfix_template.specs.Values.{Splits, span_at, values_at, record_front};
 ghost use Rattle.ipfix_template.specs.Template.{shortest_record};
 ghost use Rattle.ipfix_template.specs.Shown.{Shows, IsSplitBy, IsFound, spans_shown, AreFoundWithin, IsPadding};
@@ -14,7 +14,7 @@ use std::alloc::{AllocError, Global};
 /// the octets that the record takes.
 ///
 /// # Errors
-/// Want of memory for the list of spans.
+/// Want of memory for the list of spans. Padding needs none.
 pub fn split(alloc: Global, template: &Template, octets: &[u8]) -> Result<Split, AllocError>
     // What is found is split so by the fields.
     ensures found { IfOk result (IsSplitBy template.now.fields octets.now) }
@@ -23,6 +23,7 @@ pub fn split(alloc: Global, template: &Template, octets: &[u8]) -> Result<Split,
         → Splits template.now.fields text values → IfOk result (IsFound octets.now values (length text)) }
     ensures padding { IfOk result (λ s. IsPadding s ↔ (length octets.now < shortest_record template.now)) }
     ensures exact { IfOk result (Shows octets.now (record_front template.now octets.now)) }
+    ensures no_memory { length octets.now < shortest_record template.now → IsOk result }
 {
     find_record(alloc, template, octets)
 }
@@ -30,6 +31,7 @@ pub fn split(alloc: Global, template: &Template, octets: &[u8]) -> Result<Split,
 #[tactic(auto, unfolding(crate::specs::Values::record_front))]
 fn find_record(alloc: Global, template: &Template, octets: &[u8]) -> Result<Split, AllocError>
     ensures exact { IfOk result (Shows octets.now (record_front template.now octets.now)) }
+    ensures no_memory { length octets.now < shortest_record template.now → IsOk result }
 {
     if octets.len() < template.shortest() as usize {
         return Ok(Split::Padding);
