@@ -1,10 +1,10 @@
 //! The sets of a message, and all that it says.
-ghost use Rattle.std.specs.Prelude.{◌≡◌, ◌<◌, ◌≤◌, length, List, Ok, IfOk};
+ghost use Rattle.std.specs.Prelude.{◌≡◌, ◌<◌, ◌≤◌, length, List, Ok, Err, IsOk, IfOk, IfErr};
 ghost use Rattle.ipfix_template.specs.Sequence.{read_all, with_front};
 ghost use Rattle.ipfix_message.specs.declared.item.Item.{Item};
 ghost use Rattle.ipfix_message.specs.declared.header.Header.{Header};
 ghost use Rattle.ipfix_message.specs.Grammar.{IsMessage};
-ghost use Rattle.ipfix_message.specs.Reading.{Gives, template_front, set_items, set_front, items_of};
+ghost use Rattle.ipfix_message.specs.Reading.{Gives, template_front, set_items, set_front, read_header, items_of};
 ghost use Rattle.ipfix_message.specs.Shows.{AddsFront};
 
 use crate::decode_error::DecodeError;
@@ -28,6 +28,9 @@ pub fn items(alloc: Global, octets: &[u8]) -> Result<Vec<Item>, DecodeError>
     ensures only { (h : Header) (said : List Item) → IsMessage octets.now h said → Gives (λ v. v.items) result (Ok said) }
     // Which fault it is.
     ensures exact { Gives (λ v. v.items) result (items_of octets.now) }
+    // A fault of the header, and a message without sets, are answered without memory.
+    ensures header { IfErr (read_header octets.now) (λ e. result ≡ Err e) }
+    ensures bare { IfOk (read_header octets.now) (λ _. length octets.now ≡ 16 → IsOk result) }
 {
     read_items(alloc, octets)
 }
@@ -35,6 +38,8 @@ pub fn items(alloc: Global, octets: &[u8]) -> Result<Vec<Item>, DecodeError>
 #[tactic(auto, unfolding(crate::specs::Reading::items_of))]
 fn read_items(alloc: Global, octets: &[u8]) -> Result<Vec<Item>, DecodeError>
     ensures exact { Gives (λ v. v.items) result (items_of octets.now) }
+    ensures header { IfErr (read_header octets.now) (λ e. result ≡ Err e) }
+    ensures bare { IfOk (read_header octets.now) (λ _. length octets.now ≡ 16 → IsOk result) }
 {
     read_header(octets)?;
     let mut items = Vec::new(alloc);
@@ -55,7 +60,8 @@ fn put_sets(
     items: &mut Vec<Item>,
 ) -> Result<(), DecodeError>
     requires { length octets.now ≤ total }
-    ensures { Gives (λ _. items.new.items) result (with_front items.old.items (read_all (set_front total) octets.now)) }
+    ensures read { Gives (λ _. items.new.items) result (with_front items.old.items (read_all (set_front total) octets.now)) }
+    ensures bare { length octets.now ≡ 0 → IsOk result }
 {
     let mut rest = octets;
     'sets: while !rest.is_empty() {

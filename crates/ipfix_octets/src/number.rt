@@ -1,4 +1,4 @@
-ghost use Rattle.std.specs.Prelude.{◌≡◌, ◌^◌, ◌<◌, ◌≤◌, ◌++◌, length, OnOk, OnErr};
+ghost use Rattle.std.specs.Prelude.{◌≡◌, ◌^◌, ◌+◌, ◌<◌, ◌≤◌, ◌++◌, length, OnOk, OnErr, vec_len, vec_capacity};
 ghost use Rattle.sequences.specs.Octets.{be_value, be_octets};
 ghost use Rattle.ipfix_octets.specs.declared.number.TheConstants.{WIDEST};
 
@@ -25,7 +25,7 @@ pub fn be_number(octets: &[u8]) -> u64
 /// Appends a number in `width` octets, the most significant first.
 ///
 /// # Errors
-/// Want of memory, and then nothing is appended.
+/// Want of memory, only where `out` had no room for them, and then nothing is appended.
 #[tactic(auto, using(crate::proofs::Numbers::last_octets_taken))]
 pub fn write_be(value: u64, width: usize, out: &mut Vec<u8>) -> Result<(), AllocError>
     requires some { 1 ≤ width }
@@ -33,6 +33,8 @@ pub fn write_be(value: u64, width: usize, out: &mut Vec<u8>) -> Result<(), Alloc
     requires fits { value < 256 ^ width }
     ensures ok { OnOk result (out.new.items ≡ out.old.items ++ be_octets width value) }
     ensures err { OnErr result (out.new.items ≡ out.old.items) }
+    ensures full { OnErr result (vec_capacity out.old < vec_len out.old + width) }
+    ensures capacity { vec_capacity out.old ≤ vec_capacity out.new }
 {
     let octets = value.to_be_bytes();
     out.extend_from_slice(&octets[WIDEST - width..])

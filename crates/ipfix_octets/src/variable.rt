@@ -1,6 +1,5 @@
-ghost use Rattle.std.specs.Prelude.{◌≡◌, ◌+◌, ◌-◌, ◌≤◌, ◌++◌, List, ℕ, length, take, drop, Some, IfSome, OnOk, OnErr};
+ghost use Rattle.std.specs.Prelude.{◌≡◌, ◌+◌, ◌-◌, ◌<◌, ◌≤◌, ◌++◌, List, ℕ, length, take, drop, Some, IfSome, OnOk, OnErr, vec_len, vec_capacity};
 ghost use Rattle.ipfix_octets.specs.Variable.{IsVarText, shortest_text, varlen_at};
-ghost use Rattle.ipfix_octets.specs.declared.variable.TheConstants.{LONGEST_VALUE};
 
 use crate::number::be_number;
 use std::alloc::AllocError;
@@ -50,11 +49,13 @@ fn find_value(octets: &[u8]) -> Option<(usize, usize)>
 /// and two octets (RFC 7011, section 7).
 ///
 /// # Errors
-/// Want of memory, and then nothing is appended.
+/// Want of memory, only where `out` had no room for the two, and then nothing is appended.
 pub fn write_varlen(value: &[u8], out: &mut Vec<u8>) -> Result<(), AllocError>
-    requires { length value.now ≤ LONGEST_VALUE }
+    requires { length value.now ≤ 65535 }
     ensures ok { OnOk result (out.new.items ≡ out.old.items ++ shortest_text value.now) }
     ensures err { OnErr result (out.new.items ≡ out.old.items) }
+    ensures full { OnErr result (vec_capacity out.old < vec_len out.old + length (shortest_text value.now)) }
+    ensures capacity { vec_capacity out.old ≤ vec_capacity out.new }
 {
     let short = value.len() < usize::from(LONG_FORM);
     let head = if short { 1 } else { 3 };

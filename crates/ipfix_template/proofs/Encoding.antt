@@ -1,8 +1,9 @@
 -- How a template and a record are written, field by field.
 use Rattle.std.proofs.Common.{◌≡◌, ℕ, zero, suc, ◌+◌, ◌<◌, ◌≤◌, Bool, true, false, cond, List, [], ◌∷◌, ◌++◌, length, take, drop, get_or, refl, sym, ap, ◌∙◌, append_assoc, add-one, drop-cons, arith, length-append}
-use Rattle.std.specs.Prelude.{◌&&◌}
+use Rattle.std.specs.Prelude.{◌&&◌, Result, Ok, Err, OnErr}
 use Rattle.std.specs.List.{flat_map}
 use Rattle.std.proofs.lemmas.List.{take_at, append-nil, drop_all, take_more, flat_map_more}
+use Rattle.std.proofs.lemmas.List.Concat.{flat_map-cons}
 use Rattle.ipfix_template.specs.Template.{specifier, is_options, record_head, template_record}
 use Rattle.ipfix_template.specs.declared.template.Template.{Template}
 use Rattle.ipfix_template.specs.declared.field.FieldSpec.{FieldSpec}
@@ -83,3 +84,35 @@ octets_of_record id t = by_kind (is_options t) where
   by_kind : (options : Bool) → length (record_head id options t ++ flat_map specifier t.fields) ≡ cond options 6 4 + length (flat_map specifier t.fields)
   by_kind true = length-append (record_head id true t) (flat_map specifier t.fields)
   by_kind false = length-append (record_head id false t) (flat_map specifier t.fields)
+
+-- what holds in any case holds on an error
+pub on_err : {T E P : Type 0} → (r : Result T E) → P → OnErr r P
+on_err (Ok x) p = tt
+on_err (Err e) p = p
+
+-- the values up to one, and that one, are among all of them
+pub record_text-most : (fs : List FieldSpec) (vs : List (List ℕ)) (i : ℕ) (f : FieldSpec) (v : List ℕ) → i < length fs → i < length vs → length (record_text (take i fs) (take i vs)) + length (value_text (get_or fs i f) (get_or vs i v)) ≤ length (record_text fs vs)
+record_text-most [] vs i f v lt le = absurd (omega arith)
+record_text-most (g ∷ fs) [] i f v lt le = absurd (omega arith)
+record_text-most (g ∷ fs) (w ∷ vs) zero f v lt le = omega (arith, length-append (value_text g w) (record_text fs vs))
+record_text-most (g ∷ fs) (w ∷ vs) (suc i) f v lt le =
+    omega (arith, length-append (value_text g w) (record_text fs vs), length-append (value_text g w) (record_text (take i fs) (take i vs)), record_text-most fs vs i f v (omega arith) (omega arith))
+
+-- without room for one value more there is none for all of them
+pub no_room_for_values : (fs : List FieldSpec) (vs : List (List ℕ)) (f : FieldSpec) (v : List ℕ) (i : ℕ) (old now : List ℕ) (had has : ℕ) → i < length fs → i < length vs → f ≡ get_or fs i f → v ≡ get_or vs i v → now ≡ old ++ record_text (take i fs) (take i vs) → had ≤ has → has < length now + length (value_text f v) → had < length old + length (record_text fs vs)
+no_room_for_values fs vs f v i old now had has lt le is-f is-v is grew none =
+    let one : length (value_text (get_or fs i f) (get_or vs i v)) ≡ length (value_text f v) = rw (← is-f, ← is-v) refl in
+    omega (arith, none, grew, one, record_text-most fs vs i f v lt le, ap length is, length-append old (record_text (take i fs) (take i vs)))
+
+-- the specifiers up to one, and that one, are among all of them
+pub specifiers-most : (fs : List FieldSpec) (i : ℕ) (f : FieldSpec) → i < length fs → length (flat_map specifier (take i fs)) + length (specifier (get_or fs i f)) ≤ length (flat_map specifier fs)
+specifiers-most [] i f lt = absurd (omega arith)
+specifiers-most (g ∷ fs) zero f lt = omega (arith, ap length (flat_map-cons specifier g fs), length-append (specifier g) (flat_map specifier fs))
+specifiers-most (g ∷ fs) (suc i) f lt =
+    omega (arith, ap length (flat_map-cons specifier g fs), length-append (specifier g) (flat_map specifier fs), ap length (flat_map-cons specifier g (take i fs)), length-append (specifier g) (flat_map specifier (take i fs)), specifiers-most fs i f (omega arith))
+
+-- without room for one specifier more there is none for all of them
+pub no_room_for_specifiers : (fs : List FieldSpec) (f : FieldSpec) (i : ℕ) (old now : List ℕ) (had has : ℕ) → i < length fs → f ≡ get_or fs i f → now ≡ old ++ flat_map specifier (take i fs) → had ≤ has → has < length now + length (specifier f) → had < length old + length (flat_map specifier fs)
+no_room_for_specifiers fs f i old now had has lt is-f is grew none =
+    let one : length (specifier (get_or fs i f)) ≡ length (specifier f) = rw (← is-f) refl in
+    omega (arith, none, grew, one, specifiers-most fs i f lt, ap length is, length-append old (flat_map specifier (take i fs)))

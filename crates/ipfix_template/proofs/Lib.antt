@@ -1,5 +1,6 @@
 pub mod SplitSteps
 pub mod SplitLaws
 pub mod SplitClauses
+pub mod Laid
 pub mod Encoding
 pub mod WrittenLaws

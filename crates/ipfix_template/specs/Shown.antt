@@ -1,12 +1,12 @@
 -- What a split shows of the octets that were split.
-use Rattle.std.specs.Prelude.{◌≡◌, ℕ, ◌+◌, ◌≤◌, List, [], ◌∷◌, length, take, drop, map, All, Option, Some, None}
+use Rattle.std.specs.Prelude.{◌≡◌, ℕ, ◌+◌, ◌-◌, ◌≤◌, List, [], ◌∷◌, length, take, drop, map, All, Option, Some, None}
 use Rattle.std.specs.Global.{Vec}
 use Rattle.ipfix_octets.specs.Sequence.{Front, End, Fault, Next}
 use Rattle.ipfix_template.specs.declared.field.FieldSpec.{FieldSpec}
 use Rattle.ipfix_template.specs.declared.spans.Span.{Span}
 use Rattle.ipfix_template.specs.declared.spans.Split.{Split}
 use Rattle.ipfix_template.specs.declared.spans.Split.TheVariants.{Record, Padding, Overrun}
-use Rattle.ipfix_template.specs.Values.{Splits}
+use Rattle.ipfix_template.specs.Values.{IsText, Splits}
 
 abbrev pub octets_of : List ℕ → Span → List ℕ
 octets_of octets span = take span.length (drop span.start octets)
@@ -30,6 +30,20 @@ IsSplitBy fields octets (Record spans used) = Splits fields (take used octets) (
 IsSplitBy fields octets Padding = Unit {0}
 IsSplitBy fields octets Overrun = Unit {0}
 
+-- from this place to the end the texts of the fields' values stand one after another, and each span is the end of its text
+abbrev pub AreLaid : List FieldSpec → ℕ → List ℕ → List Span → ℕ → Type 0
+AreLaid [] place octets [] end = place ≡ end
+AreLaid (f ∷ fs) place octets (s ∷ spans) end =
+    (place ≤ s.start) × IsText f (take (s.start + s.length - place) (drop place octets)) (octets_of octets s) × AreLaid fs (s.start + s.length) octets spans end
+AreLaid [] place octets (s ∷ spans) end = ⊥
+AreLaid (f ∷ fs) place octets [] end = ⊥
+
+-- the spans of a record that is found lie where its values are
+abbrev pub IsLaid : List FieldSpec → List ℕ → Split → Type 0
+IsLaid fields octets (Record spans used) = AreLaid fields 0 octets spans.items used
+IsLaid fields octets Padding = Unit {0}
+IsLaid fields octets Overrun = Unit {0}
+
 -- a record of these values is found, of so many octets
 abbrev pub IsFound : List ℕ → List (List ℕ) → ℕ → Split → Type 0
 IsFound octets values size (Record spans used) = (values_shown octets spans.items ≡ values) × (used ≡ size)
@@ -45,6 +59,10 @@ IsPadding Overrun = ⊥
 abbrev pub spans_shown : List ℕ → Option (Vec Span × ℕ) → Option (List (List ℕ) × List ℕ)
 spans_shown octets None = None
 spans_shown octets (Some found) = Some (values_shown octets found.0.items, drop found.1 octets)
+
+abbrev pub AreFoundLaid : List FieldSpec → List ℕ → Option (Vec Span × ℕ) → Type 0
+AreFoundLaid fields octets None = Unit {0}
+AreFoundLaid fields octets (Some found) = AreLaid fields 0 octets found.0.items found.1
 
 abbrev pub AreFoundWithin : List ℕ → Option (Vec Span × ℕ) → Type 0
 AreFoundWithin octets None = Unit {0}

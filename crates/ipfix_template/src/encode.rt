@@ -1,5 +1,5 @@
 //! What is written for a template and for a record.
-ghost use Rattle.std.specs.Prelude.{◌≡◌, ◌≤◌, ◌<◌, ◌^◌, ◌++◌, true, length, take, None, OnOk, OnErr};
+ghost use Rattle.std.specs.Prelude.{◌≡◌, ◌≤◌, ◌<◌, ◌^◌, ◌+◌, ◌++◌, true, length, take, None, OnOk, OnErr, vec_len, vec_capacity};
 ghost use Rattle.std.specs.List.{flat_map};
 ghost use Rattle.ipfix_template.specs.Template.{refusal_of, is_options, specifier, record_head, template_record};
 ghost use Rattle.ipfix_template.specs.Values.{fits_field, fit_fields, value_text, record_text};
@@ -23,12 +23,14 @@ const ENTERPRISE_BIT: u16 = 0x8000;
 /// (RFC 7011, sections 3.2 and 3.4).
 ///
 /// # Errors
-/// Want of memory, and then nothing is appended.
+/// Want of memory, only where `out` had no room for it, and then nothing is appended.
 pub fn encode_template(id: u16, template: &Template, out: &mut Vec<u8>) -> Result<(), AllocError>
     requires { refusal_of id (is_options template.now) template.now ≡ None }
     ensures ok { OnOk result (out.new.items
         ≡ out.old.items ++ template_record id (is_options template.now) template.now) }
     ensures err { OnErr result (out.new.items ≡ out.old.items) }
+    ensures full { OnErr result (vec_capacity out.old < vec_len out.old + length (template_record id (is_options template.now) template.now)) }
+    ensures capacity { vec_capacity out.old ≤ vec_capacity out.new }
 {
     let held = out.len();
     let put = put_template(id, template, out);
@@ -42,10 +44,12 @@ pub fn encode_template(id: u16, template: &Template, out: &mut Vec<u8>) -> Resul
 /// sections 3.4.3 and 7).
 ///
 /// # Errors
-/// Want of memory, and then nothing is appended.
+/// Want of memory, only where `out` had no room for it, and then nothing is appended.
 pub fn encode_record(whole: &Record, out: &mut Vec<u8>) -> Result<(), AllocError>
     ensures ok { OnOk result (out.new.items ≡ out.old.items ++ record_text whole.now.template.fields whole.now.values) }
     ensures err { OnErr result (out.new.items ≡ out.old.items) }
+    ensures full { OnErr result (vec_capacity out.old < vec_len out.old + length (record_text whole.now.template.fields whole.now.values)) }
+    ensures capacity { vec_capacity out.old ≤ vec_capacity out.new }
 {
     let held = out.len();
     let put = put_values(
@@ -64,6 +68,8 @@ fn put_template(id: u16, template: &Template, out: &mut Vec<u8>) -> Result<(), A
     ensures ok { OnOk result (out.new.items
         ≡ out.old.items ++ template_record id (is_options template.now) template.now) }
     ensures err { OnErr result (take (length out.old.items) out.new.items ≡ out.old.items) }
+    ensures full { OnErr result (vec_capacity out.old < vec_len out.old + length (template_record id (is_options template.now) template.now)) }
+    ensures capacity { vec_capacity out.old ≤ vec_capacity out.new }
 {
     put_head(id, template, out)?;
     put_specifiers(template.fields.as_slice(), out)
@@ -72,6 +78,8 @@ fn put_template(id: u16, template: &Template, out: &mut Vec<u8>) -> Result<(), A
 fn put_head(id: u16, template: &Template, out: &mut Vec<u8>) -> Result<(), AllocError>
     ensures ok { OnOk result (out.new.items ≡ out.old.items ++ record_head id (is_options template.now) template.now) }
     ensures err { OnErr result (out.new.items ≡ out.old.items) }
+    ensures full { OnErr result (vec_capacity out.old < vec_len out.old + length (record_head id (is_options template.now) template.now)) }
+    ensures capacity { vec_capacity out.old ≤ vec_capacity out.new }
 {
     let [a, b] = id.to_be_bytes();
     let [c, d] = (template.fields.len() as u16).to_be_bytes();
@@ -86,6 +94,8 @@ fn put_head(id: u16, template: &Template, out: &mut Vec<u8>) -> Result<(), Alloc
 fn put_specifiers(fields: &[FieldSpec], out: &mut Vec<u8>) -> Result<(), AllocError>
     ensures ok { OnOk result (out.new.items ≡ out.old.items ++ flat_map specifier fields.now) }
     ensures err { OnErr result (take (length out.old.items) out.new.items ≡ out.old.items) }
+    ensures full { OnErr result (vec_capacity out.old < vec_len out.old + length (flat_map specifier fields.now)) }
+    ensures capacity { vec_capacity out.old ≤ vec_capacity out.new }
 {
     for field in fields {
         put_specifier(field, out)?;
@@ -96,6 +106,8 @@ fn put_specifiers(fields: &[FieldSpec], out: &mut Vec<u8>) -> Result<(), AllocEr
 fn put_specifier(field: &FieldSpec, out: &mut Vec<u8>) -> Result<(), AllocError>
     ensures ok { OnOk result (out.new.items ≡ out.old.items ++ specifier field.now) }
     ensures err { OnErr result (out.new.items ≡ out.old.items) }
+    ensures full { OnErr result (vec_capacity out.old < vec_len out.old + length (specifier field.now)) }
+    ensures capacity { vec_capacity out.old ≤ vec_capacity out.new }
 {
     let number = field.element.number();
     let [c, d] = field.length.to_be_bytes();
@@ -116,6 +128,8 @@ fn put_values(fields: &[FieldSpec], values: &[Bytes], out: &mut Vec<u8>) -> Resu
     requires { fit_fields fields.now values.now ≡ true }
     ensures ok { OnOk result (out.new.items ≡ out.old.items ++ record_text fields.now values.now) }
     ensures err { OnErr result (take (length out.old.items) out.new.items ≡ out.old.items) }
+    ensures full { OnErr result (vec_capacity out.old < vec_len out.old + length (record_text fields.now values.now)) }
+    ensures capacity { vec_capacity out.old ≤ vec_capacity out.new }
 {
     for (field, value) in fields.iter().zip(values) {
         put_value(field, value, out)?;
@@ -127,6 +141,8 @@ fn put_value(field: &FieldSpec, value: &[u8], out: &mut Vec<u8>) -> Result<(), A
     requires { fits_field field.now value.now ≡ true }
     ensures ok { OnOk result (out.new.items ≡ out.old.items ++ value_text field.now value.now) }
     ensures err { OnErr result (out.new.items ≡ out.old.items) }
+    ensures full { OnErr result (vec_capacity out.old < vec_len out.old + length (value_text field.now value.now)) }
+    ensures capacity { vec_capacity out.old ≤ vec_capacity out.new }
 {
     if field.is_variable() {
         write_varlen(value, out)

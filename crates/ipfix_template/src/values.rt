@@ -1,8 +1,8 @@
 //! A record's values at the front of octets.
-ghost use Rattle.std.specs.Prelude.{◌≡◌, ◌≤◌, ◌+◌, ◌++◌, ℕ, List, length, Ok, IfOk, IfSome, ◌↔◌, ◌<◌};
+ghost use Rattle.std.specs.Prelude.{◌≡◌, ◌≤◌, ◌+◌, ◌++◌, ℕ, List, length, Ok, IsOk, IfOk, IfSome, ◌↔◌, ◌<◌};
 ghost use Rattle.ipfix_template.specs.Values.{Splits, span_at, values_at, record_front};
 ghost use Rattle.ipfix_template.specs.Template.{shortest_record};
-ghost use Rattle.ipfix_template.specs.Shown.{Shows, IsSplitBy, IsFound, spans_shown, AreFoundWithin, IsPadding};
+ghost use Rattle.ipfix_template.specs.Shown.{Shows, IsSplitBy, IsLaid, IsFound, spans_shown, AreFoundLaid, AreFoundWithin, IsPadding};
 
 use crate::field::FieldSpec;
 use crate::spans::{Span, Split};
@@ -14,22 +14,27 @@ use std::alloc::{AllocError, Global};
 /// the octets that the record takes.
 ///
 /// # Errors
-/// Want of memory for the list of spans.
+/// Want of memory for the list of spans. Padding needs none.
 pub fn split(alloc: Global, template: &Template, octets: &[u8]) -> Result<Split, AllocError>
     // What is found is split so by the fields.
     ensures found { IfOk result (IsSplitBy template.now.fields octets.now) }
+    // Each span lies where its field's value is, also one of no octets or of octets that stand twice.
+    ensures laid { IfOk result (IsLaid template.now.fields octets.now) }
     // What is split so by the fields is found, whatever follows it.
     ensures only { (text rest : List ℕ) (values : List (List ℕ)) → octets.now ≡ text ++ rest
         → Splits template.now.fields text values → IfOk result (IsFound octets.now values (length text)) }
     ensures padding { IfOk result (λ s. IsPadding s ↔ (length octets.now < shortest_record template.now)) }
     ensures exact { IfOk result (Shows octets.now (record_front template.now octets.now)) }
+    ensures no_memory { length octets.now < shortest_record template.now → IsOk result }
 {
     find_record(alloc, template, octets)
 }
 
 #[tactic(auto, unfolding(crate::specs::Values::record_front))]
 fn find_record(alloc: Global, template: &Template, octets: &[u8]) -> Result<Split, AllocError>
+    ensures laid { IfOk result (IsLaid template.now.fields octets.now) }
     ensures exact { IfOk result (Shows octets.now (record_front template.now octets.now)) }
+    ensures no_memory { length octets.now < shortest_record template.now → IsOk result }
 {
     if octets.len() < template.shortest() as usize {
         return Ok(Split::Padding);
@@ -48,6 +53,7 @@ fn find_values(
 ) -> Result<Option<(Vec<Span>, usize)>, AllocError>
     ensures shown { IfOk result (λ found. spans_shown octets.now found ≡ values_at fields.now octets.now) }
     ensures within { IfOk result (AreFoundWithin octets.now) }
+    ensures laid { IfOk result (AreFoundLaid fields.now octets.now) }
 {
     let mut spans = Vec::with_capacity(alloc, fields.len())?;
     let mut used = 0;

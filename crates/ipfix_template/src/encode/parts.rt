@@ -1,5 +1,5 @@
 //! What is written for values apart from their record.
-ghost use Rattle.std.specs.Prelude.{◌≡◌, ◌++◌, true, OnOk, OnErr};
+ghost use Rattle.std.specs.Prelude.{◌≡◌, ◌<◌, ◌≤◌, ◌+◌, ◌++◌, true, length, OnOk, OnErr, vec_len, vec_capacity};
 ghost use Rattle.ipfix_template.specs.Values.{fit_fields, record_text};
 
 use crate::data_record::Values;
@@ -10,7 +10,7 @@ use std::alloc::AllocError;
 /// Appends values that fit the template, as `encode_record` does those of a record.
 ///
 /// # Errors
-/// Want of memory, and then nothing is appended.
+/// Want of memory, only where `out` had no room for it, and then nothing is appended.
 pub fn encode_values(
     template: &Template,
     values: &Values,
@@ -19,6 +19,8 @@ pub fn encode_values(
     requires { fit_fields template.now.fields values.now ≡ true }
     ensures ok { OnOk result (out.new.items ≡ out.old.items ++ record_text template.now.fields values.now) }
     ensures err { OnErr result (out.new.items ≡ out.old.items) }
+    ensures full { OnErr result (vec_capacity out.old < vec_len out.old + length (record_text template.now.fields values.now)) }
+    ensures capacity { vec_capacity out.old ≤ vec_capacity out.new }
 {
     let held = out.len();
     let put = put_values(template.fields.as_slice(), values.as_slice(), out);
