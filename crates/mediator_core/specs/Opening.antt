@@ -38,7 +38,7 @@ RefusesPolicy (fault.Malformed why) text = ⊥
 RefusesPolicy fault.JournalFull text = ⊥
 RefusesPolicy (fault.AuditFull need room) text = ⊥
 
--- the whole run is refused so: by its policy, then by its name
+-- the whole run is refused so: by its policy, by its name, or for want of room (which of them is judged first is not said here)
 abbrev pub RefusesJob : Fault → OfflineJob → Type 0
 RefusesJob (fault.Policy why) job = IsPolicyFault job.policy.now why
 RefusesJob fault.BadName job = is_name job.name.now ≡ false
