@@ -1,4 +1,4 @@
--- The text of an audit entry: words parted by one space, and a line feed; all numbers are decimal.
+-- The text of an audit entry, by this project's own rule: words parted by one space, and a line feed; all numbers are decimal.
 use Rattle.std.specs.Prelude.{ℕ, List, [], ◌∷◌, ◌++◌, map, codes}
 use Rattle.std.specs.List.{join_with_byte}
 use Rattle.std.specs.Fmt.{decimal}

@@ -1,4 +1,4 @@
--- What a policy discloses of a record to a subscriber.
+-- What a policy discloses of a record to a subscriber: this project's own rule.
 use Rattle.std.specs.Prelude.{ℕ, List, [], ◌∷◌, Option, Some, None, nat_lt, ◌==◌, if◌then◌else◌}
 use Rattle.std.specs.List.{find}
 use Rattle.ipfix_template.specs.declared.template.Template.{Template}

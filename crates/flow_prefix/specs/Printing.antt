@@ -1,4 +1,4 @@
--- The one canonical text of a prefix: IPv4 in dotted decimal; IPv6 as eight groups in lower case,
+-- The one canonical text of a prefix, by this project's own rule: IPv4 in dotted decimal; IPv6 as eight groups in lower case,
 -- without leading zeros and without `::`.
 use Rattle.std.specs.Prelude.{ℕ, zero, suc, ◌/◌, ◌%◌, ◌^◌, List, [], ◌∷◌, ◌++◌, map, false}
 use Rattle.std.specs.List.{join_with_byte}

@@ -1,4 +1,4 @@
--- Reading a prefix, with the first fault that stands: the text, then the length, then the host bits.
+-- Reading a prefix, with the first fault that stands, in this project's own order: the text, then the length, then the host bits.
 use Rattle.std.specs.Prelude.{ℕ, ◌+◌, ◌-◌, List, [], ◌∷◌, ◌++◌, length, Option, Some, None, Result, Ok, Err, nat_lt, ◌==◌, ◌&&◌, if◌then◌else◌, replicate, position, take, drop}
 use Rattle.std.specs.List.{slice_split}
 use Rattle.std.specs.Int.Digits.{number_from_digits}

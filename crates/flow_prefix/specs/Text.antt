@@ -1,4 +1,5 @@
--- The text of a prefix: an address, `/`, and how many of its bits count.
+-- The text of a prefix: an address, `/`, and how many of its bits count (RFC 4291, sections 2.2 and 2.3, without its form with a
+-- dotted tail). Decimal numbers without leading zeros, and no bit set past the length, are this project's own rule.
 use Rattle.std.specs.Prelude.{◌≡◌, ◌≢◌, ◌⊎◌, ℕ, ◌<◌, ◌≤◌, List, ◌∷◌, ◌++◌, length, replicate}
 use Rattle.std.specs.List.{AllZip, join_with_byte}
 use Rattle.std.specs.Fmt.{decimal}

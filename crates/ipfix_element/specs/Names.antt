@@ -1,4 +1,4 @@
--- The names of elements in a policy: this profile's own rule, over the numbers of RFC 7011, section 3.2.
+-- The names of elements in a policy: this project's own rule, over the numbers of RFC 7011, section 3.2.
 use Rattle.std.specs.Prelude.{◌≡◌, ℕ, ◌<◌, Bool, true, ◌||◌, ◌==◌, List, ◌++◌, length, Option, Some, None, codes}
 use Rattle.std.specs.Char.{is_ascii_alphanumeric}
 use Rattle.std.specs.Fmt.{decimal}

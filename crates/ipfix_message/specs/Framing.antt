@@ -1,4 +1,5 @@
--- A stream of messages, one directly after another, as TCP carries it (RFC 7011, sections 3.1 and 10.4).
+-- A stream of messages, one directly after another, as TCP carries it (RFC 7011, sections 3.1 and 10.4). When a fault shows, and
+-- that nothing is read behind it, is this project's own rule.
 use Rattle.std.specs.Prelude.{◌≡◌, ◌≢◌, ℕ, ◌<◌, ◌≤◌, List, [], ◌++◌, length, Option, Some, None}
 use Rattle.std.specs.List.{concat, All}
 use Rattle.sequences.specs.Octets.{number_at}

@@ -1,4 +1,5 @@
--- What a message means: its header and its items, or the first fault (RFC 7011, sections 3.1 to 3.4 and 8.1).
+-- What a message means: its header and its items (RFC 7011, sections 3.1 to 3.4 and 8.1), or the first fault in reading order,
+-- which is this project's own rule.
 use Rattle.std.specs.Prelude.{◌≡◌, ℕ, zero, suc, ◌+◌, ◌-◌, Bool, true, false, List, [], ◌∷◌, length, take, drop, Option, Some, None, Result, Ok, Err, nat_lt, ◌==◌, ◌||◌, if◌then◌else◌}
 use Rattle.ipfix_template.specs.Octets.{number_at}
 use Rattle.ipfix_template.specs.Sequence.{Front, End, Fault, Next, read_all}
@@ -95,7 +96,7 @@ items_of octets = after_header octets (read_header octets)
 
 -- ---- what the calls answer
 
--- what was read is the answer, and a fault is the first one; only want of memory is no fault
+-- a fault is the first one; only want of memory is no fault
 abbrev pub Fails : {Y : Type 0} → DecodeError → Result Y DecodeError → Type 0
 Fails OutOfMemory read = Unit {0}
 Fails ShortHeader read = read ≡ Err ShortHeader
@@ -104,6 +105,7 @@ Fails BadLength read = read ≡ Err BadLength
 Fails BadSetLength read = read ≡ Err BadSetLength
 Fails TemplateOverrun read = read ≡ Err TemplateOverrun
 
+-- what was read is the answer
 abbrev pub Gives : {X Y : Type 0} → (X → Y) → Result X DecodeError → Result Y DecodeError → Type 0
 Gives view (Ok x) read = read ≡ Ok (view x)
 Gives view (Err e) read = Fails e read

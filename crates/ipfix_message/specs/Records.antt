@@ -1,4 +1,5 @@
--- What a record of a Template or an Options Template Set says (RFC 7011, sections 3.4 and 8.1).
+-- What a record of a Template or an Options Template Set says (RFC 7011, sections 3.4 and 8.1). This project's own rules: a
+-- withdrawal of one ID may stand in either kind of set, and one of another ID below 256 is refused by itself.
 use Rattle.std.specs.Prelude.{ℕ, Bool, true, false, Option, Some, None, nat_lt, ◌==◌, if◌then◌else◌}
 use Rattle.ipfix_template.specs.declared.template.Template.{Template}
 use Rattle.ipfix_template.specs.declared.template.Refused.{Refused}
@@ -12,7 +13,7 @@ abbrev pub set_id : Bool → ℕ
 set_id false = 2
 set_id true = 3
 
--- a record with no fields: a withdrawal of one ID, or of all templates of the set's kind
+-- a record with no fields: a withdrawal of all templates of the set's kind or of one ID, or a refusal
 abbrev pub bare_item : Bool → ℕ → Item
 bare_item options id =
     if id == set_id options then items.WithdrawAll options

@@ -6,3 +6,5 @@ pub mod SetSteps
 pub mod WalkSteps
 pub mod SessionSteps
 pub mod MeaningLaws
+pub mod InForceLaws
+pub mod RecordLaws

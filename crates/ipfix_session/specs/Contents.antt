@@ -1,4 +1,5 @@
--- What the items of one message hold: records, and what is skipped (RFC 7011, sections 3.3.2, 3.4.3 and 8).
+-- What the items of one message hold: records, and what is skipped (RFC 7011, sections 3.3.2, 3.4.3 and 8). That a Data Set
+-- without a template is skipped, and that a record past its set's end refuses the message, are this project's own rules.
 use Rattle.std.specs.Prelude.{ℕ, ◌+◌, List, [], ◌∷◌, ◌++◌, take, drop, map, Option, Some, None, Result, Ok, Err}
 use Rattle.ipfix_template.specs.declared.template.Template.{Template}
 use Rattle.ipfix_template.specs.Values.{records_in}

@@ -1,4 +1,6 @@
--- The template in force after items of one session and domain (RFC 7011, sections 3.4 and 8 to 8.4).
+-- The template in force after items of one session and domain (RFC 7011, sections 8 and 8.1). This project's own rules: a later
+-- definition of an ID replaces the earlier one, a refused one withdraws it, and the withdrawal of an ID counts for a template of
+-- either kind.
 use Rattle.std.specs.Prelude.{ℕ, Bool, true, false, List, [], ◌∷◌, Option, Some, None, not, ◌==◌, if◌then◌else◌}
 use Rattle.ipfix_template.specs.declared.template.Template.{Template}
 use Rattle.ipfix_template.specs.Template.{is_options}

@@ -9,6 +9,8 @@ pub use Rattle.ipfix_message.specs.DataRecord
 pub use Rattle.ipfix_message.specs.Records
 pub use Rattle.ipfix_message.specs.Reading
 pub mod InForce
+pub mod LastDefinition
+pub mod DataSetContent
 pub mod Contents
 pub mod Meaning
 pub mod Keeping

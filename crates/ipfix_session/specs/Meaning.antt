@@ -1,4 +1,6 @@
--- What the messages of one session mean (RFC 7011, sections 3.1, 8 and 10.3).
+-- What the messages of one session, which is one TCP connection, mean (RFC 7011, sections 3.1, 8 and 10.4). What is a gap is
+-- this project's own rule: a domain's first message sets the number, and so does the next one after a Data Set that was skipped
+-- for want of a template.
 use Rattle.std.specs.Prelude.{ℕ, ◌+◌, ◌%◌, ◌^◌, List, [], ◌∷◌, ◌++◌, length, reverse, map, Option, Some, None, Result, Ok, Err, ◌==◌, if◌then◌else◌}
 use Rattle.ipfix_template.specs.DataRecord.{DataRecord}
 use Rattle.ipfix_message.specs.declared.header.Header.{Header}

@@ -11,3 +11,26 @@ pub fn messages_join()
     ensures step { (older : List (List ℕ)) (message : List ℕ)
         → records_after older (message ∷ []) ≡ records_meant (domain_of message) (meaning_of older message) }
 {}
+
+ghost use Rattle.std.specs.Prelude.{Some, Ok, ◌↔◌};
+ghost use Rattle.sequences.specs.Octets.{AreOctets};
+ghost use Rattle.ipfix_template.specs.declared.template.Template.{Template};
+ghost use Rattle.ipfix_template.specs.Template.{IsAccepted};
+ghost use Rattle.ipfix_template.specs.Values.{records_in};
+ghost use Rattle.ipfix_message.specs.declared.item.Item.{Item};
+ghost use Rattle.ipfix_session.specs.InForce.{template_in_force};
+ghost use Rattle.ipfix_session.specs.LastDefinition.{IsInForce};
+ghost use Rattle.ipfix_session.specs.DataSetContent.{AreRecords};
+
+/// The template in force for an ID is what the last item that decides on it defines, where all templates of its kind were not
+/// withdrawn after it; and there is none else.
+pub fn last_definition_is_in_force()
+    ensures { (id : ℕ) (items : List Item) (t : Template) → (template_in_force id items ≡ Some t) ↔ IsInForce id items t }
+{}
+
+/// What is read of a Data Set's content is its records, one after another, and padding; and such records are read. Where there are
+/// none such, a record runs past the end.
+pub fn records_are_read()
+    ensures found { (t : Template) (octets : List ℕ) (rows : List (List (List ℕ))) → IsAccepted t → AreOctets octets → records_in t octets ≡ Ok rows → AreRecords t octets rows }
+    ensures only { (t : Template) (octets : List ℕ) (rows : List (List (List ℕ))) → IsAccepted t → AreRecords t octets rows → records_in t octets ≡ Ok rows }
+{}

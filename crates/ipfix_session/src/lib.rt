@@ -6,7 +6,9 @@
 //! - [`session`]: `Session`, which reads message after message.
 //! - [`read`]: `Read`, what a message brings, with `Skips` and `Gap`.
 //! - [`read_error`]: `ReadError`, why a message is refused.
-//! - [`laws`]: messages mean what the first of them mean, and then the others.
+//! - [`laws`]: messages mean what the first of them mean, and then the others (`messages_join`); and, in the
+//!   standard's words, which template is in force (`last_definition_is_in_force`) and what a Data Set's content
+//!   is (`records_are_read`).
 #![tactic(auto)]
 
 mod changes;
@@ -24,7 +26,7 @@ mod table;
 mod tests;
 mod walk;
 
-pub use laws::messages_join;
+pub use laws::{last_definition_is_in_force, messages_join, records_are_read};
 pub use read::{Gap, Read, Skips};
 pub use read_error::ReadError;
 pub use session::Session;

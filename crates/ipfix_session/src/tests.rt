@@ -104,15 +104,44 @@ fn empty_message(rt: HostRuntime) -> Result<(), Fail> {
 #[test]
 fn malformed_messages(rt: HostRuntime) -> Result<(), Fail> {
     let mut session = Session::new(rt.alloc());
-    for (message, why) in [
+    let _first = read(&rt, &mut session, ONE_RECORD)?;
+    let before = known(&session);
+    let cases: [(&[u8], DecodeError); 6] = [
+        (
+            b"\x00\x0a\x00\x0f\x65\x53\xf1\x00\x00\x00\x00\x01\x00\x00\x00\x07",
+            DecodeError::BadLength,
+        ),
+        (
+            b"\x00\x09\x00\x10\x65\x53\xf1\x00\x00\x00\x00\x01\x00\x00\x00\x07",
+            DecodeError::BadVersion,
+        ),
+        // A set of 3 octets.
+        (
+            b"\x00\x0a\x00\x14\x65\x53\xf1\x00\x00\x00\x00\x01\x00\x00\x00\x07\x01\x00\x00\x03",
+            DecodeError::BadSetLength,
+        ),
         (&ONE_RECORD[..15], DecodeError::ShortHeader),
+        // A template 256 of one field, which is not there.
+        (
+            b"\x00\x0a\x00\x18\x65\x53\xf1\x00\x00\x00\x00\x01\x00\x00\x00\x07\x00\x02\x00\x08\x01\x00\x00\x01",
+            DecodeError::TemplateOverrun,
+        ),
         (&ONE_RECORD[..16], DecodeError::BadLength),
-    ] {
+    ];
+    for (message, why) in cases {
         assert_eq!(rt;
             fault(&mut session, message),
             Some(ReadError::Malformed(why))
         );
+        assert_eq!(rt; known(&session), before);
     }
+    // Nor did the number change that the next message is to have.
+    let next = read(
+        &rt,
+        &mut session,
+        b"\x00\x0a\x00\x10\x65\x53\xf1\x00\x00\x00\x00\x01\x00\x00\x00\x07",
+    )?;
+    assert_eq!(rt; next.gap, None);
     Ok(())
 }
 

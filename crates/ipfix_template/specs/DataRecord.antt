@@ -1,4 +1,4 @@
--- A record with its template (RFC 7011, section 3.4.3).
+-- A record with its template (RFC 7011, sections 3.1, 3.3.2 and 3.4.3).
 use Rattle.std.specs.Prelude.{◌≡◌, ℕ, ◌+◌, ◌≤◌, true, List, length}
 use Rattle.ipfix_template.specs.declared.template.Template.{Template}
 use Rattle.ipfix_template.specs.Template.{IsAccepted, is_options, template_record}

@@ -1,4 +1,5 @@
--- Templates: their fields, why one is refused, and how one is written (RFC 7011, sections 3.2 and 3.4).
+-- Templates: their fields, why one is refused, and how one is written (RFC 7011, sections 3.2, 3.4 and 7). That a template is
+-- refused by itself, and the reasons with their order, are this project's own rule.
 use Rattle.std.specs.Prelude.{◌≡◌, ◌<◌, ◌^◌, ℕ, ◌+◌, Bool, true, false, List, ◌++◌, length, Option, Some, None, IfSome, nat_lt, ◌==◌, ◌||◌, if◌then◌else◌}
 use Rattle.std.specs.List.{sum_by, list_all, flat_map, AllByRecursion}
 use Rattle.ipfix_octets.specs.Octets.{be_octets}

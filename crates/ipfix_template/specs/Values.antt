@@ -1,4 +1,4 @@
--- The values of a record, as the octets of a Data Set spell them (RFC 7011, sections 3.4.3 and 7).
+-- The values of a record, as the octets of a Data Set spell them (RFC 7011, sections 3.3.1, 3.4.3 and 7).
 use Rattle.std.specs.Prelude.{◌≡◌, ℕ, ◌+◌, Bool, true, false, List, [], ◌∷◌, ◌++◌, length, take, drop, Option, Some, None, Result, MatchBool, nat_lt, nat_le, ◌==◌, ◌&&◌, if◌then◌else◌}
 use Rattle.ipfix_octets.specs.Variable.{IsVarText, shortest_text, varlen_at}
 use Rattle.ipfix_octets.specs.Sequence.{Front, End, Fault, Next, read_all}

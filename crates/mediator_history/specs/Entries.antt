@@ -1,4 +1,5 @@
--- A mediator's history: what it accepted, in order. The place of an entry, counted from 0, is its position.
+-- A mediator's history: what it accepted, in order. The place of an entry, counted from 0, is its position. All that is said of
+-- histories is this project's own rule.
 use Rattle.std.specs.Prelude.{ℕ, ◌+◌, List, length}
 use Rattle.std.specs.List.{sum_by}
 

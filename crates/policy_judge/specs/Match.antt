@@ -1,4 +1,4 @@
--- Which records and fields a rule matches.
+-- Which records and fields a rule matches: this project's own rule.
 use Rattle.std.specs.Prelude.{ℕ, Bool, true, false, List, length, Option, Some, None, option_map, slice_get, nat_lt, not, ◌==◌, ◌&&◌}
 use Rattle.std.specs.List.{list_any, list_all}
 use Rattle.std.specs.Str.{bytes_eq}

@@ -1,4 +1,4 @@
--- A record's addresses (RFC 7012, section 5: sourceIPv4Address is 8 and sourceIPv6Address 27,
+-- A record's addresses (IANA's registry of information elements: sourceIPv4Address is 8 and sourceIPv6Address 27,
 -- destinationIPv4Address is 12 and destinationIPv6Address 28).
 use Rattle.std.specs.Prelude.{ℕ, Bool, List, map, filter, is_none, ◌==◌, ◌&&◌, ◌||◌}
 use Rattle.std.specs.List.{zip}

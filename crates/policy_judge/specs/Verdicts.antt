@@ -1,4 +1,4 @@
--- The verdicts on a record and on a field: those of the first rule that matches.
+-- The verdicts on a record and on a field, by this project's own rule: those of the first rule that matches.
 use Rattle.std.specs.Prelude.{ℕ, Bool, List, Option, Some, None}
 use Rattle.std.specs.List.{find, enumerate_from}
 use Rattle.ipfix_template.specs.DataRecord.{DataRecord}

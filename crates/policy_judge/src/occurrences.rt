@@ -9,7 +9,7 @@ use flow_prefix::Prefix;
 use ipfix_element::ElementId;
 use ipfix_template::{FieldSpec, Record};
 
-// Elements of the registry, by their numbers (RFC 7012, section 5).
+// Elements of IANA's registry, by their numbers.
 const SOURCE_IPV4_ADDRESS: u16 = 8;
 
 const DESTINATION_IPV4_ADDRESS: u16 = 12;

@@ -1,4 +1,4 @@
--- Names of subscribers and aggregates.
+-- Names of subscribers and aggregates: this project's own rule.
 use Rattle.std.specs.Prelude.{ℕ, Bool, length, nat_le, ◌==◌, ◌&&◌, ◌||◌, slice_index}
 use Rattle.std.specs.List.{list_all}
 use Rattle.std.specs.Char.{is_ascii_lowercase, is_ascii_digit}

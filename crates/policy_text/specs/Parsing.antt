@@ -1,4 +1,5 @@
--- Reading a policy's text, with its first fault: the first faulty line, and in it the first word that doesn't fit.
+-- Reading a policy's text, with its first fault, by this project's own rule: the first faulty line, and in it the first word
+-- that doesn't fit.
 use Rattle.std.specs.Prelude.{ℕ, ◌+◌, Bool, true, false, List, [], ◌∷◌, Result, Ok, Err, ◌&&◌, if◌then◌else◌, codes}
 use Rattle.std.specs.Str.{bytes_eq}
 use Rattle.policy_text.specs.declared.fault.FaultKind.{FaultKind}

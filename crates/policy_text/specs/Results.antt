@@ -27,7 +27,7 @@ is_memory BadKey = false
 is_memory TooMany = false
 is_memory OutOfMemory = true
 
--- what a function returned, seen by view, is what reading gives, unless memory ran out
+-- the fault is the one that reading gives, unless memory ran out
 abbrev pub Fails : {Y : Type 0} → FaultKind → Result Y FaultKind → Type 0
 Fails NoHeader read = read ≡ Err NoHeader
 Fails UnknownWord read = read ≡ Err UnknownWord
@@ -41,6 +41,7 @@ Fails BadKey read = read ≡ Err BadKey
 Fails TooMany read = read ≡ Err TooMany
 Fails OutOfMemory read = Unit {0}
 
+-- what a function returned, seen by view, is what reading gives
 abbrev pub Gives : {X Y : Type 0} → (X → Y) → Result X FaultKind → Result Y FaultKind → Type 0
 Gives view (Ok x) read = read ≡ Ok (view x)
 Gives view (Err kind) read = Fails kind read

@@ -1,4 +1,4 @@
--- Which texts spell which policy, by cases on lines and words.
+-- Which texts spell which policy, by cases on lines and words. The language is this project's own.
 use Rattle.std.specs.Prelude.{◌≡◌, ◌⊎◌, ℕ, ◌<◌, true, false, List, [], ◌∷◌, length, Option, Some, None, codes}
 use Rattle.std.specs.Fmt.{decimal}
 use Rattle.flow_prefix.specs.declared.prefix.Prefix.{Prefix}

@@ -1,4 +1,5 @@
--- The message of a run of parts, and the longest run that a message takes (RFC 7011, sections 3.1, 3.3 and 3.4).
+-- The message of a run of parts (RFC 7011, sections 3.1, 3.3 and 3.4), and, by this project's own rule, the longest run that a
+-- message takes. Domain 0 says that no Observation Domain holds for the whole message (section 3.1).
 use Rattle.std.specs.Prelude.{ℕ, suc, zero, ◌+◌, ◌%◌, ◌^◌, Bool, ◌==◌, nat_le, max, List, [], ◌∷◌, ◌++◌, length, take, drop, Option, Some, None, if◌then◌else◌}
 use Rattle.std.specs.List.{flat_map}
 use Rattle.sequences.specs.Octets.{be_octets}

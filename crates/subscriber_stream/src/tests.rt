@@ -320,6 +320,63 @@ fn room_to_the_limits(rt: HostRuntime) -> Result<(), Fail> {
     Ok(())
 }
 
+/// What a stream gives of one flow record: its template, and the record.
+const ONE_FLOW: &[u8] = b"\x00\x0a\x00\x32\x65\x53\xf1\x3c\x00\x00\x00\x00\x00\x00\x00\x00\
+\x00\x02\x00\x14\x01\x00\x00\x03\x00\x08\x00\x04\x00\x07\x00\x02\x00\x01\x00\x04\
+\x01\x00\x00\x0e\xc0\x00\x02\x4d\x01\xbb\x00\x00\x05\xdc";
+
+/// Three records at most wait. Where one waits there is no room for three more, and the stream gives the one and
+/// then nothing; where it was pulled before, there is, and they come with Sequence Number 1.
+#[test]
+fn full_queue(rt: HostRuntime) -> Result<(), Fail> {
+    let alloc = rt.alloc();
+    let template = flow_template(alloc)?;
+    let limits = Limits {
+        queue: 3,
+        shapes: 100,
+    };
+    let mut acme = Stream::new(alloc, limits);
+    let mut beta = Stream::new(alloc, limits);
+    give_one(&rt, alloc, &mut acme, flow_record(alloc, &template)?)?;
+    give_one(&rt, alloc, &mut beta, flow_record(alloc, &template)?)?;
+    expect(&rt, &mut beta, 1400, ONE_FLOW)?;
+    let mut three = Vec::new(alloc);
+    for _ in 0..3 {
+        three.push(flow_record(alloc, &template)?)?;
+    }
+    assert!(rt; !acme.room(&three));
+    give(&rt, &mut beta, three)?;
+    expect(&rt, &mut acme, 1400, ONE_FLOW)?;
+    expect_end(&rt, &mut acme)?;
+    expect(
+        &rt,
+        &mut beta,
+        1400,
+        b"\x00\x0a\x00\x32\x65\x53\xf1\x3c\x00\x00\x00\x01\x00\x00\x00\x00\x01\x00\x00\x22\
+        \xc0\x00\x02\x4d\x01\xbb\x00\x00\x05\xdc\xc0\x00\x02\x4d\x01\xbb\x00\x00\x05\xdc\
+        \xc0\x00\x02\x4d\x01\xbb\x00\x00\x05\xdc",
+    )?;
+    expect_end(&rt, &mut beta)
+}
+
+/// Where one shape may be announced there is no room for records of two, and the stream gives nothing.
+#[test]
+fn shapes_limit(rt: HostRuntime) -> Result<(), Fail> {
+    let alloc = rt.alloc();
+    let first = template_of(alloc, &[field(PROTOCOL, 1)], 0)?;
+    let second = template_of(alloc, &[field(IP_VERSION, 1)], 0)?;
+    let limits = Limits {
+        queue: 100,
+        shapes: 1,
+    };
+    let mut stream = Stream::new(alloc, limits);
+    let mut records = Vec::new(alloc);
+    records.push(record_of(alloc, &first, &[b"\x06"])?)?;
+    records.push(record_of(alloc, &second, &[b"\x04"])?)?;
+    assert!(rt; !stream.room(&records));
+    expect_end(&rt, &mut stream)
+}
+
 #[test]
 fn many_records_of_many_shapes(rt: HostRuntime) -> Result<(), Fail> {
     let alloc = rt.alloc();
