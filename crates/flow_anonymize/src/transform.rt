@@ -1,6 +1,7 @@
 //! What a policy discloses of a record.
-ghost use Rattle.std.specs.Prelude.{◌≡◌, ◌<◌, ◌≤◌, length, option_map, option_copied, IfOk};
+ghost use Rattle.std.specs.Prelude.{◌≡◌, ◌≢◌, ◌<◌, ◌≤◌, length, option_map, option_copied, IsOk, IfOk};
 ghost use Rattle.std.specs.Arc.{arc_value};
+ghost use Rattle.policy_judge.specs.Verdicts.{record_verdict_of};
 ghost use Rattle.flow_anonymize.specs.Outcome.{shown};
 ghost use Rattle.flow_anonymize.specs.Remaining.{removed_fields};
 ghost use Rattle.flow_anonymize.specs.Within.{AreJudged};
@@ -33,6 +34,8 @@ pub fn disclose(
     flow_record: &Record,
 ) -> Result<Disclosure, AllocError>
     ensures exact { IfOk result (λ d. shown d ≡ disclosure_of name.now domain flow_record.now policy.now.rules) }
+    // What is said of a record that doesn't pass takes no memory.
+    ensures at_once { (record_verdict_of name.now domain flow_record.now policy.now.rules).action ≢ RecordAction.Pass → IsOk result }
 {
     let verdict = record_verdict(policy, name, domain, flow_record);
     let rule = verdict.rule;

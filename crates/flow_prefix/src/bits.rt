@@ -1,4 +1,4 @@
-ghost use Rattle.std.specs.Prelude.{◌≡◌, ◌≤◌, ◌<◌, ◌*◌, ◌^◌, ◌++◌, length, OnOk, OnErr};
+ghost use Rattle.std.specs.Prelude.{◌≡◌, ◌≤◌, ◌<◌, ◌+◌, ◌*◌, ◌^◌, ◌++◌, length, vec_len, vec_capacity, IsOk, OnOk, OnErr};
 ghost use Rattle.sequences.specs.Octets.{be_value};
 ghost use Rattle.flow_prefix.specs.Bits.{truncated, kept_octets};
 
@@ -12,6 +12,8 @@ pub fn keep_bits(octets: &[u8], n: usize, out: &mut Vec<u8>) -> Result<(), Alloc
     requires { n ≤ 8 * length octets.now }
     ensures ok { OnOk result (out.new.items ≡ out.old.items ++ kept_octets n octets.now) }
     ensures err { OnErr result (out.new.items ≡ out.old.items) }
+    // Room that is there already takes no memory.
+    ensures there { vec_len out.old + length octets.now ≤ vec_capacity out.old → IsOk result }
 {
     out.reserve(octets.len())?;
     let mut left = n;

@@ -3,6 +3,7 @@ pub mod ElementLaws
 pub mod ResultLaws
 pub mod KeyLaws
 pub mod ParsingLaws
+pub mod MemoryLaws
 pub mod NameLaws
 pub mod PrintLaws
 pub mod PlainLaws

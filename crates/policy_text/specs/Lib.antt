@@ -14,6 +14,7 @@ pub mod Policies
 pub mod Results
 pub mod Lines
 pub mod Parsing
+pub mod Memory
 pub mod Grammar
 pub mod Printing
 pub mod Spelling

@@ -1,8 +1,10 @@
-ghost use Rattle.std.specs.Prelude.{◌≡◌, ◌≤◌, ◌==◌, length, IfOk, OnOk};
+ghost use Rattle.std.specs.Prelude.{◌≡◌, ◌≤◌, ◌==◌, length, IfOk, OnOk, IfErr, true, false};
 ghost use Rattle.std.specs.List.{list_any};
 ghost use Rattle.std.specs.Str.{bytes_eq};
 ghost use Rattle.policy_text.specs.Policies.{IsKeyLength};
-ghost use Rattle.policy_text.specs.Results.{Gives};
+ghost use Rattle.policy_text.specs.Results.{Gives, is_memory};
+ghost use Rattle.policy_text.specs.Naming.{is_name};
+ghost use Rattle.policy_text.specs.Memory.{is_new_name};
 ghost use Rattle.policy_text.specs.Elements.{element_of};
 ghost use Rattle.policy_text.specs.Classes.{star, name, number, element, prefix, or_star, is_key_kind, width_at, with_key, add_piece, add_pieces, key_of, place_of, aggregate_place, new_name, interval, bits_within};
 ghost use Rattle.ipfix_element.specs.Kinds.{kind_of};
@@ -33,7 +35,8 @@ fn is_star(word: &[u8]) -> bool
 
 #[tactic(auto, unfolding(crate::specs::Classes::name))]
 fn read_name(alloc: Global, word: &[u8]) -> Result<Name, FaultKind>
-    ensures { Gives (λ n. n) result (name word.now) }
+    ensures value { Gives (λ n. n) result (name word.now) }
+    ensures memory { IfErr result (λ kind. is_memory kind ≡ true → is_name word.now ≡ true) }
 {
     if !is_name_word(word) {
         return Err(FaultKind::BadName);
@@ -45,6 +48,7 @@ fn read_name(alloc: Global, word: &[u8]) -> Result<Name, FaultKind>
 fn read_up_to(word: &[u8], most: u32) -> Result<u32, FaultKind>
     ensures value { Gives (λ n. n) result (number most word.now) }
     ensures bound { IfOk result (λ n. n ≤ most) }
+    ensures sure { IfErr result (λ kind. is_memory kind ≡ false) }
 {
     match read_number(word, most) {
         Some(number) => Ok(number),
@@ -55,7 +59,8 @@ fn read_up_to(word: &[u8], most: u32) -> Result<u32, FaultKind>
 /// A subscriber's name, or `*`.
 #[tactic(auto, unfolding(crate::specs::Classes::or_star))]
 pub(crate) fn read_who(alloc: Global, word: &[u8]) -> Result<Option<Name>, FaultKind>
-    ensures { Gives (λ who. who) result (or_star name word.now) }
+    ensures value { Gives (λ who. who) result (or_star name word.now) }
+    ensures memory { IfErr result (λ kind. is_memory kind ≡ true → is_name word.now ≡ true) }
 {
     if is_star(word) {
         return Ok(None);
@@ -67,7 +72,8 @@ pub(crate) fn read_who(alloc: Global, word: &[u8]) -> Result<Option<Name>, Fault
 /// An observation domain, or `*`.
 #[tactic(auto, unfolding(crate::specs::Classes::or_star))]
 pub(crate) fn read_domain(word: &[u8]) -> Result<Option<u32>, FaultKind>
-    ensures { Gives (λ domain. domain) result (or_star (number 4294967295) word.now) }
+    ensures value { Gives (λ domain. domain) result (or_star (number 4294967295) word.now) }
+    ensures sure { IfErr result (λ kind. is_memory kind ≡ false) }
 {
     if is_star(word) {
         return Ok(None);
@@ -78,7 +84,8 @@ pub(crate) fn read_domain(word: &[u8]) -> Result<Option<u32>, FaultKind>
 
 #[tactic(auto, unfolding(crate::specs::Classes::prefix))]
 fn read_prefix(word: &[u8]) -> Result<Prefix, FaultKind>
-    ensures { Gives (λ p. p) result (prefix word.now) }
+    ensures value { Gives (λ p. p) result (prefix word.now) }
+    ensures sure { IfErr result (λ kind. is_memory kind ≡ false) }
 {
     match Prefix::parse_ascii(word) {
         Ok(prefix) => Ok(prefix),
@@ -89,7 +96,8 @@ fn read_prefix(word: &[u8]) -> Result<Prefix, FaultKind>
 /// A prefix, or `*`.
 #[tactic(auto, unfolding(crate::specs::Classes::or_star))]
 pub(crate) fn read_prefix_or_star(word: &[u8]) -> Result<Option<Prefix>, FaultKind>
-    ensures { Gives (λ p. p) result (or_star prefix word.now) }
+    ensures value { Gives (λ p. p) result (or_star prefix word.now) }
+    ensures sure { IfErr result (λ kind. is_memory kind ≡ false) }
 {
     if is_star(word) {
         return Ok(None);
@@ -110,7 +118,8 @@ fn find_element(word: &[u8]) -> Option<ElementId>
 
 #[tactic(auto, unfolding(crate::specs::Classes::element))]
 fn read_element(word: &[u8]) -> Result<ElementId, FaultKind>
-    ensures { Gives (λ e. e) result (element word.now) }
+    ensures value { Gives (λ e. e) result (element word.now) }
+    ensures sure { IfErr result (λ kind. is_memory kind ≡ false) }
 {
     match find_element(word) {
         Some(element) => Ok(element),
@@ -121,7 +130,8 @@ fn read_element(word: &[u8]) -> Result<ElementId, FaultKind>
 /// An element's name, or `*`.
 #[tactic(auto, unfolding(crate::specs::Classes::or_star))]
 pub(crate) fn read_element_or_star(word: &[u8]) -> Result<Option<ElementId>, FaultKind>
-    ensures { Gives (λ e. e) result (or_star element word.now) }
+    ensures value { Gives (λ e. e) result (or_star element word.now) }
+    ensures sure { IfErr result (λ kind. is_memory kind ≡ false) }
 {
     if is_star(word) {
         return Ok(None);
@@ -174,7 +184,8 @@ pub(crate) fn place_of(aggregates: &[AggregateDef], word: &[u8]) -> Option<usize
 /// The place of an aggregate that a line before defines.
 #[tactic(auto, unfolding(crate::specs::Classes::aggregate_place))]
 pub(crate) fn read_place(aggregates: &[AggregateDef], word: &[u8]) -> Result<usize, FaultKind>
-    ensures { Gives (λ place. place) result (aggregate_place aggregates.now word.now) }
+    ensures value { Gives (λ place. place) result (aggregate_place aggregates.now word.now) }
+    ensures sure { IfErr result (λ kind. is_memory kind ≡ false) }
 {
     if !is_name_word(word) {
         return Err(FaultKind::BadName);
@@ -186,13 +197,15 @@ pub(crate) fn read_place(aggregates: &[AggregateDef], word: &[u8]) -> Result<usi
 }
 
 /// The name of an aggregate that no line before defines.
-#[tactic(auto, unfolding(crate::specs::Classes::new_name))]
+#[tactic(auto, unfolding(crate::specs::Classes::new_name, crate::specs::Memory::is_new_name))]
 pub(crate) fn read_new_name(
     alloc: Global,
     aggregates: &[AggregateDef],
     word: &[u8],
 ) -> Result<Name, FaultKind>
-    ensures { Gives (λ n. n) result (new_name aggregates.now word.now) }
+    ensures value { Gives (λ n. n) result (new_name aggregates.now word.now) }
+    ensures unused { IfOk result (λ _. is_new_name aggregates.now word.now ≡ true) }
+    ensures memory { IfErr result (λ kind. is_memory kind ≡ true → is_new_name aggregates.now word.now ≡ true) }
 {
     if !is_name_word(word) {
         return Err(FaultKind::BadName);
@@ -208,6 +221,7 @@ pub(crate) fn read_new_name(
 pub(crate) fn read_interval(word: &[u8]) -> Result<u32, FaultKind>
     ensures value { Gives (λ n. n) result (interval word.now) }
     ensures bound { IfOk result (λ n. (1 ≤ n) × (n ≤ 86400)) }
+    ensures sure { IfErr result (λ kind. is_memory kind ≡ false) }
 {
     let seconds = read_up_to(word, MOST_SECONDS)?;
     if seconds < 1 {
@@ -220,6 +234,7 @@ pub(crate) fn read_interval(word: &[u8]) -> Result<u32, FaultKind>
 pub(crate) fn read_grace(word: &[u8]) -> Result<u32, FaultKind>
     ensures value { Gives (λ n. n) result (number 86400 word.now) }
     ensures bound { IfOk result (λ n. n ≤ 86400) }
+    ensures sure { IfErr result (λ kind. is_memory kind ≡ false) }
 {
     read_up_to(word, MOST_SECONDS)
 }
@@ -227,7 +242,8 @@ pub(crate) fn read_grace(word: &[u8]) -> Result<u32, FaultKind>
 /// The bits that are kept of this width.
 #[tactic(auto, unfolding(crate::specs::Classes::bits_within))]
 pub(crate) fn read_bits(width: u32, word: &[u8]) -> Result<usize, FaultKind>
-    ensures { Gives (λ n. n) result (bits_within width word.now) }
+    ensures value { Gives (λ n. n) result (bits_within width word.now) }
+    ensures sure { IfErr result (λ kind. is_memory kind ≡ false) }
 {
     let bits = read_up_to(word, THREE_DIGITS)?;
     if bits > width {

@@ -1,6 +1,8 @@
-ghost use Rattle.std.specs.Prelude.{◌≡◌, ◌≤◌, length, IfOk};
+ghost use Rattle.std.specs.Prelude.{◌≡◌, ◌≤◌, length, IfOk, IfErr, true, false};
 ghost use Rattle.policy_text.specs.Policies.{IsKeyLength};
-ghost use Rattle.policy_text.specs.Results.{Gives};
+ghost use Rattle.policy_text.specs.Results.{Gives, is_memory};
+ghost use Rattle.policy_text.specs.Naming.{is_name};
+ghost use Rattle.policy_text.specs.Memory.{is_next, is_new_name, names_subscriber};
 ghost use Rattle.policy_text.specs.Classes.{name, number, element, prefix, or_star, aggregate_place, bits_within, width_at, new_name, key_of, interval};
 ghost use Rattle.policy_text.specs.Lines.{next, truncate_of, element_action, aggregate_action, on_element, action_of, rule_of, aggregate_of};
 
@@ -18,9 +20,10 @@ use ipfix_element::ElementId;
 use std::alloc::Global;
 
 impl Words<'_> {
-    #[tactic(auto, unfolding(crate::specs::Lines::next))]
+    #[tactic(auto, unfolding(crate::specs::Lines::next, crate::specs::Memory::is_next))]
     fn who(&mut self, alloc: Global) -> Result<Option<Name>, FaultKind>
-        ensures { Gives (λ who. (who, self.new)) result (next (or_star name) self.old) }
+        ensures value { Gives (λ who. (who, self.new)) result (next (or_star name) self.old) }
+        ensures memory { IfErr result (λ kind. is_memory kind ≡ true → is_next is_name self.old ≡ true) }
     {
         let word = self.word()?;
         read_who(alloc, word)
@@ -28,8 +31,9 @@ impl Words<'_> {
 
     #[tactic(auto, unfolding(crate::specs::Lines::next))]
     fn domain(&mut self) -> Result<Option<u32>, FaultKind>
-        ensures { Gives (λ domain. (domain, self.new)) result
+        ensures value { Gives (λ domain. (domain, self.new)) result
             (next (or_star (number 4294967295)) self.old) }
+        ensures sure { IfErr result (λ kind. is_memory kind ≡ false) }
     {
         let word = self.word()?;
         read_domain(word)
@@ -37,7 +41,8 @@ impl Words<'_> {
 
     #[tactic(auto, unfolding(crate::specs::Lines::next))]
     fn prefix(&mut self) -> Result<Option<Prefix>, FaultKind>
-        ensures { Gives (λ prefix. (prefix, self.new)) result (next (or_star prefix) self.old) }
+        ensures value { Gives (λ prefix. (prefix, self.new)) result (next (or_star prefix) self.old) }
+        ensures sure { IfErr result (λ kind. is_memory kind ≡ false) }
     {
         let word = self.word()?;
         read_prefix_or_star(word)
@@ -45,7 +50,8 @@ impl Words<'_> {
 
     #[tactic(auto, unfolding(crate::specs::Lines::next))]
     fn element(&mut self) -> Result<Option<ElementId>, FaultKind>
-        ensures { Gives (λ e. (e, self.new)) result (next (or_star element) self.old) }
+        ensures value { Gives (λ e. (e, self.new)) result (next (or_star element) self.old) }
+        ensures sure { IfErr result (λ kind. is_memory kind ≡ false) }
     {
         let word = self.word()?;
         read_element_or_star(word)
@@ -53,8 +59,9 @@ impl Words<'_> {
 
     #[tactic(auto, unfolding(crate::specs::Lines::next))]
     fn place(&mut self, aggregates: &[AggregateDef]) -> Result<usize, FaultKind>
-        ensures { Gives (λ place. (place, self.new)) result
+        ensures value { Gives (λ place. (place, self.new)) result
             (next (aggregate_place aggregates.now) self.old) }
+        ensures sure { IfErr result (λ kind. is_memory kind ≡ false) }
     {
         let word = self.word()?;
         read_place(aggregates, word)
@@ -62,7 +69,8 @@ impl Words<'_> {
 
     #[tactic(auto, unfolding(crate::specs::Lines::next))]
     fn bits(&mut self, width: u32) -> Result<usize, FaultKind>
-        ensures { Gives (λ bits. (bits, self.new)) result (next (bits_within width) self.old) }
+        ensures value { Gives (λ bits. (bits, self.new)) result (next (bits_within width) self.old) }
+        ensures sure { IfErr result (λ kind. is_memory kind ≡ false) }
     {
         let word = self.word()?;
         read_bits(width, word)
@@ -71,7 +79,8 @@ impl Words<'_> {
     /// What stands behind `truncate`, of an element of this width.
     #[tactic(auto, unfolding(crate::specs::Lines::truncate_of))]
     fn truncate(&mut self, width: Option<u32>) -> Result<Action, FaultKind>
-        ensures { Gives (λ action. (action, self.new)) result (truncate_of width self.old) }
+        ensures value { Gives (λ action. (action, self.new)) result (truncate_of width self.old) }
+        ensures sure { IfErr result (λ kind. is_memory kind ≡ false) }
     {
         let Some(width) = width else {
             return Err(FaultKind::BadTruncate);
@@ -83,7 +92,8 @@ impl Words<'_> {
     /// What stands behind `element ELEM`, of an element of this width.
     #[tactic(auto, unfolding(crate::specs::Lines::element_action))]
     fn element_action(&mut self, width: Option<u32>) -> Result<Action, FaultKind>
-        ensures { Gives (λ action. (action, self.new)) result (element_action width self.old) }
+        ensures value { Gives (λ action. (action, self.new)) result (element_action width self.old) }
+        ensures sure { IfErr result (λ kind. is_memory kind ≡ false) }
     {
         let word = self.word()?;
         if is_word(word, b"keep") {
@@ -103,8 +113,9 @@ impl Words<'_> {
         &mut self,
         aggregates: &[AggregateDef],
     ) -> Result<(Option<ElementId>, Action), FaultKind>
-        ensures { Gives (λ done. (done, self.new)) result
+        ensures value { Gives (λ done. (done, self.new)) result
             (aggregate_action aggregates.now self.old) }
+        ensures sure { IfErr result (λ kind. is_memory kind ≡ false) }
     {
         let place = self.place(aggregates)?;
         Ok((None, Action::Aggregate(place)))
@@ -112,7 +123,8 @@ impl Words<'_> {
 
     #[tactic(auto, unfolding(crate::specs::Lines::on_element))]
     fn on_element(&mut self) -> Result<(Option<ElementId>, Action), FaultKind>
-        ensures { Gives (λ done. (done, self.new)) result (on_element self.old) }
+        ensures value { Gives (λ done. (done, self.new)) result (on_element self.old) }
+        ensures sure { IfErr result (λ kind. is_memory kind ≡ false) }
     {
         let element = self.element()?;
         let width = width_at(&element);
@@ -126,7 +138,8 @@ impl Words<'_> {
         &mut self,
         aggregates: &[AggregateDef],
     ) -> Result<(Option<ElementId>, Action), FaultKind>
-        ensures { Gives (λ done. (done, self.new)) result (action_of aggregates.now self.old) }
+        ensures value { Gives (λ done. (done, self.new)) result (action_of aggregates.now self.old) }
+        ensures sure { IfErr result (λ kind. is_memory kind ≡ false) }
     {
         let word = self.word()?;
         if is_word(word, b"pass") {
@@ -144,10 +157,12 @@ impl Words<'_> {
         Err(FaultKind::UnknownWord)
     }
 
-    #[tactic(auto, unfolding(crate::specs::Lines::next))]
+    #[tactic(auto, unfolding(crate::specs::Lines::next, crate::specs::Memory::is_next))]
     fn new_name(&mut self, alloc: Global, aggregates: &[AggregateDef]) -> Result<Name, FaultKind>
-        ensures { Gives (λ name. (name, self.new)) result
+        ensures value { Gives (λ name. (name, self.new)) result
             (next (new_name aggregates.now) self.old) }
+        ensures unused { IfOk result (λ _. is_next (is_new_name aggregates.now) self.old ≡ true) }
+        ensures memory { IfErr result (λ kind. is_memory kind ≡ true → is_next (is_new_name aggregates.now) self.old ≡ true) }
     {
         let word = self.word()?;
         read_new_name(alloc, aggregates, word)
@@ -166,6 +181,7 @@ impl Words<'_> {
     fn interval(&mut self) -> Result<u32, FaultKind>
         ensures value { Gives (λ n. (n, self.new)) result (next interval self.old) }
         ensures bound { IfOk result (λ n. (1 ≤ n) × (n ≤ 86400)) }
+        ensures sure { IfErr result (λ kind. is_memory kind ≡ false) }
     {
         let word = self.word()?;
         read_interval(word)
@@ -175,6 +191,7 @@ impl Words<'_> {
     fn grace(&mut self) -> Result<u32, FaultKind>
         ensures value { Gives (λ n. (n, self.new)) result (next (number 86400) self.old) }
         ensures bound { IfOk result (λ n. n ≤ 86400) }
+        ensures sure { IfErr result (λ kind. is_memory kind ≡ false) }
     {
         let word = self.word()?;
         read_grace(word)
@@ -182,13 +199,14 @@ impl Words<'_> {
 }
 
 /// The rule that the words behind `rule` spell.
-#[tactic(auto, unfolding(crate::specs::Lines::rule_of))]
+#[tactic(auto, unfolding(crate::specs::Lines::rule_of, crate::specs::Memory::names_subscriber))]
 pub(crate) fn read_rule(
     alloc: Global,
     aggregates: &[AggregateDef],
     words: &mut Words<'_>,
 ) -> Result<Rule, FaultKind>
-    ensures { Gives (λ rule. rule) result (rule_of aggregates.now words.old) }
+    ensures value { Gives (λ rule. rule) result (rule_of aggregates.now words.old) }
+    ensures memory { IfErr result (λ kind. is_memory kind ≡ true → names_subscriber words.old ≡ true) }
 {
     words.keyword(b"for")?;
     let who = words.who(alloc)?;
@@ -217,7 +235,9 @@ pub(crate) fn read_aggregate(
     aggregates: &[AggregateDef],
     words: &mut Words<'_>,
 ) -> Result<AggregateDef, FaultKind>
-    ensures { Gives (λ a. a) result (aggregate_of aggregates.now words.old) }
+    ensures value { Gives (λ a. a) result (aggregate_of aggregates.now words.old) }
+    ensures unused { IfOk result (λ _. is_next (is_new_name aggregates.now) words.old ≡ true) }
+    ensures memory { IfErr result (λ kind. is_memory kind ≡ true → is_next (is_new_name aggregates.now) words.old ≡ true) }
 {
     let name = words.new_name(alloc, aggregates)?;
     words.keyword(b"key")?;

@@ -1,4 +1,4 @@
-ghost use Rattle.std.specs.Prelude.{◌≡◌, false, Ok, IfOk, IfErr, string_bytes};
+ghost use Rattle.std.specs.Prelude.{◌≡◌, false, true, Ok, IfOk, IfErr, string_bytes};
 ghost use Rattle.policy_text.specs.Grammar.{IsPolicy};
 ghost use Rattle.policy_text.specs.Policies.{Meaning};
 ghost use Rattle.policy_text.specs.Spelling.{Spells};
@@ -8,6 +8,7 @@ ghost use Rattle.policy_text.specs.Results.{Gives, Parses, fault_at, is_memory};
 ghost use Rattle.policy_text.specs.Lines.{rule_line, aggregate_line, line_of};
 ghost use Rattle.policy_text.specs.Words.{words_of, is_skipped};
 ghost use Rattle.policy_text.specs.Parsing.{is_header, line_step, policy_of};
+ghost use Rattle.policy_text.specs.Memory.{rule_takes, aggregate_takes, line_takes, step_takes, TakesMemory};
 
 use crate::aggregate::AggregateDef;
 use crate::fault::{FaultKind, PolicyFault};
@@ -56,6 +57,8 @@ impl Policy {
         ensures first { IfErr result (λ fault. is_memory fault.kind ≡ false → IsFirstFault text.now fault) }
         // Which fault it is.
         ensures exact { Parses (λ p. p) result (policy_of text.now) }
+        // Memory runs out only where the text takes some, up to its first fault.
+        ensures memory { IfErr result (λ fault. is_memory fault.kind ≡ true → TakesMemory text.now) }
     {
         Policy::read(alloc, text)
     }
@@ -63,6 +66,7 @@ impl Policy {
     /// The policy of a text, or its first fault.
     fn read(alloc: Global, text: &str) -> Result<Policy, PolicyFault>
         ensures exact { Parses (λ policy. policy) result (policy_of text.now) }
+        ensures memory { IfErr result (λ fault. is_memory fault.kind ≡ true → TakesMemory text.now) }
     {
         let mut policy = Policy {
             aggregates: Vec::new(alloc),
@@ -113,10 +117,11 @@ impl Policy {
     }
 
     /// Reads a line, and says whether the header was read by then.
-    #[tactic(auto, unfolding(crate::specs::Parsing::line_step, crate::specs::Parsing::step))]
+    #[tactic(auto, unfolding(crate::specs::Parsing::line_step, crate::specs::Parsing::step, crate::specs::Memory::step_takes))]
     fn read_line(&mut self, alloc: Global, started: bool, line: &[u8]) -> Result<bool, FaultKind>
-        ensures { Gives (λ started. (started, self.new)) result
+        ensures value { Gives (λ started. (started, self.new)) result
             (line_step started self.old line.now) }
+        ensures memory { IfErr result (λ kind. is_memory kind ≡ true → step_takes started self.old line.now ≡ true) }
     {
         if is_skipped(line) {
             return Ok(started);
@@ -132,9 +137,10 @@ impl Policy {
     }
 
     /// Adds the rule or the aggregate of a line.
-    #[tactic(auto, unfolding(crate::specs::Lines::line_of))]
+    #[tactic(auto, unfolding(crate::specs::Lines::line_of, crate::specs::Memory::line_takes))]
     fn add_line(&mut self, alloc: Global, line: &[u8]) -> Result<(), FaultKind>
-        ensures { Gives (λ _. self.new) result (line_of self.old (words_of line.now)) }
+        ensures value { Gives (λ _. self.new) result (line_of self.old (words_of line.now)) }
+        ensures memory { IfErr result (λ kind. is_memory kind ≡ true → line_takes self.old (words_of line.now) ≡ true) }
     {
         let mut words = Words::new(line);
         let word = words.word()?;
@@ -147,9 +153,10 @@ impl Policy {
         Err(FaultKind::UnknownWord)
     }
 
-    #[tactic(auto, unfolding(crate::specs::Lines::rule_line))]
+    #[tactic(auto, unfolding(crate::specs::Lines::rule_line, crate::specs::Memory::rule_takes))]
     fn add_rule(&mut self, alloc: Global, words: &mut Words<'_>) -> Result<(), FaultKind>
-        ensures { Gives (λ _. self.new) result (rule_line self.old words.old) }
+        ensures value { Gives (λ _. self.new) result (rule_line self.old words.old) }
+        ensures memory { IfErr result (λ kind. is_memory kind ≡ true → rule_takes self.old words.old ≡ true) }
     {
         if self.rules.len() >= MOST_RULES {
             return Err(FaultKind::TooMany);
@@ -159,9 +166,10 @@ impl Policy {
         Ok(())
     }
 
-    #[tactic(auto, unfolding(crate::specs::Lines::aggregate_line))]
+    #[tactic(auto, unfolding(crate::specs::Lines::aggregate_line, crate::specs::Memory::aggregate_takes))]
     fn add_aggregate(&mut self, alloc: Global, words: &mut Words<'_>) -> Result<(), FaultKind>
-        ensures { Gives (λ _. self.new) result (aggregate_line self.old words.old) }
+        ensures value { Gives (λ _. self.new) result (aggregate_line self.old words.old) }
+        ensures memory { IfErr result (λ kind. is_memory kind ≡ true → aggregate_takes self.old words.old ≡ true) }
     {
         if self.aggregates.len() >= MOST_AGGREGATES {
             return Err(FaultKind::TooMany);

@@ -460,3 +460,33 @@ fn want_of_memory(rt: HostRuntime) -> Result<(), Fail> {
     assert_eq!(rt; printed.as_str(), text);
     Ok(())
 }
+
+/// The text of a fault; a call that is refused is made again.
+fn fault_text(alloc: Global, kind: FaultKind) -> Result<String, AllocError> {
+    let fault = PolicyFault { line: 3, kind };
+    match format!(in alloc; "{fault}") {
+        Ok(text) => Ok(text),
+        Err(_) => format!(in alloc; "{fault}"),
+    }
+}
+
+#[test]
+fn texts_of_faults(rt: HostRuntime) -> Result<(), Fail> {
+    for (kind, want) in [
+        (FaultKind::NoHeader, "NoHeader"),
+        (FaultKind::UnknownWord, "UnknownWord"),
+        (FaultKind::BadName, "BadName"),
+        (FaultKind::BadNumber, "BadNumber"),
+        (FaultKind::BadPrefix, "BadPrefix"),
+        (FaultKind::BadTruncate, "BadTruncate"),
+        (FaultKind::UnknownAggregate, "UnknownAggregate"),
+        (FaultKind::DoubleAggregate, "DoubleAggregate"),
+        (FaultKind::BadKey, "BadKey"),
+        (FaultKind::TooMany, "TooMany"),
+        (FaultKind::OutOfMemory, "OutOfMemory"),
+    ] {
+        let text = fault_text(rt.alloc(), kind)?;
+        assert_eq!(rt; text.as_str(), want);
+    }
+    Ok(())
+}

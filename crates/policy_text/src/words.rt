@@ -1,8 +1,8 @@
-ghost use Rattle.std.specs.Prelude.{◌≡◌, ◌∷◌, List, ℕ, ◌<◌, ◌≤◌, length, Ok, IfSome, position, not};
+ghost use Rattle.std.specs.Prelude.{◌≡◌, ◌∷◌, List, ℕ, ◌<◌, ◌≤◌, length, Ok, IfSome, position, not, IfErr, false};
 ghost use Rattle.std.specs.Option.{option_map};
 ghost use Rattle.policy_text.specs.Words.{words_of, first_of, is_blank};
 ghost use Rattle.std.specs.Str.{bytes_eq};
-ghost use Rattle.policy_text.specs.Results.{Gives};
+ghost use Rattle.policy_text.specs.Results.{Gives, is_memory};
 ghost use Rattle.policy_text.specs.Lines.{next_of, after, ended};
 
 use crate::fault::FaultKind;
@@ -43,7 +43,8 @@ impl<'a> Words<'a> {
     /// The next word; a line that ends early has none.
     #[tactic(auto, unfolding(crate::specs::Lines::next_of))]
     pub(crate) fn word(&mut self) -> Result<&'a [u8], FaultKind>
-        ensures { Gives (λ word. (word.now, self.new)) result (next_of self.old) }
+        ensures value { Gives (λ word. (word.now, self.new)) result (next_of self.old) }
+        ensures sure { IfErr result (λ kind. is_memory kind ≡ false) }
     {
         match self.take() {
             Some(word) => Ok(word),
@@ -54,7 +55,8 @@ impl<'a> Words<'a> {
     /// That the next word is this one.
     #[tactic(auto, unfolding(crate::specs::Lines::after))]
     pub(crate) fn keyword(&mut self, keyword: &[u8]) -> Result<(), FaultKind>
-        ensures { Gives (λ _. self.new) result (after keyword.now self.old) }
+        ensures value { Gives (λ _. self.new) result (after keyword.now self.old) }
+        ensures sure { IfErr result (λ kind. is_memory kind ≡ false) }
     {
         let word = self.word()?;
         if is_word(word, keyword) {
@@ -67,7 +69,8 @@ impl<'a> Words<'a> {
     /// That no word is left.
     #[tactic(auto, unfolding(crate::specs::Lines::ended))]
     pub(crate) fn end(&mut self) -> Result<(), FaultKind>
-        ensures { Gives (λ _. tt) result (ended self.old) }
+        ensures value { Gives (λ _. tt) result (ended self.old) }
+        ensures sure { IfErr result (λ kind. is_memory kind ≡ false) }
     {
         match self.take() {
             Some(_) => Err(FaultKind::UnknownWord),
