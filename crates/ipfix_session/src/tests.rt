@@ -1,6 +1,8 @@
 use super::*;
 use ipfix_message::DecodeError;
 use ipfix_template::Record;
+use std::alloc::Global;
+use std::fmt::Write;
 use std::process::Abort;
 use std::test::Fail;
 
@@ -429,5 +431,27 @@ fn reads_the_changes(rt: &impl Abort, session: &mut Session) -> Result<(), Fail>
 
     assert_eq!(rt; fault(session, REFUSED), Some(ReadError::RecordOverrun));
     assert_eq!(rt; known(session), [None, None, None, Some(0), None]);
+    Ok(())
+}
+
+/// Room for a text. Where memory is refused, it is asked for again.
+fn some_text(alloc: Global) -> Result<String, Fail> {
+    match String::with_capacity(alloc, 64) {
+        Ok(text) => Ok(text),
+        Err(_) => Ok(String::with_capacity(alloc, 64)?),
+    }
+}
+
+#[test]
+fn error_texts(rt: HostRuntime) -> Result<(), Fail> {
+    let mut text = some_text(rt.alloc())?;
+    write!(
+        text,
+        "{} {} {}",
+        ReadError::Malformed(DecodeError::BadLength),
+        ReadError::RecordOverrun,
+        ReadError::OutOfMemory
+    )?;
+    assert_eq!(rt; text.as_str(), "Malformed RecordOverrun OutOfMemory");
     Ok(())
 }

@@ -3,7 +3,9 @@
 use super::*;
 use ipfix_message::DecodeError;
 use ipfix_session::ReadError;
+use policy_text::{FaultKind, PolicyFault};
 use std::alloc::Global;
+use std::fmt::Write;
 use std::process::Abort;
 use std::test::Fail;
 
@@ -250,5 +252,59 @@ fn isolation(rt: HostRuntime) -> Result<(), Fail> {
     expect_report(&rt, &ran, (1, 1, 1), DISCLOSED, b"");
     let ran = run_again(&rt, rt.alloc(), &job(NOT_EIGHT), TWO_DOMAINS, DISCLOSED);
     expect_report(&rt, &ran, (2, 2, 1), DISCLOSED, b"3 0 1 withheld 1 rule\n");
+    Ok(())
+}
+
+/// Room for a text. Where memory is refused, it is asked for again.
+fn some_text(alloc: Global) -> Result<String, Fail> {
+    match String::with_capacity(alloc, 64) {
+        Ok(text) => Ok(text),
+        Err(_) => Ok(String::with_capacity(alloc, 64)?),
+    }
+}
+
+#[test]
+fn fault_texts(rt: HostRuntime) -> Result<(), Fail> {
+    let mut text = some_text(rt.alloc())?;
+    let policy = PolicyFault {
+        line: 1,
+        kind: FaultKind::NoHeader,
+    };
+    write!(text, "{} {} ", Fault::Policy(policy), Fault::BadName)?;
+    write!(text, "{} ", Fault::Malformed(ReadError::RecordOverrun))?;
+    write!(text, "{} ", Fault::JournalFull)?;
+    write!(text, "{} ", Fault::AuditFull { need: 2, room: 1 })?;
+    write!(text, "{}", Fault::OutOfMemory)?;
+    assert_eq!(rt;
+        text.as_str(),
+        "Policy BadName Malformed JournalFull AuditFull OutOfMemory"
+    );
+    Ok(())
+}
+
+#[test]
+fn offline_texts(rt: HostRuntime) -> Result<(), Fail> {
+    let mut text = some_text(rt.alloc())?;
+    write!(text, "{} ", OfflineFault::Read)?;
+    write!(text, "{} ", OfflineFault::Write { sent: 3 })?;
+    write!(text, "{} ", OfflineFault::Framing(FramingFault::CutOff))?;
+    write!(text, "{} ", OfflineFault::Turns)?;
+    write!(text, "{} ", OfflineFault::Core(Fault::BadName))?;
+    write!(text, "{} ", OfflineFault::Cut)?;
+    write!(text, "{}", OfflineFault::AuditWrite)?;
+    assert_eq!(rt;
+        text.as_str(),
+        "Read Write Framing Turns Core Cut AuditWrite"
+    );
+    Ok(())
+}
+
+#[test]
+fn framing_texts(rt: HostRuntime) -> Result<(), Fail> {
+    let mut text = some_text(rt.alloc())?;
+    write!(text, "{} ", FramingFault::BadVersion)?;
+    write!(text, "{} ", FramingFault::BadLength)?;
+    write!(text, "{}", FramingFault::CutOff)?;
+    assert_eq!(rt; text.as_str(), "BadVersion BadLength CutOff");
     Ok(())
 }
