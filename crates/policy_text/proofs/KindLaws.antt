@@ -17,9 +17,10 @@ use Rattle.policy_text.specs.Elements.{element_of}
 use Rattle.policy_text.specs.Policies.{Aggregate as Definition}
 use Rattle.policy_text.specs.Results.{◌>>=◌, or_fault}
 use Rattle.policy_text.specs.Classes.{name, number, element, prefix, prefix_or_fault, star, some_of, or_star, with_key, add_piece, add_pieces, key_of, place_of, aggregate_place, new_name, interval, bits_within}
-use Rattle.policy_text.specs.Grammar.{IsKeyAfter}
+use Rattle.policy_text.specs.Grammar.{IsKey}
 use Rattle.policy_text.specs.LineParts.{IsKeyFault}
 use Rattle.policy_text.proofs.ElementLaws.{element_of-found, element_of-only}
+use Rattle.policy_text.proofs.KeyStepLaws.{IsKeyAfter, as_key, step_by_step}
 use Rattle.policy_text.proofs.SoundLaws.{err-Ok, bound, or_fault-Ok, with_key-sound}
 use Rattle.policy_text.proofs.PlaceLaws.{ok_or_err, same_kind}
 
@@ -195,4 +196,15 @@ pub key_kind : (w : Word) (kind : FaultKind) → key_of w ≡ Err kind → IsKey
 unfolding key_of
 key_kind w kind e =
     let p = piece_fault [] (slice_split (λ c. eqb c 44) w) kind e in
-    record { key = p.key; piece = p.piece; others = p.others; pieces_are = p.pieces_are; begun = p.begun; faulty = p.faulty }
+    record {
+      key = p.key;
+      piece = p.piece;
+      others = p.others;
+      pieces_are = p.pieces_are;
+      begun = as_key p.key p.begun;
+      faulty =
+          ⊎_elim (λ (unnamed : ((e : Element) → IsElement e → p.piece ≡ element_name e → ⊥) × (kind ≡ BadName)). inl unnamed)
+          (λ (refused : (e : Element) × IsElement e × (p.piece ≡ element_name e) × (IsKeyAfter [] (p.key ++ e ∷ []) → ⊥) × (kind ≡ BadKey)).
+          inr (refused.0, refused.1, refused.2, λ (whole : IsKey (p.key ++ refused.0 ∷ [])). refused.3 (step_by_step (p.key ++ refused.0 ∷ []) whole), refused.4))
+          p.faulty;
+    }

@@ -2,6 +2,7 @@ pub mod WordLaws
 pub mod ElementLaws
 pub mod ResultLaws
 pub mod KeyLaws
+pub mod KeyStepLaws
 pub mod ParsingLaws
 pub mod MemoryLaws
 pub mod NameLaws

@@ -21,6 +21,7 @@ use Rattle.policy_text.specs.Grammar.{IsAggregate, AreAggregates}
 use Rattle.policy_text.specs.Printing.{key_text}
 use Rattle.policy_text.specs.LineParts.{Part, parts_after, rule_parts, aggregate_parts}
 use Rattle.policy_text.specs.LineParts.Part.{keyword, who, domain, network, action, known_name, element_or_star, treatment, bits, unused_name, key_list, seconds}
+use Rattle.policy_text.proofs.KeyStepLaws.{as_key}
 use Rattle.policy_text.proofs.PrintedClassLaws.{or_star-star, new_name-printed, number-printed, interval-printed, bits-printed, key-printed}
 use Rattle.policy_text.proofs.SoundLaws.{err-Ok, rule_action, rule_to, rule_behind_from, rule_from, rule_behind_domain, rule_domain, rule_behind_who, rule_who, aggregate_end, aggregate_grace, aggregate_behind_interval, aggregate_interval, aggregate_behind_key, aggregate_key, aggregate_behind_name}
 use Rattle.policy_text.proofs.PlaceLaws.{Reader, Completes, IsDead, Reads, Reads-same, Agree-all, behind, dead, ok_or_err, word_step, taken, class_step, keyword_step, ends, end_reads}
@@ -162,7 +163,7 @@ unfolding example is_name with_key kind_of registry
 example_sound = record {
   name = refl;
   other = refl;
-  key = (record { pen = tt; number = omega arith }, refl, tt);
+  key = as_key example.key (record { pen = tt; number = omega arith }, refl, tt);
   ranged = record { elements = (omega arith, omega arith); interval_low = omega arith; interval_high = omega arith; grace_high = omega arith };
 }
 

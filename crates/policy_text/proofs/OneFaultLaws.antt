@@ -13,7 +13,7 @@ use Rattle.policy_text.specs.Results.{◌>>=◌, at_line, then_read, Parses, is_
 use Rattle.policy_text.specs.Classes.{element, with_key, add_piece, add_pieces, key_of}
 use Rattle.policy_text.specs.Lines.{line_of}
 use Rattle.policy_text.specs.Parsing.{is_header, step, line_step, read_lines, policy_of}
-use Rattle.policy_text.specs.Grammar.{IsKeyAfter, IsPolicy}
+use Rattle.policy_text.specs.Grammar.{IsKey, IsPolicy}
 use Rattle.policy_text.specs.Printing.{header}
 use Rattle.policy_text.specs.Spelling.{AreLines, AreAllLines, Spells}
 use Rattle.policy_text.specs.LineParts.{Part, part_behind, IsKeyFault, IsKindOf}
@@ -21,6 +21,7 @@ use Rattle.policy_text.specs.FirstFault.{MayStand, AwaitsAggregate, Begins, IsKi
 use Rattle.policy_text.specs.LineParts.Part.{first_word, keyword, who, domain, network, action, known_name, element_or_star, treatment, bits, unused_name, key_list, seconds, line_end}
 use Rattle.policy_text.proofs.ParsingLaws.{read_lines-cons, read_lines-empty}
 use Rattle.policy_text.proofs.KeptLaws.{IsPolicy-nothing}
+use Rattle.policy_text.proofs.KeyStepLaws.{IsKeyAfter, as_key, step_by_step}
 use Rattle.policy_text.proofs.SoundLaws.{key_push, with_key-sound}
 use Rattle.policy_text.proofs.SpellLaws.{line_step-only, header-only, skip-only, is_header-is, policy_of-found, policy_of-only}
 use Rattle.policy_text.proofs.PlaceLaws.{same_kind}
@@ -43,13 +44,13 @@ unfolding add_piece
 unnamed_piece key piece none (Ok e) h = let named = element_word piece e h in absurd (none e named.0 named.1)
 unnamed_piece key piece none (Err kind) h = ap (λ r. r >>= λ e. with_key key e) h ∙ ap (λ (k : FaultKind). Err k) (element_kind piece kind h)
 
-refused_by : (key : List Element) (e : Element) → (IsKeyAfter [] (key ++ e ∷ []) → ⊥) → IsKeyAfter [] key → IsElement e → (r : Result (List Element) FaultKind) → with_key key e ≡ r → with_key key e ≡ Err BadKey
+refused_by : (key : List Element) (e : Element) → (IsKey (key ++ e ∷ []) → ⊥) → IsKey key → IsElement e → (r : Result (List Element) FaultKind) → with_key key e ≡ r → with_key key e ≡ Err BadKey
 refused_by key e none begun ok (Ok more) h =
     let added = with_key-sound key more e h in
-    absurd (none (key_push [] key e begun ok added.again))
+    absurd (none (as_key (key ++ e ∷ []) (key_push [] key e (step_by_step key begun) ok added.again)))
 refused_by key e none begun ok (Err kind) h = h ∙ ap (λ (k : FaultKind). Err k) (with_key_kind key e kind h)
 
-refused_element : (key : List Element) (piece : Word) (e : Element) → IsElement e → piece ≡ element_name e → (IsKeyAfter [] (key ++ e ∷ []) → ⊥) → IsKeyAfter [] key → add_piece key piece ≡ Err BadKey
+refused_element : (key : List Element) (piece : Word) (e : Element) → IsElement e → piece ≡ element_name e → (IsKey (key ++ e ∷ []) → ⊥) → IsKey key → add_piece key piece ≡ Err BadKey
 unfolding add_piece
 refused_element key piece e ok is none begun = ap (λ r. r >>= λ x. with_key key x) (element_here piece e ok is) ∙ refused_by key e none begun ok (with_key key e) refl
 
@@ -57,10 +58,10 @@ key_fault_read : (word : Word) (kind : FaultKind) → IsKeyFault word kind → k
 unfolding key_of
 key_fault_read word kind f =
     let at : (k : FaultKind) → kind ≡ k → add_piece f.key f.piece ≡ Err k → add_pieces [] (slice_split (λ c. eqb c 44) word) ≡ Err kind =
-    λ k is refused. ap (add_pieces []) f.pieces_are ∙ read_key [] f.key (f.piece ∷ f.others) f.begun ∙ refused_piece f.key f.piece f.others k refused ∙ ap (λ (l : FaultKind). Err l) (sym is) in
+    λ k is refused. ap (add_pieces []) f.pieces_are ∙ read_key [] f.key (f.piece ∷ f.others) (step_by_step f.key f.begun) ∙ refused_piece f.key f.piece f.others k refused ∙ ap (λ (l : FaultKind). Err l) (sym is) in
     ⊎_elim (λ (unnamed : ((e : Element) → IsElement e → f.piece ≡ element_name e → ⊥) × (kind ≡ BadName)).
     at BadName unnamed.1 (unnamed_piece f.key f.piece unnamed.0 (element f.piece) refl))
-    (λ (refused : (e : Element) × IsElement e × (f.piece ≡ element_name e) × (IsKeyAfter [] (f.key ++ e ∷ []) → ⊥) × (kind ≡ BadKey)).
+    (λ (refused : (e : Element) × IsElement e × (f.piece ≡ element_name e) × (IsKey (f.key ++ e ∷ []) → ⊥) × (kind ≡ BadKey)).
     at BadKey refused.4 (refused_element f.key f.piece refused.0 refused.1 refused.2 refused.3 f.begun))
     f.faulty
 

@@ -1,7 +1,7 @@
 -- Each printed word is read back by its class.
 use Rattle.std.proofs.Common.{◌≡◌, ℕ, zero, suc, ◌^◌, ◌<◌, ◌≤◌, true, false, eqb, List, [], ◌∷◌, ◌++◌, length, get_or, map, Option, Some, None, Result, Ok, Err, refl, sym, ap, ◌∙◌, subst, arith, ⊎_elim, append_assoc, append-nil, length-append}
 use Rattle.std.proofs.lemmas.List.{length-map}
-use Rattle.std.specs.List.{All, list_all, slice_split, join_with_byte}
+use Rattle.std.specs.List.{All, AllByRecursion, list_all, slice_split, join_with_byte}
 use Rattle.std.specs.Char.{is_ascii_lowercase, digit_value}
 use Rattle.std.specs.Str.{bytes_eq}
 use Rattle.std.specs.Fmt.{decimal}
@@ -34,10 +34,11 @@ use Rattle.policy_text.specs.Naming.{is_name, is_name_octet}
 use Rattle.policy_text.specs.Elements.{element_of}
 use Rattle.policy_text.specs.Policies.{Aggregate as Definition}
 use Rattle.policy_text.specs.Classes.{name, number, element, prefix, prefix_or_fault, star, or_star, add_piece, add_pieces, key_of, place_of, aggregate_place, new_name, interval, bits_within}
-use Rattle.policy_text.specs.Grammar.{IsKeyAfter, IfGiven}
+use Rattle.policy_text.specs.Grammar.{IsKey, IfGiven}
 use Rattle.policy_text.specs.Printing.{word_or_star, key_text}
 use Rattle.policy_text.proofs.NameLaws.{name_parts}
 use Rattle.policy_text.proofs.ElementLaws.{element_of-only}
+use Rattle.policy_text.proofs.KeyStepLaws.{IsKeyAfter, step_by_step}
 use Rattle.policy_text.proofs.PlainLaws.{IsPlain, ArePlain, plain_each, plain_lacking, joined_is_plain}
 
 -- printed words are plain
@@ -76,12 +77,12 @@ prefix_plain (V6 net) h =
     let lacks = λ (byte : ℕ) (other : digit_value byte ≡ 36) (apart : eqb 58 byte ≡ false) (slash : eqb 47 byte ≡ false). form_lacks Ipv6 byte other apart slash (prefix_text (V6 net)) net.address net.length form in
     record { some = form_some (prefix_text (V6 net)) Ipv6 net.address net.length form; each = plain_lacking (prefix_text (V6 net)) (lacks 32 refl refl refl) (lacks 9 refl refl refl) (lacks 13 refl refl refl) (lacks 10 refl refl refl) }
 
-names_plain : (before key : List Element) → IsKeyAfter before key → ArePlain (map element_name key)
-names_plain before [] h = tt
-names_plain before (e ∷ es) h = (element_plain e h.0, names_plain (before ++ e ∷ []) es h.2)
+names_plain : (key : List Element) → AllByRecursion IsElement key → ArePlain (map element_name key)
+names_plain [] h = tt
+names_plain (e ∷ es) h = (element_plain e h.0, names_plain es h.1)
 
-pub key_plain : (key : List Element) → IsKeyAfter [] key → 1 ≤ length key → IsPlain (key_text key)
-key_plain key h some = joined_is_plain 44 (map element_name key) refl (omega (arith, length-map key element_name)) (names_plain [] key h)
+pub key_plain : (key : List Element) → IsKey key → 1 ≤ length key → IsPlain (key_text key)
+key_plain key h some = joined_is_plain 44 (map element_name key) refl (omega (arith, length-map key element_name)) (names_plain key h.elements)
 
 -- and read back
 pub name-printed : (word : Word) → is_name word ≡ true → name word ≡ Ok word
@@ -161,11 +162,11 @@ lacks_comma [] h k d low = absurd (omega arith)
 lacks_comma (c ∷ cs) h zero d low = ne_eqb c 44 (λ same. false≢true (ap element_octet (sym same) ∙ (and_parts (element_octet c) (list_all element_octet cs) h).0))
 lacks_comma (c ∷ cs) h (suc k) d low = lacks_comma cs (and_parts (element_octet c) (list_all element_octet cs) h).1 k d (omega arith)
 
-split_names : (e : Element) (before es : List Element) → IsElement e → IsKeyAfter before es → slice_split (λ c. eqb c 44) (join_with_byte 44 (element_name e ∷ map element_name es)) ≡ element_name e ∷ map element_name es
-split_names e before [] ok h = slice_split_none (λ c. eqb c 44) (element_name e) (lacks_comma (element_name e) (one_word e ok).1)
-split_names e before (next ∷ es) ok h =
+split_names : (e : Element) (es : List Element) → IsElement e → AllByRecursion IsElement es → slice_split (λ c. eqb c 44) (join_with_byte 44 (element_name e ∷ map element_name es)) ≡ element_name e ∷ map element_name es
+split_names e [] ok h = slice_split_none (λ c. eqb c 44) (element_name e) (lacks_comma (element_name e) (one_word e ok).1)
+split_names e (next ∷ es) ok h =
     slice_split_at (λ c. eqb c 44) (element_name e) 44 (join_with_byte 44 (element_name next ∷ map element_name es)) (lacks_comma (element_name e) (one_word e ok).1) refl
-    ∙ ap (λ ws. element_name e ∷ ws) (split_names next (before ++ next ∷ []) es h.0 h.2)
+    ∙ ap (λ ws. element_name e ∷ ws) (split_names next es h.0 h.1)
 
 pieces-printed : (before key : List Element) → IsKeyAfter before key → add_pieces before (map element_name key) ≡ Ok (before ++ key)
 unfolding add_pieces add_piece
@@ -173,7 +174,7 @@ pieces-printed before [] h = ap (λ (k : List Element). Ok k) (sym (append-nil b
 pieces-printed before (e ∷ es) h =
     rw (element-printed e h.0, h.1) (pieces-printed (before ++ e ∷ []) es h.2 ∙ ap (λ (k : List Element). Ok k) (append_assoc before (e ∷ []) es))
 
-pub key-printed : (key : List Element) → IsKeyAfter [] key → 1 ≤ length key → key_of (key_text key) ≡ Ok key
+pub key-printed : (key : List Element) → IsKey key → 1 ≤ length key → key_of (key_text key) ≡ Ok key
 unfolding key_of
 key-printed [] h some = absurd (omega arith)
-key-printed (e ∷ es) h some = ap (add_pieces []) (split_names e (e ∷ []) es h.0 h.2) ∙ pieces-printed [] (e ∷ es) h
+key-printed (e ∷ es) h some = ap (add_pieces []) (split_names e es h.elements.0 h.elements.1) ∙ pieces-printed [] (e ∷ es) (step_by_step (e ∷ es) h)

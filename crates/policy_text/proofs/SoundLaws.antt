@@ -27,9 +27,10 @@ use Rattle.policy_text.specs.Policies.{IsKeyLength, Aggregate as Definition}
 use Rattle.policy_text.specs.Results.{◌>>=◌, or_fault}
 use Rattle.policy_text.specs.Classes.{name, number, element, prefix, prefix_or_fault, star, some_of, or_star, is_key_kind, width_at, with_key, add_piece, add_pieces, key_of, place_of, aggregate_place, new_name, interval, bits_within}
 use Rattle.policy_text.specs.Lines.{next_of, next, after, ended, truncate_of, element_action, aggregate_action, on_element, action_of, rule_of, aggregate_of}
-use Rattle.policy_text.specs.Grammar.{name_at, IfGiven, IsAction, IsRule, IsKeyAfter, IsAggregate}
+use Rattle.policy_text.specs.Grammar.{name_at, IfGiven, IsAction, IsRule, IsKey, IsAggregate}
 use Rattle.policy_text.specs.declared.fault.FaultKind.TheVariants.{UnknownWord, BadName, BadNumber, BadPrefix, BadTruncate, UnknownAggregate, DoubleAggregate, BadKey}
 use Rattle.policy_text.proofs.ElementLaws.{element_of-found}
+use Rattle.policy_text.proofs.KeyStepLaws.{IsKeyAfter, as_key}
 use Rattle.policy_text.proofs.WordLaws.{position-place}
 
 pub err-Ok : {A : Type 0} (kind : FaultKind) (y : A) → ◌≡◌ {A = Result A FaultKind} (Err kind) (Ok y) → ⊥
@@ -328,12 +329,12 @@ some_piece key (piece ∷ pieces) out some h few e =
     let longer = rest.longer in
     (record { elements = rest.elements; longer = omega arith; few = rest.few }, omega arith)
 
-key-sound : (w : Word) (key : List Element) → key_of w ≡ Ok key → IsKeyAfter [] key × IsKeyLength (length key)
+key-sound : (w : Word) (key : List Element) → key_of w ≡ Ok key → IsKey key × IsKeyLength (length key)
 unfolding key_of
 key-sound w key e =
     let count = length-slice_split (λ c. eqb c 44) w in
     let h = some_piece [] (slice_split (λ c. eqb c 44) w) key (omega arith) tt (omega arith) e in
-    (h.0.elements, (h.1, h.0.few))
+    (as_key key h.0.elements, (h.1, h.0.few))
 
 interval-sound : (w : Word) (n : ℕ) → interval w ≡ Ok n → (1 ≤ n) × (n ≤ 86400)
 unfolding interval

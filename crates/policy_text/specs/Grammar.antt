@@ -1,14 +1,15 @@
 -- What the type of a policy keeps: each rule and each aggregate is one that a line may spell after those before it.
-use Rattle.std.specs.Prelude.{◌≡◌, ℕ, zero, suc, ◌<◌, ◌≤◌, ◌^◌, true, List, [], ◌∷◌, ◌++◌, length, Option, Some, None, Ok}
+use Rattle.std.specs.Prelude.{◌≡◌, ℕ, zero, suc, ◌<◌, ◌≤◌, ◌^◌, true, List, [], ◌∷◌, ◌++◌, length, Option, Some, None}
 use Rattle.std.specs.List.{AllByRecursion}
 use Rattle.ipfix_element.specs.Element.{Element, IsElement}
+use Rattle.ipfix_element.specs.Kinds.{kind_of}
 use Rattle.flow_prefix.specs.Prefixes.{IsPrefix}
 use Rattle.policy_text.specs.declared.rule.Rule.{Rule}
 use Rattle.policy_text.specs.declared.rule.Action.{Action}
 use Rattle.policy_text.specs.declared.rule.Action.TheVariants.{Pass, Withhold, Aggregate, Keep, Remove, Truncate}
 use Rattle.policy_text.specs.Naming.{is_name}
 use Rattle.policy_text.specs.Policies.{Meaning, IsRanged, Aggregate as Definition}
-use Rattle.policy_text.specs.Classes.{place_of, width_at, with_key}
+use Rattle.policy_text.specs.Classes.{place_of, width_at, is_key_kind}
 
 -- the name of the aggregate at a place
 abbrev pub name_at : List Definition → ℕ → List ℕ
@@ -39,16 +40,18 @@ pub record IsRule (aggregates : List Definition) (r : Rule) : Type 0 where
   pub element : IfGiven IsElement r.element
   pub action : IsAction aggregates r.element r.action
 
--- elements that a key may have after those before
-abbrev pub IsKeyAfter : List Element → List Element → Type 0
-IsKeyAfter before [] = Unit {0}
-IsKeyAfter before (e ∷ es) = IsElement e × (with_key before e ≡ Ok (before ++ e ∷ [])) × IsKeyAfter (before ++ e ∷ []) es
+-- elements that a key may have: each of a kind for keys, none twice, at most 16
+pub record IsKey (key : List Element) : Type 0 where
+  pub elements : AllByRecursion IsElement key
+  pub kinds : AllByRecursion (λ e. is_key_kind (kind_of e) ≡ true) key
+  pub once : (before between after : List Element) (e : Element) → key ≡ before ++ e ∷ between ++ e ∷ after → ⊥
+  pub few : length key ≤ 16
 
 -- an aggregate that a line may spell after those before
 pub record IsAggregate (before : List Definition) (a : Definition) : Type 0 where
   pub name : is_name a.name ≡ true
   pub other : place_of before a.name ≡ None
-  pub key : IsKeyAfter [] a.key
+  pub key : IsKey a.key
   pub ranged : IsRanged (length a.key) a.interval a.grace
 
 abbrev pub AreAggregates : List Definition → List Definition → Type 0

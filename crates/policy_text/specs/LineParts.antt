@@ -9,7 +9,7 @@ use Rattle.policy_text.specs.declared.fault.FaultKind.{FaultKind}
 use Rattle.policy_text.specs.declared.fault.FaultKind.TheVariants.{UnknownWord, BadName, BadNumber, BadPrefix, BadTruncate, UnknownAggregate, DoubleAggregate, BadKey, TooMany}
 use Rattle.policy_text.specs.Words.{Word}
 use Rattle.policy_text.specs.Naming.{is_name}
-use Rattle.policy_text.specs.Grammar.{IsKeyAfter}
+use Rattle.policy_text.specs.Grammar.{IsKey}
 
 -- what a word of a line is to be
 pub data Part : Type 0 where
@@ -63,10 +63,10 @@ pub record IsKeyFault (word : Word) (kind : FaultKind) : Type 0 where
   pub piece : Word
   pub others : List Word
   pub pieces_are : slice_split (λ c. c == 44) word ≡ map element_name key ++ piece ∷ others
-  pub begun : IsKeyAfter [] key
+  pub begun : IsKey key
   pub faulty :
       (((e : Element) → IsElement e → piece ≡ element_name e → ⊥) × (kind ≡ BadName))
-      ⊎ ((e : Element) × IsElement e × (piece ≡ element_name e) × (IsKeyAfter [] (key ++ e ∷ []) → ⊥) × (kind ≡ BadKey))
+      ⊎ ((e : Element) × IsElement e × (piece ≡ element_name e) × (IsKey (key ++ e ∷ []) → ⊥) × (kind ≡ BadKey))
 
 -- the kind of a faulty word by its part
 abbrev pub IsKindOf : Part → Word → FaultKind → Type 0
