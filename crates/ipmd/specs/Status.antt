@@ -1,5 +1,12 @@
--- The exit statuses of the program.
+-- What the program says of a fault, and its exit statuses.
 use Rattle.std.specs.Prelude.{ℕ}
+use Rattle.policy_text.specs.declared.fault.FaultKind.{FaultKind}
+use Rattle.policy_text.specs.declared.fault.FaultKind.TheVariants as kind
+use Rattle.policy_text.specs.declared.fault.PolicyFault.{PolicyFault}
+use Rattle.mediator_core.specs.declared.fault.Fault.{Fault}
+use Rattle.mediator_core.specs.declared.fault.Fault.TheVariants as core
+use Rattle.mediator_core.specs.declared.job.OfflineFault.{OfflineFault}
+use Rattle.mediator_core.specs.declared.job.OfflineFault.TheVariants as offline
 use Rattle.ipmd.specs.declared.fault.ProgramFault.{ProgramFault}
 use Rattle.ipmd.specs.declared.fault.ProgramFault.TheVariants.{CommandLine, Policy, Hex, Framing, Core, Cut, OutOfMemory, Device}
 
@@ -13,3 +20,36 @@ status_of (Core _) = 1
 status_of Cut = 1
 status_of OutOfMemory = 1
 status_of Device = 3
+
+-- a policy that is refused for want of memory isn't at fault
+abbrev pub policy_fault_of : PolicyFault → FaultKind → ProgramFault
+policy_fault_of fault kind.OutOfMemory = OutOfMemory
+policy_fault_of fault kind.NoHeader = Policy fault
+policy_fault_of fault kind.UnknownWord = Policy fault
+policy_fault_of fault kind.BadName = Policy fault
+policy_fault_of fault kind.BadNumber = Policy fault
+policy_fault_of fault kind.BadPrefix = Policy fault
+policy_fault_of fault kind.BadTruncate = Policy fault
+policy_fault_of fault kind.UnknownAggregate = Policy fault
+policy_fault_of fault kind.DoubleAggregate = Policy fault
+policy_fault_of fault kind.BadKey = Policy fault
+policy_fault_of fault kind.TooMany = Policy fault
+
+-- what the core refuses
+abbrev pub core_fault_of : Fault → ProgramFault
+core_fault_of (core.Policy why) = policy_fault_of why why.kind
+core_fault_of core.OutOfMemory = OutOfMemory
+core_fault_of core.BadName = Core core.BadName
+core_fault_of (core.Malformed why) = Core (core.Malformed why)
+core_fault_of core.JournalFull = Core core.JournalFull
+core_fault_of (core.AuditFull need room) = Core (core.AuditFull need room)
+
+-- why a stream was not filtered to its end
+abbrev pub offline_fault_of : OfflineFault → ProgramFault
+offline_fault_of offline.Read = Device
+offline_fault_of (offline.Write sent) = Device
+offline_fault_of offline.Turns = Device
+offline_fault_of offline.AuditWrite = Device
+offline_fault_of (offline.Framing why) = Framing why
+offline_fault_of (offline.Core why) = core_fault_of why
+offline_fault_of offline.Cut = Cut

@@ -112,6 +112,11 @@ impl From<clap::Error> for ProgramFault {
 }
 
 impl From<PolicyFault> for ProgramFault {
+    ghost use Rattle.std.specs.Prelude.{◌≡◌};
+    ghost use Rattle.ipmd.specs.Status.{policy_fault_of};
+
+    ghost from_gives = { λ f e. e ≡ policy_fault_of f f.kind };
+
     fn from(fault: PolicyFault) -> ProgramFault {
         match fault.kind {
             FaultKind::OutOfMemory => ProgramFault::OutOfMemory,
@@ -121,6 +126,11 @@ impl From<PolicyFault> for ProgramFault {
 }
 
 impl From<OfflineFault> for ProgramFault {
+    ghost use Rattle.std.specs.Prelude.{◌≡◌};
+    ghost use Rattle.ipmd.specs.Status.{offline_fault_of};
+
+    ghost from_gives = { λ f e. e ≡ offline_fault_of f };
+
     fn from(fault: OfflineFault) -> ProgramFault {
         match fault {
             OfflineFault::Read
