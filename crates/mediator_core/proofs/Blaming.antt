@@ -1,5 +1,5 @@
 -- Which device has failed where a run stops.
-use Rattle.std.proofs.Common.{◌≡◌, Bool, true, false, List, ℕ, Option, refl, ap, ◌∙◌}
+use Rattle.std.proofs.Common.{◌≡◌, Bool, false, List, ℕ, Option, refl, ap, ◌∙◌}
 use Rattle.ipfix_message.specs.declared.frame_error.FrameError.{FrameError}
 use Rattle.ipfix_message.specs.declared.frame_error.FrameError.TheVariants as frame
 use Rattle.mediator_core.specs.declared.desk.Desk.{Desk}

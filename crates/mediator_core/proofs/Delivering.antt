@@ -30,7 +30,7 @@ use Rattle.mediator_core.specs.Steps.{end_of}
 use Rattle.mediator_core.specs.declared.job.OfflineFault.{OfflineFault}
 use Rattle.mediator_core.specs.Pulling.{HandsOut, IsDelivering, SameElse, StopsWriting, Delivers, StopsDelivery, FailsDelivery}
 
-run_some : (target : ℕ) (ps : List Part) → 1 ≤ run_length target ps
+pub run_some : (target : ℕ) (ps : List Part) → 1 ≤ run_length target ps
 unfolding run_length
 run_some target ps = omega arith
 

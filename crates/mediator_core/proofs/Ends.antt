@@ -1,5 +1,5 @@
 -- The reading of a stream, from its start to its end.
-use Rattle.std.proofs.Common.{◌≡◌, ℕ, ◌+◌, ◌≤◌, ◌<◌, ◌^◌, Bool, true, List, [], ◌∷◌, ◌++◌, length, take, Option, None, refl, sym, ap, ◌∙◌, subst, arith, append-nil, append_assoc, length-append}
+use Rattle.std.proofs.Common.{◌≡◌, ℕ, ◌+◌, ◌≤◌, ◌<◌, Bool, true, List, [], ◌∷◌, ◌++◌, length, take, Option, None, refl, sym, ap, ◌∙◌, subst, arith, append-nil, append_assoc, length-append}
 use Rattle.std.proofs.lemmas.List.{take_all}
 use Rattle.std.specs.Io.KnownBytes.{Consumes, Keeps, IsAtEnd}
 use Rattle.std.proofs.KnownBytes.{Appends-nil, Consumes-nil, Consumes-trans, Consumes-kept}
@@ -8,23 +8,22 @@ use Rattle.ipfix_message.specs.FramerState.{FramerState, nothing_fed}
 use Rattle.subscriber_stream.specs.Parts.{parts, records_in}
 use Rattle.subscriber_stream.proofs.CallLaws.{parts_bring}
 use Rattle.stream_meaning.specs.HandedOut.{AreHandedOut}
-use Rattle.stream_meaning.proofs.Handing.{none_handed_out, handed_whole}
+use Rattle.stream_meaning.proofs.Handing.{none_handed_out}
 use Rattle.mediator_core.specs.declared.job.OfflineJob.{OfflineJob}
 use Rattle.mediator_core.specs.declared.job.OfflineReport.{OfflineReport}
 use Rattle.mediator_core.specs.declared.job.FramingFault.TheVariants as framing
 use Rattle.mediator_core.specs.declared.job.OfflineFault.{OfflineFault}
 use Rattle.mediator_core.specs.declared.job.OfflineFault.TheVariants.{Read, Write, Framing, Turns, Core, Cut, AuditWrite}
 use Rattle.mediator_core.specs.declared.desk.Desk.{Desk}
-use Rattle.mediator_core.specs.Offline.{started, history_of, disclosed_by, due, after_message, next_message as next_entry}
+use Rattle.mediator_core.specs.Offline.{started, history_of, disclosed_by, after_message, next_message as next_entry}
 use Rattle.mediator_core.specs.Desks.{Stands}
 use Rattle.mediator_core.specs.Steps.{end_of}
 use Rattle.mediator_core.specs.Running.{AreAccepted, IsOpened, IsRunning}
 use Rattle.mediator_core.specs.Reading.{IsDone, StopsIn, FeedsOn, StopsFeeding, AreRead, IsAfter, ReachesEnd, StopsReading, Finishes}
 use Rattle.mediator_core.proofs.Streams.{means_of}
-use Rattle.mediator_core.proofs.InHand.{fold-snoc, ended}
-use Rattle.mediator_core.proofs.Delivering.{streamable_of}
+use Rattle.mediator_core.proofs.InHand.{fold-snoc}
 
-parts_none : length (parts []) ≡ 0
+pub parts_none : length (parts []) ≡ 0
 unfolding parts
 parts_none = refl
 
@@ -40,6 +39,7 @@ nothing_framed = record {
 pub running_starts : (d : Desk) (job : OfflineJob) (held aheld : Option (List ℕ)) → IsOpened d job → IsRunning d job [] held held aheld aheld
 running_starts d job held aheld o = record {
   job_is = o.job_is;
+  job_accepted = o.job_accepted;
   stands = subst (Stands d (started job)) (sym parts_none) o.stands;
   small = o.small;
   quiet = o.quiet;
@@ -97,7 +97,7 @@ reading_stops e d f job given mid left held holds writes aheld aholds awrites rf
 
 pub done_after : (d : Desk) (f : FramerState) (job : OfflineJob) (given left held holds aheld aholds : Option (List ℕ)) (k : ℕ) → (so : IsAfter d f job given left held holds aheld aholds k)
     → IsDone job so.octets so.messages None f.pending held holds aheld aholds
-done_after d f job given left held holds aheld aholds k so = record { framed = so.reading.framed; all = so.reading.running.accepted; written = so.reading.running.written; means = means_of d job so.messages held holds aheld aholds so.reading.running; audited = so.reading.running.audited }
+done_after d f job given left held holds aheld aholds k so = record { job_accepted = so.reading.running.job_accepted; framed = so.reading.framed; all = so.reading.running.accepted; written = so.reading.running.written; means = means_of d job so.messages held holds aheld aholds so.reading.running; audited = so.reading.running.audited }
 
 pub read_fails : (d : Desk) (f : FramerState) (job : OfflineJob) (given left held holds aheld aholds : Option (List ℕ)) (rfailed failed afailed : Bool) (k : ℕ) → IsAfter d f job given left held holds aheld aholds k → k < job.turns → rfailed ≡ true
     → StopsReading Read job given left held holds aheld aholds rfailed failed afailed
@@ -171,7 +171,7 @@ finishes d job report given left held holds aheld aholds r entries records hande
   taken = r.taken;
   end = r.end;
   turns = r.turns;
-  done = record { framed = r.framed; all = r.running.accepted; written = r.running.written; means = means_of d job r.messages held holds aheld aholds r.running; audited = r.running.audited };
+  done = record { job_accepted = r.running.job_accepted; framed = r.framed; all = r.running.accepted; written = r.running.written; means = means_of d job r.messages held holds aheld aholds r.running; audited = r.running.audited };
   counted = omega (arith, entries, r.running.stands.entries, history_length job [] r.messages r.running.accepted);
   recorded = records ∙ r.running.stands.records;
   disclosed = handed ∙ r.running.stands.stream.handed ∙ ap (λ ps. length (records_in ps)) (take_all (end_of (history_of job r.messages)) (parts (disclosed_by job r.messages)) (omega arith)) ∙ ap length (parts_bring (disclosed_by job r.messages));

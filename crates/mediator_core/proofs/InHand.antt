@@ -241,6 +241,7 @@ pub handled : (d1 d3 d4 : Desk) (job : OfflineJob) (messages : List (List ℕ)) 
     → IsRunning d4 job (messages ++ octets ∷ []) held writes aheld awrites
 handled d1 d3 d4 job messages octets held holds writes aheld aholds awrites r k same lines drains empty limit = record {
   job_is = same.job ∙ k.job_is;
+  job_accepted = r.job_accepted;
   stands = recorded_on d3 d4 (history_of job (messages ++ octets ∷ [])) (end_of (history_of job (messages ++ octets ∷ []))) k.stands same (drains (audit_list (history_of job (messages ++ octets ∷ []))) k.stands.audit) limit;
   small = k.small;
   quiet = empty;

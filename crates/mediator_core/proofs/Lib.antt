@@ -9,3 +9,4 @@ pub mod Blaming
 pub mod InHand
 pub mod Streams
 pub mod Ends
+pub mod DueLaws

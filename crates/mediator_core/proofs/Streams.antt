@@ -85,7 +85,7 @@ fed_on old new f g piece out holds writes aholds awrites sound on none so = reco
 -- all messages of a run that goes on
 done_of : (d : Desk) (job : OfflineJob) (octets : List ℕ) (messages : List (List ℕ)) (fault : Option FrameError) (pending : List ℕ) (held holds aheld aholds : Option (List ℕ)) → IsRunning d job messages held holds aheld aholds
     → IsFramed octets messages fault pending → IsDone job octets messages fault pending held holds aheld aholds
-done_of d job octets messages fault pending held holds aheld aholds r framed = record { framed = framed; all = r.accepted; written = r.written; means = means_of d job messages held holds aheld aholds r; audited = r.audited }
+done_of d job octets messages fault pending held holds aheld aholds r framed = record { job_accepted = r.job_accepted; framed = framed; all = r.accepted; written = r.written; means = means_of d job messages held holds aheld aholds r; audited = r.audited }
 
 emptied : (w : FrameError) (octets : List ℕ) (messages : List (List ℕ)) (pending : List ℕ) → IsFramed octets messages (Some w) pending → IsFramed octets messages (Some w) []
 emptied w octets messages pending framed = subst (IsFramed octets messages (Some w)) framed.ends.0 framed
@@ -139,6 +139,7 @@ message_stops e old f g piece out holds writes aholds awrites failed afailed sou
         later = stop.later;
         frame_fault = g.fault;
         pending = g.pending;
+        job_accepted = r.running.job_accepted;
         framed = subst (λ ms. IsFramed (octets ++ piece) ms g.fault g.pending) (ap (λ t. messages ++ t) stop.parts ∙ sym (append_assoc messages stop.before (stop.message ∷ stop.later))) (framed_on f g octets piece messages out sound on r.framed);
         all = (stop.after job messages held aheld r.running).0;
         means = (stop.after job messages held aheld r.running).1;

@@ -14,5 +14,6 @@ pub mod Opening
 pub mod Desks
 pub mod Steps
 pub mod Pulling
+pub mod Due
 pub mod Running
 pub mod Reading

@@ -43,6 +43,12 @@ pub record HasPolicy (text : List ℕ) : Type 0 where
   pub policy : Policy
   pub accepted : IsAccepted text policy
 
+-- a run accepts the job: its policy, and its name, which is one; and the journal has room for both
+pub record IsAcceptedJob (job : OfflineJob) : Type 0 where
+  pub policy : HasPolicy job.policy.now
+  pub name : is_name job.name.now ≡ true
+  pub room : has_journal_room [] (started job) ≡ true
+
 -- the whole run is refused so: the policy is judged first, then room for it in the journal, then the name, and then room
 -- for the rest
 abbrev pub RefusesJob : Fault → OfflineJob → Type 0

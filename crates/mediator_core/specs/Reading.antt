@@ -17,25 +17,27 @@ use Rattle.mediator_core.specs.declared.job.OfflineFault.{OfflineFault}
 use Rattle.mediator_core.specs.declared.job.OfflineFault.TheVariants.{Read, Write, Framing, Turns, Core, Cut, AuditWrite}
 use Rattle.mediator_core.specs.declared.desk.Desk.{Desk}
 use Rattle.mediator_core.specs.Offline.{history_of, disclosed_by, due, audit_due}
-use Rattle.mediator_core.specs.Opening.{RefusesJob}
+use Rattle.mediator_core.specs.Opening.{IsAcceptedJob, RefusesJob}
 use Rattle.mediator_core.specs.Running.{AreAccepted, IsRunning, StopsAt}
 
--- these octets are these messages, and then this fault or these octets that are pending; all messages were accepted, what
--- is due for them was written, and it means what they disclose
+-- the job was accepted, and these octets are these messages, and then this fault or these octets that are pending; all
+-- messages were accepted, what is due for them was written, and it means what they disclose
 pub record IsDone (job : OfflineJob) (octets : List ℕ) (messages : List (List ℕ)) (frame_fault : Option FrameError) (pending : List ℕ) (held holds aheld aholds : Option (List ℕ)) : Type 0 where
+  pub job_accepted : IsAcceptedJob job
   pub framed : IsFramed octets messages frame_fault pending
   pub all : AreAccepted job [] messages
   pub written : Appends held holds (concat (due job messages))
   pub means : Means (due job messages) (disclosed_by job messages)
   pub audited : Appends aheld aholds (audit_due job messages)
 
--- the messages before the one in hand were accepted, and the run stops there
+-- the job and the messages before the one in hand were accepted, and the run stops there
 pub record StopsInHand (e : OfflineFault) (job : OfflineJob) (octets : List ℕ) (held holds aheld aholds : Option (List ℕ)) (failed afailed : Bool) : Type 0 where
   pub before : List (List ℕ)
   pub message : List ℕ
   pub later : List (List ℕ)
   pub frame_fault : Option FrameError
   pub pending : List ℕ
+  pub job_accepted : IsAcceptedJob job
   pub framed : IsFramed octets (before ++ message ∷ later) frame_fault pending
   pub all : AreAccepted job [] before
   pub means : Means (due job before) (disclosed_by job before)

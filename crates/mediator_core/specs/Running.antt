@@ -12,6 +12,7 @@ use Rattle.mediator_core.specs.declared.job.OfflineFault.TheVariants.{Read, Writ
 use Rattle.mediator_core.specs.declared.desk.Desk.{Desk}
 use Rattle.mediator_core.specs.Recording.{WritesOn}
 use Rattle.mediator_core.specs.Offline.{audit_limit, started, cuts_by, history_of, disclosed_by, due_by, due, audit_due}
+use Rattle.mediator_core.specs.Opening.{IsAcceptedJob}
 use Rattle.mediator_core.specs.Desks.{Stands, Small}
 use Rattle.mediator_core.specs.Steps.{end_of, Accepts, RefusesMessage}
 
@@ -23,6 +24,7 @@ AreAccepted job before (octets ∷ messages) = (Accepts (history_of job before) 
 -- a desk before the first message
 pub record IsOpened (d : Desk) (job : OfflineJob) : Type 0 where
   pub job_is : d.job ≡ job
+  pub job_accepted : IsAcceptedJob job
   pub stands : Stands d (started job) 0
   pub small : Small (started job)
   pub quiet : d.audit.standing.entries ≡ []
@@ -31,6 +33,7 @@ pub record IsOpened (d : Desk) (job : OfflineJob) : Type 0 where
 -- these messages were handled, and what is due for them was written
 pub record IsRunning (d : Desk) (job : OfflineJob) (messages : List (List ℕ)) (held holds aheld aholds : Option (List ℕ)) : Type 0 where
   pub job_is : d.job ≡ job
+  pub job_accepted : IsAcceptedJob job
   pub stands : Stands d (history_of job messages) (end_of (history_of job messages))
   pub small : Small (history_of job messages)
   pub quiet : d.audit.standing.entries ≡ []

@@ -7,6 +7,8 @@
 //! - `desk`: one session and one subscription under one policy; `opening`, `handling`, `delivery` and `recording`
 //!   say what is done with a message.
 //! - `share`: what a message gives to the subscription, and what the audit says of it.
+//! - [`laws`]: over the definitions that the contract of [`offline`] cites, with no code behind them:
+//!   [`due_is_built`], that what is due are the messages that are built one after another.
 #![tactic(auto)]
 
 mod delivery;
@@ -15,6 +17,7 @@ mod engine;
 mod fault;
 mod handling;
 mod job;
+pub mod laws;
 mod opening;
 mod recording;
 mod share;
@@ -22,6 +25,7 @@ mod share;
 pub use engine::offline;
 pub use fault::Fault;
 pub use job::{FramingFault, OfflineFault, OfflineJob, OfflineReport};
+pub use laws::due_is_built;
 pub use octet_devices::{Device, Failed, Sink, Source};
 
 #[cfg(test)]

@@ -1,4 +1,4 @@
-use Rattle.std.proofs.Common.{◌<◌, ◌^◌, false, ◌∙◌, subst}
+use Rattle.std.proofs.Common.{false, ◌∙◌, subst}
 use Rattle.mediator_core.proofs.Receiving.{err_gives}
 use Rattle.mediator_core.proofs.Blaming.{only_then}
 use Rattle.mediator_core.specs.Reading.{ReachesEnd}
