@@ -6,7 +6,7 @@ use Rattle.ipfix_template.specs.DataRecord.{DataRecord}
 use Rattle.subscriber_stream.specs.Parts.{Part, parts, records_in}
 use Rattle.subscriber_stream.specs.Message.{run_length, built, place_after}
 use Rattle.subscriber_stream.specs.declared.limits.Limits.{Limits}
-use Rattle.subscriber_stream.specs.Shapes.{shapes_after, shapes_of}
+use Rattle.subscriber_stream.specs.Shapes.{shapes_of}
 use Rattle.subscriber_stream.specs.Standing.{Standing, StandsAt, FitsLimits}
 use Rattle.subscriber_stream.specs.Calls.{Call, Given, Pulled, Pull, pulls_of, octets_from, Serves}
 use Rattle.subscriber_stream.proofs.CallLaws.{served, parts_bring}
@@ -104,7 +104,7 @@ handed_answer messages answer records p now target time below are is =
 -- ---- which records may be streamed
 
 no_shapes : length (shapes_of []) ≤ 65280
-unfolding shapes_after
+unfolding shapes_of
 no_shapes = omega arith
 
 pub none_streamable : AreStreamable []

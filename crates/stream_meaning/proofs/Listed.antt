@@ -10,7 +10,7 @@ use Rattle.ipfix_template.specs.Equality.{same_template}
 use Rattle.ipfix_template.specs.SameTemplate.{same_template-is}
 use Rattle.subscriber_stream.specs.Shapes.{is_among, with_shape, shapes_after, shapes_of}
 use Rattle.subscriber_stream.specs.Parts.{Part, Announcement, Entry, parts_for, parts_at, parts}
-use Rattle.subscriber_stream.proofs.Standings.{shapes_after-append}
+use Rattle.subscriber_stream.proofs.ShapeLaws.{shapes_after-first, shapes_on, shapes_of-push, length-shapes_after}
 use Rattle.stream_meaning.specs.Served.{IsStreamable, AreStreamable}
 use Rattle.stream_meaning.proofs.Tables.{Table, empty, defining, AreKnown, after_parts}
 use Rattle.stream_meaning.proofs.Sets.{known_append}
@@ -97,32 +97,12 @@ listed shapes r may few = listed_by shapes r (is_among r.template shapes) refl m
 
 -- ---- all of them
 
-length-with_shape : (shapes : List Template) (shape : Template) → length shapes ≤ length (with_shape shapes shape)
-length-with_shape shapes shape = by_test (is_among shape shapes) where
-  by_test : (b : Bool) → length shapes ≤ length (cond b shapes (shapes ++ shape ∷ []))
-  by_test true = omega arith
-  by_test false = omega (arith, length-append shapes (shape ∷ []))
-
-length-shapes_after : (shapes : List Template) (rs : List DataRecord) → length shapes ≤ length (shapes_after shapes rs)
-unfolding shapes_after
-length-shapes_after shapes [] = omega arith
-length-shapes_after shapes (r ∷ rs) =
-    omega (arith, length-with_shape shapes r.template, length-shapes_after (with_shape shapes r.template) rs)
-
-shapes_of-push : (before : List DataRecord) (r : DataRecord) → shapes_of (before ++ r ∷ []) ≡ with_shape (shapes_of before) r.template
-unfolding shapes_after
-shapes_of-push before r = shapes_after-append [] before (r ∷ [])
-
-shapes-first : (shapes : List Template) (r : DataRecord) (rs : List DataRecord) → shapes_after shapes (r ∷ rs) ≡ shapes_after (with_shape shapes r.template) rs
-unfolding shapes_after
-shapes-first shapes r rs = refl
-
 known_after : (before records : List DataRecord) → AllByRecursion IsStreamable records → length (shapes_after (shapes_of before) records) ≤ 65280 → AreKnown (table_of (shapes_of before)) (each_after parts_at before records)
 known_after before [] all few = tt
 known_after before (r ∷ records) all few =
     let shapes = shapes_of before in
     let grown = with_shape shapes r.template in
-    let more : length (shapes_after grown records) ≤ 65280 = omega (arith, few, ap length (shapes-first shapes r records)) in
+    let more : length (shapes_after grown records) ≤ 65280 = omega (arith, few, ap length (shapes_after-first shapes r records)) in
     let one = listed shapes r all.0 (omega (arith, more, length-shapes_after grown records)) in
     let push = shapes_of-push before r in
     let others = known_after (before ++ r ∷ []) records all.1 (omega (arith, more, ap (λ (ss : List Template). length (shapes_after ss records)) push)) in
@@ -132,7 +112,7 @@ known_after before (r ∷ records) all few =
     known_append (parts_for shapes r) rest (table_of shapes) one.known (subst P same others)
 
 no_shapes : shapes_of [] ≡ []
-unfolding shapes_after
+unfolding shapes_of
 no_shapes = refl
 
 pub parts_known : (records : List DataRecord) → AreStreamable records → AreKnown empty (parts records)
@@ -140,4 +120,4 @@ unfolding parts
 parts_known records may =
     let P : Table → Type 0 = λ table. AreKnown table (each_after parts_at [] records) in
     let none : table_of (shapes_of []) ≡ empty = ap table_of no_shapes in
-    subst P none (known_after [] records may.each (omega (arith, may.shapes, ap (λ (ss : List Template). length (shapes_after ss records)) no_shapes)))
+    subst P none (known_after [] records may.each (omega (arith, may.shapes, ap length (shapes_on [] records))))

@@ -1,6 +1,6 @@
 -- What a stream gives over a run of calls, and what parts are of a list.
-use Rattle.std.proofs.Common.{◌≡◌, ℕ, zero, suc, ◌+◌, ◌<◌, ◌≤◌, Bool, true, false, cond, List, [], ◌∷◌, ◌++◌, length, take, max, Option, inl, inr, refl, sym, ap, subst, ◌∙◌, arith, append_assoc}
-use Rattle.std.specs.Prelude.{◌↔◌, nat_le}
+use Rattle.std.proofs.Common.{◌≡◌, ℕ, zero, suc, ◌<◌, ◌≤◌, Bool, true, false, cond, List, [], ◌∷◌, ◌++◌, length, take, max, Option, inl, inr, refl, sym, ap, subst, ◌∙◌, arith}
+use Rattle.std.specs.Prelude.{◌↔◌}
 use Rattle.std.proofs.lemmas.Bool.{leb-true, leb-false, cases_lt}
 use Rattle.sequences.specs.Before.{each_after}
 use Rattle.sequences.proofs.BeforeLaws.{each_with_before-append}
@@ -9,7 +9,7 @@ use Rattle.ipfix_template.specs.DataRecord.{DataRecord}
 use Rattle.ipfix_template.specs.Equality.{same_template}
 use Rattle.ipfix_template.specs.SameTemplate.{same_template-is, same_template-itself}
 use Rattle.subscriber_stream.specs.Shapes.{shapes_of}
-use Rattle.subscriber_stream.specs.Parts.{Part, parts, parts_at, parts_for, records_in}
+use Rattle.subscriber_stream.specs.Parts.{Part, parts, parts_at, records_in}
 use Rattle.subscriber_stream.specs.Message.{message, last_passing, is_within, run_length, built, place_after}
 use Rattle.subscriber_stream.specs.Standing.{Standing, StandsAt}
 use Rattle.subscriber_stream.specs.Calls.{Call, Given, Pulled, Serves, pulls_of, octets_from}

@@ -1,3 +1,4 @@
+pub mod ShapeLaws
 pub mod TableLaws
 pub mod Costs
 pub mod Pieces

@@ -1,5 +1,5 @@
 -- The message that is written is the next one of what waits.
-use Rattle.std.proofs.Common.{◌≡◌, ℕ, ◌<◌, ◌≤◌, List, [], ◌∷◌, length, take, max, Option, Some, None, refl, sym, ap, subst, ◌∙◌, arith}
+use Rattle.std.proofs.Common.{◌≡◌, ℕ, ◌<◌, ◌≤◌, List, [], ◌∷◌, length, take, max, Some, None, refl, sym, ap, ◌∙◌, arith}
 use Rattle.std.proofs.lemmas.List.{length-map}
 use Rattle.ipfix_template.specs.declared.template.Template.{Template}
 use Rattle.subscriber_stream.specs.declared.waiting.Waiting.{Waiting}

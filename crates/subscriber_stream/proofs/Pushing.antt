@@ -1,8 +1,8 @@
 -- What a stream keeps where a record is given.
-use Rattle.std.proofs.Common.{◌≡◌, ℕ, zero, suc, ◌+◌, ◌-◌, ◌*◌, ◌<◌, ◌≤◌, ◌^◌, Bool, true, false, cond, not, List, [], ◌∷◌, ◌++◌, length, get_or, Option, Some, None, refl, sym, ap, subst, ◌∙◌, arith, append_assoc, length-append}
-use Rattle.std.specs.Prelude.{map, ◌||◌}
+use Rattle.std.proofs.Common.{◌≡◌, ℕ, suc, ◌+◌, ◌-◌, ◌<◌, ◌≤◌, ◌^◌, Bool, true, false, cond, not, List, [], ◌∷◌, ◌++◌, length, get_or, Option, Some, None, refl, sym, ap, subst, ◌∙◌, arith, length-append}
+use Rattle.std.specs.Prelude.{◌||◌}
 use Rattle.std.specs.Bool.{then_some}
-use Rattle.std.specs.List.{flat_map, list_any, position_or_len}
+use Rattle.std.specs.List.{list_any, position_or_len}
 use Rattle.std.proofs.lemmas.List.{map-append}
 use Rattle.std.proofs.Math.ListN.{get_or-append}
 use Rattle.std.proofs.Math.Seq.{get_or-append_seam}
@@ -18,8 +18,8 @@ use Rattle.subscriber_stream.specs.declared.waiting.Waiting.TheVariants.{Announc
 use Rattle.subscriber_stream.specs.Shapes.{is_among, with_shape}
 use Rattle.subscriber_stream.specs.Parts.{Part, Announcement, Entry, parts_for}
 use Rattle.subscriber_stream.specs.Table.{Table}
-use Rattle.subscriber_stream.specs.Waiting.{shape_at, part_of, parts_of, IsAnnouncement, IsEntry, IsKept, AreKept, AreFollowed, announcements, entries, new_parts}
-use Rattle.subscriber_stream.specs.Standing.{Standing, Kept}
+use Rattle.subscriber_stream.specs.Waiting.{shape_at, part_of, parts_of, AreKept, AreFollowed, announcements, entries, new_parts}
+use Rattle.subscriber_stream.specs.Standing.{Kept}
 use Rattle.subscriber_stream.specs.Steps.{given_one, IsConsistent}
 use Rattle.subscriber_stream.proofs.Pieces.{kept_append}
 

@@ -1,51 +1,13 @@
 -- How many shapes records bring.
-use Rattle.std.proofs.Common.{◌≡◌, ℕ, zero, suc, ◌+◌, ◌<◌, ◌≤◌, Bool, true, false, cond, not, List, [], ◌∷◌, ◌++◌, length, take, get_or, refl, sym, ap, subst, ◌∙◌, arith, length-append}
+use Rattle.std.proofs.Common.{◌≡◌, ℕ, ◌+◌, ◌<◌, ◌≤◌, Bool, true, false, cond, not, List, [], ◌∷◌, ◌++◌, length, take, get_or, refl, sym, ap, subst, ◌∙◌, arith, length-append}
 use Rattle.std.specs.Prelude.{◌||◌, ◌&&◌}
 use Rattle.std.specs.List.{list_any}
 use Rattle.std.proofs.lemmas.List.{take_more}
 use Rattle.ipfix_template.specs.declared.template.Template.{Template}
 use Rattle.ipfix_template.specs.DataRecord.{DataRecord}
 use Rattle.ipfix_template.specs.Equality.{same_template}
-use Rattle.ipfix_template.specs.SameTemplate.{same_template-is}
-use Rattle.subscriber_stream.specs.Shapes.{is_among, with_shape, shapes_after}
-use Rattle.subscriber_stream.proofs.Standings.{shapes_after-append}
-
-abbrev is_used : Template → List DataRecord → Bool
-is_used t rs = list_any (λ r. same_template t r.template) rs
-
-list_any-append : {A : Type 0} (p : A → Bool) (xs ys : List A) → list_any p (xs ++ ys) ≡ (list_any p xs || list_any p ys)
-list_any-append p [] ys = refl
-list_any-append p (x ∷ xs) ys = by_test (p x) (list_any-append p xs ys) where
-  by_test : (b : Bool) → list_any p (xs ++ ys) ≡ (list_any p xs || list_any p ys) → (b || list_any p (xs ++ ys)) ≡ ((b || list_any p xs) || list_any p ys)
-  by_test true others = refl
-  by_test false others = others
-
-or_assoc : (a b c : Bool) → ((a || b) || c) ≡ (a || (b || c))
-or_assoc true b c = refl
-or_assoc false b c = refl
-
-or_false : (a : Bool) → (a || false) ≡ a
-or_false true = refl
-or_false false = refl
-
--- a shape is among those with one more, where it is among them or is that one
-is_among-with : (t u : Template) (shapes : List Template) → is_among t (with_shape shapes u) ≡ (is_among t shapes || same_template t u)
-is_among-with t u shapes = by_test (is_among u shapes) refl where
-  by_test : (b : Bool) → is_among u shapes ≡ b → is_among t (cond b shapes (shapes ++ u ∷ [])) ≡ (is_among t shapes || same_template t u)
-  by_test true is = by_same (same_template t u) refl where
-    by_same : (c : Bool) → same_template t u ≡ c → is_among t shapes ≡ (is_among t shapes || c)
-    by_same true same =
-        let found : is_among t shapes ≡ true = ap (λ (s : Template). is_among s shapes) (same_template-is t u same) ∙ is in
-        rw found refl
-    by_same false same = sym (or_false (is_among t shapes))
-  by_test false is = list_any-append (same_template t) shapes (u ∷ []) ∙ ap (λ (c : Bool). is_among t shapes || c) (or_false (same_template t u))
-
--- a shape is among those of more records, where it was before or one of the records has it
-is_among-after : (t : Template) (shapes : List Template) (rs : List DataRecord) → is_among t (shapes_after shapes rs) ≡ (is_among t shapes || is_used t rs)
-unfolding shapes_after
-is_among-after t shapes [] = sym (or_false (is_among t shapes))
-is_among-after t shapes (r ∷ rs) =
-    is_among-after t (with_shape shapes r.template) rs ∙ ap (λ (b : Bool). b || is_used t rs) (is_among-with t r.template shapes) ∙ or_assoc (is_among t shapes) (same_template t r.template) (is_used t rs)
+use Rattle.subscriber_stream.specs.Shapes.{is_among, with_shape, is_used, shapes_after}
+use Rattle.subscriber_stream.proofs.ShapeLaws.{shapes_after-nil, shapes_after-first, shapes_after-append, is_among-after}
 
 length-with_shape_by : (shapes : List Template) (u : Template) (b : Bool) → is_among u shapes ≡ b → length (with_shape shapes u) ≡ length shapes + cond (not b) 1 0
 length-with_shape_by shapes u true is = rw is (omega arith)
@@ -56,8 +18,7 @@ neither true b = refl
 neither false b = refl
 
 after_one : (shapes : List Template) (r : DataRecord) → shapes_after shapes (r ∷ []) ≡ with_shape shapes r.template
-unfolding shapes_after
-after_one shapes r = refl
+after_one shapes r = shapes_after-first shapes r [] ∙ shapes_after-nil (with_shape shapes r.template)
 
 -- one record more
 pub length-shapes_after_more : (shapes : List Template) (records : List DataRecord) (place : ℕ) (r : DataRecord) → place < length records → r ≡ get_or records place r
@@ -76,14 +37,9 @@ with_one shapes t = by_test (is_among t shapes) where
 
 -- each record brings one shape at most
 pub length-shapes_after_most : (shapes : List Template) (rs : List DataRecord) → length (shapes_after shapes rs) ≤ length shapes + length rs
-unfolding shapes_after
-length-shapes_after_most shapes [] = omega arith
+length-shapes_after_most shapes [] = omega (arith, ap length (shapes_after-nil shapes))
 length-shapes_after_most shapes (r ∷ rs) =
-    omega (arith, with_one shapes r.template, length-shapes_after_most (with_shape shapes r.template) rs)
-
-pub shapes_after-none : (shapes : List Template) → shapes_after shapes [] ≡ shapes
-unfolding shapes_after
-shapes_after-none shapes = refl
+    omega (arith, with_one shapes r.template, ap length (shapes_after-first shapes r rs), length-shapes_after_most (with_shape shapes r.template) rs)
 
 abbrev one_if : Bool → ℕ
 one_if b = cond b 1 0

@@ -1,9 +1,7 @@
 -- What a stream keeps, and how it stands in the parts of a list.
-use Rattle.std.proofs.Common.{◌≡◌, ℕ, zero, suc, ◌+◌, ◌-◌, ◌<◌, ◌≤◌, ◌^◌, Bool, true, false, cond, not, List, [], ◌∷◌, ◌++◌, length, take, drop, Some, None, refl, sym, ap, subst, ◌∙◌, arith, append_assoc, length-append}
-use Rattle.std.specs.Prelude.{map}
-use Rattle.std.specs.List.{flat_map, list_any, position_or_len}
+use Rattle.std.proofs.Common.{◌≡◌, ℕ, zero, suc, ◌+◌, ◌-◌, ◌<◌, ◌≤◌, ◌^◌, Bool, true, false, cond, List, [], ◌∷◌, ◌++◌, length, take, drop, Some, None, refl, sym, ap, subst, ◌∙◌, arith, append_assoc, length-append}
+use Rattle.std.specs.List.{position_or_len}
 use Rattle.std.proofs.lemmas.List.{append-nil, length-take}
-use Rattle.sequences.specs.Before.{each_after, each_with_before}
 use Rattle.sequences.proofs.BeforeLaws.{each_with_before-push}
 use Rattle.ipfix_template.specs.Equality.{same_template}
 use Rattle.ipfix_template.specs.declared.template.Template.{Template}
@@ -14,9 +12,10 @@ use Rattle.subscriber_stream.specs.declared.waiting.Waiting.TheVariants.{Announc
 use Rattle.subscriber_stream.specs.Shapes.{is_among, with_shape, shapes_after, shapes_of}
 use Rattle.subscriber_stream.specs.Parts.{Part, Announcement, Entry, parts_for, parts_at, parts, record_in, records_in}
 use Rattle.subscriber_stream.specs.Message.{message, run_length, next_message, built, place_after}
-use Rattle.subscriber_stream.specs.Waiting.{parts_of, announcements, entries}
+use Rattle.subscriber_stream.specs.Waiting.{parts_of, entries}
 use Rattle.subscriber_stream.specs.Standing.{Standing, Kept, StandsAt, at_start, queued, HasRoom, FitsLimits}
-use Rattle.subscriber_stream.specs.Steps.{with_record, given_one, given, without_first, handed_one, handed_parts}
+use Rattle.subscriber_stream.specs.Steps.{given_one, given, without_first, handed_one, handed_parts}
+use Rattle.subscriber_stream.proofs.ShapeLaws.{shapes_after-first, shapes_on, shapes_of-push, length-shapes_after}
 
 -- the records among what waits
 pub queued_entries : (shapes : List Template) (ws : List Waiting) → length (records_in (parts_of shapes ws)) ≡ entries ws
@@ -25,7 +24,7 @@ queued_entries shapes (Announce id octets ∷ ws) = queued_entries shapes ws
 queued_entries shapes (Bring id octets values ∷ ws) = ap suc (queued_entries shapes ws)
 
 pub stands_at_start : StandsAt at_start [] 0
-unfolding parts shapes_after
+unfolding parts shapes_of
 stands_at_start = record { within = omega arith; place = refl; shapes = refl; handed = refl; waiting = refl }
 
 -- ---- a part that is handed out
@@ -99,23 +98,6 @@ kept_after (suc n) k =
 
 -- ---- records that are given
 
-pub shapes_after-append : (shapes : List Template) (xs ys : List DataRecord) → shapes_after shapes (xs ++ ys) ≡ shapes_after (shapes_after shapes xs) ys
-unfolding shapes_after
-shapes_after-append shapes [] ys = refl
-shapes_after-append shapes (x ∷ xs) ys = shapes_after-append (with_shape shapes x.template) xs ys
-
-shapes_after-first : (shapes : List Template) (r : DataRecord) (rs : List DataRecord) → shapes_after shapes (r ∷ rs) ≡ shapes_after (with_shape shapes r.template) rs
-unfolding shapes_after
-shapes_after-first shapes r rs = refl
-
-shapes_after-nil : (shapes : List Template) → shapes_after shapes [] ≡ shapes
-unfolding shapes_after
-shapes_after-nil shapes = refl
-
-shapes_of-push : (records : List DataRecord) (r : DataRecord) → shapes_of (records ++ r ∷ []) ≡ with_shape (shapes_of records) r.template
-shapes_of-push records r =
-    shapes_after-append [] records (r ∷ []) ∙ shapes_after-first (shapes_of records) r [] ∙ shapes_after-nil (with_shape (shapes_of records) r.template)
-
 parts-push : (records : List DataRecord) (r : DataRecord) → parts (records ++ r ∷ []) ≡ parts records ++ parts_for (shapes_of records) r
 unfolding parts
 parts-push records r = each_with_before-push parts_at records r
@@ -154,18 +136,6 @@ stands_given k (r ∷ rs) records p at =
 
 -- ---- room
 
-length-with_shape : (shapes : List Template) (shape : Template) → length shapes ≤ length (with_shape shapes shape)
-length-with_shape shapes shape = by_test (is_among shape shapes) where
-  by_test : (b : Bool) → length shapes ≤ length (cond b shapes (shapes ++ shape ∷ []))
-  by_test true = omega arith
-  by_test false = omega (arith, length-append shapes (shape ∷ []))
-
-length-shapes_after : (shapes : List Template) (rs : List DataRecord) → length shapes ≤ length (shapes_after shapes rs)
-unfolding shapes_after
-length-shapes_after shapes [] = omega arith
-length-shapes_after shapes (r ∷ rs) =
-    omega (arith, length-with_shape shapes r.template, length-shapes_after (with_shape shapes r.template) rs)
-
 -- one record is among the parts of one record
 pub records_in-parts_for : (shapes : List Template) (r : DataRecord) → records_in (parts_for shapes r) ≡ r ∷ []
 records_in-parts_for shapes r = by_test (is_among r.template shapes) where
@@ -194,9 +164,12 @@ shape_room k r rs can =
     omega (arith, can.room.shapes, ap length (shapes_after-first k.standing.shapes r rs), length-shapes_after (with_shape k.standing.shapes r.template) rs)
 
 can_take_by : (k : Kept) (r : DataRecord) (rs : List DataRecord) → queued (given_one k r).standing ≡ queued k.standing + 1 → CanTake k (r ∷ rs) → CanTake (given_one k r) rs
-unfolding given_one shapes_after
+unfolding given_one
 can_take_by k r rs more can = record {
-  room = record { queue = omega (arith, can.room.queue, more); shapes = can.room.shapes };
+  room = record {
+    queue = omega (arith, can.room.queue, more);
+    shapes = omega (arith, can.room.shapes, ap length (shapes_after-first k.standing.shapes r rs));
+  };
   reserved = omega (arith, can.reserved);
   below = omega (arith, can.below, more);
 }
@@ -299,7 +272,7 @@ stands_at_end s records p target none at =
 pub room_is_limits : (k : Kept) (records : List DataRecord) (p : ℕ) (more : List DataRecord) → StandsAt k.standing records p → (HasRoom k more → FitsLimits k.limits records p more) × (FitsLimits k.limits records p more → HasRoom k more)
 room_is_limits k records p more at =
     let count : queued k.standing ≡ length (records_in (drop p (parts records))) = ap (λ (ps : List Part). length (records_in ps)) at.waiting in
-    let shapes : length (shapes_after k.standing.shapes more) ≡ length (shapes_of (records ++ more)) = ap (λ (ss : List Template). length (shapes_after ss more)) at.shapes ∙ ap length (sym (shapes_after-append [] records more)) in (
+    let shapes : length (shapes_after k.standing.shapes more) ≡ length (shapes_of (records ++ more)) = ap (λ (ss : List Template). length (shapes_after ss more)) at.shapes ∙ ap length (sym (shapes_on records more)) in (
       λ room. record { queue = omega (arith, room.queue, count); shapes = omega (arith, room.shapes, shapes) },
       λ fits. record { queue = omega (arith, fits.queue, count); shapes = omega (arith, fits.shapes, shapes) },
     )

@@ -1,6 +1,6 @@
 -- The parts of a list of records: before each record that is the first of its shape an announcement, then the record (RFC 7011,
 -- section 8; one announcement for each shape is this project's own rule).
-use Rattle.std.specs.Prelude.{ℕ, List, [], ◌∷◌, ◌++◌, if◌then◌else◌}
+use Rattle.std.specs.Prelude.{ℕ, List, [], ◌∷◌, if◌then◌else◌}
 use Rattle.std.specs.List.{flat_map}
 use Rattle.sequences.specs.Before.{each_with_before}
 use Rattle.ipfix_template.specs.declared.template.Template.{Template}

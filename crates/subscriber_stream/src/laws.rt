@@ -3,6 +3,7 @@ ghost use Rattle.std.specs.Prelude.{◌≡◌, ◌++◌, ◌≤◌, ◌+◌, ◌
 ghost use Rattle.ipfix_template.specs.declared.template.Template.{Template};
 ghost use Rattle.ipfix_template.specs.Equality.{same_template};
 ghost use Rattle.ipfix_template.specs.DataRecord.{DataRecord};
+ghost use Rattle.subscriber_stream.specs.Shapes.{shapes_of, shapes_after};
 ghost use Rattle.subscriber_stream.specs.Parts.{Part, parts, records_in};
 ghost use Rattle.subscriber_stream.specs.Message.{message, run_length};
 ghost use Rattle.subscriber_stream.specs.Standing.{Standing, StandsAt};
@@ -29,6 +30,11 @@ pub fn parts_go_on()
 /// Two templates are one shape exactly where they are equal.
 pub fn one_shape()
     ensures { (s t : Template) → (same_template s t ≡ true) ↔ (s ≡ t) }
+{}
+
+/// The shapes of a longer list are those of its front, and then those of the rest that are not among them.
+pub fn shapes_go_on()
+    ensures { (records more : List DataRecord) → shapes_of (records ++ more) ≡ shapes_after (shapes_of records) more }
 {}
 
 /// A run that has more than one part is at most the target long, and the next longer run is not.

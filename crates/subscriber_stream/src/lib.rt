@@ -18,7 +18,9 @@ pub mod stream;
 mod waiting;
 mod writing;
 
-pub use laws::{longest_run, octets_of_pulls, one_shape, parts_bring_the_list, parts_go_on};
+pub use laws::{
+    longest_run, octets_of_pulls, one_shape, parts_bring_the_list, parts_go_on, shapes_go_on,
+};
 pub use limits::Limits;
 pub use pull_error::PullError;
 pub use stream::Stream;

@@ -1,5 +1,4 @@
-use Rattle.std.proofs.Common.{arith}
-use Rattle.subscriber_stream.proofs.Costs.{IsRun-none, IsRun-over, IsRun-all, IsRun-more}
+use Rattle.subscriber_stream.proofs.Costs.{IsRun-none}
 use Rattle.subscriber_stream.proofs.fitting.whole_run.Goals as goal
 
 pub parts-init : goal.parts-init

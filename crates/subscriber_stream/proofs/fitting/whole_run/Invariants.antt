@@ -1,5 +1,4 @@
-use Rattle.std.proofs.Common.{◌≡◌, ◌≤◌, ◌+◌, ◌-◌, length, take, drop, None}
-use Rattle.subscriber_stream.specs.Waiting.{fits, total}
+use Rattle.std.proofs.Common.{◌-◌, length}
 use Rattle.subscriber_stream.proofs.Costs.{IsRun}
 use Rattle.subscriber_stream.proofs.fitting.whole_run.Given as goal
 

@@ -1,6 +1,4 @@
-use Rattle.std.proofs.Common.{refl, Bool, not, cond, List, [], ◌∷◌, ◌++◌, sym, ap, ◌∙◌}
-use Rattle.std.specs.Prelude.{map}
-use Rattle.std.specs.List.{list_any}
+use Rattle.std.proofs.Common.{refl, not, sym, ap, ◌∙◌}
 use Rattle.std.proofs.lemmas.List.{map_push}
 use Rattle.std.specs.Arc.{arc_value}
 use Rattle.ipfix_template.specs.Equality.{same_template}

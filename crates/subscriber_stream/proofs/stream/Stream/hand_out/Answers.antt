@@ -1,6 +1,5 @@
-use Rattle.std.proofs.Common.{◌≡◌, ◌+◌, ◌-◌, ℕ, arith, subst}
-use Rattle.subscriber_stream.specs.Steps.{handed_one}
-use Rattle.subscriber_stream.proofs.Standings.{IsHanding, IsHanding-next}
+use Rattle.std.proofs.Common.{◌≡◌, ◌+◌, ◌-◌, arith}
+use Rattle.subscriber_stream.proofs.Standings.{IsHanding-next}
 use Rattle.subscriber_stream.proofs.stream.Stream.hand_out.Goals as goal
 
 pub loop-preserved : goal.loop-preserved

@@ -1,5 +1,4 @@
-use Rattle.std.proofs.Common.{◌≡◌, ◌≤◌, ◌-◌, length}
-use Rattle.subscriber_stream.specs.Steps.{handed_parts}
+use Rattle.std.proofs.Common.{◌-◌}
 use Rattle.subscriber_stream.proofs.Standings.{IsHanding}
 use Rattle.subscriber_stream.proofs.stream.Stream.hand_out.Given as goal
 

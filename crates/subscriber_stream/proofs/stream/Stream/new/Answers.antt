@@ -1,4 +1,3 @@
-use Rattle.std.proofs.Common.{List, sym, ap, subst}
 use Rattle.subscriber_stream.proofs.Standings.{stands_at_start}
 use Rattle.subscriber_stream.proofs.stream.Stream.new.Goals as goal
 

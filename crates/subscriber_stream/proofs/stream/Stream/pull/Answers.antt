@@ -1,5 +1,4 @@
-use Rattle.std.proofs.Common.{◌≡◌, List, [], length, refl, sym, ap, ◌∙◌, arith}
-use Rattle.subscriber_stream.specs.Parts.{Part}
+use Rattle.std.proofs.Common.{◌≡◌, [], length, refl, sym, ap, ◌∙◌, arith}
 use Rattle.subscriber_stream.specs.Standing.{Kept}
 use Rattle.subscriber_stream.proofs.Standings.{next_is_built, next_none, stands_after_message, stands_at_end, kept_after, queued_entries}
 use Rattle.std.proofs.lemmas.Bool.{eqb-true, eqb-false}

@@ -1,13 +1,12 @@
-use Rattle.std.proofs.Common.{◌≡◌, ◌+◌, ◌≤◌, ◌++◌, ℕ, List, length, arith, sym, ap, ◌∙◌, subst}
-use Rattle.std.specs.Arc.{arc_value}
+use Rattle.std.proofs.Common.{◌≡◌, ◌++◌, List, arith, sym, ap, ◌∙◌}
 use Rattle.ipfix_template.specs.declared.template.Template.{Template}
 use Rattle.ipfix_template.specs.Equality.{same_template}
 use Rattle.std.specs.List.{position_or_len}
 use Rattle.subscriber_stream.specs.Shapes.{with_shape}
 use Rattle.subscriber_stream.specs.declared.waiting.Waiting.{Waiting}
-use Rattle.subscriber_stream.specs.Waiting.{new_parts, parts_of}
+use Rattle.subscriber_stream.specs.Waiting.{parts_of}
 use Rattle.subscriber_stream.proofs.Standings.{queued_entries}
-use Rattle.subscriber_stream.proofs.Pushing.{Takes, AreOctetsOf, new_waiting, taken, put_is, given_one-view, place_below}
+use Rattle.subscriber_stream.proofs.Pushing.{Takes, new_waiting, taken, put_is, given_one-view, place_below}
 use Rattle.subscriber_stream.proofs.stream.Stream.push_one.Goals as goal
 
 pub overflow_cast-id : goal.overflow_cast-id

@@ -1,4 +1,3 @@
-use Rattle.std.proofs.Common.{ap, ◌∙◌, sym}
 use Rattle.subscriber_stream.proofs.Standings.{stands_given, kept_given}
 use Rattle.subscriber_stream.proofs.stream.Stream.push_reserved.Goals as goal
 
