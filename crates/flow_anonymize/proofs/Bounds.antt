@@ -22,7 +22,8 @@ use Rattle.policy_text.specs.Policies.{Meaning, Aggregate as Definition}
 use Rattle.policy_text.specs.Classes.{width_of_kind, width_at}
 use Rattle.policy_text.specs.Grammar.{IsAction, IsRule, IsPolicy}
 use Rattle.policy_judge.specs.declared.verdict.ElementVerdict.{ElementVerdict}
-use Rattle.policy_judge.specs.Match.{is_met, is_on_records, is_for, covers, is_same_pen, is_same_element, is_element, matches_field}
+use Rattle.ipfix_template.specs.Equality.{same_pen}
+use Rattle.policy_judge.specs.Match.{is_met, is_on_records, is_for, covers, is_same_element, is_element, matches_field}
 use Rattle.policy_judge.specs.Verdicts.{element_action, element_verdict_by, element_verdict_of}
 use Rattle.policy_judge.proofs.FirstRuleLaws.{element_there}
 use Rattle.flow_anonymize.specs.Remaining.{verdicts_of}
@@ -43,16 +44,16 @@ sized Millis len width e allowed = absurd cc
 sized Text len width e allowed = absurd cc
 sized Octets len width e allowed = absurd cc
 
-same_pen : (a b : Option ℕ) → is_same_pen a b ≡ true → a ≡ b
-same_pen None None e = refl
-same_pen (Some a) (Some b) e = ap (λ (n : ℕ). Some n) (eqb-true a b e)
-same_pen None (Some b) e = absurd cc
-same_pen (Some a) None e = absurd cc
+pen_is : (a b : Option ℕ) → same_pen a b ≡ true → a ≡ b
+pen_is None None e = refl
+pen_is (Some a) (Some b) e = ap (λ (n : ℕ). Some n) (eqb-true a b e)
+pen_is None (Some b) e = absurd cc
+pen_is (Some a) None e = absurd cc
 
 same_element : (e f : Element) → is_same_element e f ≡ true → e ≡ f
 same_element e f is =
-    let parts = and_parts (is_same_pen e.pen f.pen) (e.number == f.number) is in
-    ap (λ (pen : Option ℕ). record { pen = pen; number = e.number }) (same_pen e.pen f.pen parts.0)
+    let parts = and_parts (same_pen e.pen f.pen) (e.number == f.number) is in
+    ap (λ (pen : Option ℕ). record { pen = pen; number = e.number }) (pen_is e.pen f.pen parts.0)
     ∙ ap (λ (number : ℕ). record { pen = f.pen; number = number }) (eqb-true e.number f.number parts.1)
 
 fixed_length : (f : FieldSpec) (value : List ℕ) → is_variable f ≡ false → fits_field f value ≡ true → length value ≡ f.length

@@ -1,6 +1,7 @@
 pub use Rattle.ipfix_element.specs.Element
 pub use Rattle.ipfix_template.specs.Template
 pub use Rattle.ipfix_template.specs.DataRecord
+pub use Rattle.ipfix_template.specs.Equality
 pub use Rattle.flow_prefix.specs.Prefixes
 pub use Rattle.policy_text.specs.Policies
 pub mod Occurrences

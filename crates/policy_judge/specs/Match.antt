@@ -4,6 +4,7 @@ use Rattle.std.specs.List.{list_any, list_all}
 use Rattle.std.specs.Str.{bytes_eq}
 use Rattle.ipfix_element.specs.Element.{Element}
 use Rattle.ipfix_template.specs.DataRecord.{DataRecord}
+use Rattle.ipfix_template.specs.Equality.{same_pen}
 use Rattle.flow_prefix.specs.declared.prefix.Prefix.{Prefix}
 use Rattle.flow_prefix.specs.Prefixes.{contains}
 use Rattle.policy_text.specs.declared.rule.Rule.{Rule}
@@ -51,14 +52,8 @@ covers r rule = is_met (are_inside (denies rule.action) (sources r)) rule.from &
 abbrev pub matches_record : List ℕ → ℕ → DataRecord → Rule → Bool
 matches_record name domain r rule = is_on_records rule.action && (is_for name domain rule && covers r rule)
 
-abbrev pub is_same_pen : Option ℕ → Option ℕ → Bool
-is_same_pen None None = true
-is_same_pen (Some p) (Some q) = p == q
-is_same_pen None (Some q) = false
-is_same_pen (Some p) None = false
-
 abbrev pub is_same_element : Element → Element → Bool
-is_same_element e f = is_same_pen e.pen f.pen && e.number == f.number
+is_same_element e f = same_pen e.pen f.pen && e.number == f.number
 
 -- the element of the field at this place
 abbrev pub element_at : DataRecord → ℕ → Option Element

@@ -3,7 +3,7 @@
 use super::examples::Example;
 
 /// Each folder with a command.
-pub const EXAMPLES: [Example; 11] = [
+pub const EXAMPLES: [Example<'static>; 11] = [
     // all-but-one
     Example {
         policy: "# Every subscriber is shown every flow, but for those from or to the payroll

@@ -6,13 +6,13 @@ use std::fs;
 
 /// A command of `examples/` with the files that it names, and what it must leave.
 #[derive(Clone, Copy)]
-pub struct Example {
-    pub policy: &'static str,
-    pub subscriber: &'static str,
-    pub input: &'static str,
-    pub output: &'static str,
-    pub audit: &'static str,
-    pub report: &'static str,
+pub struct Example<'a> {
+    pub policy: &'a str,
+    pub subscriber: &'a str,
+    pub input: &'a str,
+    pub output: &'a str,
+    pub audit: &'a str,
+    pub report: &'a str,
 }
 
 /// That the command of an example leaves what its files say.
@@ -20,7 +20,7 @@ fn expect_example<R: Files + AllocGlobal + Abort>(
     rt: &R,
     policy: &str,
     audit: &str,
-    example: &Example,
+    example: &Example<'_>,
 ) -> Result<(), Fail> {
     fs::write(rt, policy, example.policy)?;
     let words = [
