@@ -77,22 +77,35 @@ impl ProgramFault {
 }
 
 impl From<AllocError> for ProgramFault {
+    ghost use Rattle.std.specs.Prelude.{◌≡◌};
+    ghost use Rattle.ipmd.specs.declared.fault.ProgramFault.TheVariants.{OutOfMemory};
+
+    ghost from_gives = { λ _ e. e ≡ OutOfMemory };
+
     fn from(_e: AllocError) -> ProgramFault {
         ProgramFault::OutOfMemory
     }
 }
 
 impl<T: Drop> From<AllocFailed<T>> for ProgramFault {
+    ghost use Rattle.std.specs.Prelude.{◌≡◌};
+    ghost use Rattle.ipmd.specs.declared.fault.ProgramFault.TheVariants.{OutOfMemory};
+
+    ghost from_gives = { λ _ e. e ≡ OutOfMemory };
+
     fn from(_e: AllocFailed<T>) -> ProgramFault {
         ProgramFault::OutOfMemory
     }
 }
 
 impl From<io::Error> for ProgramFault {
-    ghost use Rattle.std.specs.Prelude.{◌≡◌, ◌⊎◌};
+    ghost use Rattle.std.specs.Prelude.{◌≡◌, ◌≢◌, ◌⊎◌};
+    ghost use Rattle.std.specs.IoError.{error_kind};
+    ghost use Rattle.std.specs.declared.io.ErrorKind.TheVariants as io_error;
     ghost use Rattle.ipmd.specs.declared.fault.ProgramFault.TheVariants.{OutOfMemory, Device};
 
-    ghost from_gives = { λ _ e. (e ≡ OutOfMemory) ⊎ (e ≡ Device) };
+    ghost from_gives = { λ x e. ((error_kind x ≡ io_error.OutOfMemory) × (e ≡ OutOfMemory))
+        ⊎ ((error_kind x ≢ io_error.OutOfMemory) × (e ≡ Device)) };
 
     fn from(error: io::Error) -> ProgramFault {
         match error.kind() {
@@ -103,6 +116,14 @@ impl From<io::Error> for ProgramFault {
 }
 
 impl From<clap::Error> for ProgramFault {
+    ghost use Rattle.std.specs.Prelude.{◌≡◌, ◌≢◌, ◌⊎◌};
+    ghost use Rattle.clap.specs.Values.{kind_of};
+    ghost use Rattle.clap.specs.declared.error.kind.ErrorKind.TheVariants as clap_error;
+    ghost use Rattle.ipmd.specs.declared.fault.ProgramFault.TheVariants.{CommandLine, OutOfMemory};
+
+    ghost from_gives = { λ x e. ((kind_of x ≡ clap_error.OutOfMemory) × (e ≡ OutOfMemory))
+        ⊎ ((kind_of x ≢ clap_error.OutOfMemory) × (e ≡ CommandLine x)) };
+
     fn from(error: clap::Error) -> ProgramFault {
         match error.kind() {
             clap::error::ErrorKind::OutOfMemory => ProgramFault::OutOfMemory,

@@ -1,3 +1,5 @@
+ghost use Rattle.std.specs.Prelude.{◌≡◌, [], false};
+
 use std::alloc::{AllocError, Global};
 use std::io::{self, ErrorKind, Write};
 
@@ -19,7 +21,11 @@ pub struct HexLines<W> {
 
 impl<W: Write> HexLines<W> {
     /// A writer of lines to `output`.
-    pub fn new(alloc: Global, output: W) -> HexLines<W> {
+    pub fn new(alloc: Global, output: W) -> HexLines<W>
+        ensures output { result.output ≡ output }
+        ensures front { result.message.items ≡ [] }
+        ensures memory { result.out_of_memory ≡ false }
+    {
         HexLines {
             output,
             alloc,
@@ -29,7 +35,9 @@ impl<W: Write> HexLines<W> {
     }
 
     /// Whether a write was refused for want of memory, and not by the output.
-    pub fn is_out_of_memory(&self) -> bool {
+    pub fn is_out_of_memory(&self) -> bool
+        ensures { result ≡ self.now.out_of_memory }
+    {
         self.out_of_memory
     }
 
