@@ -18,6 +18,12 @@ fn check_policy(rt: HostRuntime) -> Result<(), Fail> {
             "rules 1 aggregates 1\n",
             "",
         ),
+        (
+            "policy 1;aggregate web key destinationTransportPort,protocolIdentifier interval 300 grace 60",
+            0,
+            "rules 0 aggregates 1\n",
+            "",
+        ),
         ("", 1, "", "ipmd: policy line 1: NoHeader\n"),
         (
             "policy 1;;# pass;rule",
@@ -48,6 +54,7 @@ fn expect_refused<R: Files + AllocGlobal + Abort>(
     assert!(rt; errors.starts_with("error: "), "{errors}");
     assert!(rt; errors.contains(part), "{errors}");
     assert!(rt; errors.ends_with('\n'), "{errors}");
+    assert!(rt; !errors.ends_with("\n\n"), "{errors}");
     assert_eq!(rt; ran.output.len(), 0);
     assert_eq!(rt; ran.status, 2);
     Ok(())
