@@ -1,18 +1,18 @@
 -- A stream that comes in pieces, whatever they are.
-use Rattle.std.specs.Prelude.{◌≡◌, ℕ, List, [], ◌∷◌, ◌++◌, None, Result, Ok, Err, IfOk, IfErr}
+use Rattle.std.specs.Prelude.{◌≡◌, ℕ, List, [], ◌∷◌, ◌++◌, Result, Ok, Err, IfOk, IfErr}
 use Rattle.ipfix_message.specs.declared.frame_error.FrameError.{FrameError}
 use Rattle.ipfix_message.specs.declared.frame_error.FrameError.TheVariants.{BadVersion, BadLength, OutOfMemory}
 use Rattle.ipfix_message.specs.Framing.{IsFramed}
-use Rattle.ipfix_message.specs.FramerState.{FramerState, nothing_fed, Continues, FailsBy}
+use Rattle.ipfix_message.specs.FramerState.{FramerState, nothing_fed, GoesOn, FailsBy}
 
 -- a call of feed: its piece, and what it answered
 pub record Feed : Type 0 where
   pub piece : List ℕ
   pub answer : Result (List (List ℕ)) FrameError
 
--- what a call does, as the contract of feed says
+-- what a call does: what the contract of feed says in `ok` and `err`
 pub record IsFed (old : FramerState) (f : Feed) (new : FramerState) : Type 0 where
-  pub ok : IfOk f.answer (λ out. (old.fault ≡ None) × Continues old f.piece out new)
+  pub ok : IfOk f.answer (λ out. GoesOn old f.piece out new)
   pub err : IfErr f.answer (λ e. FailsBy e old f.piece new)
 
 -- calls, one after another

@@ -22,12 +22,16 @@ pub record IsFramerState (s : FramerState) : Type 0 where
 pub record Continues (old : FramerState) (piece : List ℕ) (out : List (List ℕ)) (new : FramerState) : Type 0 where
   pub after : (fed : List ℕ) (messages : List (List ℕ)) → IsFramed fed messages old.fault old.pending → IsFramed (fed ++ piece) (messages ++ out) new.fault new.pending
 
+-- what feed says where it answers messages: no fault was there, and with the piece the stream goes on by them
+abbrev pub GoesOn : FramerState → List ℕ → List (List ℕ) → FramerState → Type 0
+GoesOn old piece out new = (old.fault ≡ None) × Continues old piece out new
+
 -- a fault that was there, and stays; or one that this piece brings before any message is whole
 abbrev pub HasFault : FrameError → FramerState → List ℕ → FramerState → Type 0
 HasFault fault old piece new =
     ((old.fault ≡ Some fault) × (new ≡ old)) ⊎ ((old.fault ≡ None) × (new.fault ≡ Some fault) × Continues old piece [] new)
 
--- what stands after a piece that is answered by an error; one that is refused for memory changes nothing
+-- what feed says where it answers an error: how the stream stands then; a piece that is refused for memory changes nothing
 abbrev pub FailsBy : FrameError → FramerState → List ℕ → FramerState → Type 0
 FailsBy BadVersion old piece new = HasFault BadVersion old piece new
 FailsBy BadLength old piece new = HasFault BadLength old piece new

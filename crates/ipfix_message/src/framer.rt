@@ -1,6 +1,6 @@
 //! A stream of octets, cut into IPFIX messages as its octets come (RFC 7011, sections 3.1 and 10.4).
 ghost use Rattle.std.specs.Prelude.{◌≡◌, ◌≢◌, ◌≤◌, [], length, drop, None, IsSome, IfOk, IfErr};
-ghost use Rattle.ipfix_message.specs.FramerState.{nothing_fed, Continues, FailsBy};
+ghost use Rattle.ipfix_message.specs.FramerState.{nothing_fed, GoesOn, FailsBy};
 
 use crate::FrameError;
 use bytes::Bytes;
@@ -57,8 +57,7 @@ impl Framer {
     ///
     /// The messages of one call share one block of memory. A call takes time in proportion to its octets.
     pub fn feed(&mut self, piece: &[u8]) -> Result<Vec<Bytes>, FrameError>
-        ensures ok { IfOk result (λ out. (self.old.fault ≡ None)
-            × Continues self.old piece.now out.items self.new) }
+        ensures ok { IfOk result (λ out. GoesOn self.old piece.now out.items self.new) }
         // No answer without messages hides a fault.
         ensures clear { IfOk result (λ out. out.items ≡ [] → self.new.fault ≡ None) }
         ensures err { IfErr result (λ e. FailsBy e self.old piece.now self.new) }

@@ -7,4 +7,6 @@ pub mod WalkSteps
 pub mod SessionSteps
 pub mod MeaningLaws
 pub mod InForceLaws
+pub mod NumberLaws
 pub mod RecordLaws
+pub mod ContentLaws

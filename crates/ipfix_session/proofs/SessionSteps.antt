@@ -1,5 +1,7 @@
 -- How a session reads its next message.
 use Rattle.std.proofs.Common.{◌≡◌, ℕ, Bool, true, false, cond, eqb, ltb, List, [], ◌∷◌, ◌++◌, length, reverse, Option, Result, Ok, Err, refl, sym, ap, ◌∙◌}
+use Rattle.std.specs.Prelude.{filter}
+use Rattle.std.specs.List.{flat_map}
 use Rattle.std.proofs.lemmas.Bool.{eqb-true}
 use Rattle.sequences.specs.Octets.{number_at}
 use Rattle.ipfix_template.specs.declared.template.Template.{Template}
@@ -128,9 +130,19 @@ expected_then : (q : ℕ) (message : List ℕ) (older : List (List ℕ)) → exp
 unfolding expected_number
 expected_then q message older = refl
 
-items_then : (q : ℕ) (message : List ℕ) (older : List (List ℕ)) → items_of_domain q (message ∷ older) ≡ cond (eqb q (domain_of message)) (reverse (items_or_none (items_of message))) [] ++ items_of_domain q older
+-- a message of the domain stands newest, and one of another changes nothing
+pub items_then : (q : ℕ) (message : List ℕ) (older : List (List ℕ)) → items_of_domain q (message ∷ older) ≡ cond (eqb q (domain_of message)) (reverse (items_or_none (items_of message))) [] ++ items_of_domain q older
 unfolding items_of_domain
-items_then q message older = refl
+items_then q message older = by_domain (eqb q (domain_of message)) where
+  newest_first : List ℕ → List Item
+  newest_first m = reverse (items_or_none (items_of m))
+
+  of_domain : List (List ℕ)
+  of_domain = filter (λ m. eqb q (domain_of m)) older
+
+  by_domain : (same : Bool) → flat_map newest_first (cond same (message ∷ of_domain) of_domain) ≡ cond same (newest_first message) [] ++ flat_map newest_first of_domain
+  by_domain true = refl
+  by_domain false = refl
 
 templates_by : (b : Bool) (id q d : ℕ) (here there : Option Template) (said : List Item) (older : List (List ℕ)) → (b ≡ true → q ≡ d) → here ≡ template_in_force id (reverse said ++ items_of_domain d older) → there ≡ template_in_force id (items_of_domain q older)
     → cond b here there ≡ template_in_force id (cond b (reverse said) [] ++ items_of_domain q older)

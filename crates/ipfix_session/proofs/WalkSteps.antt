@@ -36,13 +36,13 @@ same_contents a b records skips = λ i. record { records = records i; skips = sk
 same_skips : (s t : Skips) → s.unknown ≡ t.unknown → s.reserved ≡ t.reserved → s.refused ≡ t.refused → s ≡ t
 same_skips s t unknown reserved refused = λ i. record { unknown = unknown i; reserved = reserved i; refused = refused i }
 
-both-nothing : (a : Contents) → both a nothing ≡ a
+pub both-nothing : (a : Contents) → both a nothing ≡ a
 both-nothing a = same_contents (both a nothing) a (append-nil a.records) (same_skips (both a nothing).skips a.skips (omega arith) (omega arith) (omega arith))
 
-nothing-both : (a : Contents) → both nothing a ≡ a
+pub nothing-both : (a : Contents) → both nothing a ≡ a
 nothing-both a = same_contents (both nothing a) a refl (same_skips (both nothing a).skips a.skips (omega arith) (omega arith) (omega arith))
 
-both-both : (a b c : Contents) → both (both a b) c ≡ both a (both b c)
+pub both-both : (a b c : Contents) → both (both a b) c ≡ both a (both b c)
 both-both a b c = same_contents (both (both a b) c) (both a (both b c)) (append_assoc a.records b.records c.records) (same_skips (both (both a b) c).skips (both a (both b c)).skips (omega arith) (omega arith) (omega arith))
 
 -- ---- what an item changes of the templates

@@ -69,3 +69,9 @@ contents_after older message (item ∷ items) = do
   first ← item_contents older message item
   others ← contents_after (item ∷ older) message items
   Ok (both first others)
+
+-- what two parts of a message hold together, or the fault of the first that has one
+abbrev pub both_read : Result Contents ReadError → Result Contents ReadError → Result Contents ReadError
+both_read (Ok first) (Ok others) = Ok (both first others)
+both_read (Ok first) (Err e) = Err e
+both_read (Err e) others = Err e

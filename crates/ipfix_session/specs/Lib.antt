@@ -13,6 +13,7 @@ pub mod LastDefinition
 pub mod DataSetContent
 pub mod Contents
 pub mod Meaning
+pub mod LastMessage
 pub mod Keeping
 pub mod Shelves
 pub mod Tables

@@ -1,7 +1,8 @@
 -- What the messages of one session, which is one TCP connection, mean (RFC 7011, sections 3.1, 8 and 10.4). What is a gap is
 -- this project's own rule: a domain's first message sets the number, and so does the next one after a Data Set that was skipped
 -- for want of a template.
-use Rattle.std.specs.Prelude.{ℕ, ◌+◌, ◌%◌, ◌^◌, List, [], ◌∷◌, ◌++◌, length, reverse, map, Option, Some, None, Result, Ok, Err, ◌==◌, if◌then◌else◌}
+use Rattle.std.specs.Prelude.{ℕ, ◌+◌, ◌%◌, ◌^◌, List, [], ◌∷◌, ◌++◌, length, reverse, map, filter, Option, Some, None, Result, Ok, Err, ◌==◌, if◌then◌else◌}
+use Rattle.std.specs.List.{flat_map}
 use Rattle.ipfix_template.specs.DataRecord.{DataRecord}
 use Rattle.ipfix_message.specs.declared.header.Header.{Header}
 use Rattle.ipfix_message.specs.declared.decode_error.DecodeError.{DecodeError}
@@ -24,9 +25,8 @@ items_or_none (Err e) = []
 
 -- the items of the messages of a domain, newest first
 unfoldable pub items_of_domain : ℕ → List (List ℕ) → List Item
-items_of_domain domain [] = []
-items_of_domain domain (message ∷ older) =
-    (if domain == domain_of message then reverse (items_or_none (items_of message)) else []) ++ items_of_domain domain older
+items_of_domain domain messages =
+    flat_map (λ message. reverse (items_or_none (items_of message))) (filter (λ message. domain == domain_of message) messages)
 
 abbrev pub read_items : List Item → List ℕ → Result (List Item) DecodeError → Result Contents ReadError
 read_items older message (Ok items) = contents_after older message items

@@ -1,6 +1,6 @@
 //! What the messages of a session mean: laws over the definitions alone.
 ghost use Rattle.std.specs.Prelude.{◌≡◌, ◌++◌, ◌∷◌, [], ℕ, List, reverse};
-ghost use Rattle.ipfix_session.specs.Meaning.{domain_of, meaning_of, records_after, joined, records_meant};
+ghost use Rattle.ipfix_session.specs.Meaning.{domain_of, expected_number, meaning_of, records_after, joined, records_meant};
 
 /// Reading message by message is the meaning's step: what further messages of a session mean is what the
 /// first of them mean, and then the others by a session that stands for the first too. One message brings
@@ -12,6 +12,14 @@ pub fn messages_join()
         → records_after older (message ∷ []) ≡ records_meant (domain_of message) (meaning_of older message) }
 {}
 
+/// What items of a message hold is what the first of them hold, and then the others, which are read over the first too; the
+/// first fault among them is the fault of all. One item holds what it says over the items before it.
+pub fn items_join()
+    ensures joined { (older : List Item) (message : List ℕ) (first others : List Item)
+        → contents_after older message (first ++ others) ≡ both_read (contents_after older message first) (contents_after (reverse first ++ older) message others) }
+    ensures step { (older : List Item) (message : List ℕ) (item : Item) → contents_after older message (item ∷ []) ≡ item_contents older message item }
+{}
+
 ghost use Rattle.std.specs.Prelude.{Some, Ok, ◌↔◌};
 ghost use Rattle.sequences.specs.Octets.{AreOctets};
 ghost use Rattle.ipfix_template.specs.declared.template.Template.{Template};
@@ -19,13 +27,21 @@ ghost use Rattle.ipfix_template.specs.Template.{IsAccepted};
 ghost use Rattle.ipfix_template.specs.Values.{records_in};
 ghost use Rattle.ipfix_message.specs.declared.item.Item.{Item};
 ghost use Rattle.ipfix_session.specs.InForce.{template_in_force};
+ghost use Rattle.ipfix_session.specs.Contents.{item_contents, contents_after, both_read};
 ghost use Rattle.ipfix_session.specs.LastDefinition.{IsInForce};
+ghost use Rattle.ipfix_session.specs.LastMessage.{IsExpected};
 ghost use Rattle.ipfix_session.specs.DataSetContent.{AreRecords};
 
 /// The template in force for an ID is what the last item that decides on it defines, where all templates of its kind were not
 /// withdrawn after it; and there is none else.
 pub fn last_definition_is_in_force()
     ensures { (id : ℕ) (items : List Item) (t : Template) → (template_in_force id items ≡ Some t) ↔ IsInForce id items t }
+{}
+
+/// The number that a domain's next message is expected to have is the one after the domain's last message, where that one has
+/// a next number; and there is none else.
+pub fn last_message_sets_the_number()
+    ensures { (domain : ℕ) (messages : List (List ℕ)) (number : ℕ) → (expected_number domain messages ≡ Some number) ↔ IsExpected domain messages number }
 {}
 
 /// What is read of a Data Set's content is its records, one after another, and padding; and such records are read. Where there are

@@ -6,9 +6,10 @@
 //! - [`session`]: `Session`, which reads message after message.
 //! - [`read`]: `Read`, what a message brings, with `Skips` and `Gap`.
 //! - [`read_error`]: `ReadError`, why a message is refused.
-//! - [`laws`]: messages mean what the first of them mean, and then the others (`messages_join`); and, in the
-//!   standard's words, which template is in force (`last_definition_is_in_force`) and what a Data Set's content
-//!   is (`records_are_read`).
+//! - [`laws`]: messages mean what the first of them mean, and then the others (`messages_join`), and so do a
+//!   message's items (`items_join`); and, in the standard's words, which template is in force
+//!   (`last_definition_is_in_force`), which Sequence Number is expected (`last_message_sets_the_number`) and
+//!   what a Data Set's content is (`records_are_read`).
 #![tactic(auto)]
 
 mod changes;
@@ -26,7 +27,10 @@ mod table;
 mod tests;
 mod walk;
 
-pub use laws::{last_definition_is_in_force, messages_join, records_are_read};
+pub use laws::{
+    items_join, last_definition_is_in_force, last_message_sets_the_number, messages_join,
+    records_are_read,
+};
 pub use read::{Gap, Read, Skips};
 pub use read_error::ReadError;
 pub use session::Session;

@@ -10,3 +10,4 @@ pub mod InHand
 pub mod Streams
 pub mod Ends
 pub mod DueLaws
+pub mod PlainLaws

@@ -16,4 +16,5 @@ pub mod Steps
 pub mod Pulling
 pub mod Due
 pub mod Running
+pub mod PlainHistory
 pub mod Reading

@@ -8,7 +8,8 @@
 //!   say what is done with a message.
 //! - `share`: what a message gives to the subscription, and what the audit says of it.
 //! - [`laws`]: over the definitions that the contract of [`offline`] cites, with no code behind them:
-//!   [`due_is_built`], that what is due are the messages that are built one after another.
+//!   [`due_is_built`], that what is due are the messages that are built one after another, and
+//!   [`accepted_messages_are_the_history`], that the history of a run has its messages alone.
 #![tactic(auto)]
 
 mod delivery;
@@ -25,7 +26,7 @@ mod share;
 pub use engine::offline;
 pub use fault::Fault;
 pub use job::{FramingFault, OfflineFault, OfflineJob, OfflineReport};
-pub use laws::due_is_built;
+pub use laws::{accepted_messages_are_the_history, due_is_built};
 pub use octet_devices::{Device, Failed, Sink, Source};
 
 #[cfg(test)]

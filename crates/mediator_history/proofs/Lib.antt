@@ -1,2 +1,3 @@
 pub mod HistoryLaws
+pub mod LastLaws
 pub mod Counts

@@ -8,6 +8,7 @@ pub use Rattle.subscriber_stream.specs.Shapes
 pub mod Entries
 pub mod Sessions
 pub mod Subscriptions
+pub mod LastEntries
 pub mod Accepted
 pub mod Disclosed
 pub mod Auditing

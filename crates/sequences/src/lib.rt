@@ -4,4 +4,10 @@
 //! - `specs/Sequence`: items that stand one after another in octets (`read_all` over a `Front`).
 //! - `specs/Before`: what each entry of a history gives, from the entries before it
 //!   (`each_with_before`), and the last value that something had (`last_of`).
+//! - [`laws`]: one entry more gives what it gives after all others (`one_entry_more`), and the last value is that of
+//!   the last entry that has one (`last_entry_has_the_last_value`).
 #![tactic(auto)]
+
+pub mod laws;
+
+pub use laws::{last_entry_has_the_last_value, one_entry_more};

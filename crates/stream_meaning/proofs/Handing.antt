@@ -2,6 +2,7 @@
 use Rattle.std.proofs.Common.{◌≡◌, ℕ, suc, ◌+◌, ◌<◌, ◌≤◌, ◌^◌, List, [], ◌∷◌, ◌++◌, length, take, drop, Option, Some, None, refl, sym, ap, subst, ◌∙◌, append_assoc, append-nil, arith, length-take, length-drop}
 use Rattle.std.specs.List.{AllByRecursion}
 use Rattle.std.proofs.lemmas.List.{take-append-drop, take_at}
+use Rattle.sequences.specs.Before.{each_after, each_with_before}
 use Rattle.ipfix_template.specs.DataRecord.{DataRecord}
 use Rattle.subscriber_stream.specs.Parts.{Part, parts, records_in}
 use Rattle.subscriber_stream.specs.Message.{run_length, built, place_after}
@@ -11,7 +12,7 @@ use Rattle.subscriber_stream.specs.Standing.{Standing, StandsAt, FitsLimits}
 use Rattle.subscriber_stream.specs.Calls.{Call, Given, Pulled, Pull, pulls_of, octets_from, Serves}
 use Rattle.subscriber_stream.proofs.CallLaws.{served, parts_bring}
 use Rattle.subscriber_stream.proofs.Standings.{records_in-append}
-use Rattle.stream_meaning.specs.Served.{IsStreamable, AreStreamable, AreInRange, records_given, messages_in, messages_got, place_from, place_reached, pulls}
+use Rattle.stream_meaning.specs.Served.{IsStreamable, AreStreamable, AreInRange, records_given, messages_in, messages_got, pull_at, place_from, place_reached, pulls}
 use Rattle.stream_meaning.specs.Means.{Means}
 use Rattle.stream_meaning.specs.HandedOut.{AreHandedOut}
 use Rattle.stream_meaning.proofs.Runs.{got, means_so_far, means_all}
@@ -34,6 +35,20 @@ pulls_append (Given more ∷ calls) others records =
 pulls_append (Pulled now target ∷ calls) others records =
     let first : Pull = record { now = now; target = target; records = records } in
     ap (λ (ps : List Pull). first ∷ ps) (pulls_append calls others records)
+
+-- the pulls among calls behind others, each with what all calls before it give
+pulls_behind : (before calls : List Call) → pulls_of (records_given before) calls ≡ each_after pull_at before calls
+pulls_behind before [] = refl
+pulls_behind before (Given more ∷ calls) =
+    let given : records_given before ++ more ≡ records_given (before ++ Given more ∷ []) = ap (λ (rs : List DataRecord). records_given before ++ rs) (sym (append-nil more)) ∙ sym (given_append before (Given more ∷ [])) in
+    ap (λ (rs : List DataRecord). pulls_of rs calls) given ∙ pulls_behind (before ++ Given more ∷ []) calls
+pulls_behind before (Pulled now target ∷ calls) =
+    let pull : Pull = record { now = now; target = target; records = records_given before } in
+    let given : records_given before ≡ records_given (before ++ Pulled now target ∷ []) = sym (append-nil (records_given before)) ∙ sym (given_append before (Pulled now target ∷ [])) in
+    ap (λ (ps : List Pull). pull ∷ ps) (ap (λ (rs : List DataRecord). pulls_of rs calls) given ∙ pulls_behind (before ++ Pulled now target ∷ []) calls)
+
+pub pulls_see : (calls : List Call) → pulls_of [] calls ≡ each_with_before pull_at calls
+pulls_see calls = pulls_behind [] calls
 
 place_append : (xs ys : List Pull) (p : ℕ) → place_from p (xs ++ ys) ≡ place_from (place_from p xs) ys
 place_append [] ys p = refl

@@ -14,7 +14,7 @@ use Rattle.ipfix_session.specs.Contents.{only_records, contents_after}
 use Rattle.ipfix_session.specs.Meaning.{Meaning, domain_of, items_or_none, items_of_domain, read_items, contents_of, next_number, expected_number, gap_between, gap_of, meaning_of}
 use Rattle.ipfix_session.specs.declared.read.Gap.{Gap}
 use Rattle.ipfix_session.specs.declared.read_error.ReadError.{ReadError}
-use Rattle.ipfix_session.proofs.SessionSteps.{header_is}
+use Rattle.ipfix_session.proofs.SessionSteps.{header_is, items_then}
 use Rattle.subscriber_stream.specs.Parts.{Part, Announcement, Entry, records_in}
 use Rattle.subscriber_stream.specs.Message.{sets_of, set_head, body, message, run_length}
 use Rattle.subscriber_stream.proofs.Messages.{length-message}
@@ -125,10 +125,10 @@ told older done ps now stands next =
 
 -- ---- the step
 
-items_then : (m : List ℕ) (older : List (List ℕ)) (said : List Item) → domain_of m ≡ 0 → items_of m ≡ Ok said → items_of_domain 0 (m ∷ older) ≡ reverse said ++ items_of_domain 0 older
-unfolding items_of_domain
-items_then m older said domain is =
-    ap (λ (d : ℕ). cond (eqb 0 d) (reverse (items_or_none (items_of m))) [] ++ items_of_domain 0 older) domain
+own_items_then : (m : List ℕ) (older : List (List ℕ)) (said : List Item) → domain_of m ≡ 0 → items_of m ≡ Ok said → items_of_domain 0 (m ∷ older) ≡ reverse said ++ items_of_domain 0 older
+own_items_then m older said domain is =
+    items_then 0 m older
+    ∙ ap (λ (d : ℕ). cond (eqb 0 d) (reverse (items_or_none (items_of m))) [] ++ items_of_domain 0 older) domain
     ∙ ap (λ (r : Result (List Item) _). reverse (items_or_none r) ++ items_of_domain 0 older) is
 
 expected_then : (m : List ℕ) (older : List (List ℕ)) → domain_of m ≡ 0 → expected_number 0 (m ∷ older) ≡ next_number (header_of m) (contents_of older m)
@@ -152,7 +152,7 @@ stands_after older done ps now stands is =
     let expected : expected_number 0 (m ∷ older) ≡ Some ((handed % 2 ^ 32 + length (records_in ps)) % 2 ^ 32) = expected_then m older domain
     ∙ ap (λ (h : Header). next_number h (contents_of older m)) is.header ∙ ap (next_number (header_at now handed)) is.contents in
     record {
-      table = λ q. ap (template_in_force q) (items_then m older (items_at 16 (sets_of ps)) domain is.items)
+      table = λ q. ap (template_in_force q) (own_items_then m older (items_at 16 (sets_of ps)) domain is.items)
           ∙ in_force_after (sets_of ps) table (items_of_domain 0 older) 16 stands.table q
           ∙ ap (λ (t : Table). t q) (sets_after ps table ∙ sym (after_append done ps empty));
       number = ap (λ (o : Option ℕ). gap_between o (length (records_in (done ++ ps)) % 2 ^ 32)) expected

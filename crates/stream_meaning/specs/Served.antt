@@ -1,6 +1,6 @@
 -- What a stream is given, and the messages that it gives.
-use Rattle.std.specs.Prelude.{◌≤◌, ◌<◌, ◌^◌, ℕ, List, [], ◌∷◌, ◌++◌, length, Option, Some, None}
-use Rattle.std.specs.List.{AllByRecursion}
+use Rattle.std.specs.Prelude.{◌≤◌, ◌<◌, ◌^◌, ℕ, List, [], ◌∷◌, length, map, Option, Some, None}
+use Rattle.std.specs.List.{AllByRecursion, flat_map}
 use Rattle.ipfix_template.specs.Template.{IsWritable, is_options}
 use Rattle.ipfix_template.specs.DataRecord.{DataRecord, IsSound}
 use Rattle.subscriber_stream.specs.Shapes.{shapes_of}
@@ -25,17 +25,26 @@ IsInRange (Pulled now target) = (now < 2 ^ 32) × (target < 2 ^ 16)
 abbrev pub AreInRange : List Call → Type 0
 AreInRange calls = AllByRecursion IsInRange calls
 
+abbrev pub given_by : Call → List DataRecord
+given_by (Given more) = more
+given_by (Pulled now target) = []
+
 -- all records that calls give
 abbrev pub records_given : List Call → List DataRecord
-records_given [] = []
-records_given (Given more ∷ calls) = more ++ records_given calls
-records_given (Pulled now target ∷ calls) = records_given calls
+records_given calls = flat_map given_by calls
+
+abbrev pub message_in : Option (List ℕ) → List (List ℕ)
+message_in None = []
+message_in (Some message) = message ∷ []
 
 -- the messages among what pulls answer
 abbrev pub messages_in : List (Option (List ℕ)) → List (List ℕ)
-messages_in [] = []
-messages_in (None ∷ answers) = messages_in answers
-messages_in (Some message ∷ answers) = message ∷ messages_in answers
+messages_in answers = flat_map message_in answers
+
+-- a pull, with all records that were given before it
+abbrev pub pull_at : List Call → Call → List Pull
+pull_at before (Given more) = []
+pull_at before (Pulled now target) = record { now = now; target = target; records = records_given before } ∷ []
 
 -- the messages that calls get from a new stream
 abbrev pub messages_got : List Call → List (List ℕ)
@@ -52,5 +61,4 @@ place_reached calls = place_from 0 (pulls_of [] calls)
 
 -- pulls, each with its Export Time and target
 abbrev pub pulls : List (ℕ × ℕ) → List Call
-pulls [] = []
-pulls (turn ∷ turns) = Pulled turn.0 turn.1 ∷ pulls turns
+pulls turns = map (λ turn. Pulled turn.0 turn.1) turns

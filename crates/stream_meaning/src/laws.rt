@@ -6,13 +6,14 @@
 //! An Export Time is a `u32`, and a target a `u16`.
 ghost use Rattle.std.specs.Prelude.{◌≡◌, ◌≤◌, ◌<◌, ◌^◌, ◌++◌, ◌∷◌, [], ℕ, List, length, take, Option, None};
 ghost use Rattle.std.specs.List.{AllByRecursion};
+ghost use Rattle.sequences.specs.Before.{each_with_before};
 ghost use Rattle.ipfix_template.specs.DataRecord.{DataRecord};
 ghost use Rattle.subscriber_stream.specs.Parts.{parts, records_in};
 ghost use Rattle.subscriber_stream.specs.Message.{built, place_after};
 ghost use Rattle.subscriber_stream.specs.declared.limits.Limits.{Limits};
 ghost use Rattle.subscriber_stream.specs.Standing.{Standing, StandsAt, FitsLimits};
-ghost use Rattle.subscriber_stream.specs.Calls.{Call, Serves};
-ghost use Rattle.stream_meaning.specs.Served.{IsStreamable, AreStreamable, AreInRange, records_given, messages_in, messages_got, place_reached, pulls};
+ghost use Rattle.subscriber_stream.specs.Calls.{Call, Serves, pulls_of};
+ghost use Rattle.stream_meaning.specs.Served.{IsStreamable, AreStreamable, AreInRange, records_given, messages_in, messages_got, pull_at, place_reached, pulls};
 ghost use Rattle.stream_meaning.specs.Means.{Means};
 ghost use Rattle.stream_meaning.specs.HandedOut.{AreHandedOut};
 
@@ -33,6 +34,11 @@ pub fn messages_mean_the_list()
     ensures drained { (calls : List Call) (turns : List (ℕ × ℕ)) → AreStreamable (records_given calls) → AreInRange (calls ++ pulls turns)
         → length (parts (records_given calls)) ≤ length turns
         → Means (messages_got (calls ++ pulls turns)) (records_given calls) }
+{}
+
+/// The pulls among calls are those that `messages_got` and `place_reached` go by: each with all records that were given before it.
+pub fn pulls_see_what_was_given()
+    ensures { (calls : List Call) → pulls_of [] calls ≡ each_with_before pull_at calls }
 {}
 
 /// Where a stream stands at a place of the parts of a list, the records before that place are the first of

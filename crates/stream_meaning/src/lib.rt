@@ -11,7 +11,8 @@ pub mod laws;
 pub mod streamable;
 
 pub use laws::{
-    answers_mean_the_list, holders_keep, messages_mean_the_list, the_first_are_handed_out,
+    answers_mean_the_list, holders_keep, messages_mean_the_list, pulls_see_what_was_given,
+    the_first_are_handed_out,
 };
 pub use streamable::{see_record, see_records};
 

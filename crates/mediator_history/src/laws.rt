@@ -1,0 +1,34 @@
+//! Laws over the definitions of a history: what the last entry of its kind decides, and what one entry more adds.
+ghost use Rattle.std.specs.Prelude.{◌≡◌, ◌↔◌, ◌∷◌, ◌++◌, [], ℕ, List, IsTrue};
+ghost use Rattle.policy_text.specs.Policies.{Meaning as Policy};
+ghost use Rattle.mediator_history.specs.Entries.{Entry};
+ghost use Rattle.mediator_history.specs.Subscriptions.{policy_in_force, name_of, is_served};
+ghost use Rattle.mediator_history.specs.LastEntries.{IsInForce, IsNamed, IsSubscribed};
+ghost use Rattle.mediator_history.specs.Accepted.{accepted_at, accepted};
+ghost use Rattle.mediator_history.specs.Disclosed.{given_at, disclosed};
+ghost use Rattle.mediator_history.specs.Auditing.{audit_at, audit_list};
+
+/// The policy in force is that of the last edit whose text is a policy, or one without rules where there is none; and none else is.
+pub fn last_edit_is_in_force()
+    ensures { (h : List Entry) (policy : Policy) → (policy_in_force h ≡ policy) ↔ IsInForce h policy }
+{}
+
+/// A subscription has the name under which it began last, or no octets where it never began; and none else.
+pub fn last_subscription_names()
+    ensures { (sub : ℕ) (h : List Entry) (name : List ℕ) → (name_of sub h ≡ name) ↔ IsNamed sub h name }
+{}
+
+/// A subscription is served exactly where it began and after that neither ended nor was cut: where the last entry that switches
+/// it is one by which it begins.
+pub fn served_since_subscribed()
+    ensures { (sub : ℕ) (h : List Entry) → IsTrue (is_served sub h) ↔ IsSubscribed sub h }
+{}
+
+/// One entry more adds, behind all that was there, the records that it brings, what it gives to a subscription and what the audit
+/// names of it, each after all entries before it; and before the first entry there is none of these.
+pub fn one_entry_more()
+    ensures start { (sub : ℕ) → (accepted [] ≡ []) × (disclosed sub [] ≡ []) × (audit_list [] ≡ []) }
+    ensures accepts { (h : List Entry) (e : Entry) → accepted (h ++ e ∷ []) ≡ accepted h ++ accepted_at h e }
+    ensures discloses { (sub : ℕ) (h : List Entry) (e : Entry) → disclosed sub (h ++ e ∷ []) ≡ disclosed sub h ++ given_at sub h e }
+    ensures audits { (h : List Entry) (e : Entry) → audit_list (h ++ e ∷ []) ≡ audit_list h ++ audit_at h e }
+{}
