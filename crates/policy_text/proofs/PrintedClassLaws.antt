@@ -1,5 +1,5 @@
 -- Each printed word is read back by its class.
-use Rattle.std.proofs.Common.{◌≡◌, ℕ, zero, suc, ◌^◌, ◌<◌, ◌≤◌, true, false, eqb, List, [], ◌∷◌, ◌++◌, length, get_or, map, Option, Some, None, Result, Ok, Err, refl, sym, ap, ◌∙◌, subst, arith, ⊎_elim, append_assoc, append-nil, length-append}
+use Rattle.std.proofs.Common.{◌≡◌, ℕ, zero, suc, ◌^◌, ◌<◌, ◌≤◌, true, false, eqb, List, [], ◌∷◌, ◌++◌, length, get_or, map, Option, Some, None, Result, Ok, Err, refl, sym, ap, ◌∙◌, subst, arith, ⊎_elim, append_assoc, append-nil, length-append, IfSome}
 use Rattle.std.proofs.lemmas.List.{length-map}
 use Rattle.std.specs.List.{All, AllByRecursion, list_all, slice_split, join_with_byte}
 use Rattle.std.specs.Char.{is_ascii_lowercase, digit_value}
@@ -34,7 +34,7 @@ use Rattle.policy_text.specs.Naming.{is_name, is_name_octet}
 use Rattle.policy_text.specs.Elements.{element_of}
 use Rattle.policy_text.specs.Policies.{Aggregate as Definition}
 use Rattle.policy_text.specs.Classes.{name, number, element, prefix, prefix_or_fault, star, or_star, add_piece, add_pieces, key_of, place_of, aggregate_place, new_name, interval, bits_within}
-use Rattle.policy_text.specs.Grammar.{IsKey, IfGiven}
+use Rattle.policy_text.specs.Grammar.{IsKey}
 use Rattle.policy_text.specs.Printing.{word_or_star, key_text}
 use Rattle.policy_text.proofs.NameLaws.{name_parts}
 use Rattle.policy_text.proofs.ElementLaws.{element_of-only}
@@ -136,7 +136,7 @@ unfolding or_star
 or_star-star class = refl
 
 -- a value's word, or `*`
-pub or_star-printed : {A : Type 0} (class : Word → Result A FaultKind) (kind : FaultKind) (word : A → Word) (P : A → Type 0) → ((a : A) → P a → class (word a) ≡ Ok a) → class star ≡ Err kind → (o : Option A) → IfGiven P o → or_star class (word_or_star word o) ≡ Ok o
+pub or_star-printed : {A : Type 0} (class : Word → Result A FaultKind) (kind : FaultKind) (word : A → Word) (P : A → Type 0) → ((a : A) → P a → class (word a) ≡ Ok a) → class star ≡ Err kind → (o : Option A) → IfSome o P → or_star class (word_or_star word o) ≡ Ok o
 or_star-printed class kind word P reads none None h = or_star-star class
 or_star-printed class kind word P reads none (Some a) h = or_star-word class kind (word a) a (reads a h) none
 

@@ -1,5 +1,5 @@
 -- What is read is what a policy's type keeps.
-use Rattle.std.proofs.Common.{◌≡◌, ℕ, suc, ◌+◌, ◌^◌, ◌<◌, ◌≤◌, Bool, true, false, cond, ◌&&◌, eqb, ltb, leb, List, [], ◌∷◌, ◌++◌, length, Option, Some, None, Result, Ok, Err, refl, sym, ap, ◌∙◌, subst, arith, ⊎_elim, append_assoc, append-nil, length-append, codes, is_some, not, IfOk}
+use Rattle.std.proofs.Common.{◌≡◌, ℕ, suc, ◌+◌, ◌^◌, ◌<◌, ◌≤◌, Bool, true, false, cond, ◌&&◌, eqb, ltb, leb, List, [], ◌∷◌, ◌++◌, length, Option, Some, None, Result, Ok, Err, refl, sym, ap, ◌∙◌, subst, arith, ⊎_elim, append_assoc, append-nil, length-append, codes, is_some, not, IfOk, IfSome}
 use Rattle.std.specs.List.{slice_split, position_or_len, list_any}
 use Rattle.std.proofs.lemmas.List.Splits.{length-slice_split}
 use Rattle.std.specs.Str.{bytes_eq}
@@ -27,7 +27,7 @@ use Rattle.policy_text.specs.Policies.{IsKeyLength, Aggregate as Definition}
 use Rattle.policy_text.specs.Results.{◌>>=◌, or_fault}
 use Rattle.policy_text.specs.Classes.{name, number, element, prefix, prefix_or_fault, star, some_of, or_star, is_key_kind, width_at, with_key, add_piece, add_pieces, key_of, place_of, aggregate_place, new_name, interval, bits_within}
 use Rattle.policy_text.specs.Lines.{next_of, next, after, ended, truncate_of, element_action, aggregate_action, on_element, action_of, rule_of, aggregate_of}
-use Rattle.policy_text.specs.Grammar.{name_at, IfGiven, IsAction, IsRule, IsKey, IsAggregate}
+use Rattle.policy_text.specs.Grammar.{name_at, IsAction, IsRule, IsKey, IsAggregate}
 use Rattle.policy_text.specs.declared.fault.FaultKind.TheVariants.{UnknownWord, BadName, BadNumber, BadPrefix, BadTruncate, UnknownAggregate, DoubleAggregate, BadKey}
 use Rattle.policy_text.proofs.ElementLaws.{element_of-found}
 use Rattle.policy_text.proofs.KeyStepLaws.{IsKeyAfter, as_key}
@@ -59,15 +59,15 @@ or_fault-Ok kind None y e = absurd (err-Ok kind y e)
 or_fault-Ok kind (Some x) y e = ap (λ z. Some z) (same_Ok x y e)
 
 -- what a class gives, or nothing
-given_some : {A : Type 0} (P : A → Type 0) (r : Result A FaultKind) (o : Option A) → ((a : A) → r ≡ Ok a → P a) → some_of r ≡ Ok o → IfGiven P o
-given_some {A} P (Ok a) o sound e = let Q : Option A → Type 0 = λ x. IfGiven P x in subst Q (same_Ok (Some a) o e) (sound a refl)
+given_some : {A : Type 0} (P : A → Type 0) (r : Result A FaultKind) (o : Option A) → ((a : A) → r ≡ Ok a → P a) → some_of r ≡ Ok o → IfSome o P
+given_some {A} P (Ok a) o sound e = let Q : Option A → Type 0 = λ x. IfSome x P in subst Q (same_Ok (Some a) o e) (sound a refl)
 given_some P (Err kind) o sound e = absurd (err-Ok kind o e)
 
-given : {A : Type 0} (P : A → Type 0) (class : Word → Result A FaultKind) → ((w : Word) (a : A) → class w ≡ Ok a → P a) → (w : Word) (o : Option A) → or_star class w ≡ Ok o → IfGiven P o
+given : {A : Type 0} (P : A → Type 0) (class : Word → Result A FaultKind) → ((w : Word) (a : A) → class w ≡ Ok a → P a) → (w : Word) (o : Option A) → or_star class w ≡ Ok o → IfSome o P
 unfolding or_star
 given {A} P class sound w o e =
-    either (IfGiven P o) (bytes_eq w star) (Ok None) (some_of (class w)) o e
-    (λ none. let Q : Option A → Type 0 = λ x. IfGiven P x in subst Q (same_Ok None o none) tt)
+    either (IfSome o P) (bytes_eq w star) (Ok None) (some_of (class w)) o e
+    (λ none. let Q : Option A → Type 0 = λ x. IfSome x P in subst Q (same_Ok None o none) tt)
     (λ some. given_some P (class w) o (sound w) some)
 
 -- the word that the next class read
@@ -78,7 +78,7 @@ next_word {A} class words x e =
     let second = bound (class first.0.0) (λ a. Ok (a, first.0.1)) x first.2 in
     (first.0.0, second.1 ∙ ap (λ (y : A × List Word). Ok y.0) (same_Ok (second.0, first.0.1) x second.2))
 
-next_given : {A : Type 0} (P : A → Type 0) (class : Word → Result A FaultKind) → ((w : Word) (a : A) → class w ≡ Ok a → P a) → (words : List Word) (x : Option A × List Word) → next (or_star class) words ≡ Ok x → IfGiven P x.0
+next_given : {A : Type 0} (P : A → Type 0) (class : Word → Result A FaultKind) → ((w : Word) (a : A) → class w ≡ Ok a → P a) → (words : List Word) (x : Option A × List Word) → next (or_star class) words ≡ Ok x → IfSome x.0 P
 next_given P class sound words x e = let read = next_word (or_star class) words x e in given P class sound read.0 x.0 read.1
 
 -- each class
@@ -137,7 +137,7 @@ place-sound aggregates w place e =
 
 -- actions
 record ActionSound (aggregates : List Definition) (e : Option Element) (what : Action) : Type 0 where
-  element_is : IfGiven IsElement e
+  element_is : IfSome e IsElement
   action_is : IsAction aggregates e what
 
 record Truncates (width : Option ℕ) (what : Action) : Type 0 where
