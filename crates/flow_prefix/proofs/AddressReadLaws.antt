@@ -7,15 +7,17 @@ use Rattle.std.proofs.lemmas.Int.Digits.{number_lt, digits_value-lt}
 use Rattle.std.proofs.lemmas.List.{length-replicate}
 use Rattle.std.proofs.lemmas.Option.{cond_some, same_Some}
 use Rattle.std.proofs.lemmas.Bool.{lt-ltb, ltb-true, eq-eqb, eqb-true}
+use Rattle.sequences.specs.Options.{◌>>=◌}
+use Rattle.sequences.proofs.OptionLaws.{bind_some}
 use Rattle.flow_prefix.specs.declared.family.Family.{Family}
 use Rattle.flow_prefix.specs.declared.family.Family.TheVariants.{Ipv4, Ipv6}
 use Rattle.flow_prefix.specs.Family.{places, base, separator, width}
 use Rattle.flow_prefix.specs.Text.{IsPart, AreParts, AreShortened, WritesParts, IsAddress}
-use Rattle.flow_prefix.specs.Reading.{◌>>=◌, parts_of, groups_of, at_double, filled, whole, long_or_short, all_parts_of, address_of}
+use Rattle.flow_prefix.specs.Reading.{parts_of, groups_of, at_double, filled, whole, long_or_short, all_parts_of, address_of}
 use Rattle.flow_prefix.proofs.ScanLaws.{at_double-text}
 use Rattle.flow_prefix.proofs.PowerLaws.{power_up}
 use Rattle.flow_prefix.proofs.AddressLaws.{whole_power}
-use Rattle.flow_prefix.proofs.AddressTextLaws.{bind-some, parts_of-found, parts_of-only, groups_of-found, groups_of-only, part_digits, Lacks, Lacks-digits, Lacks-append, Lacks-middle}
+use Rattle.flow_prefix.proofs.AddressTextLaws.{parts_of-found, parts_of-only, groups_of-found, groups_of-only, part_digits, Lacks, Lacks-digits, Lacks-append, Lacks-middle}
 use Rattle.flow_prefix.proofs.DoubleLaws.{at_double-groups, at_double-sides}
 
 -- the parts of a whole address
@@ -30,15 +32,15 @@ whole-found family parts all e =
 
 long-found : (family : Family) (text parts : List ℕ) → (parts_of family text >>= whole family) ≡ Some parts → AreParts family text parts × (length parts ≡ places family)
 long-found family text parts e =
-    let read = bind-some (parts_of family text) (whole family) parts e in
+    let read = bind_some (parts_of family text) (whole family) parts e in
     let chosen = whole-found family read.0 parts read.2 in
     let P : List ℕ → Type 0 = λ ps. AreParts family text ps × (length ps ≡ places family) in
     subst P chosen.1 (parts_of-found family text read.0 read.1, chosen.0)
 
 short-found : (text before after parts : List ℕ) → at_double text ≡ Some (before, after) → (groups_of before >>= λ left. groups_of after >>= λ right. filled left right) ≡ Some parts → IsWhole Ipv6 text parts
 short-found text before after parts place e =
-    let l = bind-some (groups_of before) (λ left. groups_of after >>= λ right. filled left right) parts e in
-    let r = bind-some (groups_of after) (λ right. filled l.0 right) parts l.2 in
+    let l = bind_some (groups_of before) (λ left. groups_of after >>= λ right. filled left right) parts e in
+    let r = bind_some (groups_of after) (λ right. filled l.0 right) parts l.2 in
     let zeros = 8 - (length l.0 + length r.0) in
     let chosen = cond_some (ltb (length l.0 + length r.0) 8) (l.0 ++ replicate zeros 0 ++ r.0) parts r.2 in
     let room = ltb-true (length l.0 + length r.0) 8 chosen.0 in
@@ -71,7 +73,7 @@ all_parts_of-found Ipv6 text parts e = by_sides text parts (at_double text) refl
 pub address_of-found : (family : Family) (text : List ℕ) (n : ℕ) → address_of family text ≡ Some n → IsAddress family text n
 unfolding address_of
 address_of-found family text n e =
-    let read = bind-some (all_parts_of family text) (λ parts. Some (number_from_digits (base family) parts)) n e in
+    let read = bind_some (all_parts_of family text) (λ parts. Some (number_from_digits (base family) parts)) n e in
     let h = all_parts_of-found family text read.0 read.1 in
     record { parts = read.0; written = h.written; all = h.all; value = sym (same_Some (number_from_digits (base family) read.0) n read.2) }
 

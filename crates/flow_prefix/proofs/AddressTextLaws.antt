@@ -9,18 +9,15 @@ use Rattle.std.proofs.lemmas.Int.Digits.{digits_value-lt}
 use Rattle.std.proofs.lemmas.List.Splits.{slice_split_at, slice_split_none, join_with_byte-slice_split}
 use Rattle.std.proofs.lemmas.Option.{none-some, same_Some}
 use Rattle.std.proofs.lemmas.Bool.{cases_lt, lt-ltb, le-ltb, eq-eqb, ne_eqb}
+use Rattle.sequences.specs.Options.{◌>>=◌}
+use Rattle.sequences.proofs.OptionLaws.{bind_some}
 use Rattle.flow_prefix.specs.declared.family.Family.{Family}
 use Rattle.flow_prefix.specs.declared.family.Family.TheVariants.{Ipv4, Ipv6}
 use Rattle.flow_prefix.specs.Family.{separator}
 use Rattle.flow_prefix.specs.Text.{IsPart, AreParts}
-use Rattle.flow_prefix.specs.Reading.{◌>>=◌, part_of, each_part_of, parts_of, groups_of}
+use Rattle.flow_prefix.specs.Reading.{part_of, each_part_of, parts_of, groups_of}
 use Rattle.flow_prefix.proofs.NumeralLaws.{number_of-found, number_of-only, digits_number-found, digits_number-only}
 use Rattle.flow_prefix.proofs.PowerLaws.{power_up}
-
--- what a step that gave a value was given
-pub bind-some : {A B : Type 0} (o : Option A) (f : A → Option B) (y : B) → (o >>= f) ≡ Some y → (x : A) × (o ≡ Some x) × (f x ≡ Some y)
-bind-some None f y e = absurd (none-some y e)
-bind-some (Some x) f y e = (x, refl, e)
 
 pub part_of-found : (family : Family) (word : List ℕ) (n : ℕ) → part_of family word ≡ Some n → IsPart family word n
 unfolding part_of
@@ -50,8 +47,8 @@ unfolding each_part_of
 each_part_of-found family [] [] e = tt
 each_part_of-found family [] (n ∷ ns) e = cc
 each_part_of-found family (word ∷ words) parts e =
-    let first = bind-some (part_of family word) (λ n. each_part_of family words >>= λ ns. Some (n ∷ ns)) parts e in
-    let rest = bind-some (each_part_of family words) (λ ns. Some (first.0 ∷ ns)) parts first.2 in
+    let first = bind_some (part_of family word) (λ n. each_part_of family words >>= λ ns. Some (n ∷ ns)) parts e in
+    let rest = bind_some (each_part_of family words) (λ ns. Some (first.0 ∷ ns)) parts first.2 in
     let all : first.0 ∷ rest.0 ≡ parts = same_Some (first.0 ∷ rest.0) parts rest.2 in
     let P : List ℕ → Type 0 = λ ps. AllZip (IsPart family) (word ∷ words) ps in
     subst P all (part_of-found family word first.0 first.1, each_part_of-found family words rest.0 rest.1)

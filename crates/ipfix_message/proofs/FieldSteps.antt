@@ -2,7 +2,7 @@
 use Rattle.std.proofs.Common.{◌≡◌, ℕ, suc, ◌+◌, ◌-◌, ◌<◌, ◌≤◌, List, [], ◌∷◌, ◌++◌, Option, Some, None, refl, sym, ap, ◌∙◌, append_assoc, arith}
 use Rattle.std.proofs.lemmas.List.{append-nil}
 use Rattle.ipfix_template.specs.declared.field.FieldSpec.{FieldSpec}
-use Rattle.ipfix_template.specs.Values.{◌>>=◌}
+use Rattle.sequences.specs.Options.{◌>>=◌}
 use Rattle.ipfix_message.specs.Reading.{field_at, fields_at}
 
 -- the fields before, and those that are read after them

@@ -4,8 +4,8 @@ use Rattle.std.specs.Prelude.{◌||◌, IfSome}
 use Rattle.std.proofs.lemmas.Bool.{ltb-false}
 use Rattle.ipfix_template.specs.Octets.{number_at}
 use Rattle.ipfix_template.specs.Sequence.{Front, End, Fault, Next, TakesSome}
-use Rattle.ipfix_template.specs.Values.{◌>>=◌}
 use Rattle.ipfix_template.specs.declared.template.Template.{Template}
+use Rattle.sequences.specs.Options.{◌>>=◌}
 use Rattle.ipfix_message.specs.declared.decode_error.DecodeError.{DecodeError}
 use Rattle.ipfix_message.specs.declared.item.Item.{Item}
 use Rattle.ipfix_message.specs.Reading.{field_at, fields_at, scoped_at, template_at, found_template, template_front, set_items, found_set, set_front}

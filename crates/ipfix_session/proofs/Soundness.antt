@@ -2,7 +2,7 @@
 use Rattle.std.proofs.Common.{inl, inr, ◌≡◌, ℕ, ◌+◌, ◌<◌, ◌≤◌, Bool, true, false, cond, ltb, leb, eqb, List, [], ◌∷◌, ◌++◌, length, take, drop, Option, Some, None, refl, ap, ◌∙◌, arith, length-append, length-drop}
 use Rattle.std.specs.Prelude.{◌&&◌, MatchBool, IfSome}
 use Rattle.std.specs.List.{sum_by, list_all}
-use Rattle.std.proofs.lemmas.Bool.{leb-true, ltb-false, eqb-false, le-leb, eq-eqb}
+use Rattle.std.proofs.lemmas.Bool.{leb-true, ltb-false, eqb-false, le-leb, eq-eqb, and_from}
 use Rattle.std.proofs.lemmas.List.Sums.{sum_by-cons}
 use Rattle.sequences.specs.Octets.{be_value, be_octets}
 use Rattle.sequences.specs.Sequence.{Front, End, Fault, Next, TakesSome}
@@ -12,9 +12,10 @@ use Rattle.ipfix_template.specs.declared.field.FieldSpec.{FieldSpec}
 use Rattle.ipfix_template.specs.declared.template.Template.{Template}
 use Rattle.ipfix_template.specs.declared.template.Refused.TheVariants.{BadLength, BadScope, EmptyRecord}
 use Rattle.ipfix_template.specs.Template.{is_variable, least_octets, shortest_record, has_allowed_length, has_bad_scope, refusal_of, is_options, IsAccepted}
-use Rattle.ipfix_template.specs.Values.{IsText, Splits, span_at, values_at, ◌>>=◌, found_record, record_front, fits_field, fit_fields, value_text, record_text}
+use Rattle.ipfix_template.specs.Values.{IsText, Splits, span_at, values_at, found_record, record_front, fits_field, fit_fields, value_text, record_text}
 use Rattle.ipfix_template.specs.DataRecord.{IsSound}
 use Rattle.ipfix_message.proofs.Shrinks.{on_both}
+use Rattle.sequences.specs.Options.{◌>>=◌}
 use Rattle.ipfix_session.specs.Keeping.{IsKeepable}
 
 -- ---- values that were split fit their fields, and their shortest texts are no longer than what was split
@@ -54,10 +55,6 @@ text_fits f text value few is =
     let both = text_by (is_variable f) f.length text value few is in
     record { fits = both.0; shortest = both.1 }
 
-and_both : (a b : Bool) → a ≡ true → b ≡ true → (a && b) ≡ true
-and_both true b p q = q
-and_both false b p q = absurd cc
-
 pub record ValuesFit (fs : List FieldSpec) (text : List ℕ) (values : List (List ℕ)) : Type 0 where
   pub fit : fit_fields fs values ≡ true
   pub shortest : length (record_text fs values) ≤ length text
@@ -73,7 +70,7 @@ values_fit (f ∷ fs) text (v ∷ vs) few is =
     let first = text_fits f front v (omega (arith, wide, few)) is.3 in
     let others = values_fit fs back vs (omega (arith, wide, few)) is.4 in
     record {
-      fit = and_both (fits_field f v) (fit_fields fs vs) first.fits others.fit;
+      fit = and_from (fits_field f v) (fit_fields fs vs) first.fits others.fit;
       shortest = omega (arith, wide, first.shortest, others.shortest, length-append (value_text f v) (record_text fs vs));
     }
 

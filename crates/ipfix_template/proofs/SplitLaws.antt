@@ -9,9 +9,11 @@ use Rattle.sequences.specs.Octets.{AreOctets}
 use Rattle.sequences.proofs.OctetLaws.{AreOctets-drop}
 use Rattle.ipfix_octets.specs.Variable.{IsVarText, varlen_at}
 use Rattle.ipfix_octets.proofs.VariableLaws.{varlen_at-found, varlen_at-only, shows_value, text_ends}
+use Rattle.sequences.specs.Options.{◌>>=◌}
+use Rattle.sequences.proofs.OptionLaws.{bind_some}
 use Rattle.ipfix_template.specs.declared.field.FieldSpec.{FieldSpec}
 use Rattle.ipfix_template.specs.Template.{is_variable, least_octets}
-use Rattle.ipfix_template.specs.Values.{IsText, Splits, span_at, values_at, ◌>>=◌}
+use Rattle.ipfix_template.specs.Values.{IsText, Splits, span_at, values_at}
 
 -- ---- one field
 
@@ -63,11 +65,6 @@ pub span_at-only : (f : FieldSpec) (text value rest : List ℕ) → IsText f tex
 span_at-only f text value rest is = only_by (is_variable f) f.length text value rest is
 
 -- ---- all fields
-
--- a step that did not fail
-bind_some : {A B : Type 0} (o : Option A) (f : A → Option B) (y : B) → (o >>= f) ≡ Some y → (x : A) × (o ≡ Some x) × (f x ≡ Some y)
-bind_some (Some x) f y e = (x, refl, e)
-bind_some None f y e = absurd cc
 
 abbrev found_values : List (List ℕ) × List ℕ → Option (List (List ℕ) × List ℕ)
 found_values found = Some found

@@ -2,9 +2,10 @@
 use Rattle.std.proofs.Common.{◌≡◌, ℕ, suc, ◌+◌, ◌<◌, ◌≤◌, List, [], ◌∷◌, ◌++◌, length, take, drop, get_or, Option, Some, None, refl, sym, ap, ◌∙◌, append_assoc, drop-cons, add-one}
 use Rattle.std.proofs.lemmas.List.{drop-drop, drop_all, map_push, append-nil}
 use Rattle.std.proofs.lemmas.List.Elements.{All-push}
+use Rattle.sequences.specs.Options.{◌>>=◌}
 use Rattle.ipfix_template.specs.declared.field.FieldSpec.{FieldSpec}
 use Rattle.ipfix_template.specs.declared.spans.Span.{Span}
-use Rattle.ipfix_template.specs.Values.{span_at, values_at, ◌>>=◌}
+use Rattle.ipfix_template.specs.Values.{span_at, values_at}
 use Rattle.ipfix_template.specs.Shown.{octets_of, values_shown, AreWithin}
 
 -- the values before, and those that are found after them

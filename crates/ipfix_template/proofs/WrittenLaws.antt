@@ -2,7 +2,7 @@
 use Rattle.std.proofs.Common.{inl, inr, ◌≡◌, ℕ, ◌+◌, ◌^◌, ◌<◌, ◌≤◌, Bool, true, false, cond, leb, eqb, ltb, List, [], ◌∷◌, ◌++◌, length, take, drop, Option, Some, None, refl, sym, ap, ◌∙◌, append_assoc, arith}
 use Rattle.std.specs.Prelude.{◌&&◌, MatchBool, IfSome}
 use Rattle.std.specs.List.{flat_map, AllByRecursion}
-use Rattle.std.proofs.lemmas.Bool.{leb-true, ltb-true, eqb-true}
+use Rattle.std.proofs.lemmas.Bool.{leb-true, ltb-true, eqb-true, and_parts}
 use Rattle.std.proofs.lemmas.List.{take_at, drop_at}
 use Rattle.std.proofs.lemmas.List.Concat.{flat_map-cons}
 use Rattle.sequences.specs.Octets.{be_value, be_octets}
@@ -32,21 +32,13 @@ value_by false len value fits = (refl, eqb-true _ _ fits)
 value_text-is : (f : FieldSpec) (value : List ℕ) → fits_field f value ≡ true → IsText f (value_text f value) value
 value_text-is f value fits = value_by (is_variable f) f.length value fits
 
-and_left : (a b : Bool) → (a && b) ≡ true → a ≡ true
-and_left true b e = refl
-and_left false b e = e
-
-and_right : (a b : Bool) → (a && b) ≡ true → b ≡ true
-and_right true b e = e
-and_right false b e = absurd cc
-
 -- values that fit are split again from what is written for them
 pub record_text-splits : (fs : List FieldSpec) (vs : List (List ℕ)) → fit_fields fs vs ≡ true → Splits fs (record_text fs vs) vs
 record_text-splits [] [] fit = refl
 record_text-splits [] (v ∷ vs) fit = absurd cc
 record_text-splits (f ∷ fs) [] fit = absurd cc
 record_text-splits (f ∷ fs) (v ∷ vs) fit =
-    (value_text f v, record_text fs vs, refl, value_text-is f v (and_left (fits_field f v) (fit_fields fs vs) fit), record_text-splits fs vs (and_right (fits_field f v) (fit_fields fs vs) fit))
+    (value_text f v, record_text fs vs, refl, value_text-is f v (and_parts (fits_field f v) (fit_fields fs vs) fit).0, record_text-splits fs vs (and_parts (fits_field f v) (fit_fields fs vs) fit).1)
 
 pub record_text-only : (fs : List FieldSpec) (vs : List (List ℕ)) (text before after : List ℕ) (values : List (List ℕ)) → fit_fields fs vs ≡ true → record_text fs vs ++ before ≡ text ++ after → Splits fs text values → (text ≡ record_text fs vs) × (values ≡ vs)
 record_text-only fs vs text before after values fit parts is =

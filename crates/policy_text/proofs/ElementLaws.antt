@@ -17,10 +17,12 @@ use Rattle.ipfix_element.specs.Names.{element_name, numbered_name, name_on, is_n
 use Rattle.ipfix_element.proofs.RegistryLaws.{find_both}
 use Rattle.ipfix_element.proofs.NameLaws.{named_how, one_name, one_word}
 use Rattle.flow_prefix.specs.Numerals.{number_of}
-use Rattle.flow_prefix.specs.Reading.{◌>>=◌, cut_at}
+use Rattle.flow_prefix.specs.Reading.{cut_at}
 use Rattle.flow_prefix.proofs.NumeralLaws.{number_of-found, number_of-only}
-use Rattle.flow_prefix.proofs.AddressTextLaws.{bind-some, Lacks, digit_other}
+use Rattle.flow_prefix.proofs.AddressTextLaws.{Lacks, digit_other}
 use Rattle.flow_prefix.proofs.CutLaws.{cut_at-middle}
+use Rattle.sequences.specs.Options.{◌>>=◌}
+use Rattle.sequences.proofs.OptionLaws.{bind_some}
 use Rattle.policy_text.specs.Words.{Word}
 use Rattle.policy_text.specs.Elements.{checked, element_at, on_sides, behind_e, numbered_of, listed_or, element_of}
 
@@ -29,7 +31,7 @@ HasPen e = IfSome e.pen (λ pen. pen < 2 ^ 32)
 
 element_at-pen : (pen : Option ℕ) (word : Word) (e : Element) → IfSome pen (λ p. p < 2 ^ 32) → element_at pen word ≡ Some e → HasPen e
 element_at-pen pen word e small found =
-    let read = bind-some (number_of 32767 word) (λ n. Some (record { pen = pen; number = n })) e found in
+    let read = bind_some (number_of 32767 word) (λ n. Some (record { pen = pen; number = n })) e found in
     let is : record { pen = pen; number = read.0 } ≡ e = same_Some (record { pen = pen; number = read.0 }) e read.2 in
     let P : Element → Type 0 = λ x. HasPen x in
     subst P is small
@@ -37,7 +39,7 @@ element_at-pen pen word e small found =
 on_sides-pen : (numbers : Word) (sides : Option (List ℕ × List ℕ)) (e : Element) → on_sides numbers sides ≡ Some e → HasPen e
 on_sides-pen numbers None e found = element_at-pen None numbers e tt found
 on_sides-pen numbers (Some sides) e found =
-    let read = bind-some (number_of 4294967295 sides.0) (λ pen. element_at (Some pen) sides.1) e found in
+    let read = bind_some (number_of 4294967295 sides.0) (λ pen. element_at (Some pen) sides.1) e found in
     let bound = (number_of-found 4294967295 sides.0 read.0 (omega arith) read.1).bound in
     element_at-pen (Some read.0) sides.1 e (omega arith) read.2
 
@@ -60,7 +62,7 @@ listed_or-pen None word e found = numbered_of-pen word e found
 pub element_of-found : (word : Word) (e : Element) → element_of word ≡ Some e → IsElement e × (word ≡ element_name e)
 unfolding element_of
 element_of-found word e found =
-    let read = bind-some (listed_or (find (λ line. bytes_eq line.name word) registry) word) (checked word) e found in
+    let read = bind_some (listed_or (find (λ line. bytes_eq line.name word) registry) word) (checked word) e found in
     let passed = cond_some (ltb read.0.number 32768 && bytes_eq (element_name read.0) word) read.0 e read.2 in
     let tests = and_parts (ltb read.0.number 32768) (bytes_eq (element_name read.0) word) passed.0 in
     let pen = listed_or-pen (find (λ line. bytes_eq line.name word) registry) word read.0 read.1 in

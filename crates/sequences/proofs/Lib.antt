@@ -1,3 +1,5 @@
 pub mod OctetLaws
 pub mod SequenceLaws
 pub mod BeforeLaws
+pub mod JoinLaws
+pub mod OptionLaws

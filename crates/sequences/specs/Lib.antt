@@ -1,3 +1,4 @@
 pub mod Octets
 pub mod Sequence
 pub mod Before
+pub mod Options
