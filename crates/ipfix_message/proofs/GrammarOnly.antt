@@ -8,6 +8,7 @@ use Rattle.ipfix_template.specs.Octets.{be_value, number_at, IsNumber}
 use Rattle.ipfix_template.specs.Sequence.{Front, End, Next, with_front, read_on, read_all}
 use Rattle.ipfix_template.specs.declared.field.FieldSpec.{FieldSpec}
 use Rattle.ipfix_template.specs.declared.template.Template.{Template}
+use Rattle.ipfix_template.specs.SameTemplate.{field_of}
 use Rattle.ipfix_message.specs.declared.header.Header.{Header}
 use Rattle.ipfix_message.specs.declared.decode_error.DecodeError.{DecodeError}
 use Rattle.ipfix_message.specs.declared.item.Item.{Item}
@@ -33,10 +34,7 @@ next_number place width n before a rest wide is =
 abbrev found_field : FieldSpec → List ℕ → Option (FieldSpec × List ℕ)
 found_field f rest = Some (f, rest)
 
-abbrev spec_of : Option ℕ → ℕ → ℕ → FieldSpec
-spec_of pen number len = record { element = record { pen = pen; number = number }; length = len }
-
-plain_only : (octets rest : List ℕ) (number len : ℕ) → IsSpecifierOf None octets number len → field_at (octets ++ rest) ≡ found_field (spec_of None number len) rest
+plain_only : (octets rest : List ℕ) (number len : ℕ) → IsSpecifierOf None octets number len → field_at (octets ++ rest) ≡ found_field (field_of None number len) rest
 unfolding field_at
 plain_only octets rest number len is =
     let a = is.0 in
@@ -48,7 +46,7 @@ plain_only octets rest number len is =
     let plain : ltb number 32768 ≡ true = lt-ltb _ _ is.4 in
     rw (joined, enough, first_number 2 number a (b ++ rest) is.3, plain, next_number 2 2 len a b rest is.3.wide is.5, after) refl
 
-enterprise_only : (octets rest : List ℕ) (pen number len : ℕ) → IsSpecifierOf (Some pen) octets number len → field_at (octets ++ rest) ≡ found_field (spec_of (Some pen) number len) rest
+enterprise_only : (octets rest : List ℕ) (pen number len : ℕ) → IsSpecifierOf (Some pen) octets number len → field_at (octets ++ rest) ≡ found_field (field_of (Some pen) number len) rest
 unfolding field_at
 enterprise_only octets rest pen number len is =
     let a = is.0 in
@@ -67,7 +65,7 @@ enterprise_only octets rest pen number len is =
     let bare : number + 32768 - 32768 ≡ number = omega arith in
     rw (joined, enough, first_number 2 (number + 32768) a (b ++ (c ++ rest)) is.4, marked, long, pen-at, next_number 2 2 len a b (c ++ rest) is.4.wide is.5, after, bare) refl
 
-field_by : (pen : Option ℕ) (octets rest : List ℕ) (number len : ℕ) → IsSpecifierOf pen octets number len → field_at (octets ++ rest) ≡ found_field (spec_of pen number len) rest
+field_by : (pen : Option ℕ) (octets rest : List ℕ) (number len : ℕ) → IsSpecifierOf pen octets number len → field_at (octets ++ rest) ≡ found_field (field_of pen number len) rest
 field_by None octets rest number len is = plain_only octets rest number len is
 field_by (Some pen) octets rest number len is = enterprise_only octets rest pen number len is
 
@@ -88,9 +86,6 @@ fields_only (f ∷ fs) octets rest is =
 
 abbrev found_whole : Template → List ℕ → Option (Template × List ℕ)
 found_whole t rest = Some (t, rest)
-
-abbrev template_of : List FieldSpec → ℕ → Template
-template_of fields scope = record { fields = fields; scope = scope }
 
 scoped_only : (t : Template) (octets rest : List ℕ) → AreSpecifiers octets t.fields → scoped_at t.scope (length t.fields) (octets ++ rest) ≡ found_whole t rest
 unfolding scoped_at

@@ -8,6 +8,7 @@ use Rattle.std.proofs.lemmas.List.Concat.{flat_map-cons}
 use Rattle.sequences.specs.Octets.{be_value, be_octets}
 use Rattle.sequences.proofs.OctetLaws.{length-be_octets, be_value-be_octets}
 use Rattle.ipfix_octets.specs.Variable.{IsVarText, shortest_text}
+use Rattle.ipfix_template.specs.SameTemplate.{field_from_parts, template_from_parts}
 use Rattle.ipfix_template.specs.declared.field.FieldSpec.{FieldSpec}
 use Rattle.ipfix_template.specs.declared.template.Template.{Template}
 use Rattle.ipfix_template.specs.Template.{is_variable, specifier_of, specifier, template_record, IsSpecifier, IsWritable}
@@ -81,15 +82,6 @@ one_specifier (Some p) (Some q) m n k l x y mf nf kf lf pf qf e =
     let some : ℕ → Option ℕ = λ v. Some v in
     (ap some third.0, omega (arith, first.0), second.0, third.1)
 
-abbrev spec_of : Option ℕ → ℕ → ℕ → FieldSpec
-spec_of pen number len = record { element = record { pen = pen; number = number }; length = len }
-
-same_spec : (f g : FieldSpec) → f.element.pen ≡ g.element.pen → f.element.number ≡ g.element.number → f.length ≡ g.length → f ≡ g
-same_spec f g pen number len =
-    ap (λ (p : Option ℕ). spec_of p f.element.number f.length) pen
-    ∙ ap (λ (n : ℕ). spec_of g.element.pen n f.length) number
-    ∙ ap (λ (l : ℕ). spec_of g.element.pen g.element.number l) len
-
 -- as many specifiers at the front are the same specifiers
 same_fields : (fs gs : List FieldSpec) (x y : List ℕ) → AllByRecursion IsSpecifier fs → AllByRecursion IsSpecifier gs → length fs ≡ length gs → flat_map specifier fs ++ x ≡ flat_map specifier gs ++ y → (fs ≡ gs) × (x ≡ y)
 same_fields [] [] x y fits-f fits-g even e = (refl, e)
@@ -100,14 +92,8 @@ same_fields (f ∷ fs) (g ∷ gs) x y fits-f fits-g even e =
     let right : flat_map specifier (g ∷ gs) ++ y ≡ specifier g ++ (flat_map specifier gs ++ y) = ap (λ (t : List ℕ). t ++ y) (flat_map-cons specifier g gs) ∙ append_assoc (specifier g) (flat_map specifier gs) y in
     let first = one_specifier f.element.pen g.element.pen f.element.number g.element.number f.length g.length (flat_map specifier fs ++ x) (flat_map specifier gs ++ y) fits-f.0.number fits-g.0.number fits-f.0.len fits-g.0.len fits-f.0.pen fits-g.0.pen (sym left ∙ e ∙ right) in
     let others = same_fields fs gs x y fits-f.1 fits-g.1 (omega arith) first.3 in
-    let same : f ≡ g = same_spec f g first.0 first.1 first.2 in
+    let same : f ≡ g = field_from_parts f g first.0 first.1 first.2 in
     (ap (λ (h : FieldSpec). h ∷ fs) same ∙ ap (λ (hs : List FieldSpec). g ∷ hs) others.0, others.1)
-
-abbrev template_of : List FieldSpec → ℕ → Template
-template_of fields scope = record { fields = fields; scope = scope }
-
-same_template : (s t : Template) → s.fields ≡ t.fields → s.scope ≡ t.scope → s ≡ t
-same_template s t fields scope = ap (λ (f : List FieldSpec). template_of f s.scope) fields ∙ ap (λ (n : ℕ). template_of t.fields n) scope
 
 -- what is written for a template determines ID and template, whatever follows
 pub one_written : (options : Bool) (a b : ℕ) (s t : Template) (x y : List ℕ) → IsWritable a options s → IsWritable b options t → template_record a options s ++ x ≡ template_record b options t ++ y → (a ≡ b) × (s ≡ t) × (x ≡ y)
@@ -116,10 +102,10 @@ one_written false a b s t x y fits-s fits-t e =
     let first = numbers 2 a b ((be_octets 2 (length s.fields) ++ flat_map specifier s.fields) ++ x) ((be_octets 2 (length t.fields) ++ flat_map specifier t.fields) ++ y) (omega (arith, fits-s.id_fits)) (omega (arith, fits-t.id_fits)) e in
     let second = numbers 2 (length s.fields) (length t.fields) (flat_map specifier s.fields ++ x) (flat_map specifier t.fields ++ y) (omega (arith, fits-s.count_fits)) (omega (arith, fits-t.count_fits)) first.1 in
     let third = same_fields s.fields t.fields x y fits-s.fields fits-t.fields second.0 second.1 in
-    (first.0, same_template s t third.0 (fits-s.scope_of_plain refl ∙ sym (fits-t.scope_of_plain refl)), third.1)
+    (first.0, template_from_parts s t third.0 (fits-s.scope_of_plain refl ∙ sym (fits-t.scope_of_plain refl)), third.1)
 one_written true a b s t x y fits-s fits-t e =
     let first = numbers 2 a b (((be_octets 2 (length s.fields) ++ be_octets 2 s.scope) ++ flat_map specifier s.fields) ++ x) (((be_octets 2 (length t.fields) ++ be_octets 2 t.scope) ++ flat_map specifier t.fields) ++ y) (omega (arith, fits-s.id_fits)) (omega (arith, fits-t.id_fits)) e in
     let second = numbers 2 (length s.fields) (length t.fields) ((be_octets 2 s.scope ++ flat_map specifier s.fields) ++ x) ((be_octets 2 t.scope ++ flat_map specifier t.fields) ++ y) (omega (arith, fits-s.count_fits)) (omega (arith, fits-t.count_fits)) first.1 in
     let scope = numbers 2 s.scope t.scope (flat_map specifier s.fields ++ x) (flat_map specifier t.fields ++ y) (omega (arith, fits-s.scope_fits)) (omega (arith, fits-t.scope_fits)) second.1 in
     let third = same_fields s.fields t.fields x y fits-s.fields fits-t.fields second.0 scope.1 in
-    (first.0, same_template s t third.0 scope.0, third.1)
+    (first.0, template_from_parts s t third.0 scope.0, third.1)

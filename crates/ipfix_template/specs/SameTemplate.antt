@@ -14,7 +14,7 @@ number_is a b e = eqb-true a b e
 number_same : (a : ℕ) → (a == a) ≡ true
 number_same a = eq-eqb a a refl
 
-pen_is : (a b : Option ℕ) → same_pen a b ≡ true → a ≡ b
+pub pen_is : (a b : Option ℕ) → same_pen a b ≡ true → a ≡ b
 pen_is None None e = refl
 pen_is (Some a) (Some b) e = ap (λ (n : ℕ). Some n) (number_is a b e)
 pen_is None (Some b) e = absurd cc
@@ -24,16 +24,21 @@ pen_same : (a : Option ℕ) → same_pen a a ≡ true
 pen_same None = refl
 pen_same (Some a) = number_same a
 
-abbrev field_of : Option ℕ → ℕ → ℕ → FieldSpec
+-- a Field Specifier of its parts
+abbrev pub field_of : Option ℕ → ℕ → ℕ → FieldSpec
 field_of pen number len = record { element = record { pen = pen; number = number }; length = len }
+
+pub field_from_parts : (f g : FieldSpec) → f.element.pen ≡ g.element.pen → f.element.number ≡ g.element.number → f.length ≡ g.length → f ≡ g
+field_from_parts f g pen number len =
+    ap (λ (p : Option ℕ). field_of p f.element.number f.length) pen
+    ∙ ap (λ (n : ℕ). field_of g.element.pen n f.length) number
+    ∙ ap (λ (l : ℕ). field_of g.element.pen g.element.number l) len
 
 field_is : (f g : FieldSpec) → same_field f g ≡ true → f ≡ g
 field_is f g e =
     let element = and_parts (same_pen f.element.pen g.element.pen) ((f.element.number == g.element.number) && (f.length == g.length)) e in
     let others = and_parts (f.element.number == g.element.number) (f.length == g.length) element.1 in
-    ap (λ (pen : Option ℕ). field_of pen f.element.number f.length) (pen_is f.element.pen g.element.pen element.0)
-    ∙ ap (λ (number : ℕ). field_of g.element.pen number f.length) (number_is f.element.number g.element.number others.0)
-    ∙ ap (λ (len : ℕ). field_of g.element.pen g.element.number len) (number_is f.length g.length others.1)
+    field_from_parts f g (pen_is f.element.pen g.element.pen element.0) (number_is f.element.number g.element.number others.0) (number_is f.length g.length others.1)
 
 field_same : (f : FieldSpec) → same_field f f ≡ true
 field_same f =
@@ -56,11 +61,13 @@ fields_same (f ∷ fs) = and_from _ _ (field_same f) (fields_same fs)
 abbrev template_of : List FieldSpec → ℕ → Template
 template_of fields scope = record { fields = fields; scope = scope }
 
+pub template_from_parts : (s t : Template) → s.fields ≡ t.fields → s.scope ≡ t.scope → s ≡ t
+template_from_parts s t fields scope = ap (λ (fs : List FieldSpec). template_of fs s.scope) fields ∙ ap (λ (n : ℕ). template_of t.fields n) scope
+
 pub same_template-is : (s t : Template) → same_template s t ≡ true → s ≡ t
 same_template-is s t e =
     let parts = and_parts (same_fields s.fields t.fields) (s.scope == t.scope) e in
-    ap (λ (fields : List FieldSpec). template_of fields s.scope) (fields_are s.fields t.fields parts.0)
-    ∙ ap (λ (scope : ℕ). template_of t.fields scope) (number_is s.scope t.scope parts.1)
+    template_from_parts s t (fields_are s.fields t.fields parts.0) (number_is s.scope t.scope parts.1)
 
 pub same_template-itself : (t : Template) → same_template t t ≡ true
 same_template-itself t = and_from _ _ (fields_same t.fields) (number_same t.scope)
