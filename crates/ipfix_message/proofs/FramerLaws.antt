@@ -17,10 +17,6 @@ use Rattle.ipfix_message.specs.Fronts.{IsFront, AreMessages, IsExtent, AreCut}
 use Rattle.ipfix_message.specs.FramerState.{FramerState, Continues, FailsBy}
 use Rattle.ipfix_message.proofs.FramingLaws.{framed_once, framed_on}
 
--- the octets from a place on, as a slice has them
-pub rest_from : (octets : List ℕ) (place : ℕ) → take (length octets - place) (drop place octets) ≡ drop place octets
-rest_from octets place = grind (arith, common_steps)
-
 -- no octets are less than a message
 partial_nothing : IsPartial []
 partial_nothing = record { version = λ h. absurd (omega (arith, h)); least = λ h. absurd (omega (arith, h)); short = λ h. absurd (omega (arith, h)) }

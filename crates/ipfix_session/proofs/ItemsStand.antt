@@ -20,6 +20,7 @@ use Rattle.ipfix_message.specs.Records.{set_id, bare_item, judged_item}
 use Rattle.ipfix_message.specs.Reading.{read_header, field_at, fields_at, scoped_at, template_at, found_template, template_front, set_items, found_set, set_front, after_header, items_of}
 use Rattle.ipfix_message.proofs.Shrinks.{on_both, or_false, set_takes, template_takes}
 use Rattle.sequences.specs.Options.{◌>>=◌}
+use Rattle.sequences.proofs.AllLaws.{AllByRecursion-append}
 use Rattle.ipfix_session.specs.Keeping.{IsKeepable, StandsIn, StandIn}
 
 -- ---- what holds of each item at the front holds of all that are read
@@ -33,16 +34,12 @@ abbrev AllRead : {A E : Type 0} → (A → Type 0) → Result (List A) E → Typ
 AllRead P (Ok found) = AllByRecursion P found
 AllRead P (Err e) = Unit {0}
 
-all_append : {A : Type 0} (P : A → Type 0) (xs ys : List A) → AllByRecursion P xs → AllByRecursion P ys → AllByRecursion P (xs ++ ys)
-all_append P [] ys p q = q
-all_append P (x ∷ xs) ys p q = (p.0, all_append P xs ys p.1 q)
-
 read_on_all : {A E : Type 0} (P : A → Type 0) (f : Front A E) (after : List ℕ → Result (List A) E) → AllFront P f → ((found : List A) (rest : List ℕ) → f ≡ Next found rest → AllRead P (after rest)) → AllRead P (read_on f after)
 read_on_all P End after here others = tt
 read_on_all P (Fault e) after here others = tt
 read_on_all {A} {E} P (Next found rest) after here others = joined (after rest) (others found rest refl) where
   joined : (r : Result (List A) E) → AllRead P r → AllRead P (with_front found r)
-  joined (Ok more) h = all_append P found more here h
+  joined (Ok more) h = AllByRecursion-append P found more here h
   joined (Err e) h = tt
 
 all_within : {A E : Type 0} (P : A → Type 0) (front : List ℕ → Front A E) (most : ℕ) → TakesSome front → ((octets : List ℕ) → length octets ≤ most → AllFront P (front octets)) → (steps : ℕ) (octets : List ℕ) → length octets ≤ most → AllRead P (read_within steps front octets)

@@ -14,6 +14,12 @@ use Rattle.ipfix_template.specs.Values.{fits_field, fit_fields, value_text, reco
 pub kept : (old new more : List ℕ) → new ≡ old ++ more → take (length old) new ≡ old
 kept old new more is = rw is (take_at old more (length old) refl)
 
+-- the ID does not change a template record's length
+pub length-template_record : (id : ℕ) (options : Bool) (t : Template) → length (template_record id options t) ≡ length (template_record 256 options t)
+unfolding template_record
+length-template_record id true t = refl
+length-template_record id false t = refl
+
 -- there are as many values as fields
 pub fit_fields-length : (fs : List FieldSpec) (vs : List (List ℕ)) → fit_fields fs vs ≡ true → length fs ≡ length vs
 fit_fields-length [] [] fit = refl

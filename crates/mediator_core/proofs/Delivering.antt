@@ -24,15 +24,12 @@ use Rattle.mediator_history.specs.Entries.{Entry as HistoryEntry}
 use Rattle.mediator_history.specs.Sessions.{messages_of}
 use Rattle.mediator_history.specs.Auditing.{audit_list}
 use Rattle.mediator_history.specs.Disclosed.{disclosed}
+use Rattle.subscriber_stream.proofs.CallLaws.{run_some}
 use Rattle.mediator_core.specs.declared.desk.Desk.{Desk}
 use Rattle.mediator_core.specs.Desks.{Stands, Small}
 use Rattle.mediator_core.specs.Steps.{end_of}
 use Rattle.mediator_core.specs.declared.job.OfflineFault.{OfflineFault}
 use Rattle.mediator_core.specs.Pulling.{HandsOut, IsDelivering, SameElse, StopsWriting, Delivers, StopsDelivery, FailsDelivery}
-
-pub run_some : (target : ℕ) (ps : List Part) → 1 ≤ run_length target ps
-unfolding run_length
-run_some target ps = omega arith
 
 abbrev message_some : List ℕ → Option (List ℕ)
 message_some m = Some m

@@ -9,7 +9,7 @@ use Rattle.std.proofs.lemmas.Bool.Decides.{nat_tests}
 use Rattle.policy_text.specs.Words.{Word}
 use Rattle.policy_text.specs.Naming.{is_name, is_name_octet}
 
-octet_ascii : (c : ℕ) → is_name_octet c ≡ true → c < 128
+pub octet_ascii : (c : ℕ) → is_name_octet c ≡ true → c < 128
 octet_ascii c h = grind (arith, nat_tests)
 
 octets_ascii : (word : Word) → list_all is_name_octet word ≡ true → IsAscii word

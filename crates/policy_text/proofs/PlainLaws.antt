@@ -8,6 +8,7 @@ use Rattle.std.proofs.lemmas.List.Splits.{slice_split_at, slice_split_none}
 use Rattle.std.proofs.lemmas.Bool.{ne_eqb, false≢true, and_parts, and_from, not-true}
 use Rattle.flow_prefix.proofs.NumeralLaws.{test_from_AllDigits}
 use Rattle.flow_prefix.proofs.AddressTextLaws.{Lacks}
+use Rattle.sequences.proofs.AllLaws.{AllByRecursion-append}
 use Rattle.policy_text.specs.Words.{Word, is_blank, is_word, words_of, lines_of}
 use Rattle.policy_text.specs.Printing.{line_text}
 
@@ -86,14 +87,10 @@ unfolding words_of
 words_of-joined [] h = refl
 words_of-joined (word ∷ words) h = ap (filter is_word) (split_words word words h) ∙ keeps_words (word ∷ words) h
 
-feed_append : (xs ys : Word) → AllByRecursion (λ c. eqb c 10 ≡ false) xs → AllByRecursion (λ c. eqb c 10 ≡ false) ys → AllByRecursion (λ c. eqb c 10 ≡ false) (xs ++ ys)
-feed_append [] ys p q = q
-feed_append (x ∷ xs) ys p q = (p.0, feed_append xs ys p.1 q)
-
 joined_no_feed : (words : List Word) → ArePlain words → AllByRecursion (λ c. eqb c 10 ≡ false) (join_with_byte 32 words)
 joined_no_feed [] h = tt
 joined_no_feed (word ∷ []) h = no_feed word h.0.each
-joined_no_feed (word ∷ next ∷ words) h = feed_append word (32 ∷ join_with_byte 32 (next ∷ words)) (no_feed word h.0.each) (refl, joined_no_feed (next ∷ words) h.1)
+joined_no_feed (word ∷ next ∷ words) h = AllByRecursion-append (λ c. eqb c 10 ≡ false) word (32 ∷ join_with_byte 32 (next ∷ words)) (no_feed word h.0.each) (refl, joined_no_feed (next ∷ words) h.1)
 
 all_of : (octets : Word) → AllByRecursion (λ c. eqb c 10 ≡ false) octets → All (λ c. eqb c 10 ≡ false) octets
 all_of [] h k d low = absurd (omega arith)

@@ -3,3 +3,4 @@ pub mod SequenceLaws
 pub mod BeforeLaws
 pub mod JoinLaws
 pub mod OptionLaws
+pub mod AllLaws

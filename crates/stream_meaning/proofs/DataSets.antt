@@ -11,12 +11,10 @@ use Rattle.ipfix_template.specs.DataRecord.{DataRecord, IsSound}
 use Rattle.ipfix_template.proofs.SplitLaws.{values_at-only, Splits-least}
 use Rattle.ipfix_template.proofs.WrittenLaws.{record_text-splits}
 use Rattle.ipfix_session.proofs.Soundness.{shortest_some, record_takes}
+use Rattle.subscriber_stream.proofs.Bodies.{spelled}
 
 abbrev pub Rows : Type 0
 Rows = List (List (List ℕ))
-
-abbrev pub spelled : DataRecord → List ℕ
-spelled r = record_text r.template.fields r.values
 
 -- a record of this template
 pub record IsOf (t : Template) (r : DataRecord) : Type 0 where

@@ -9,7 +9,7 @@ use Rattle.subscriber_stream.specs.declared.limits.Limits.{Limits}
 use Rattle.subscriber_stream.specs.Shapes.{shapes_of}
 use Rattle.subscriber_stream.specs.Standing.{Standing, StandsAt, FitsLimits}
 use Rattle.subscriber_stream.specs.Calls.{Call, Given, Pulled, Pull, pulls_of, octets_from, Serves}
-use Rattle.subscriber_stream.proofs.CallLaws.{served, parts_bring}
+use Rattle.subscriber_stream.proofs.CallLaws.{served, parts_bring, run_some}
 use Rattle.subscriber_stream.proofs.Standings.{records_in-append}
 use Rattle.stream_meaning.specs.Served.{IsStreamable, AreStreamable, AreInRange, records_given, messages_in, messages_got, place_from, place_reached, pulls}
 use Rattle.stream_meaning.specs.Means.{Means}
@@ -153,16 +153,12 @@ answers_mean s calls answers at serves may ranges =
 
 -- ---- enough pulls reach the end
 
-one_at_least : (target : ℕ) (ps : List Part) → 1 ≤ run_length target ps
-unfolding run_length
-one_at_least target ps = omega arith
-
 -- a pull goes on, and not past the end
 goes_on : (records : List DataRecord) (p target left : ℕ) → p ≤ length (parts records) → length (parts records) ≤ p + suc left → (place_after records p target ≤ length (parts records)) × (length (parts records) ≤ place_after records p target + left)
 goes_on records p target left le enough =
     let waiting = drop p (parts records) in
     let n = run_length target waiting in
-    let some = one_at_least target waiting in
+    let some = run_some target waiting in
     let len = length-take n waiting in
     let rest = length-drop p (parts records) in
     (omega (arith, len, rest), omega (arith, len, rest, some))

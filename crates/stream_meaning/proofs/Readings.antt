@@ -10,9 +10,10 @@ use Rattle.ipfix_session.specs.InForce.{template_in_force}
 use Rattle.ipfix_session.specs.Contents.{Contents, nothing, only_records, record_of, rows_of, set_contents, item_contents, contents_after}
 use Rattle.ipfix_session.specs.declared.read_error.ReadError.{ReadError}
 use Rattle.subscriber_stream.specs.Message.{Set, Announces, Brings, set_head, set_id, set_content, set_text}
-use Rattle.stream_meaning.proofs.DataSets.{spelled, values_of, AreOf, content_read}
+use Rattle.subscriber_stream.proofs.Bodies.{spelled, texts}
+use Rattle.stream_meaning.proofs.DataSets.{values_of, AreOf, content_read}
 use Rattle.stream_meaning.proofs.Tables.{Table, defining, AreBrought, AreWritten, after_sets, records_among}
-use Rattle.stream_meaning.proofs.Written.{item_of, items_at, texts}
+use Rattle.stream_meaning.proofs.Written.{item_of, items_at}
 
 abbrev pub read_contents : Contents → Result Contents ReadError
 read_contents c = Ok c

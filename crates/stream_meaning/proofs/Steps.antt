@@ -18,20 +18,17 @@ use Rattle.ipfix_session.proofs.SessionSteps.{header_is}
 use Rattle.subscriber_stream.specs.Parts.{Part, Announcement, Entry, records_in}
 use Rattle.subscriber_stream.specs.Message.{sets_of, set_head, body, message, run_length}
 use Rattle.subscriber_stream.proofs.Messages.{length-message}
-use Rattle.subscriber_stream.proofs.CallLaws.{run_within}
+use Rattle.subscriber_stream.proofs.CallLaws.{run_within, run_some}
 use Rattle.subscriber_stream.proofs.Standings.{records_in-append}
+use Rattle.ipfix_template.proofs.Encoding.{length-template_record}
+use Rattle.subscriber_stream.proofs.Bodies.{texts}
 use Rattle.stream_meaning.specs.Means.{plain_meaning}
 use Rattle.stream_meaning.proofs.Tables.{Table, empty, AreKnown, after_parts}
-use Rattle.stream_meaning.proofs.Written.{items_at, texts, header_at, head, message_is}
+use Rattle.stream_meaning.proofs.Written.{items_at, header_at, head, message_is}
 use Rattle.stream_meaning.proofs.Readings.{read_contents, contents_read, in_force_after}
 use Rattle.stream_meaning.proofs.Sets.{sets_written, sets_bring, sets_after, after_append}
 
 -- ---- a message has at most 65,535 octets
-
-length-template_record : (id : ℕ) (options : Bool) (t : Template) → length (template_record id options t) ≡ length (template_record 256 options t)
-unfolding template_record
-length-template_record id true t = refl
-length-template_record id false t = refl
 
 -- a part alone fits a message
 one_fits : (table : Table) (part : Part) (ps : List Part) → AreKnown table (part ∷ ps) → length (body (part ∷ [])) ≤ 65519
@@ -49,10 +46,6 @@ run_by target now handed table part ps zero is le ge all = absurd (omega arith)
 run_by target now handed table part ps (suc (suc n)) is le ge all = absurd (omega arith)
 run_by target now handed table part ps (suc zero) is le ge all =
     omega (arith, length-message now handed (part ∷ []), one_fits table part ps all)
-
-run_some : (target : ℕ) (ps : List Part) → 1 ≤ run_length target ps
-unfolding run_length
-run_some target ps = omega arith
 
 pub run_fits : (target now handed : ℕ) (table : Table) (part : Part) (ps : List Part) → target < 2 ^ 16 → AreKnown table (part ∷ ps) → length (message now handed (take (run_length target (part ∷ ps)) (part ∷ ps))) < 65536
 run_fits target now handed table part ps below all =
