@@ -10,7 +10,7 @@ abbrev pub with_fields : List FieldSpec → Option (List FieldSpec × List ℕ) 
 with_fields before None = None
 with_fields before (Some found) = Some (before ++ found.0, found.1)
 
-abbrev found_fields : List FieldSpec → List ℕ → Option (List FieldSpec × List ℕ)
+abbrev pub found_fields : List FieldSpec → List ℕ → Option (List FieldSpec × List ℕ)
 found_fields fields rest = Some (fields, rest)
 
 pub no_fields : (read : Option (List FieldSpec × List ℕ)) → with_fields [] read ≡ read

@@ -11,6 +11,9 @@ use Rattle.ipfix_template.specs.declared.field.FieldSpec.{FieldSpec}
 use Rattle.ipfix_template.specs.declared.template.Template.{Template}
 use Rattle.sequences.specs.Options.{◌>>=◌}
 use Rattle.sequences.proofs.OptionLaws.{bind_some}
+use Rattle.sequences.proofs.ResultLaws.{same_Ok}
+use Rattle.std.proofs.lemmas.Option.{none-some, same_Some}
+use Rattle.ipfix_message.proofs.ReadingSteps.{read_items, read_head}
 use Rattle.ipfix_message.specs.declared.header.Header.{Header}
 use Rattle.ipfix_message.specs.declared.decode_error.DecodeError.{DecodeError}
 use Rattle.ipfix_message.specs.declared.decode_error.DecodeError.TheVariants.{ShortHeader, BadVersion, BadLength, BadSetLength}
@@ -34,14 +37,8 @@ number_here place width octets fits = record { wide = length-take-le width (drop
 
 -- ---- Field Specifiers
 
-some_field : (x y : FieldSpec × List ℕ) → Some x ≡ Some y → x ≡ y
-some_field x y e = cc
-
 abbrev IsField : List ℕ → FieldSpec × List ℕ → Type 0
 IsField octets found = (text : List ℕ) × (octets ≡ text ++ found.1) × IsSpecifier text found.0
-
-none_some : (x : FieldSpec × List ℕ) → None ≡ Some x → ⊥
-none_some x e = absurd cc
 
 plain_found : (octets : List ℕ) → 4 ≤ length octets → number_at 0 2 octets < 32768 → IsField octets (record { element = record { pen = None; number = number_at 0 2 octets }; length = number_at 2 2 octets }, drop 4 octets)
 plain_found octets four small = (
@@ -68,28 +65,25 @@ field_found octets found e =
     let marked : FieldSpec × List ℕ = (record { element = record { pen = Some (number_at 4 4 octets); number = number - 32768 }; length = number_at 2 2 octets }, drop 8 octets) in
     let inner = cond (ltb number 32768) (Some plain) (cond (ltb (length octets) 8) None (Some marked)) in
     elim (chosen (ltb (length octets) 4) None inner (Some found) e) [
-      | inl short ↦ absurd (none_some found short.1)
+      | inl short ↦ absurd (none-some found short.1)
       | inr long ↦
           let four = ltb-false _ _ long.0 in
           elim (chosen (ltb number 32768) (Some plain) (cond (ltb (length octets) 8) None (Some marked)) (Some found) long.1) [
-            | inl is ↦ subst (IsField octets) (some_field plain found is.1) (plain_found octets four (ltb-true _ _ is.0))
+            | inl is ↦ subst (IsField octets) (same_Some plain found is.1) (plain_found octets four (ltb-true _ _ is.0))
             | inr is ↦
                 elim (chosen (ltb (length octets) 8) None (Some marked) (Some found) is.1) [
-                  | inl short ↦ absurd (none_some found short.1)
-                  | inr more ↦ subst (IsField octets) (some_field marked found more.1) (marked_found octets (ltb-false _ _ more.0) (ltb-false _ _ is.0))
+                  | inl short ↦ absurd (none-some found short.1)
+                  | inr more ↦ subst (IsField octets) (same_Some marked found more.1) (marked_found octets (ltb-false _ _ more.0) (ltb-false _ _ is.0))
                 ]
           ]
     ]
-
-some_fields : (x y : List FieldSpec × List ℕ) → Some x ≡ Some y → x ≡ y
-some_fields x y e = cc
 
 abbrev AreFields : ℕ → List ℕ → List FieldSpec × List ℕ → Type 0
 AreFields count octets found = (text : List ℕ) × (octets ≡ text ++ found.1) × (length found.0 ≡ count) × AreSpecifiers text found.0
 
 fields_found : (count : ℕ) (octets : List ℕ) (found : List FieldSpec × List ℕ) → fields_at count octets ≡ Some found → AreFields count octets found
 unfolding fields_at
-fields_found zero octets found e = subst (AreFields 0 octets) (some_fields ([], octets) found e) ([], refl, refl, refl)
+fields_found zero octets found e = subst (AreFields 0 octets) (same_Some {A = List FieldSpec × List ℕ} ([], octets) found e) ([], refl, refl, refl)
 fields_found (suc count) octets found e =
     let first = bind_some (field_at octets) (λ field. fields_at count field.1 >>= λ others. Some (field.0 ∷ others.0, others.1)) found e in
     let field = first.0 in
@@ -98,13 +92,10 @@ fields_found (suc count) octets found e =
     let here = field_found octets field first.1 in
     let more = fields_found count field.1 others second.1 in
     let parts : octets ≡ (here.0 ++ more.0) ++ others.1 = here.1 ∙ ap (λ (t : List ℕ). here.0 ++ t) more.1 ∙ sym (append_assoc here.0 more.0 others.1) in
-    subst (AreFields (suc count) octets) (some_fields (field.0 ∷ others.0, others.1) found second.2)
+    subst (AreFields (suc count) octets) (same_Some {A = List FieldSpec × List ℕ} (field.0 ∷ others.0, others.1) found second.2)
     (here.0 ++ more.0, parts, omega (arith, more.2), (here.0, more.0, refl, here.2, more.3))
 
 -- ---- template records
-
-some_template : (x y : Template × List ℕ) → Some x ≡ Some y → x ≡ y
-some_template x y e = cc
 
 abbrev IsWhole : Bool → ℕ → List ℕ → Template × List ℕ → Type 0
 IsWhole options count octets found = (text : List ℕ) × (octets ≡ text ++ found.1) × (length found.0.fields ≡ count) × IsBody options text found.0
@@ -118,7 +109,7 @@ scoped_found scope count octets found e =
     let first = bind_some (fields_at count octets) (λ fields. Some (record { fields = fields.0; scope = scope }, fields.1)) found e in
     let fields = first.0 in
     let here = fields_found count octets fields first.1 in
-    subst (IsScoped scope count octets) (some_template (record { fields = fields.0; scope = scope }, fields.1) found first.2) (here.0, here.1, here.2, refl, here.3)
+    subst (IsScoped scope count octets) (same_Some {A = Template × List ℕ} (record { fields = fields.0; scope = scope }, fields.1) found first.2) (here.0, here.1, here.2, refl, here.3)
 
 none_template : (x : Template × List ℕ) → None ≡ Some x → ⊥
 none_template x e = absurd cc
@@ -182,15 +173,9 @@ template_front_found options octets = by_length (ltb (length octets) 4) refl whe
   by_length true e = ltb-true _ _ e
   by_length false e = count_found options octets (eqb (number_at 2 2 octets) 0) (ltb-false _ _ e) refl
 
-abbrev read_items : List Item → Result (List Item) DecodeError
-read_items found = Ok found
-
-ok_is : (x y : List Item) → read_items x ≡ read_items y → x ≡ y
-ok_is x y e = cc
-
 -- items behind others that were read
 with_ok : (before : List Item) (r : Result (List Item) DecodeError) (found : List Item) → with_front before r ≡ read_items found → (others : List Item) × (r ≡ read_items others) × (before ++ others ≡ found)
-with_ok before (Ok others) found e = (others, refl, ok_is (before ++ others) found e)
+with_ok before (Ok others) found e = (others, refl, same_Ok (before ++ others) found e)
 with_ok before (Err d) found e = absurd cc
 
 -- what follows is read, where it is shorter
@@ -198,7 +183,7 @@ abbrev RecordsBelow : Bool → ℕ → Type 0
 RecordsBelow options n = (octets : List ℕ) (found : List Item) → length octets < n → read_all (template_front options) octets ≡ read_items found → AreTemplateRecords options octets found
 
 records_by : (options : Bool) (n : ℕ) (octets : List ℕ) (found : List Item) (front : TemplateFront) → RecordsBelow options n → IsTemplateFront options octets front → ((items : List Item) (rest : List ℕ) → front ≡ Next items rest → length rest < n) → read_on front (read_all (template_front options)) ≡ read_items found → AreTemplateRecords options octets found
-records_by options n octets found End again is smaller e = subst (AreTemplateRecords options octets) (ok_is [] found e) is
+records_by options n octets found End again is smaller e = subst (AreTemplateRecords options octets) (same_Ok [] found e) is
 records_by options n octets found (Fault fault) again is smaller e = absurd cc
 records_by options n octets found (Next items rest) again is smaller e =
     let w = with_ok items (read_all (template_front options) rest) found e in
@@ -223,8 +208,8 @@ content_by : (id place : ℕ) (content : List ℕ) (found : List Item) (template
     → MatchBool templates (AreTemplateRecords false content found) (MatchBool options (AreTemplateRecords true content found) (MatchBool reserved (found ≡ items.Skipped id ∷ []) (found ≡ items.DataSet id place (length content) ∷ [])))
 content_by id place content found true options reserved e = records_found false content found e
 content_by id place content found false true reserved e = records_found true content found e
-content_by id place content found false false true e = sym (ok_is _ found e)
-content_by id place content found false false false e = sym (ok_is _ found e)
+content_by id place content found false false true e = sym (same_Ok _ found e)
+content_by id place content found false false false e = sym (same_Ok _ found e)
 
 content_found : (id place : ℕ) (content : List ℕ) (found : List Item) → set_items id place content ≡ read_items found → IsContent id place content found
 unfolding set_items
@@ -273,7 +258,7 @@ abbrev SetsBelow : ℕ → ℕ → Type 0
 SetsBelow total n = (place : ℕ) (octets : List ℕ) (found : List Item) → length octets < n → total ≡ place + length octets → read_all (set_front total) octets ≡ read_items found → (sets : ℕ) × AreSets sets place octets found
 
 sets_by : (total n place : ℕ) (octets : List ℕ) (found : List Item) (front : TemplateFront) → total ≡ place + length octets → SetsBelow total n → IsSetFront total octets front → ((items : List Item) (rest : List ℕ) → front ≡ Next items rest → length rest < n) → read_on front (read_all (set_front total)) ≡ read_items found → (sets : ℕ) × AreSets sets place octets found
-sets_by total n place octets found End sum again is smaller e = (0, (is, sym (ok_is [] found e)))
+sets_by total n place octets found End sum again is smaller e = (0, (is, sym (same_Ok [] found e)))
 sets_by total n place octets found (Fault fault) sum again is smaller e = absurd cc
 sets_by total n place octets found (Next items rest) sum again is smaller e =
     let w = with_ok items (read_all (set_front total) rest) found e in
@@ -289,12 +274,6 @@ sets_within (suc n) total place octets found less sum e =
     (sym (read_all-step (set_front total) (set_takes total) octets) ∙ e)
 
 -- ---- messages
-
-abbrev read_head : Header → Result Header DecodeError
-read_head h = Ok h
-
-head_is : (x y : Header) → read_head x ≡ read_head y → x ≡ y
-head_is x y e = cc
 
 header_here : (octets : List ℕ) → 16 ≤ length octets → number_at 0 2 octets ≡ 10 → number_at 2 2 octets ≡ length octets → IsHeader (take 16 octets) (length octets) (header_of octets)
 header_here octets long version len =
@@ -328,7 +307,7 @@ header_found octets h e = by_tests (ltb (length octets) 16) (eqb (number_at 0 2 
   by_tests false true false a b c is = absurd cc
   by_tests false true true a b c is =
       let long = ltb-false _ _ a in
-      (long, subst (IsHeader (take 16 octets) (length octets)) (head_is (header_of octets) h is) (header_here octets long (eqb-true _ _ b) (eqb-true _ _ c)))
+      (long, subst (IsHeader (take 16 octets) (length octets)) (same_Ok (header_of octets) h is) (header_here octets long (eqb-true _ _ b) (eqb-true _ _ c)))
 
 -- what is read as a message is one of the grammar
 pub message_found : (octets : List ℕ) (found : List Item) → items_of octets ≡ read_items found → (h : Header) × IsMessage octets h found

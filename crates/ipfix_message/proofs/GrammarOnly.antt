@@ -9,6 +9,8 @@ use Rattle.ipfix_template.specs.Sequence.{Front, End, Next, with_front, read_on,
 use Rattle.ipfix_template.specs.declared.field.FieldSpec.{FieldSpec}
 use Rattle.ipfix_template.specs.declared.template.Template.{Template}
 use Rattle.ipfix_template.specs.SameTemplate.{field_of}
+use Rattle.ipfix_message.proofs.FieldSteps.{found_fields}
+use Rattle.ipfix_message.proofs.ReadingSteps.{read_items, read_head}
 use Rattle.ipfix_message.specs.declared.header.Header.{Header}
 use Rattle.ipfix_message.specs.declared.decode_error.DecodeError.{DecodeError}
 use Rattle.ipfix_message.specs.declared.item.Item.{Item}
@@ -72,9 +74,6 @@ field_by (Some pen) octets rest number len is = enterprise_only octets rest pen 
 field_only : (f : FieldSpec) (octets rest : List ℕ) → IsSpecifier octets f → field_at (octets ++ rest) ≡ found_field f rest
 field_only f octets rest is = field_by f.element.pen octets rest f.element.number f.length is
 
-abbrev found_fields : List FieldSpec → List ℕ → Option (List FieldSpec × List ℕ)
-found_fields fs rest = Some (fs, rest)
-
 fields_only : (fs : List FieldSpec) (octets rest : List ℕ) → AreSpecifiers octets fs → fields_at (length fs) (octets ++ rest) ≡ found_fields fs rest
 unfolding fields_at
 fields_only [] octets rest is = ap (λ (t : List ℕ). found_fields [] (t ++ rest)) is
@@ -102,12 +101,6 @@ body_only true t octets rest is =
 
 abbrev next_item : Item → List ℕ → Front Item DecodeError
 next_item item rest = Next (item ∷ []) rest
-
-abbrev read_items : List Item → Result (List Item) DecodeError
-read_items found = Ok found
-
-abbrev read_head : Header → Result Header DecodeError
-read_head h = Ok h
 
 by_count : (options : Bool) (id count : ℕ) (body rest : List ℕ) (item : Item) (none : Bool) → eqb count 0 ≡ none → MatchBool none ((body ≡ []) × (item ≡ bare_item options id)) ((t : Template) × (length t.fields ≡ count) × IsBody options body t × (item ≡ template_item options id t))
     → cond none (next_item (bare_item options id) (body ++ rest)) (found_template options id (template_at options count (body ++ rest))) ≡ next_item item rest

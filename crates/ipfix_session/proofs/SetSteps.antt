@@ -17,7 +17,7 @@ use Rattle.ipfix_session.specs.Keeping.{IsKeepable}
 use Rattle.ipfix_session.specs.DataSets.{IsOverrun, ShowsRecord, AddsRecords}
 use Rattle.ipfix_session.proofs.Soundness.{record_takes, sound_of}
 
-abbrev Rows : Type 0
+abbrev pub Rows : Type 0
 Rows = List (List (List ℕ))
 
 -- ---- one value more
@@ -37,7 +37,7 @@ pub record ReadsOn (t : Template) (content rest : List ℕ) (old new : List Data
   pub added : new ≡ old ++ map (record_of t) rows
   pub read : with_front rows (read_all (record_front t) rest) ≡ records_in t content
 
-abbrev read_rows : Rows → Result Rows (Unit {0})
+abbrev pub read_rows : Rows → Result Rows (Unit {0})
 read_rows rows = Ok rows
 
 pub reads_first : (t : Template) (content : List ℕ) (old : List DataRecord) → ReadsOn t content content old old

@@ -138,7 +138,7 @@ pub record Walks (message : List ℕ) (found : ℕ → Option Template) (rest : 
   pub read : with_contents so_far (contents_after done message rest) ≡ contents_after older message said
   pub order : reverse rest ++ done ≡ reverse said ++ older
 
-abbrev read_contents : Contents → Result Contents ReadError
+abbrev pub read_contents : Contents → Result Contents ReadError
 read_contents c = Ok c
 
 with_nothing : (r : Result Contents ReadError) → with_contents nothing r ≡ r

@@ -25,17 +25,14 @@ use Rattle.mediator_history.specs.Sessions.{messages_of}
 use Rattle.mediator_history.specs.Auditing.{audit_list}
 use Rattle.mediator_history.specs.Disclosed.{disclosed}
 use Rattle.subscriber_stream.proofs.CallLaws.{run_some}
+use Rattle.stream_meaning.proofs.Runs.{some_message}
+use Rattle.std.proofs.lemmas.Option.{same_Some}
+use Rattle.mediator_core.proofs.Lines.{take-add-append}
 use Rattle.mediator_core.specs.declared.desk.Desk.{Desk}
 use Rattle.mediator_core.specs.Desks.{Stands, Small}
 use Rattle.mediator_core.specs.Steps.{end_of}
 use Rattle.mediator_core.specs.declared.job.OfflineFault.{OfflineFault}
 use Rattle.mediator_core.specs.Pulling.{HandsOut, IsDelivering, SameElse, StopsWriting, Delivers, StopsDelivery, FailsDelivery}
-
-abbrev message_some : List ℕ → Option (List ℕ)
-message_some m = Some m
-
-same_message : (a b : List ℕ) → message_some a ≡ message_some b → a ≡ b
-same_message a b e = cc
 
 -- ---- a message is pulled
 
@@ -69,7 +66,7 @@ pulled records now target p m streamable below is = at (drop p (parts records)) 
             (known_split (take p (parts records)) (drop p (parts records)) empty (subst (AreKnown empty) (sym (take-append-drop p (parts records))) (parts_known records streamable))).1
 
         short : length m < 65536
-        short = subst (λ x. length x < 65536) (same_message _ m (ap (next_message now target (length (records_in (take p (parts records))))) (sym e) ∙ is))
+        short = subst (λ x. length x < 65536) (same_Some _ m (ap (next_message now target (length (records_in (take p (parts records))))) (sym e) ∙ is))
             (run_fits target now (length (records_in (take p (parts records)))) (after_parts empty (take p (parts records))) part ps below known)
 
 -- nothing is built exactly where all was handed out
@@ -102,14 +99,6 @@ parts_after-few before (r ∷ records) =
 pub parts_few : (records : List DataRecord) → length (parts records) ≤ 2 * length records
 unfolding parts
 parts_few records = parts_after-few [] records
-
-take-add-append : (xs ys : List ℕ) (n : ℕ) → take (length xs + n) (xs ++ ys) ≡ xs ++ take n ys
-take-add-append [] ys n = ap (λ k. take k ys) zero where
-  zero : 0 + n ≡ n
-  zero = omega arith
-take-add-append (x ∷ xs) ys n = ap (λ k. take k (x ∷ (xs ++ ys))) next ∙ ap (λ t. x ∷ t) (take-add-append xs ys n) where
-  next : length (x ∷ xs) + n ≡ suc (length xs + n)
-  next = omega arith
 
 -- ---- messages one after another
 
@@ -314,4 +303,4 @@ turn_fails old d e held holds writes m fault failed start so p stops = record {
     })
 
 pub some_same : (o : Option (List ℕ)) (a b : List ℕ) → o ≡ Some a → b ≡ a → o ≡ Some b
-some_same o a b is same = is ∙ ap message_some (sym same)
+some_same o a b is same = is ∙ ap some_message (sym same)

@@ -23,6 +23,7 @@ use Rattle.flow_prefix.proofs.AddressTextLaws.{Lacks, digit_other}
 use Rattle.flow_prefix.proofs.CutLaws.{cut_at-middle}
 use Rattle.sequences.specs.Options.{◌>>=◌}
 use Rattle.sequences.proofs.OptionLaws.{bind_some}
+use Rattle.policy_text.proofs.NameLaws.{ascii_by}
 use Rattle.policy_text.specs.Words.{Word}
 use Rattle.policy_text.specs.Elements.{checked, element_at, on_sides, behind_e, numbered_of, listed_or, element_of}
 
@@ -155,15 +156,10 @@ element_of-only word e ok name =
     let read = element_of-found word some.0 some.1 in
     some.1 ∙ ap (λ (x : Element). Some x) (sym (one_name e some.0 ok read.0 (sym name ∙ read.1)))
 
+octet_ascii : (c : ℕ) → is_name_octet c ≡ true → c < 128
+octet_ascii c h = grind (arith, nat_tests)
+
 -- a word that is no text names no element
-name_octet_ascii : (c : ℕ) → is_name_octet c ≡ true → c < 128
-name_octet_ascii c h = grind (arith, nat_tests)
-
-ascii_octets : (octets : List ℕ) → list_all is_name_octet octets ≡ true → IsAscii octets
-ascii_octets [] h i = omega arith
-ascii_octets (c ∷ cs) h zero = name_octet_ascii c (and_parts (is_name_octet c) (list_all is_name_octet cs) h).0
-ascii_octets (c ∷ cs) h (suc i) = ascii_octets cs (and_parts (is_name_octet c) (list_all is_name_octet cs) h).1 i
-
 pub element_of-text : (word : Word) → (IsUtf8 word → ⊥) → element_of word ≡ None
 element_of-text word none = by_answer (element_of word) refl
   where
@@ -173,7 +169,7 @@ element_of-text word none = by_answer (element_of word) refl
         let read = element_of-found word x e in
         let one = one_word x read.0 in
         let P : List ℕ → Type 0 = λ t. list_all is_name_octet t ≡ true in
-        absurd (none (IsUtf8-from_ascii word (ascii_octets word (subst P (sym read.1) one.1))))
+        absurd (none (IsUtf8-from_ascii word (ascii_by is_name_octet octet_ascii word (subst P (sym read.1) one.1))))
 
 -- whatever answers by names answers so
 pub element_of-answer : (word : Word) (r : Option Element) → IfSome r (λ e. IsElement e × (word ≡ element_name e)) → ((e : Element) → IsElement e → word ≡ element_name e → r ≡ Some e) → r ≡ element_of word

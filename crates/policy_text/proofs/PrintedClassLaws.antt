@@ -27,6 +27,7 @@ use Rattle.flow_prefix.proofs.NumeralLaws.{number_of-only}
 use Rattle.flow_prefix.proofs.AddressTextLaws.{Lacks, Lacks-append, Lacks-digits, AllDigits-wider}
 use Rattle.flow_prefix.proofs.AddressReadLaws.{written_lacks}
 use Rattle.flow_prefix.proofs.PrintLaws.{prefix_text-is, reads_back}
+use Rattle.sequences.proofs.ResultLaws.{Err-Ok}
 use Rattle.policy_text.specs.declared.fault.FaultKind.{FaultKind}
 use Rattle.policy_text.specs.declared.fault.FaultKind.TheVariants.{BadName, BadNumber, BadPrefix}
 use Rattle.policy_text.specs.Words.{Word}
@@ -117,13 +118,9 @@ pub prefix-printed : (p : Prefix) → IsPrefix p → prefix (prefix_text p) ≡ 
 unfolding prefix
 prefix-printed p ok = ap prefix_or_fault (reads_back p ok)
 
--- no class reads `*`
-err_ok : {A : Type 0} (kind : FaultKind) (a : A) → ◌≡◌ {A = Result A FaultKind} (Err kind) (Ok a) → ⊥
-err_ok kind a e = cc
-
 star_apart : {A : Type 0} (class : Word → Result A FaultKind) (kind : FaultKind) (word : Word) (a : A) → class word ≡ Ok a → class star ≡ Err kind → bytes_eq word star ≡ false
 star_apart class kind word a read none =
-    ⊎_elim (λ (same : bytes_eq word star ≡ true). absurd (err_ok kind a (sym none ∙ ap class (sym ((bytes_eq-Decides word star).0 same)) ∙ read)))
+    ⊎_elim (λ (same : bytes_eq word star ≡ true). absurd (Err-Ok kind a (sym none ∙ ap class (sym ((bytes_eq-Decides word star).0 same)) ∙ read)))
     (λ (other : bytes_eq word star ≡ false). other)
     (cases_Bool (bytes_eq word star))
 

@@ -16,6 +16,7 @@ use Rattle.flow_prefix.specs.Text.{IsPrefixText}
 use Rattle.flow_prefix.specs.Prefixes.{IsPrefix}
 use Rattle.flow_prefix.proofs.NumeralLaws.{number_of-found}
 use Rattle.flow_prefix.proofs.PrefixLaws.{prefix_of-found}
+use Rattle.sequences.proofs.ResultLaws.{same_Ok, Err-Ok}
 use Rattle.policy_text.specs.declared.fault.FaultKind.{FaultKind}
 use Rattle.policy_text.specs.declared.rule.Rule.{Rule}
 use Rattle.policy_text.specs.declared.rule.Action.{Action}
@@ -33,21 +34,15 @@ use Rattle.policy_text.proofs.ElementLaws.{element_of-found}
 use Rattle.policy_text.proofs.KeyStepLaws.{IsKeyAfter, as_key}
 use Rattle.policy_text.proofs.WordLaws.{position-place}
 
-pub err-Ok : {A : Type 0} (kind : FaultKind) (y : A) → ◌≡◌ {A = Result A FaultKind} (Err kind) (Ok y) → ⊥
-err-Ok kind y e = cc
-
-pub same_Ok : {A : Type 0} (x y : A) → ◌≡◌ {A = Result A FaultKind} (Ok x) (Ok y) → x ≡ y
-same_Ok x y e = cc
-
 -- what a step that gave a value was given
 pub bound : {A B : Type 0} (r : Result A FaultKind) (f : A → Result B FaultKind) (y : B) → (r >>= f) ≡ Ok y → (x : A) × (r ≡ Ok x) × (f x ≡ Ok y)
 bound (Ok x) f y e = (x, refl, e)
-bound (Err kind) f y e = absurd (err-Ok kind y e)
+bound (Err kind) f y e = absurd (Err-Ok kind y e)
 
 -- a test that refuses
 pub guarded : {A : Type 0} (b : Bool) (kind : FaultKind) (x y : A) → cond b (Ok x) (Err kind) ≡ Ok y → (b ≡ true) × (x ≡ y)
 guarded true kind x y e = (refl, same_Ok x y e)
-guarded false kind x y e = absurd (err-Ok kind y e)
+guarded false kind x y e = absurd (Err-Ok kind y e)
 
 -- a word that is one of two
 pub either : {A : Type 0} (P : Type 0) (b : Bool) (r s : Result A FaultKind) (y : A) → cond b r s ≡ Ok y → (r ≡ Ok y → P) → (s ≡ Ok y → P) → P
@@ -55,13 +50,13 @@ either P true r s y e yes_case no_case = yes_case e
 either P false r s y e yes_case no_case = no_case e
 
 pub or_fault-Ok : {A : Type 0} (kind : FaultKind) (o : Option A) (y : A) → or_fault kind o ≡ Ok y → o ≡ Some y
-or_fault-Ok kind None y e = absurd (err-Ok kind y e)
+or_fault-Ok kind None y e = absurd (Err-Ok kind y e)
 or_fault-Ok kind (Some x) y e = ap (λ z. Some z) (same_Ok x y e)
 
 -- what a class gives, or nothing
 given_some : {A : Type 0} (P : A → Type 0) (r : Result A FaultKind) (o : Option A) → ((a : A) → r ≡ Ok a → P a) → some_of r ≡ Ok o → IfSome o P
 given_some {A} P (Ok a) o sound e = let Q : Option A → Type 0 = λ x. IfSome x P in subst Q (same_Ok (Some a) o e) (sound a refl)
-given_some P (Err kind) o sound e = absurd (err-Ok kind o e)
+given_some P (Err kind) o sound e = absurd (Err-Ok kind o e)
 
 given : {A : Type 0} (P : A → Type 0) (class : Word → Result A FaultKind) → ((w : Word) (a : A) → class w ≡ Ok a → P a) → (w : Word) (o : Option A) → or_star class w ≡ Ok o → IfSome o P
 unfolding or_star
@@ -103,7 +98,7 @@ text_prefix text (V6 net) h = h.1
 
 prefix_by : (text : List ℕ) (r : Result Prefix PrefixFault) (p : Prefix) → IfOk r (λ q. IsPrefixText text q) → prefix_or_fault r ≡ Ok p → IsPrefix p
 prefix_by text (Ok q) p h e = let P : Prefix → Type 0 = λ x. IsPrefix x in subst P (same_Ok q p e) (text_prefix text q h)
-prefix_by text (Err fault) p h e = absurd (err-Ok BadPrefix p e)
+prefix_by text (Err fault) p h e = absurd (Err-Ok BadPrefix p e)
 
 prefix-sound : (w : Word) (p : Prefix) → prefix w ≡ Ok p → IsPrefix p
 unfolding prefix
@@ -132,7 +127,7 @@ place-sound aggregates w place e =
     let at = or_fault-Ok UnknownAggregate (place_of aggregates w) place (rw named at e) in
     let same = place_name aggregates w place at in
     rw same (named, at))
-    (λ (other : is_name w ≡ false). absurd (err-Ok BadName place (rw other at e)))
+    (λ (other : is_name w ≡ false). absurd (Err-Ok BadName place (rw other at e)))
     (cases_Bool (is_name w))
 
 -- actions
@@ -159,7 +154,7 @@ bits-sound width w n e =
 
 truncate-sound : (width : Option ℕ) (words : List Word) (x : Action × List Word) → truncate_of width words ≡ Ok x → Truncates width x.0
 unfolding truncate_of
-truncate-sound None words x e = absurd (err-Ok BadTruncate x e)
+truncate-sound None words x e = absurd (Err-Ok BadTruncate x e)
 truncate-sound (Some width) words x e =
     let read = bound (next (bits_within width) words) (λ bits. Ok (Truncate bits.0, bits.1)) x e in
     let word = next_word (bits_within width) words read.0 read.1 in
@@ -180,7 +175,7 @@ element_action-sound aggregates e words x h =
     (λ cut. let t = truncate-sound (width_at e) w.1 x cut in
     let Q : Action → Type 0 = λ what. IsAction aggregates e what in
     subst Q t.what_is (t.w, t.width_is, t.within, t.short))
-    (λ none. absurd (err-Ok UnknownWord x none))))
+    (λ none. absurd (Err-Ok UnknownWord x none))))
 
 on_element-sound : (aggregates : List Definition) (words : List Word) (x : (Option Element × Action) × List Word) → on_element words ≡ Ok x → ActionSound aggregates x.0.0 x.0.1
 unfolding on_element
@@ -214,7 +209,7 @@ action_of-sound aggregates words x h =
     (λ counted. aggregate_action-sound aggregates w.1 x counted)
     (λ last. either (ActionSound aggregates x.0.0 x.0.1) (bytes_eq w.0 (codes "element")) (on_element w.1) (Err UnknownWord) x last
     (λ on. on_element-sound aggregates w.1 x on)
-    (λ none. absurd (err-Ok UnknownWord x none)))))
+    (λ none. absurd (Err-Ok UnknownWord x none)))))
 
 -- a rule, word by word
 abbrev pub rule_end : Option Word → Option ℕ → Option Prefix → Option Prefix → (Option Element × Action) × List Word → Result Rule FaultKind
@@ -341,7 +336,7 @@ unfolding interval
 interval-sound w n e =
     let read = bound (number 86400 w) (λ seconds. cond (ltb seconds 1) (Err BadNumber) (Ok seconds)) n e in
     let high = number-sound 86400 (omega arith) w read.0 read.1 in
-    ⊎_elim (λ (low : ltb read.0 1 ≡ true). absurd (err-Ok BadNumber n (rw low at read.2)))
+    ⊎_elim (λ (low : ltb read.0 1 ≡ true). absurd (Err-Ok BadNumber n (rw low at read.2)))
     (λ (good : ltb read.0 1 ≡ false).
     let same = same_Ok read.0 n (rw good at read.2) in
     let low = ltb-false read.0 1 good in
@@ -357,13 +352,13 @@ unfolding new_name
 new_name-sound aggregates w n e =
     ⊎_elim (λ (named : is_name w ≡ true).
     let inner = rw named at e in
-    ⊎_elim (λ (double : is_some (place_of aggregates w) ≡ true). absurd (err-Ok DoubleAggregate n (rw double at inner)))
+    ⊎_elim (λ (double : is_some (place_of aggregates w) ≡ true). absurd (Err-Ok DoubleAggregate n (rw double at inner)))
     (λ (fresh : is_some (place_of aggregates w) ≡ false).
     let same = same_Ok w n (rw fresh at inner) in
     let P : Word → Type 0 = λ x. (is_name x ≡ true) × (place_of aggregates x ≡ None) in
     subst P same (named, none_place (place_of aggregates w) fresh))
     (cases_Bool (is_some (place_of aggregates w))))
-    (λ (other : is_name w ≡ false). absurd (err-Ok BadName n (rw other at e)))
+    (λ (other : is_name w ≡ false). absurd (Err-Ok BadName n (rw other at e)))
     (cases_Bool (is_name w))
 
 -- an aggregate, word by word

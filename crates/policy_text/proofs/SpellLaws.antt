@@ -15,6 +15,7 @@ use Rattle.flow_prefix.specs.Reading.{prefix_of}
 use Rattle.flow_prefix.specs.Text.{IsPrefixText}
 use Rattle.flow_prefix.proofs.NumeralLaws.{number_of-found}
 use Rattle.flow_prefix.proofs.PrefixLaws.{prefix_of-found, prefix_of-only}
+use Rattle.sequences.proofs.ResultLaws.{Err-Ok, same_Ok}
 use Rattle.policy_text.specs.declared.fault.FaultKind.{FaultKind}
 use Rattle.policy_text.specs.declared.fault.FaultKind.TheVariants.{UnknownAggregate, DoubleAggregate, UnknownWord, NoHeader, BadName, BadNumber, BadPrefix, BadTruncate, TooMany}
 use Rattle.policy_text.specs.declared.fault.PolicyFault.{PolicyFault}
@@ -35,12 +36,12 @@ use Rattle.policy_text.specs.Spelling.{IsPrefixWord, rule_tail, SpellsRule, Adds
 use Rattle.policy_text.proofs.ElementLaws.{element_of-found}
 use Rattle.policy_text.proofs.ParsingLaws.{read_lines-cons, read_lines-done, read_lines-empty}
 use Rattle.policy_text.proofs.PrintedClassLaws.{name-printed, or_star-word, or_star-star, or_star-printed, name-star, number-star, prefix-star}
-use Rattle.policy_text.proofs.SoundLaws.{err-Ok, same_Ok, bound, guarded, or_fault-Ok, place_name, with_key-sound, rule_end, rule_action, rule_to, rule_behind_from, rule_from, rule_behind_domain, rule_domain, rule_behind_who, rule_who, aggregate_end, aggregate_grace, aggregate_behind_interval, aggregate_interval, aggregate_behind_key, aggregate_key, aggregate_behind_name, rule_of-sound, aggregate_of-sound}
+use Rattle.policy_text.proofs.SoundLaws.{bound, guarded, or_fault-Ok, place_name, with_key-sound, rule_end, rule_action, rule_to, rule_behind_from, rule_from, rule_behind_domain, rule_domain, rule_behind_who, rule_who, aggregate_end, aggregate_grace, aggregate_behind_interval, aggregate_interval, aggregate_behind_key, aggregate_key, aggregate_behind_name, rule_of-sound, aggregate_of-sound}
 use Rattle.policy_text.proofs.RoundLaws.{domain_back, action_back, aggregate_back}
 
 next_of-text : (words : List Word) (x : Word × List Word) → next_of words ≡ Ok x → words ≡ x.0 ∷ x.1
 unfolding next_of
-next_of-text [] x e = absurd (err-Ok UnknownWord x e)
+next_of-text [] x e = absurd (Err-Ok UnknownWord x e)
 next_of-text (w ∷ words) x e = ap (λ (y : Word × List Word). y.0 ∷ y.1) (same_Ok (w, words) x e)
 
 next-text : {A : Type 0} (class : Word → Result A FaultKind) (words : List Word) (x : A × List Word) → next class words ≡ Ok x → (w : Word) × (words ≡ w ∷ x.1) × (class w ≡ Ok x.0)
@@ -62,12 +63,12 @@ after-text keyword words rest e =
 ended-text : (words : List Word) (u : Unit {0}) → ended words ≡ Ok u → words ≡ []
 unfolding ended
 ended-text [] u e = refl
-ended-text (w ∷ words) u e = absurd (err-Ok UnknownWord u e)
+ended-text (w ∷ words) u e = absurd (Err-Ok UnknownWord u e)
 
 -- the words of classes
 class_text : {A : Type 0} (class : Word → Result A FaultKind) (word : A → Word) → ((w : Word) (a : A) → class w ≡ Ok a → w ≡ word a) → (w : Word) (r : Result A FaultKind) (p : Option A) → class w ≡ r → some_of r ≡ Ok p → w ≡ word_or_star word p
 class_text class word spelled w (Ok a) p c h = spelled w a c ∙ ap (word_or_star word) (same_Ok (Some a) p h)
-class_text class word spelled w (Err k) p c h = absurd (err-Ok k p h)
+class_text class word spelled w (Err k) p c h = absurd (Err-Ok k p h)
 
 or_star-text : {A : Type 0} (class : Word → Result A FaultKind) (word : A → Word) → ((w : Word) (a : A) → class w ≡ Ok a → w ≡ word a) → (w : Word) (o : Option A) → or_star class w ≡ Ok o → w ≡ word_or_star word o
 unfolding or_star
@@ -92,7 +93,7 @@ element-text w e h = (element_of-found w e (or_fault-Ok BadName (element_of w) e
 
 prefix_by : (text : Word) (r : Result Prefix PrefixFault) (p : Prefix) → IfOk r (λ q. IsPrefixText text q) → prefix_or_fault r ≡ Ok p → IsPrefixText text p
 prefix_by text (Ok q) p h e = let P : Prefix → Type 0 = λ x. IsPrefixText text x in subst P (same_Ok q p e) h
-prefix_by text (Err fault) p h e = absurd (err-Ok BadPrefix p e)
+prefix_by text (Err fault) p h e = absurd (Err-Ok BadPrefix p e)
 
 prefix-text : (w : Word) (p : Prefix) → prefix w ≡ Ok p → IsPrefixText w p
 unfolding prefix
@@ -100,7 +101,7 @@ prefix-text w p e = prefix_by w (prefix_of w) p (prefix_of-found w) e
 
 prefix_some : (w : Word) (r : Result Prefix FaultKind) (o : Option Prefix) → prefix w ≡ r → some_of r ≡ Ok o → IsPrefixWord o w
 prefix_some w (Ok p) o c h = let P : Option Prefix → Type 0 = λ x. IsPrefixWord x w in subst P (same_Ok (Some p) o h) (prefix-text w p c)
-prefix_some w (Err k) o c h = absurd (err-Ok k o h)
+prefix_some w (Err k) o c h = absurd (Err-Ok k o h)
 
 prefix_word : (w : Word) (o : Option Prefix) → or_star prefix w ≡ Ok o → IsPrefixWord o w
 unfolding or_star
@@ -141,7 +142,7 @@ interval-text : (w : Word) (n : ℕ) → interval w ≡ Ok n → w ≡ decimal n
 unfolding interval
 interval-text w n e =
     let read = bound (number 86400 w) (λ seconds. cond (ltb seconds 1) (Err BadNumber) (Ok seconds)) n e in
-    ⊎_elim (λ (low : ltb read.0 1 ≡ true). absurd (err-Ok BadNumber n (rw low at read.2)))
+    ⊎_elim (λ (low : ltb read.0 1 ≡ true). absurd (Err-Ok BadNumber n (rw low at read.2)))
     (λ (good : ltb read.0 1 ≡ false). number-text 86400 (omega arith) w read.0 read.1 ∙ ap decimal (same_Ok read.0 n (rw good at read.2)))
     (cases_Bool (ltb read.0 1))
 
@@ -150,17 +151,17 @@ unfolding new_name
 new_name-text aggregates w n e =
     ⊎_elim (λ (named : is_name w ≡ true).
     let inner = rw named at e in
-    ⊎_elim (λ (double : is_some (place_of aggregates w) ≡ true). absurd (err-Ok DoubleAggregate n (rw double at inner)))
+    ⊎_elim (λ (double : is_some (place_of aggregates w) ≡ true). absurd (Err-Ok DoubleAggregate n (rw double at inner)))
     (λ (fresh : is_some (place_of aggregates w) ≡ false). same_Ok w n (rw fresh at inner))
     (cases_Bool (is_some (place_of aggregates w))))
-    (λ (other : is_name w ≡ false). absurd (err-Ok BadName n (rw other at e)))
+    (λ (other : is_name w ≡ false). absurd (Err-Ok BadName n (rw other at e)))
     (cases_Bool (is_name w))
 
 place-text : (aggregates : List Definition) (w : Word) (place : ℕ) → aggregate_place aggregates w ≡ Ok place → w ≡ name_at aggregates place
 unfolding aggregate_place
 place-text aggregates w place e =
     ⊎_elim (λ (named : is_name w ≡ true). sym (place_name aggregates w place (or_fault-Ok UnknownAggregate (place_of aggregates w) place (rw named at e))))
-    (λ (other : is_name w ≡ false). absurd (err-Ok BadName place (rw other at e)))
+    (λ (other : is_name w ≡ false). absurd (Err-Ok BadName place (rw other at e)))
     (cases_Bool (is_name w))
 
 bits-text : (width : ℕ) (w : Word) (n : ℕ) → bits_within width w ≡ Ok n → w ≡ decimal n
@@ -177,7 +178,7 @@ record SpellsTruncate (words : List Word) (x : Action × List Word) : Type 0 whe
 
 truncate-text : (width : Option ℕ) (words : List Word) (x : Action × List Word) → truncate_of width words ≡ Ok x → SpellsTruncate words x
 unfolding truncate_of
-truncate-text None words x e = absurd (err-Ok BadTruncate x e)
+truncate-text None words x e = absurd (Err-Ok BadTruncate x e)
 truncate-text (Some width) words x e =
     let read = bound (next (bits_within width) words) (λ bits. Ok (Truncate bits.0, bits.1)) x e in
     let word = next-text (bits_within width) words read.0 read.1 in
@@ -228,7 +229,7 @@ element_action-text width words x h =
     let cut = truncate-text width w.1 x (rw t at last) in
     let Q : Action × List Word → Type 0 = λ y. on_fields y.0 × (words ≡ behind_element y.0 ++ x.1) in
     subst Q cut.what_is (tt, whole ∙ ap (λ k. k ∷ w.1) ((bytes_eq-Decides w.0 (codes "truncate")).0 t) ∙ ap (λ ws. codes "truncate" ∷ ws) cut.words_are))
-    (λ (none : bytes_eq w.0 (codes "truncate") ≡ false). absurd (err-Ok UnknownWord x (rw none at last)))
+    (λ (none : bytes_eq w.0 (codes "truncate") ≡ false). absurd (Err-Ok UnknownWord x (rw none at last)))
     (cases_Bool (bytes_eq w.0 (codes "truncate"))))
     (cases_Bool (bytes_eq w.0 (codes "remove"))))
     (cases_Bool (bytes_eq w.0 (codes "keep")))
@@ -288,7 +289,7 @@ action_of-text aggregates words x h =
     let last = rw i at more in
     ⊎_elim (λ (t : bytes_eq w.0 (codes "element") ≡ true).
     whole ∙ ap (λ k. k ∷ w.1) ((bytes_eq-Decides w.0 (codes "element")).0 t) ∙ on_element-text aggregates w.1 x (rw t at last))
-    (λ (none : bytes_eq w.0 (codes "element") ≡ false). absurd (err-Ok UnknownWord x (rw none at last)))
+    (λ (none : bytes_eq w.0 (codes "element") ≡ false). absurd (Err-Ok UnknownWord x (rw none at last)))
     (cases_Bool (bytes_eq w.0 (codes "element"))))
     (cases_Bool (bytes_eq w.0 (codes "aggregate"))))
     (cases_Bool (bytes_eq w.0 (codes "withhold"))))
@@ -361,7 +362,7 @@ IsLine old words new = AddsRule old words new ⊎ AddsAggregate old words new
 pub rule_line-found : (p q : Meaning) (words tail : List Word) → words ≡ codes "rule" ∷ tail → rule_line p tail ≡ Ok q → AddsRule p words q
 unfolding rule_line
 rule_line-found p q words tail e h =
-    ⊎_elim (λ (full : leb 4096 (length p.rules) ≡ true). absurd (err-Ok TooMany q (rw full at h)))
+    ⊎_elim (λ (full : leb 4096 (length p.rules) ≡ true). absurd (Err-Ok TooMany q (rw full at h)))
     (λ (room : leb 4096 (length p.rules) ≡ false).
     let read = bound (rule_of p.aggregates tail) (λ r. Ok (with_rule p r)) q (rw room at h) in
     let found = rule_words-found p.aggregates tail read.0 read.1 in
@@ -379,7 +380,7 @@ rule_line-found p q words tail e h =
 aggregate_line-found : (p q : Meaning) (words tail : List Word) → words ≡ codes "aggregate" ∷ tail → aggregate_line p tail ≡ Ok q → AddsAggregate p words q
 unfolding aggregate_line
 aggregate_line-found p q words tail e h =
-    ⊎_elim (λ (full : leb 256 (length p.aggregates) ≡ true). absurd (err-Ok TooMany q (rw full at h)))
+    ⊎_elim (λ (full : leb 256 (length p.aggregates) ≡ true). absurd (Err-Ok TooMany q (rw full at h)))
     (λ (room : leb 256 (length p.aggregates) ≡ false).
     let read = bound (aggregate_of p.aggregates tail) (λ a. Ok (with_aggregate p a)) q (rw room at h) in
     let low = leb-false 256 (length p.aggregates) room in
@@ -404,7 +405,7 @@ line_of-found p q words h =
     let others = rw f at first.2 in
     ⊎_elim (λ (t : bytes_eq w.0 (codes "aggregate") ≡ true).
     inr (aggregate_line-found p q words w.1 (whole ∙ ap (λ k. k ∷ w.1) ((bytes_eq-Decides w.0 (codes "aggregate")).0 t)) (rw t at others)))
-    (λ (none : bytes_eq w.0 (codes "aggregate") ≡ false). absurd (err-Ok UnknownWord q (rw none at others)))
+    (λ (none : bytes_eq w.0 (codes "aggregate") ≡ false). absurd (Err-Ok UnknownWord q (rw none at others)))
     (cases_Bool (bytes_eq w.0 (codes "aggregate"))))
     (cases_Bool (bytes_eq w.0 (codes "rule")))
 
@@ -445,12 +446,9 @@ record Steps (started : Bool) (p : Meaning) (line : List ℕ) (n : ℕ) (others 
   pub stepped : line_step started p line ≡ Ok (next_started, mid)
   pub rest : read_lines next_started mid (n + 1) others ≡ Ok q
 
-fault_ok : (fault : PolicyFault) (q : Meaning) → ◌≡◌ {A = Result Meaning PolicyFault} (Err fault) (Ok q) → ⊥
-fault_ok fault q e = cc
-
 steps_by : (started : Bool) (p : Meaning) (line : List ℕ) (n : ℕ) (others : List (List ℕ)) (q : Meaning) (r : Result (Bool × Meaning) FaultKind) → line_step started p line ≡ r → then_read (at_line n r) (λ x. read_lines x.0 x.1 (n + 1) others) ≡ Ok q → Steps started p line n others q
 steps_by started p line n others q (Ok x) e h = record { next_started = x.0; mid = x.1; stepped = e; rest = h }
-steps_by started p line n others q (Err kind) e h = absurd (fault_ok (record { line = n; kind = kind }) q h)
+steps_by started p line n others q (Err kind) e h = absurd (Err-Ok (record { line = n; kind = kind }) q h)
 
 steps_of : (started : Bool) (p : Meaning) (line : List ℕ) (n : ℕ) (others : List (List ℕ)) (q : Meaning) → read_lines started p n (line ∷ others) ≡ Ok q → Steps started p line n others q
 steps_of started p line n others q h = steps_by started p line n others q (line_step started p line) refl (sym (read_lines-cons started p n line others) ∙ h)
@@ -472,11 +470,8 @@ line_step-found p line x h =
     record { started_is = ap (λ (y : Bool × Meaning). y.0) same; line_is = inr (kept, subst P (ap (λ (y : Bool × Meaning). y.1) same) (line_of-found p read.0 (words_of line) read.1)) })
     (cases_Bool (is_skipped (words_of line)))
 
-meaning_ok : (p q : Meaning) → ◌≡◌ {A = Result Meaning PolicyFault} (Ok p) (Ok q) → p ≡ q
-meaning_ok p q e = cc
-
 lines-found : (p q : Meaning) (n : ℕ) (lines : List (List ℕ)) → read_lines true p n lines ≡ Ok q → AreLines p lines q
-lines-found p q n [] h = meaning_ok p q (sym (read_lines-done p n) ∙ h)
+lines-found p q n [] h = same_Ok p q (sym (read_lines-done p n) ∙ h)
 lines-found p q n (line ∷ lines) h =
     let s = steps_of true p line n lines q h in
     let read = line_step-found p line (s.next_started, s.mid) s.stepped in
@@ -505,7 +500,7 @@ header-found line x h =
     (cases_Bool (is_skipped (words_of line)))
 
 all-found : (q : Meaning) (n : ℕ) (lines : List (List ℕ)) → read_lines false nothing n lines ≡ Ok q → AreAllLines lines q
-all-found q n [] h = fault_ok (record { line = 1; kind = NoHeader }) q (sym (read_lines-empty nothing n) ∙ h)
+all-found q n [] h = Err-Ok (record { line = 1; kind = NoHeader }) q (sym (read_lines-empty nothing n) ∙ h)
 all-found q n (line ∷ lines) h =
     let s = steps_of false nothing line n lines q h in
     let read = header-found line (s.next_started, s.mid) s.stepped in
@@ -561,4 +556,4 @@ pub parses-only : (text : List ℕ) (r : Result Meaning PolicyFault) (p : Meanin
 parses-only text r p h spelled = let P : Result Meaning PolicyFault → Type 0 = λ read. Parses (λ (q : Meaning). q) r read in subst P (policy_of-only text p spelled) h
 
 pub one_policy : OnePolicy
-one_policy text p q a b = meaning_ok p q (sym (policy_of-only text p a) ∙ policy_of-only text q b)
+one_policy text p q a b = same_Ok p q (sym (policy_of-only text p a) ∙ policy_of-only text q b)

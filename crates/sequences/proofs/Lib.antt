@@ -3,4 +3,5 @@ pub mod SequenceLaws
 pub mod BeforeLaws
 pub mod JoinLaws
 pub mod OptionLaws
+pub mod ResultLaws
 pub mod AllLaws

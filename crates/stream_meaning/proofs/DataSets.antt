@@ -12,9 +12,7 @@ use Rattle.ipfix_template.proofs.SplitLaws.{values_at-only, Splits-least}
 use Rattle.ipfix_template.proofs.WrittenLaws.{record_text-splits}
 use Rattle.ipfix_session.proofs.Soundness.{shortest_some, record_takes}
 use Rattle.subscriber_stream.proofs.Bodies.{spelled}
-
-abbrev pub Rows : Type 0
-Rows = List (List (List ℕ))
+use Rattle.ipfix_session.proofs.SetSteps.{Rows, read_rows}
 
 -- a record of this template
 pub record IsOf (t : Template) (r : DataRecord) : Type 0 where
@@ -29,9 +27,6 @@ values_of r = r.values
 
 abbrev next_row : List (List ℕ) → List ℕ → Front (List (List ℕ)) (Unit {0})
 next_row row rest = Next (row ∷ []) rest
-
-abbrev pub read_rows : Rows → Result Rows (Unit {0})
-read_rows rows = Ok rows
 
 -- a record's own template finds it at the front
 own_front : (r : DataRecord) (rest : List ℕ) → IsSound r → record_front r.template (spelled r ++ rest) ≡ next_row r.values rest

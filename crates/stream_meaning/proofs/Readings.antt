@@ -11,12 +11,10 @@ use Rattle.ipfix_session.specs.Contents.{Contents, nothing, only_records, record
 use Rattle.ipfix_session.specs.declared.read_error.ReadError.{ReadError}
 use Rattle.subscriber_stream.specs.Message.{Set, Announces, Brings, set_head, set_id, set_content, set_text}
 use Rattle.subscriber_stream.proofs.Bodies.{spelled, texts}
+use Rattle.ipfix_session.proofs.WalkSteps.{read_contents}
 use Rattle.stream_meaning.proofs.DataSets.{values_of, AreOf, content_read}
 use Rattle.stream_meaning.proofs.Tables.{Table, defining, AreBrought, AreWritten, after_sets, records_among}
 use Rattle.stream_meaning.proofs.Written.{item_of, items_at}
-
-abbrev pub read_contents : Contents → Result Contents ReadError
-read_contents c = Ok c
 
 abbrev IsTableOf : Table → List Item → Type 0
 IsTableOf table older = (q : ℕ) → template_in_force q older ≡ table q

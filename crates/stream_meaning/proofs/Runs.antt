@@ -100,7 +100,7 @@ given_more records more p le =
     let others = parts_more records more in
     (ap (take p) others.1 ∙ take-append-le p (parts records) others.0 le, omega (arith, le, ap length others.1, length-append (parts records) others.0))
 
-abbrev some_message : List ℕ → Option (List ℕ)
+abbrev pub some_message : List ℕ → Option (List ℕ)
 some_message m = Some m
 
 in_between : (now target handed : ℕ) (ws : List Part) (part : Part) (ps : List Part) → ws ≡ part ∷ ps → next_message now target handed ws ≡ some_message (message now handed (take (run_length target ws) ws))

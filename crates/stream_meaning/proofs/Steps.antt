@@ -14,7 +14,7 @@ use Rattle.ipfix_session.specs.Contents.{only_records, contents_after}
 use Rattle.ipfix_session.specs.Meaning.{Meaning, domain_of, items_or_none, items_of_domain, read_items, contents_of, next_number, expected_number, gap_between, gap_of, meaning_of}
 use Rattle.ipfix_session.specs.declared.read.Gap.{Gap}
 use Rattle.ipfix_session.specs.declared.read_error.ReadError.{ReadError}
-use Rattle.ipfix_session.proofs.SessionSteps.{header_is}
+use Rattle.ipfix_session.proofs.SessionSteps.{header_is, means}
 use Rattle.subscriber_stream.specs.Parts.{Part, Announcement, Entry, records_in}
 use Rattle.subscriber_stream.specs.Message.{sets_of, set_head, body, message, run_length}
 use Rattle.subscriber_stream.proofs.Messages.{length-message}
@@ -22,10 +22,11 @@ use Rattle.subscriber_stream.proofs.CallLaws.{run_within, run_some}
 use Rattle.subscriber_stream.proofs.Standings.{records_in-append}
 use Rattle.ipfix_template.proofs.Encoding.{length-template_record}
 use Rattle.subscriber_stream.proofs.Bodies.{texts}
+use Rattle.ipfix_session.proofs.WalkSteps.{read_contents}
 use Rattle.stream_meaning.specs.Means.{plain_meaning}
 use Rattle.stream_meaning.proofs.Tables.{Table, empty, AreKnown, after_parts}
 use Rattle.stream_meaning.proofs.Written.{items_at, header_at, head, message_is}
-use Rattle.stream_meaning.proofs.Readings.{read_contents, contents_read, in_force_after}
+use Rattle.stream_meaning.proofs.Readings.{contents_read, in_force_after}
 use Rattle.stream_meaning.proofs.Sets.{sets_written, sets_bring, sets_after, after_append}
 
 -- ---- a message has at most 65,535 octets
@@ -151,9 +152,6 @@ stands_after older done ps now stands is =
       number = ap (λ (o : Option ℕ). gap_between o (length (records_in (done ++ ps)) % 2 ^ 32)) expected
           ∙ no_gap ((handed % 2 ^ 32 + length (records_in ps)) % 2 ^ 32) (length (records_in (done ++ ps)) % 2 ^ 32) (counted handed (length (records_in ps)) (length (records_in (done ++ ps))) total);
     }
-
-abbrev means : Meaning → Result Meaning ReadError
-means m = Ok m
 
 abbrev meaning : Header → List DataRecord → Option Gap → Meaning
 meaning h records gap = record { header = h; records = records; skips = (only_records []).skips; gap = gap }
