@@ -1,7 +1,7 @@
 -- The registry has each number once and each name once, and no name like that of an element by its number.
 use Rattle.std.proofs.Common.{◌≡◌, ℕ, ◌<◌, Bool, true, false, cond, not, ◌&&◌, eqb, ltb, leb, List, [], ◌∷◌, get_or, length, Option, Some, None, IfSome, refl, ap, sym, ◌∙◌, subst}
 use Rattle.std.specs.List.{find, list_all}
-use Rattle.std.proofs.lemmas.Bool.{false≢true, and_parts}
+use Rattle.std.proofs.lemmas.Bool.{false≢true, and_parts, not-true}
 use Rattle.std.proofs.lemmas.Bool.Decides.{Decides-eqb, Decides-ltb}
 use Rattle.std.proofs.lemmas.Slice.Eq.{bytes_eq-Decides}
 use Rattle.ipfix_element.specs.declared.registry.TheConstants.{NUMBERS}
@@ -42,10 +42,6 @@ all_kept_apart : list_all keeps_apart registry ≡ true
 unfolding registry keeps_apart holds looks_numbered
 all_kept_apart = refl
 
-not_true : (b : Bool) → not b ≡ true → b ≡ false
-not_true true h = absurd (false≢true h)
-not_true false h = refl
-
 -- a line is found by its number, its name leads back to it, and looks like no number's
 pub line_is : (number : ℕ) (line : Registered) → line_of number ≡ Some line → (find (λ n. is_named n line.name) NUMBERS ≡ Some number) × (looks_numbered line.name ≡ false)
 unfolding keeps_apart
@@ -53,7 +49,7 @@ line_is number line e =
     let found = find_both (λ l. eqb l.number number) keeps_apart registry line e all_kept_apart in
     let same = (Decides-eqb line.number number).0 found.0 in
     let parts = and_parts (holds (find (λ n. is_named n line.name) NUMBERS) line.number) _ found.1 in
-    (holds-Some _ _ parts.0 ∙ ap Some same, not_true _ parts.1)
+    (holds-Some _ _ parts.0 ∙ ap Some same, not-true _ parts.1)
 
 pub named_only : (number : ℕ) (text : List ℕ) → IsLineName number text → find (λ n. is_named n text) NUMBERS ≡ Some number
 named_only number text (line, is, name) =

@@ -2,8 +2,8 @@
 use Rattle.std.proofs.Common.{inl, inr, ◌⊎◌, ◌≡◌, ℕ, zero, suc, ◌+◌, ◌-◌, ◌<◌, ◌≤◌, Bool, true, false, cond, ltb, eqb, List, [], ◌∷◌, ◌++◌, length, take, drop, Option, Some, None, Result, Ok, Err, refl, sym, ap, subst, ◌∙◌, append_assoc, arith, length-append, length-drop}
 use Rattle.std.specs.Prelude.{◌||◌, MatchBool}
 use Rattle.std.proofs.Math.Seq.{take-add}
-use Rattle.std.proofs.lemmas.Bool.{ltb-true, ltb-false, eqb-true}
-use Rattle.std.proofs.lemmas.List.{take-append-drop, length-take-le, drop-drop}
+use Rattle.std.proofs.lemmas.Bool.{ltb-true, ltb-false, eqb-true, or_parts}
+use Rattle.std.proofs.lemmas.List.{take-append-drop, length-take-le, drop-drop, nil_from_length}
 use Rattle.sequences.proofs.SequenceLaws.{read_all-step}
 use Rattle.ipfix_template.specs.Octets.{number_at, IsNumber}
 use Rattle.ipfix_template.specs.Sequence.{Front, End, Fault, Next, with_front, read_on, read_all}
@@ -22,7 +22,7 @@ use Rattle.ipfix_message.specs.declared.item.Item.TheVariants as items
 use Rattle.ipfix_message.specs.Records.{bare_item, template_item}
 use Rattle.ipfix_message.specs.Grammar.{IsSpecifier, AreSpecifiers, IsBody, IsTemplateRecord, AreTemplateRecords, IsContent, IsSet, AreSets, IsHeader, IsMessage}
 use Rattle.ipfix_message.specs.Reading.{header_of, read_header, field_at, fields_at, scoped_at, template_at, found_template, template_front, set_items, found_set, set_front, after_header, items_of}
-use Rattle.ipfix_message.proofs.Shrinks.{or_false, template_takes, set_takes}
+use Rattle.ipfix_message.proofs.Shrinks.{template_takes, set_takes}
 
 -- a test that chose a side
 chosen : {A : Type 0} (b : Bool) (x y z : A) → cond b x y ≡ z → ((b ≡ true) × (x ≡ z)) ⊎ ((b ≡ false) × (y ≡ z))
@@ -111,9 +111,6 @@ scoped_found scope count octets found e =
     let here = fields_found count octets fields first.1 in
     subst (IsScoped scope count octets) (same_Some {A = Template × List ℕ} (record { fields = fields.0; scope = scope }, fields.1) found first.2) (here.0, here.1, here.2, refl, here.3)
 
-none_template : (x : Template × List ℕ) → None ≡ Some x → ⊥
-none_template x e = absurd cc
-
 template_found : (options : Bool) (count : ℕ) (octets : List ℕ) (found : Template × List ℕ) → template_at options count octets ≡ Some found → IsWhole options count octets found
 unfolding template_at
 template_found false count octets found e =
@@ -121,7 +118,7 @@ template_found false count octets found e =
     (here.0, here.1, here.2, (here.3, here.4))
 template_found true count octets found e =
     elim (chosen (ltb (length octets) 2) None (scoped_at (number_at 0 2 octets) count (drop 2 octets)) (Some found) e) [
-      | inl short ↦ absurd (none_template found short.1)
+      | inl short ↦ absurd (none-some found short.1)
       | inr long ↦
           let two = ltb-false _ _ long.0 in
           let here = scoped_found (number_at 0 2 octets) count (drop 2 octets) found long.1 in
@@ -221,10 +218,6 @@ IsSetFront total octets End = octets ≡ []
 IsSetFront total octets (Fault e) = Unit {0}
 IsSetFront total octets (Next found rest) = (text : List ℕ) × (octets ≡ text ++ rest) × IsSet (total - length octets) text found
 
-no_octets : (octets : List ℕ) → length octets ≡ 0 → octets ≡ []
-no_octets [] e = refl
-no_octets (x ∷ xs) e = absurd (omega arith)
-
 set_here : (total : ℕ) (octets : List ℕ) (r : Result (List Item) DecodeError) → 4 ≤ number_at 2 2 octets → number_at 2 2 octets ≤ length octets
     → set_items (number_at 0 2 octets) (total - length octets + 4) (take (number_at 2 2 octets - 4) (drop 4 octets)) ≡ r → IsSetFront total octets (found_set r (drop (number_at 2 2 octets) octets))
 set_here total octets (Err e) least most is = tt
@@ -246,11 +239,11 @@ set_front_found total octets =
     by_end (eqb (length octets) 0) (ltb (length octets) 4) (ltb (number_at 2 2 octets) 4 || ltb (length octets) (number_at 2 2 octets)) refl refl where
       by_end : (none short outside : Bool) → eqb (length octets) 0 ≡ none → (ltb (number_at 2 2 octets) 4 || ltb (length octets) (number_at 2 2 octets)) ≡ outside
           → IsSetFront total octets (cond none End (cond short (Fault BadSetLength) (cond outside (Fault BadSetLength) (found_set (set_items (number_at 0 2 octets) (total - length octets + 4) (take (number_at 2 2 octets - 4) (drop 4 octets))) (drop (number_at 2 2 octets) octets)))))
-      by_end true short outside e f = no_octets octets (eqb-true _ _ e)
+      by_end true short outside e f = nil_from_length octets (eqb-true _ _ e)
       by_end false true outside e f = tt
       by_end false false true e f = tt
       by_end false false false e f =
-          let both = or_false (ltb (number_at 2 2 octets) 4) (ltb (length octets) (number_at 2 2 octets)) f in
+          let both = or_parts (ltb (number_at 2 2 octets) 4) (ltb (length octets) (number_at 2 2 octets)) f in
           set_here total octets (set_items (number_at 0 2 octets) (total - length octets + 4) (take (number_at 2 2 octets - 4) (drop 4 octets))) (ltb-false _ _ both.0) (ltb-false _ _ both.1) refl
 
 -- what follows is read, where it is shorter

@@ -2,7 +2,7 @@
 use Rattle.std.proofs.Common.{inl, inr, ◌≡◌, ℕ, ◌+◌, ◌<◌, ◌≤◌, Bool, true, false, cond, ltb, leb, eqb, List, [], ◌∷◌, ◌++◌, length, take, drop, Option, Some, None, refl, ap, ◌∙◌, arith, length-append, length-drop}
 use Rattle.std.specs.Prelude.{◌&&◌, MatchBool, IfSome}
 use Rattle.std.specs.List.{sum_by, list_all}
-use Rattle.std.proofs.lemmas.Bool.{leb-true, ltb-false, eqb-false, le-leb, eq-eqb, and_from}
+use Rattle.std.proofs.lemmas.Bool.{leb-true, ltb-false, eqb-false, le-leb, eq-eqb, and_from, cond_both}
 use Rattle.std.proofs.lemmas.List.Sums.{sum_by-cons}
 use Rattle.sequences.specs.Octets.{be_value, be_octets}
 use Rattle.sequences.specs.Sequence.{Front, End, Fault, Next, TakesSome}
@@ -14,8 +14,8 @@ use Rattle.ipfix_template.specs.declared.template.Refused.TheVariants.{BadLength
 use Rattle.ipfix_template.specs.Template.{is_variable, least_octets, shortest_record, has_allowed_length, has_bad_scope, refusal_of, is_options, IsAccepted}
 use Rattle.ipfix_template.specs.Values.{IsText, Splits, span_at, values_at, found_record, record_front, fits_field, fit_fields, value_text, record_text}
 use Rattle.ipfix_template.specs.DataRecord.{IsSound}
-use Rattle.ipfix_message.proofs.Shrinks.{on_both}
 use Rattle.sequences.specs.Options.{◌>>=◌}
+use Rattle.sequences.proofs.SequenceLaws.{Lessens, takes_some}
 use Rattle.ipfix_session.specs.Keeping.{IsKeepable}
 
 -- ---- values that were split fit their fields, and their shortest texts are no longer than what was split
@@ -98,20 +98,20 @@ SpanFits least total span = IfSome span (λ s. (least ≤ s.0 + s.1) × (s.0 + s
 
 within_fits : (start len : ℕ) (octets : List ℕ) → 1 ≤ start → SpanFits 1 (length octets) (value_within start len octets)
 within_fits start len octets some =
-    on_both (SpanFits 1 (length octets)) (leb (start + len) (length octets)) _ _ (λ is. (omega (arith, some), leb-true _ _ is)) (λ _. tt)
+    cond_both (leb (start + len) (length octets)) _ _ (SpanFits 1 (length octets)) (λ is. (omega (arith, some), leb-true _ _ is)) (λ _. tt)
 
 var_fits : (octets : List ℕ) → SpanFits 1 (length octets) (varlen_at octets)
 unfolding varlen_at
 var_fits [] = tt
 var_fits (first ∷ rest) =
-    on_both (SpanFits 1 (length (first ∷ rest))) (eqb first 255) _ _
-    (λ _. on_both (SpanFits 1 (length (first ∷ rest))) (ltb (length rest) 2) _ _ (λ _. tt) (λ _. within_fits 3 (be_value (take 2 rest)) (first ∷ rest) (omega arith)))
+    cond_both (eqb first 255) _ _ (SpanFits 1 (length (first ∷ rest)))
+    (λ _. cond_both (ltb (length rest) 2) _ _ (SpanFits 1 (length (first ∷ rest))) (λ _. tt) (λ _. within_fits 3 (be_value (take 2 rest)) (first ∷ rest) (omega arith)))
     (λ _. within_fits 1 first (first ∷ rest) (omega arith))
 
 span_by : (variable : Bool) (len : ℕ) (octets : List ℕ) → SpanFits (cond variable 1 len) (length octets) (cond variable (varlen_at octets) (cond (leb len (length octets)) (Some (0, len)) None))
 span_by true len octets = var_fits octets
 span_by false len octets =
-    on_both (SpanFits len (length octets)) (leb len (length octets)) _ _ (λ is. let le = leb-true _ _ is in (omega arith, omega (arith, le))) (λ _. tt)
+    cond_both (leb len (length octets)) _ _ (SpanFits len (length octets)) (λ is. let le = leb-true _ _ is in (omega arith, omega (arith, le))) (λ _. tt)
 
 span_fits : (f : FieldSpec) (octets : List ℕ) → SpanFits (least_octets f) (length octets) (span_at f octets)
 span_fits f octets = span_by (is_variable f) f.length octets
@@ -131,19 +131,14 @@ values_take (f ∷ fs) octets = first (λ rest. values_take fs rest) (span_at f 
   first more None fits = tt
   first more (Some s) fits = others s (take s.1 (drop s.0 octets)) (values_at fs (drop (s.0 + s.1) octets)) fits (more (drop (s.0 + s.1) octets))
 
-abbrev Lessens : ℕ → Front (List (List ℕ)) (Unit {0}) → Type 0
-Lessens n End = Unit {0}
-Lessens n (Fault e) = Unit {0}
-Lessens n (Next rows rest) = length rest < n
-
 record_lessens : (t : Template) → IsAccepted t → (octets : List ℕ) → Lessens (length octets) (record_front t octets)
 unfolding record_front
 record_lessens t accepted octets =
-    on_both (Lessens (length octets)) (ltb (length octets) (shortest_record t)) _ _ (λ _. tt)
+    cond_both (ltb (length octets) (shortest_record t)) _ _ (Lessens (length octets)) (λ _. tt)
     (λ _. found (values_at t.fields octets) (values_take t.fields octets)) where
       found : (o : Option (List (List ℕ) × List ℕ)) → TakesLeast (sum_by least_octets t.fields) (length octets) o → Lessens (length octets) (found_record o)
       found None h = tt
       found (Some o) h = let some = shortest_some t accepted in omega (arith, some, h)
 
 pub record_takes : (t : Template) → IsAccepted t → TakesSome (record_front t)
-record_takes t accepted octets rest rows e = rw e at (record_lessens t accepted octets)
+record_takes t accepted = takes_some (record_front t) (record_lessens t accepted)

@@ -185,10 +185,6 @@ walks_read message found so_far older said walks = sym walks.read ∙ ap read_co
 pub walks_keeps : (message : List ℕ) (found : ℕ → Option Template) (so_far : Contents) (older said : List Item) → Walks message found [] so_far older said → AreInForce found (reverse said ++ older)
 walks_keeps message found so_far older said walks = subst (λ (items : List Item). AreInForce found items) walks.order walks.keeps
 
-pub no_items : (items : List Item) → length items ≡ 0 → items ≡ []
-no_items [] e = refl
-no_items (item ∷ items) e = absurd (omega (arith, e))
-
 -- the counts stay below the number of items, which fits
 pub record HasRoom (s : Skips) (left total : ℕ) : Type 0 where
   pub done : ℕ

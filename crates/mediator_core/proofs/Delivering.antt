@@ -27,7 +27,7 @@ use Rattle.mediator_history.specs.Disclosed.{disclosed}
 use Rattle.subscriber_stream.proofs.CallLaws.{run_some}
 use Rattle.stream_meaning.proofs.Runs.{some_message}
 use Rattle.std.proofs.lemmas.Option.{same_Some}
-use Rattle.mediator_core.proofs.Lines.{take-add-append}
+use Rattle.sequences.proofs.ListLaws.{take-add-append, concat_push}
 use Rattle.mediator_core.specs.declared.desk.Desk.{Desk}
 use Rattle.mediator_core.specs.Desks.{Stands, Small}
 use Rattle.mediator_core.specs.Steps.{end_of}
@@ -107,12 +107,6 @@ pub hands-snoc : (records : List DataRecord) (now target p q : ℕ) (ms : List (
 hands-snoc records now target p q [] m hands is = (subst (λ x. built records x now target ≡ Some m) (sym hands) is, ap (λ x. place_after records x target) hands)
 hands-snoc records now target p q (n ∷ ms) m hands is = (hands.0, hands-snoc records now target (place_after records p target) q ms m hands.1 is)
 
-pub concat-snoc : (ms : List (List ℕ)) (m : List ℕ) → concat (ms ++ m ∷ []) ≡ concat ms ++ m
-concat-snoc ms m = concat-append ms (m ∷ []) ∙ ap (λ t. concat ms ++ t) (one m)
-  where
-    one : (m : List ℕ) → concat (m ∷ []) ≡ m
-    one m = append-nil m
-
 -- ---- a desk that pulls
 
 pub stands_on : (d e : Desk) (h : List HistoryEntry) (p q : ℕ) → Stands d h p → SameElse d e → e.stream.limits ≡ d.stream.limits → StandsAt e.stream.standing (disclosed 1 h) q → Stands e h q
@@ -167,8 +161,8 @@ pulling_goes_on old d e held holds writes m so below same limits gives writing c
   messages = so.messages ++ m ∷ [];
   job = same.job ∙ so.job;
   audit = same.audit ∙ so.audit;
-  sent = omega (arith, so.sent, counting, ap length (concat-snoc so.messages m), length-append (concat so.messages) m);
-  written = subst (Appends held writes) (sym (concat-snoc so.messages m)) (Appends-trans held holds writes (concat so.messages) m so.written writing);
+  sent = omega (arith, so.sent, counting, ap length (concat_push so.messages m), length-append (concat so.messages) m);
+  written = subst (Appends held writes) (sym (concat_push so.messages m)) (Appends-trans held holds writes (concat so.messages) m so.written writing);
   handed = λ h p start small. next h p start small (so.handed h p start small);
 }
   where
@@ -296,7 +290,7 @@ turn_fails old d e held holds writes m fault failed start so p stops = record {
     )
 
     front : WritesFront held writes (concat (so.messages ++ m ∷ [])) (length (concat so.messages) + stops.sent) failed
-    front = subst (λ l. WritesFront held writes l (length (concat so.messages) + stops.sent) failed) (sym (concat-snoc so.messages m)) (record {
+    front = subst (λ l. WritesFront held writes l (length (concat so.messages) + stops.sent) failed) (sym (concat_push so.messages m)) (record {
       short = omega (arith, stops.front.short, length-append (concat so.messages) m);
       written = subst (Appends held writes) (sym (take-add-append (concat so.messages) m stops.sent)) (Appends-trans held holds writes (concat so.messages) (take stops.sent m) so.written stops.front.written);
       failed = stops.front.failed;

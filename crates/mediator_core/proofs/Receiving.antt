@@ -34,7 +34,7 @@ use Rattle.mediator_history.specs.Auditing.{audit_of, audit_at, audit_list, audi
 use Rattle.mediator_history.specs.Cuts.{overflows}
 use Rattle.mediator_history.proofs.HistoryLaws.{flat_map-push, is_served-cut, policy-message, name-message, is_served-message, subscribed-message, messages-message, accepted-push, disclosed-push, audit-push, octets-push}
 use Rattle.mediator_history.proofs.Counts.{few_records}
-use Rattle.sequences.proofs.AllLaws.{AllByRecursion-append}
+use Rattle.sequences.proofs.ListLaws.{AllByRecursion-append}
 use Rattle.mediator_core.specs.declared.desk.Desk.{Desk}
 use Rattle.mediator_core.specs.Shares.{given, noted, notes_from}
 use Rattle.mediator_core.specs.declared.fault.Fault.{Fault}

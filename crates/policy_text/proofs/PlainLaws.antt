@@ -8,7 +8,8 @@ use Rattle.std.proofs.lemmas.List.Splits.{slice_split_at, slice_split_none}
 use Rattle.std.proofs.lemmas.Bool.{ne_eqb, false≢true, and_parts, and_from, not-true}
 use Rattle.flow_prefix.proofs.NumeralLaws.{test_from_AllDigits}
 use Rattle.flow_prefix.proofs.AddressTextLaws.{Lacks}
-use Rattle.sequences.proofs.AllLaws.{AllByRecursion-append}
+use Rattle.sequences.proofs.ListLaws.{AllByRecursion-append}
+use Rattle.policy_text.proofs.WordLaws.{word_some}
 use Rattle.policy_text.specs.Words.{Word, is_blank, is_word, words_of, lines_of}
 use Rattle.policy_text.specs.Printing.{line_text}
 
@@ -68,13 +69,9 @@ no_feed : (word : Word) → list_all plain word ≡ true → AllByRecursion (λ 
 no_feed [] h = tt
 no_feed (c ∷ cs) h = (not-true (eqb c 10) (and_parts (not (is_blank c)) (not (eqb c 10)) (and_parts (plain c) (list_all plain cs) h).0).1, no_feed cs (and_parts (plain c) (list_all plain cs) h).1)
 
-keeps_word : (word : Word) (words : List Word) → 0 < length word → filter is_word (word ∷ words) ≡ word ∷ filter is_word words
-keeps_word [] words h = absurd (omega arith)
-keeps_word (c ∷ cs) words h = refl
-
 keeps_words : (words : List Word) → ArePlain words → filter is_word words ≡ words
 keeps_words [] h = refl
-keeps_words (word ∷ words) h = keeps_word word words h.0.some ∙ ap (λ ws. word ∷ ws) (keeps_words words h.1)
+keeps_words (word ∷ words) h = word_some word words h.0.some ∙ ap (λ ws. word ∷ ws) (keeps_words words h.1)
 
 split_words : (word : Word) (words : List Word) → ArePlain (word ∷ words) → slice_split is_blank (join_with_byte 32 (word ∷ words)) ≡ word ∷ words
 split_words word [] h = slice_split_none is_blank word (no_blank word h.0.each)

@@ -17,6 +17,7 @@ use Rattle.flow_prefix.specs.Prefixes.{IsPrefix}
 use Rattle.flow_prefix.proofs.NumeralLaws.{number_of-found}
 use Rattle.flow_prefix.proofs.PrefixLaws.{prefix_of-found}
 use Rattle.sequences.proofs.ResultLaws.{same_Ok, Err-Ok}
+use Rattle.sequences.proofs.OptionLaws.{none_from_is_some}
 use Rattle.policy_text.specs.declared.fault.FaultKind.{FaultKind}
 use Rattle.policy_text.specs.declared.rule.Rule.{Rule}
 use Rattle.policy_text.specs.declared.rule.Action.{Action}
@@ -343,10 +344,6 @@ interval-sound w n e =
     (omega (arith, same), omega (arith, same)))
     (cases_Bool (ltb read.0 1))
 
-none_place : (o : Option ℕ) → is_some o ≡ false → o ≡ None
-none_place None e = refl
-none_place (Some x) e = cc
-
 new_name-sound : (aggregates : List Definition) (w n : Word) → new_name aggregates w ≡ Ok n → (is_name n ≡ true) × (place_of aggregates n ≡ None)
 unfolding new_name
 new_name-sound aggregates w n e =
@@ -356,7 +353,7 @@ new_name-sound aggregates w n e =
     (λ (fresh : is_some (place_of aggregates w) ≡ false).
     let same = same_Ok w n (rw fresh at inner) in
     let P : Word → Type 0 = λ x. (is_name x ≡ true) × (place_of aggregates x ≡ None) in
-    subst P same (named, none_place (place_of aggregates w) fresh))
+    subst P same (named, none_from_is_some (place_of aggregates w) fresh))
     (cases_Bool (is_some (place_of aggregates w))))
     (λ (other : is_name w ≡ false). absurd (Err-Ok BadName n (rw other at e)))
     (cases_Bool (is_name w))

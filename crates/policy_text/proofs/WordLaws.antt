@@ -33,7 +33,7 @@ words_of-skip (c ∷ cs) =
 pub words_of-none : (line : List ℕ) → length line ≤ position_or_len in_word line → words_of line ≡ []
 words_of-none line h = words_of-skip line ∙ ap words_of (drop_all (position_or_len in_word line) line h) ∙ words_of-nil
 
-word_some : (word : List ℕ) (words : List Word) → 0 < length word → filter is_word (word ∷ words) ≡ word ∷ filter is_word words
+pub word_some : (word : List ℕ) (words : List Word) → 0 < length word → filter is_word (word ∷ words) ≡ word ∷ filter is_word words
 word_some [] words h = absurd (omega arith)
 word_some (c ∷ cs) words h = refl
 

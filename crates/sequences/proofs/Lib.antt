@@ -4,4 +4,4 @@ pub mod BeforeLaws
 pub mod JoinLaws
 pub mod OptionLaws
 pub mod ResultLaws
-pub mod AllLaws
+pub mod ListLaws

@@ -1,7 +1,7 @@
 -- Runs of calls, one behind another.
 use Rattle.std.proofs.Common.{◌≡◌, ℕ, suc, ◌+◌, ◌<◌, ◌≤◌, ◌^◌, List, [], ◌∷◌, ◌++◌, length, take, drop, Option, Some, None, refl, sym, ap, subst, ◌∙◌, append_assoc, append-nil, arith, length-take, length-drop}
 use Rattle.std.specs.List.{AllByRecursion}
-use Rattle.std.proofs.lemmas.List.{take-append-drop, take_at}
+use Rattle.std.proofs.lemmas.List.{take-append-drop, take_at, take_all}
 use Rattle.ipfix_template.specs.DataRecord.{DataRecord}
 use Rattle.subscriber_stream.specs.Parts.{Part, parts, records_in}
 use Rattle.subscriber_stream.specs.Message.{run_length, built, place_after}
@@ -173,10 +173,6 @@ no_records : (turns : List (ℕ × ℕ)) → records_given (pulls turns) ≡ []
 no_records [] = refl
 no_records (turn ∷ turns) = no_records turns
 
-take_all : (xs : List Part) → take (length xs) xs ≡ xs
-take_all [] = refl
-take_all (x ∷ xs) = ap (λ (t : List Part). x ∷ t) (take_all xs)
-
 pub means_drained : (calls : List Call) (turns : List (ℕ × ℕ)) → AreStreamable (records_given calls) → AreInRange (calls ++ pulls turns) → length (parts (records_given calls)) ≤ length turns → Means (messages_got (calls ++ pulls turns)) (records_given calls)
 means_drained calls turns may ranges enough =
     let records = records_given calls in
@@ -186,5 +182,5 @@ means_drained calls turns may ranges enough =
     let reached : place_reached (calls ++ pulls turns) ≡ length (parts records) = reached_append calls (pulls turns) ∙ reaches_end turns records (place_reached calls) within (omega (arith, enough)) in
     let L : List DataRecord → Type 0 = λ rs. Means (messages_got (calls ++ pulls turns)) rs in
     let all : records_in (take (place_reached (calls ++ pulls turns)) (parts (records_given (calls ++ pulls turns)))) ≡ records = ap (λ (rs : List DataRecord). records_in (take (place_reached (calls ++ pulls turns)) (parts rs))) given
-    ∙ ap (λ (q : ℕ). records_in (take q (parts records))) reached ∙ ap records_in (take_all (parts records)) ∙ parts_bring records in
+    ∙ ap (λ (q : ℕ). records_in (take q (parts records))) reached ∙ ap records_in (take_all (length (parts records)) (parts records) (omega arith)) ∙ parts_bring records in
     subst L all (means_so_far (calls ++ pulls turns) (subst S (sym given) may) ranges)
