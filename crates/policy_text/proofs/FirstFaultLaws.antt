@@ -64,7 +64,7 @@ aggregate_is_no_rule : (words tail : List Word) → codes "aggregate" ∷ words 
 unfolding first_letter
 aggregate_is_no_rule words tail e = let same : 97 ≡ 114 = ap first_letter e in omega (arith, same)
 
-front_word : List Word → Word
+unfoldable pub front_word : List Word → Word
 front_word [] = []
 front_word (word ∷ words) = word
 

@@ -26,7 +26,7 @@ use Rattle.policy_text.proofs.KeyStepLaws.{IsKeyAfter, as_key, step_by_step}
 use Rattle.policy_text.proofs.SoundLaws.{key_push, with_key-sound}
 use Rattle.policy_text.proofs.SpellLaws.{line_step-only, header-only, skip-only, is_header-is, policy_of-found, policy_of-only}
 use Rattle.policy_text.proofs.KindLaws.{element_here, element_word, element_kind, with_key_kind}
-use Rattle.policy_text.proofs.FirstFaultLaws.{read_stands, line_fault, adds_kept, fault_found}
+use Rattle.policy_text.proofs.FirstFaultLaws.{read_stands, line_fault, adds_kept, fault_found, front_word}
 
 -- the kind of a key's fault is that of its reading
 read_key : (before key : List Element) (others : List Word) → IsKeyAfter before key → add_pieces before (map element_name key ++ others) ≡ add_pieces (before ++ key) others
@@ -103,17 +103,13 @@ tail_of : List Word → List Word
 tail_of [] = []
 tail_of (word ∷ words) = words
 
-head_of : List Word → Word
-head_of [] = []
-head_of (word ∷ words) = word
-
 same_tail : (a b : Word) (x y : List Word) → a ∷ x ≡ b ∷ y → x ≡ y
 unfolding tail_of
 same_tail a b x y e = ap tail_of e
 
 same_head : (a b : Word) (x y : List Word) → a ∷ x ≡ b ∷ y → a ≡ b
-unfolding head_of
-same_head a b x y e = ap head_of e
+unfolding front_word
+same_head a b x y e = ap front_word e
 
 longer_on : (a b : Word) (long front rest : List Word) → a ≡ b → Longer long front rest → Longer (a ∷ long) (b ∷ front) rest
 longer_on a b long front rest same h = record {
