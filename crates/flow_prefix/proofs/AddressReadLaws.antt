@@ -9,6 +9,7 @@ use Rattle.std.proofs.lemmas.Option.{cond_some, same_Some}
 use Rattle.std.proofs.lemmas.Bool.{lt-ltb, ltb-true, eq-eqb, eqb-true}
 use Rattle.sequences.specs.Options.{◌>>=◌}
 use Rattle.sequences.proofs.OptionLaws.{bind_some}
+use Rattle.sequences.proofs.ListLaws.{Lacks, AllByRecursion-append}
 use Rattle.flow_prefix.specs.declared.family.Family.{Family}
 use Rattle.flow_prefix.specs.declared.family.Family.TheVariants.{Ipv4, Ipv6}
 use Rattle.flow_prefix.specs.Family.{places, base, separator, width}
@@ -17,7 +18,7 @@ use Rattle.flow_prefix.specs.Reading.{parts_of, groups_of, at_double, filled, wh
 use Rattle.flow_prefix.proofs.ScanLaws.{at_double-text}
 use Rattle.flow_prefix.proofs.PowerLaws.{power_up}
 use Rattle.flow_prefix.proofs.AddressLaws.{whole_power}
-use Rattle.flow_prefix.proofs.AddressTextLaws.{parts_of-found, parts_of-only, groups_of-found, groups_of-only, part_digits, Lacks, Lacks-digits, Lacks-append, Lacks-middle}
+use Rattle.flow_prefix.proofs.AddressTextLaws.{parts_of-found, parts_of-only, groups_of-found, groups_of-only, part_digits, Lacks-digits, Lacks-middle}
 use Rattle.flow_prefix.proofs.DoubleLaws.{at_double-groups, at_double-sides}
 
 -- the parts of a whole address
@@ -104,12 +105,11 @@ address_of-only family text n h = rw (all_parts_of-only family text h.parts h.wr
 
 -- an address has digits and separators alone
 joined_lacks : (family : Family) (byte : ℕ) → digit_value byte ≡ 36 → eqb (separator family) byte ≡ false → (words : List (List ℕ)) (parts : List ℕ) → AllZip (IsPart family) words parts → Lacks byte (join_with_byte (separator family) words)
-unfolding Lacks
 joined_lacks family byte other apart [] parts h = tt
 joined_lacks family byte other apart (word ∷ words) [] h = absurd h
 joined_lacks family byte other apart (word ∷ []) (n ∷ ns) h = Lacks-digits byte other word (part_digits family word n h.0).1
 joined_lacks family byte other apart (word ∷ next ∷ words) (n ∷ ns) h =
-    Lacks-append byte word (separator family ∷ join_with_byte (separator family) (next ∷ words)) (Lacks-digits byte other word (part_digits family word n h.0).1) (apart, joined_lacks family byte other apart (next ∷ words) ns h.1)
+    AllByRecursion-append (λ c. eqb c byte ≡ false) word (separator family ∷ join_with_byte (separator family) (next ∷ words)) (Lacks-digits byte other word (part_digits family word n h.0).1) (apart, joined_lacks family byte other apart (next ∷ words) ns h.1)
 
 parts_lack : (family : Family) (byte : ℕ) → digit_value byte ≡ 36 → eqb (separator family) byte ≡ false → (text parts : List ℕ) → AreParts family text parts → Lacks byte text
 parts_lack family byte other apart text parts h =
@@ -117,10 +117,9 @@ parts_lack family byte other apart text parts h =
     subst P (sym h.joined) (joined_lacks family byte other apart h.words parts h.each)
 
 shortened_lacks : (byte : ℕ) → digit_value byte ≡ 36 → eqb 58 byte ≡ false → (text parts : List ℕ) → AreShortened text parts → Lacks byte text
-unfolding Lacks
 shortened_lacks byte other apart text parts h =
     let P : List ℕ → Type 0 = λ t. Lacks byte t in
-    subst P (sym h.text_is) (Lacks-append byte h.before (58 ∷ 58 ∷ h.after) (parts_lack Ipv6 byte other apart h.before h.left h.before_is) (apart, (apart, parts_lack Ipv6 byte other apart h.after h.right h.after_is)))
+    subst P (sym h.text_is) (AllByRecursion-append (λ c. eqb c byte ≡ false) h.before (58 ∷ 58 ∷ h.after) (parts_lack Ipv6 byte other apart h.before h.left h.before_is) (apart, (apart, parts_lack Ipv6 byte other apart h.after h.right h.after_is)))
 
 pub written_lacks : (family : Family) (byte : ℕ) → digit_value byte ≡ 36 → eqb (separator family) byte ≡ false → (text parts : List ℕ) → WritesParts family text parts → Lacks byte text
 written_lacks Ipv4 byte other apart text parts h = parts_lack Ipv4 byte other apart text parts h

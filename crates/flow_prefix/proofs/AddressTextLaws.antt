@@ -11,6 +11,8 @@ use Rattle.std.proofs.lemmas.Option.{none-some, same_Some}
 use Rattle.std.proofs.lemmas.Bool.{cases_lt, lt-ltb, le-ltb, eq-eqb, ne_eqb}
 use Rattle.sequences.specs.Options.{◌>>=◌}
 use Rattle.sequences.proofs.OptionLaws.{bind_some}
+use Rattle.sequences.proofs.ListLaws.{Lacks}
+use Rattle.std.proofs.lemmas.List.Elements.{All-from_recursion}
 use Rattle.flow_prefix.specs.declared.family.Family.{Family}
 use Rattle.flow_prefix.specs.declared.family.Family.TheVariants.{Ipv4, Ipv6}
 use Rattle.flow_prefix.specs.Family.{separator}
@@ -82,39 +84,21 @@ separator_value : (family : Family) → digit_value (separator family) ≡ 36
 separator_value Ipv4 = refl
 separator_value Ipv6 = refl
 
--- the byte stands nowhere in the text
-unfoldable pub Lacks : ℕ → List ℕ → Type 0
-Lacks byte [] = Unit {0}
-Lacks byte (c ∷ cs) = (eqb c byte ≡ false) × Lacks byte cs
-
 pub Lacks-digits : (byte : ℕ) → digit_value byte ≡ 36 → (ds : List ℕ) → AllDigits 16 ds → Lacks byte ds
-unfolding Lacks
 Lacks-digits byte other [] h = tt
 Lacks-digits byte other (c ∷ cs) h = (digit_other c byte h.0 other, Lacks-digits byte other cs h.1)
 
-pub Lacks-append : (byte : ℕ) (xs ys : List ℕ) → Lacks byte xs → Lacks byte ys → Lacks byte (xs ++ ys)
-unfolding Lacks
-Lacks-append byte [] ys p q = q
-Lacks-append byte (x ∷ xs) ys p q = (p.0, Lacks-append byte xs ys p.1 q)
-
 pub Lacks-middle : (byte : ℕ) (xs ys : List ℕ) → Lacks byte (xs ++ byte ∷ ys) → ⊥
-unfolding Lacks
 Lacks-middle byte [] ys h = let e = h.0 in let same = eq-eqb byte byte refl in cc
 Lacks-middle byte (x ∷ xs) ys h = Lacks-middle byte xs ys h.1
 
 -- the words come back from the joined text
-Lacks-all : (byte : ℕ) (xs : List ℕ) → Lacks byte xs → All (λ c. eqb c byte ≡ false) xs
-unfolding Lacks
-Lacks-all byte [] h k d low = absurd (omega arith)
-Lacks-all byte (x ∷ xs) h zero d low = h.0
-Lacks-all byte (x ∷ xs) h (suc k) d low = Lacks-all byte xs h.1 k d (omega arith)
-
 pub split_joined : (family : Family) (word : List ℕ) (words : List (List ℕ)) (parts : List ℕ) → AllZip (IsPart family) (word ∷ words) parts → slice_split (λ c. eqb c (separator family)) (join_with_byte (separator family) (word ∷ words)) ≡ word ∷ words
 split_joined family word words [] h = absurd h
 split_joined family word [] (n ∷ ns) h =
-    slice_split_none (λ c. eqb c (separator family)) word (Lacks-all (separator family) word (Lacks-digits (separator family) (separator_value family) word (part_digits family word n h.0).1))
+    slice_split_none (λ c. eqb c (separator family)) word (All-from_recursion (λ c. eqb c (separator family) ≡ false) word (Lacks-digits (separator family) (separator_value family) word (part_digits family word n h.0).1))
 split_joined family word (next ∷ words) (n ∷ ns) h =
-    slice_split_at (λ c. eqb c (separator family)) word (separator family) (join_with_byte (separator family) (next ∷ words)) (Lacks-all (separator family) word (Lacks-digits (separator family) (separator_value family) word (part_digits family word n h.0).1)) (eq-eqb (separator family) (separator family) refl)
+    slice_split_at (λ c. eqb c (separator family)) word (separator family) (join_with_byte (separator family) (next ∷ words)) (All-from_recursion (λ c. eqb c (separator family) ≡ false) word (Lacks-digits (separator family) (separator_value family) word (part_digits family word n h.0).1)) (eq-eqb (separator family) (separator family) refl)
     ∙ ap (λ t. word ∷ t) (split_joined family next words ns h.1)
 
 pub parts_of-found : (family : Family) (text parts : List ℕ) → parts_of family text ≡ Some parts → AreParts family text parts

@@ -19,10 +19,11 @@ use Rattle.ipfix_element.proofs.NameLaws.{named_how, one_name, one_word}
 use Rattle.flow_prefix.specs.Numerals.{number_of}
 use Rattle.flow_prefix.specs.Reading.{cut_at}
 use Rattle.flow_prefix.proofs.NumeralLaws.{number_of-found, number_of-only}
-use Rattle.flow_prefix.proofs.AddressTextLaws.{Lacks, digit_other}
+use Rattle.flow_prefix.proofs.AddressTextLaws.{digit_other}
 use Rattle.flow_prefix.proofs.CutLaws.{cut_at-middle}
 use Rattle.sequences.specs.Options.{◌>>=◌}
 use Rattle.sequences.proofs.OptionLaws.{bind_some}
+use Rattle.sequences.proofs.ListLaws.{Lacks}
 use Rattle.policy_text.proofs.NameLaws.{ascii_by}
 use Rattle.policy_text.specs.Words.{Word}
 use Rattle.policy_text.specs.Elements.{checked, element_at, on_sides, behind_e, numbered_of, listed_or, element_of}
@@ -114,12 +115,10 @@ listed-passes word line e =
     checked-passes word (record { pen = None; number = line.number }) (ltb-true line.number 32768 tests.0) (sym (own ∙ name))
 
 digits_lack_slash : (ds : List ℕ) → AllDigits 10 ds → Lacks 47 ds
-unfolding Lacks
 digits_lack_slash [] h = tt
 digits_lack_slash (c ∷ cs) h = let low = h.0 in (digit_other c 47 (omega arith) refl, digits_lack_slash cs h.1)
 
 no_place : (byte : ℕ) (octets : List ℕ) → Lacks byte octets → position_or_len (λ c. eqb c byte) octets ≡ length octets
-unfolding Lacks
 no_place byte [] h = refl
 no_place byte (c ∷ cs) h = let rest = no_place byte cs h.1 in rw h.0 (omega (arith, rest))
 

@@ -7,8 +7,8 @@ use Rattle.std.proofs.lemmas.Fmt.{decimal_is_IsNumeral}
 use Rattle.std.proofs.lemmas.List.Splits.{slice_split_at, slice_split_none}
 use Rattle.std.proofs.lemmas.Bool.{ne_eqb, false≢true, and_parts, and_from, not-true}
 use Rattle.flow_prefix.proofs.NumeralLaws.{test_from_AllDigits}
-use Rattle.flow_prefix.proofs.AddressTextLaws.{Lacks}
-use Rattle.sequences.proofs.ListLaws.{AllByRecursion-append}
+use Rattle.sequences.proofs.ListLaws.{AllByRecursion-append, Lacks}
+use Rattle.std.proofs.lemmas.List.Elements.{All-from_recursion}
 use Rattle.policy_text.proofs.WordLaws.{word_some}
 use Rattle.policy_text.specs.Words.{Word, is_blank, is_word, words_of, lines_of}
 use Rattle.policy_text.specs.Printing.{line_text}
@@ -45,7 +45,6 @@ plain_each p skips (c ∷ cs) h =
     and_from (plain c) (list_all plain cs) first (plain_each p skips cs both.1)
 
 pub plain_lacking : (word : Word) → Lacks 32 word → Lacks 9 word → Lacks 13 word → Lacks 10 word → list_all plain word ≡ true
-unfolding Lacks
 plain_lacking [] a b d e = refl
 plain_lacking (c ∷ cs) a b d e = and_from (plain c) (list_all plain cs) (from_four c a.0 b.0 d.0 e.0) (plain_lacking cs a.1 b.1 d.1 e.1)
 
@@ -65,7 +64,7 @@ no_blank [] h k d low = absurd (omega arith)
 no_blank (c ∷ cs) h zero d low = not-true (is_blank c) (and_parts (not (is_blank c)) (not (eqb c 10)) (and_parts (plain c) (list_all plain cs) h).0).0
 no_blank (c ∷ cs) h (suc k) d low = no_blank cs (and_parts (plain c) (list_all plain cs) h).1 k d (omega arith)
 
-no_feed : (word : Word) → list_all plain word ≡ true → AllByRecursion (λ c. eqb c 10 ≡ false) word
+no_feed : (word : Word) → list_all plain word ≡ true → Lacks 10 word
 no_feed [] h = tt
 no_feed (c ∷ cs) h = (not-true (eqb c 10) (and_parts (not (is_blank c)) (not (eqb c 10)) (and_parts (plain c) (list_all plain cs) h).0).1, no_feed cs (and_parts (plain c) (list_all plain cs) h).1)
 
@@ -84,15 +83,10 @@ unfolding words_of
 words_of-joined [] h = refl
 words_of-joined (word ∷ words) h = ap (filter is_word) (split_words word words h) ∙ keeps_words (word ∷ words) h
 
-joined_no_feed : (words : List Word) → ArePlain words → AllByRecursion (λ c. eqb c 10 ≡ false) (join_with_byte 32 words)
+joined_no_feed : (words : List Word) → ArePlain words → Lacks 10 (join_with_byte 32 words)
 joined_no_feed [] h = tt
 joined_no_feed (word ∷ []) h = no_feed word h.0.each
 joined_no_feed (word ∷ next ∷ words) h = AllByRecursion-append (λ c. eqb c 10 ≡ false) word (32 ∷ join_with_byte 32 (next ∷ words)) (no_feed word h.0.each) (refl, joined_no_feed (next ∷ words) h.1)
-
-all_of : (octets : Word) → AllByRecursion (λ c. eqb c 10 ≡ false) octets → All (λ c. eqb c 10 ≡ false) octets
-all_of [] h k d low = absurd (omega arith)
-all_of (c ∷ cs) h zero d low = h.0
-all_of (c ∷ cs) h (suc k) d low = all_of cs h.1 k d (omega arith)
 
 -- the lines of a printed text
 pub lines_of-printed : (lines : List (List Word)) → AllByRecursion ArePlain lines → lines_of (flat_map line_text lines) ≡ map (join_with_byte 32) lines ++ [] ∷ []
@@ -100,7 +94,7 @@ lines_of-printed [] h = refl
 lines_of-printed (words ∷ lines) h =
     let joined = join_with_byte 32 words in
     ap lines_of (append_assoc joined (10 ∷ []) (flat_map line_text lines))
-    ∙ slice_split_at (λ c. eqb c 10) joined 10 (flat_map line_text lines) (all_of joined (joined_no_feed words h.0)) refl
+    ∙ slice_split_at (λ c. eqb c 10) joined 10 (flat_map line_text lines) (All-from_recursion (λ c. eqb c 10 ≡ false) joined (joined_no_feed words h.0)) refl
     ∙ ap (λ ls. joined ∷ ls) (lines_of-printed lines h.1)
 
 joined_plain : (c : ℕ) (words : List Word) → plain c ≡ true → ArePlain words → list_all plain (join_with_byte c words) ≡ true

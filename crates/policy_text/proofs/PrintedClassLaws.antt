@@ -24,10 +24,11 @@ use Rattle.flow_prefix.specs.Reading.{prefix_of, cut_at}
 use Rattle.flow_prefix.specs.Prefixes.{IsPrefix}
 use Rattle.flow_prefix.specs.Printing.{prefix_text}
 use Rattle.flow_prefix.proofs.NumeralLaws.{number_of-only}
-use Rattle.flow_prefix.proofs.AddressTextLaws.{Lacks, Lacks-append, Lacks-digits, AllDigits-wider}
+use Rattle.flow_prefix.proofs.AddressTextLaws.{Lacks-digits, AllDigits-wider}
 use Rattle.flow_prefix.proofs.AddressReadLaws.{written_lacks}
 use Rattle.flow_prefix.proofs.PrintLaws.{prefix_text-is, reads_back}
 use Rattle.sequences.proofs.ResultLaws.{Err-Ok}
+use Rattle.sequences.proofs.ListLaws.{Lacks, AllByRecursion-append}
 use Rattle.policy_text.specs.declared.fault.FaultKind.{FaultKind}
 use Rattle.policy_text.specs.declared.fault.FaultKind.TheVariants.{BadName, BadNumber, BadPrefix}
 use Rattle.policy_text.specs.Words.{Word}
@@ -58,12 +59,11 @@ element_plain e ok =
     record { some = word.0; each = plain_each element_octet (record { space = refl; tab = refl; carriage = refl; feed = refl }) (element_name e) word.1 }
 
 form_lacks : (family : Family) (byte : ℕ) → digit_value byte ≡ 36 → eqb (separator family) byte ≡ false → eqb 47 byte ≡ false → (text : List ℕ) (address bits : ℕ) → IsPrefixForm text family address bits → Lacks byte text
-unfolding Lacks
 form_lacks family byte other apart slash text address bits h =
     let short = h.three_digits in
     let digits = Lacks-digits byte other (decimal bits) (AllDigits-wider (decimal bits) (decimal_is_IsNumeral bits (omega arith)).0.1) in
     let P : List ℕ → Type 0 = λ t. Lacks byte t in
-    subst P (sym h.text_is) (Lacks-append byte h.front (47 ∷ decimal bits) (written_lacks family byte other apart h.front h.is_address.parts h.is_address.written) (slash, digits))
+    subst P (sym h.text_is) (AllByRecursion-append (λ c. eqb c byte ≡ false) h.front (47 ∷ decimal bits) (written_lacks family byte other apart h.front h.is_address.parts h.is_address.written) (slash, digits))
 
 form_some : (text : List ℕ) (family : Family) (address bits : ℕ) → IsPrefixForm text family address bits → 0 < length text
 form_some text family address bits h = omega (arith, ap length h.text_is, length-append h.front (47 ∷ decimal bits))
