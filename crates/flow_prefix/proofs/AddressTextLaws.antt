@@ -1,6 +1,6 @@
 -- An address that is read is written so, and one that is written so is read.
 use Rattle.std.proofs.Common.{◌≡◌, ℕ, zero, suc, ◌<◌, ◌≤◌, false, eqb, List, [], ◌∷◌, ◌++◌, length, Option, Some, None, refl, sym, ap, ◌∙◌, subst, arith, ⊎_elim, length-append}
-use Rattle.std.specs.List.{AllZip, All, join_with_byte, slice_split}
+use Rattle.std.specs.List.{AllZip, All, join_with_byte, slice_split, AllByRecursion}
 use Rattle.std.specs.Fmt.{decimal}
 use Rattle.std.specs.Char.{digit_value}
 use Rattle.std.specs.Str.Parse.{AllDigits}
@@ -13,6 +13,7 @@ use Rattle.sequences.specs.Options.{◌>>=◌}
 use Rattle.sequences.proofs.OptionLaws.{bind_some}
 use Rattle.sequences.proofs.ListLaws.{Lacks}
 use Rattle.std.proofs.lemmas.List.Elements.{All-from_recursion}
+use Rattle.sequences.proofs.JoinLaws.{split-joined}
 use Rattle.flow_prefix.specs.declared.family.Family.{Family}
 use Rattle.flow_prefix.specs.declared.family.Family.TheVariants.{Ipv4, Ipv6}
 use Rattle.flow_prefix.specs.Family.{separator}
@@ -92,14 +93,16 @@ pub Lacks-middle : (byte : ℕ) (xs ys : List ℕ) → Lacks byte (xs ++ byte �
 Lacks-middle byte [] ys h = let e = h.0 in let same = eq-eqb byte byte refl in cc
 Lacks-middle byte (x ∷ xs) ys h = Lacks-middle byte xs ys h.1
 
+no_separator : (family : Family) (words : List (List ℕ)) (parts : List ℕ) → AllZip (IsPart family) words parts → AllByRecursion (All (λ c. eqb c (separator family) ≡ false)) words
+no_separator family [] parts h = tt
+no_separator family (word ∷ words) [] h = absurd h
+no_separator family (word ∷ words) (n ∷ ns) h =
+    (All-from_recursion (λ c. eqb c (separator family) ≡ false) word (Lacks-digits (separator family) (separator_value family) word (part_digits family word n h.0).1), no_separator family words ns h.1)
+
 -- the words come back from the joined text
 pub split_joined : (family : Family) (word : List ℕ) (words : List (List ℕ)) (parts : List ℕ) → AllZip (IsPart family) (word ∷ words) parts → slice_split (λ c. eqb c (separator family)) (join_with_byte (separator family) (word ∷ words)) ≡ word ∷ words
-split_joined family word words [] h = absurd h
-split_joined family word [] (n ∷ ns) h =
-    slice_split_none (λ c. eqb c (separator family)) word (All-from_recursion (λ c. eqb c (separator family) ≡ false) word (Lacks-digits (separator family) (separator_value family) word (part_digits family word n h.0).1))
-split_joined family word (next ∷ words) (n ∷ ns) h =
-    slice_split_at (λ c. eqb c (separator family)) word (separator family) (join_with_byte (separator family) (next ∷ words)) (All-from_recursion (λ c. eqb c (separator family) ≡ false) word (Lacks-digits (separator family) (separator_value family) word (part_digits family word n h.0).1)) (eq-eqb (separator family) (separator family) refl)
-    ∙ ap (λ t. word ∷ t) (split_joined family next words ns h.1)
+split_joined family word words parts h =
+    split-joined (λ c. eqb c (separator family)) (separator family) word words (eq-eqb (separator family) (separator family) refl) (no_separator family (word ∷ words) parts h)
 
 pub parts_of-found : (family : Family) (text parts : List ℕ) → parts_of family text ≡ Some parts → AreParts family text parts
 unfolding parts_of

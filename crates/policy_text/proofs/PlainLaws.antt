@@ -9,6 +9,7 @@ use Rattle.std.proofs.lemmas.Bool.{ne_eqb, false≢true, and_parts, and_from, no
 use Rattle.flow_prefix.proofs.NumeralLaws.{test_from_AllDigits}
 use Rattle.sequences.proofs.ListLaws.{AllByRecursion-append, Lacks}
 use Rattle.std.proofs.lemmas.List.Elements.{All-from_recursion}
+use Rattle.sequences.proofs.JoinLaws.{split-joined}
 use Rattle.policy_text.proofs.WordLaws.{word_some}
 use Rattle.policy_text.specs.Words.{Word, is_blank, is_word, words_of, lines_of}
 use Rattle.policy_text.specs.Printing.{line_text}
@@ -72,16 +73,15 @@ keeps_words : (words : List Word) → ArePlain words → filter is_word words �
 keeps_words [] h = refl
 keeps_words (word ∷ words) h = word_some word words h.0.some ∙ ap (λ ws. word ∷ ws) (keeps_words words h.1)
 
-split_words : (word : Word) (words : List Word) → ArePlain (word ∷ words) → slice_split is_blank (join_with_byte 32 (word ∷ words)) ≡ word ∷ words
-split_words word [] h = slice_split_none is_blank word (no_blank word h.0.each)
-split_words word (next ∷ words) h =
-    slice_split_at is_blank word 32 (join_with_byte 32 (next ∷ words)) (no_blank word h.0.each) refl ∙ ap (λ ws. word ∷ ws) (split_words next words h.1)
+no_blanks : (words : List Word) → ArePlain words → AllByRecursion (All (λ c. is_blank c ≡ false)) words
+no_blanks [] h = tt
+no_blanks (word ∷ words) h = (no_blank word h.0.each, no_blanks words h.1)
 
 -- the words of a printed line
 pub words_of-joined : (words : List Word) → ArePlain words → words_of (join_with_byte 32 words) ≡ words
 unfolding words_of
 words_of-joined [] h = refl
-words_of-joined (word ∷ words) h = ap (filter is_word) (split_words word words h) ∙ keeps_words (word ∷ words) h
+words_of-joined (word ∷ words) h = ap (filter is_word) (split-joined is_blank 32 word words refl (no_blanks (word ∷ words) h)) ∙ keeps_words (word ∷ words) h
 
 joined_no_feed : (words : List Word) → ArePlain words → Lacks 10 (join_with_byte 32 words)
 joined_no_feed [] h = tt

@@ -29,6 +29,7 @@ use Rattle.flow_prefix.proofs.AddressReadLaws.{written_lacks}
 use Rattle.flow_prefix.proofs.PrintLaws.{prefix_text-is, reads_back}
 use Rattle.sequences.proofs.ResultLaws.{Err-Ok}
 use Rattle.sequences.proofs.ListLaws.{Lacks, AllByRecursion-append}
+use Rattle.sequences.proofs.JoinLaws.{split-joined}
 use Rattle.policy_text.specs.declared.fault.FaultKind.{FaultKind}
 use Rattle.policy_text.specs.declared.fault.FaultKind.TheVariants.{BadName, BadNumber, BadPrefix}
 use Rattle.policy_text.specs.Words.{Word}
@@ -159,11 +160,9 @@ lacks_comma [] h k d low = absurd (omega arith)
 lacks_comma (c ∷ cs) h zero d low = ne_eqb c 44 (λ same. false≢true (ap element_octet (sym same) ∙ (and_parts (element_octet c) (list_all element_octet cs) h).0))
 lacks_comma (c ∷ cs) h (suc k) d low = lacks_comma cs (and_parts (element_octet c) (list_all element_octet cs) h).1 k d (omega arith)
 
-split_names : (e : Element) (es : List Element) → IsElement e → AllByRecursion IsElement es → slice_split (λ c. eqb c 44) (join_with_byte 44 (element_name e ∷ map element_name es)) ≡ element_name e ∷ map element_name es
-split_names e [] ok h = slice_split_none (λ c. eqb c 44) (element_name e) (lacks_comma (element_name e) (one_word e ok).1)
-split_names e (next ∷ es) ok h =
-    slice_split_at (λ c. eqb c 44) (element_name e) 44 (join_with_byte 44 (element_name next ∷ map element_name es)) (lacks_comma (element_name e) (one_word e ok).1) refl
-    ∙ ap (λ ws. element_name e ∷ ws) (split_names next es h.0 h.1)
+lack_commas : (es : List Element) → AllByRecursion IsElement es → AllByRecursion (All (λ c. eqb c 44 ≡ false)) (map element_name es)
+lack_commas [] h = tt
+lack_commas (e ∷ es) h = (lacks_comma (element_name e) (one_word e h.0).1, lack_commas es h.1)
 
 pieces-printed : (before key : List Element) → IsKeyAfter before key → add_pieces before (map element_name key) ≡ Ok (before ++ key)
 unfolding add_pieces add_piece
@@ -174,4 +173,4 @@ pieces-printed before (e ∷ es) h =
 pub key-printed : (key : List Element) → IsKey key → 1 ≤ length key → key_of (key_text key) ≡ Ok key
 unfolding key_of
 key-printed [] h some = absurd (omega arith)
-key-printed (e ∷ es) h some = ap (add_pieces []) (split_names e es h.elements.0 h.elements.1) ∙ pieces-printed [] (e ∷ es) (step_by_step (e ∷ es) h)
+key-printed (e ∷ es) h some = ap (add_pieces []) (split-joined (λ c. eqb c 44) 44 (element_name e) (map element_name es) refl (lack_commas (e ∷ es) h.elements)) ∙ pieces-printed [] (e ∷ es) (step_by_step (e ∷ es) h)

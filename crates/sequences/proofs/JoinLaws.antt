@@ -1,7 +1,8 @@
 -- Laws of texts that are joined by a byte, as a list by commas.
-use Rattle.std.proofs.Common.{◌≡◌, ℕ, zero, suc, ◌+◌, ◌<◌, List, [], ◌∷◌, ◌++◌, length, get_or, take, map, refl, sym, ap, ◌∙◌, arith, append_assoc, length-take-le}
-use Rattle.std.specs.List.{join_with_byte}
+use Rattle.std.proofs.Common.{◌≡◌, Bool, true, false, ℕ, zero, suc, ◌+◌, ◌<◌, List, [], ◌∷◌, ◌++◌, length, get_or, take, map, refl, sym, ap, ◌∙◌, arith, append_assoc, length-take-le}
+use Rattle.std.specs.List.{All, AllByRecursion, slice_split, join_with_byte}
 use Rattle.std.proofs.lemmas.List.{take_more, map_push}
+use Rattle.std.proofs.lemmas.List.Splits.{slice_split_at, slice_split_none}
 
 -- the byte that stands before each text but the first
 pub byte_before : ℕ → ℕ → List ℕ
@@ -39,3 +40,9 @@ joined_more byte text xs i d low =
 -- the same of an item that was read at its place
 pub joined_read : {A : Type 0} (byte : ℕ) (text : A → List ℕ) (xs : List A) (i : ℕ) (x : A) → i < length xs → x ≡ get_or xs i x → join_with_byte byte (map text (take (i + 1) xs)) ≡ join_with_byte byte (map text (take i xs)) ++ (byte_before byte i ++ text x)
 joined_read byte text xs i x low is = joined_more byte text xs i x low ∙ ap (λ y. join_with_byte byte (map text (take i xs)) ++ (byte_before byte i ++ text y)) (sym is)
+
+-- texts come back from their join where the byte parts and none of their octets does
+pub split-joined : (parts : ℕ → Bool) (byte : ℕ) (text : List ℕ) (texts : List (List ℕ)) → parts byte ≡ true → AllByRecursion (All (λ c. parts c ≡ false)) (text ∷ texts) → slice_split parts (join_with_byte byte (text ∷ texts)) ≡ text ∷ texts
+split-joined parts byte text [] is h = slice_split_none parts text h.0
+split-joined parts byte text (next ∷ texts) is h =
+    slice_split_at parts text byte (join_with_byte byte (next ∷ texts)) h.0 is ∙ ap (λ ts. text ∷ ts) (split-joined parts byte next texts is h.1)
