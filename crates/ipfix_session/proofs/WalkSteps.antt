@@ -9,11 +9,12 @@ use Rattle.ipfix_template.specs.Values.{records_in}
 use Rattle.ipfix_template.specs.DataRecord.{DataRecord}
 use Rattle.ipfix_message.specs.declared.item.Item.{Item}
 use Rattle.ipfix_message.specs.declared.item.Item.TheVariants.{Define, Withdraw, WithdrawAll, Refused, DataSet, Skipped}
+use Rattle.sequences.specs.Results.{◌>>=◌}
 use Rattle.ipfix_session.specs.declared.read.Skips.{Skips}
 use Rattle.ipfix_session.specs.declared.read_error.ReadError.{ReadError}
 use Rattle.ipfix_session.specs.declared.read_error.ReadError.TheVariants.{Malformed, RecordOverrun, OutOfMemory}
 use Rattle.ipfix_session.specs.InForce.{template_in_force, unless_of_kind}
-use Rattle.ipfix_session.specs.Contents.{Contents, nothing, skips_of, both, only_skips, only_records, record_of, rows_of, set_contents, item_contents, contents_after, ◌>>=◌}
+use Rattle.ipfix_session.specs.Contents.{Contents, nothing, skips_of, both, only_skips, only_records, record_of, rows_of, set_contents, item_contents, contents_after}
 use Rattle.ipfix_session.specs.Keeping.{AreInForce}
 use Rattle.ipfix_session.specs.declared.changes.Changes.{Changes}
 use Rattle.ipfix_session.specs.Changing.{after}

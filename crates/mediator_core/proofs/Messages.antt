@@ -5,7 +5,7 @@ use Rattle.std.specs.List.{flat_map, enumerate_from}
 use Rattle.std.proofs.lemmas.List.Concat.{flat_map-cons}
 use Rattle.std.proofs.lemmas.List.Folds.{flat_map-map}
 use Rattle.ipfix_message.specs.Reading.{header_of}
-use Rattle.ipfix_session.specs.Contents.{Contents, ◌>>=◌}
+use Rattle.ipfix_session.specs.Contents.{Contents}
 use Rattle.ipfix_session.specs.Meaning.{Meaning, meaning_of, contents_of, gap_of, domain_of}
 use Rattle.ipfix_session.specs.declared.read_error.ReadError.{ReadError}
 use Rattle.mediator_history.specs.Entries.{Entry, Message, Cut}
@@ -16,6 +16,7 @@ use Rattle.mediator_history.specs.Disclosed.{passed, outcome_for, given_at}
 use Rattle.mediator_history.specs.Auditing.{audit_of, audit_at}
 use Rattle.mediator_history.specs.Cuts.{is_cut_by}
 use Rattle.sequences.proofs.ResultLaws.{same_Ok}
+use Rattle.sequences.specs.Results.{◌>>=◌}
 use Rattle.mediator_core.specs.Shares.{given, notes_from}
 use Rattle.mediator_core.specs.Offline.{stream_limits, next_message, cuts_by}
 

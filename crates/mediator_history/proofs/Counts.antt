@@ -18,9 +18,10 @@ use Rattle.ipfix_message.specs.declared.item.Item.TheVariants.{Define, Withdraw,
 use Rattle.ipfix_message.specs.Records.{set_id, bare_item, judged_item, template_item}
 use Rattle.ipfix_message.specs.Reading.{header_of, read_header, template_at, found_template, template_front, set_items, found_set, set_front, after_header, items_of}
 use Rattle.ipfix_session.specs.declared.read_error.ReadError.{ReadError}
-use Rattle.ipfix_session.specs.Contents.{Contents, ◌>>=◌, both, record_of, rows_of, set_contents, item_contents, contents_after}
+use Rattle.ipfix_session.specs.Contents.{Contents, both, record_of, rows_of, set_contents, item_contents, contents_after}
 use Rattle.ipfix_session.specs.InForce.{template_in_force}
 use Rattle.ipfix_session.specs.Meaning.{read_items, contents_of, meaning_of, items_of_domain, domain_of, gap_of}
+use Rattle.sequences.specs.Results.{◌>>=◌}
 use Rattle.mediator_history.specs.Accepted.{records_meant}
 
 -- ---- what is read weighs no more than the octets, if what stands at the front does

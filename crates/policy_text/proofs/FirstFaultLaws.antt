@@ -3,14 +3,15 @@ use Rattle.std.proofs.Common.{◌≡◌, ◌⊎◌, inl, inr, ℕ, ◌+◌, ◌<
 use Rattle.std.specs.Str.{bytes_eq}
 use Rattle.std.proofs.lemmas.Slice.Eq.{bytes_eq-Decides}
 use Rattle.std.proofs.lemmas.Bool.{cases_Bool, leb-true, leb-false, lt-leb, le-leb, false≢true}
-use Rattle.sequences.proofs.ResultLaws.{Err-Ok, same_Err}
+use Rattle.sequences.proofs.ResultLaws.{Err-Ok, same_Err, bind_Ok}
+use Rattle.sequences.specs.Results.{◌>>=◌}
 use Rattle.policy_text.specs.declared.fault.FaultKind.{FaultKind}
 use Rattle.policy_text.specs.declared.fault.FaultKind.TheVariants.{NoHeader, UnknownWord, TooMany}
 use Rattle.policy_text.specs.declared.fault.PolicyFault.{PolicyFault}
 use Rattle.policy_text.specs.declared.rule.Rule.{Rule}
 use Rattle.policy_text.specs.Words.{Word, words_of, lines_of, is_skipped}
 use Rattle.policy_text.specs.Policies.{Meaning, nothing, with_rule, with_aggregate, Aggregate as Definition}
-use Rattle.policy_text.specs.Results.{◌>>=◌, at_line, then_read}
+use Rattle.policy_text.specs.Results.{at_line, then_read}
 use Rattle.policy_text.specs.Lines.{next_of, rule_of, aggregate_of, rule_line, aggregate_line, line_of}
 use Rattle.policy_text.specs.Parsing.{is_header, step, line_step, read_lines, policy_of}
 use Rattle.policy_text.specs.Grammar.{IsAggregate, IsPolicy}
@@ -21,7 +22,6 @@ use Rattle.policy_text.specs.FirstFault.{MayStand, AwaitsAggregate, IsFaulty, Is
 use Rattle.policy_text.specs.LineParts.Part.{first_word}
 use Rattle.policy_text.proofs.ParsingLaws.{read_lines-cons, read_lines-done, read_lines-empty}
 use Rattle.policy_text.proofs.KeptLaws.{IsPolicy-nothing, with_rule-kept, with_aggregate-kept}
-use Rattle.policy_text.proofs.SoundLaws.{bound}
 use Rattle.policy_text.proofs.SpellLaws.{rule_line-found, rule_line-only, line_of-found, line_of-only, line_step-found, header-found}
 use Rattle.policy_text.proofs.PlaceLaws.{Completes, IsStuck, Place, ok_or_err, kind_behind}
 use Rattle.policy_text.proofs.KindLaws.{bound_err}
@@ -95,7 +95,7 @@ rule_goes policy words room c =
 
 rule_of_line : (policy new : Meaning) (words : List Word) → length policy.rules < 4096 → line_of policy (codes "rule" ∷ words) ≡ Ok new → (r : Rule) × (rule_of policy.aggregates words ≡ Ok r)
 rule_of_line policy new words room e =
-    let read = bound (rule_of policy.aggregates words) (λ r. Ok (with_rule policy r)) new (sym (rule_room policy words room) ∙ e) in
+    let read = bind_Ok (rule_of policy.aggregates words) (λ r. Ok (with_rule policy r)) new (sym (rule_room policy words room) ∙ e) in
     (read.0, read.1)
 
 rule_went : (policy : Meaning) (words : List Word) → length policy.rules < 4096 → Goes policy (codes "rule" ∷ words) → Completes policy.aggregates rule_of words
@@ -128,7 +128,7 @@ aggregate_went : (policy : Meaning) (words : List Word) → length policy.aggreg
 aggregate_went policy words room g =
     ⊎_elim (λ (now : MayStand (Some policy) (codes "aggregate" ∷ words)).
     let read = stands_read policy (codes "aggregate" ∷ words) now in
-    let step = bound (aggregate_of policy.aggregates words) (λ a. Ok (with_aggregate policy a)) read.0 (sym (aggregate_room policy words room) ∙ read.1) in
+    let step = bind_Ok (aggregate_of policy.aggregates words) (λ a. Ok (with_aggregate policy a)) read.0 (sym (aggregate_room policy words room) ∙ read.1) in
     (step.0, step.1))
     (λ (later : AwaitsAggregate (Some policy) (codes "aggregate" ∷ words)). absurd (aggregate_is_no_rule (words ++ later.1.name ∷ []) later.4.tail later.4.words_are))
     g

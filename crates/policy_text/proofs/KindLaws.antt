@@ -9,20 +9,21 @@ use Rattle.flow_prefix.specs.declared.prefix.Prefix.{Prefix}
 use Rattle.flow_prefix.specs.declared.fault.PrefixFault.{PrefixFault}
 use Rattle.flow_prefix.specs.Numerals.{number_of}
 use Rattle.flow_prefix.specs.Reading.{prefix_of}
-use Rattle.sequences.proofs.ResultLaws.{Err-Ok, same_Err}
+use Rattle.sequences.proofs.ResultLaws.{Err-Ok, same_Err, bind_Ok}
+use Rattle.sequences.specs.Results.{◌>>=◌}
 use Rattle.policy_text.specs.declared.fault.FaultKind.{FaultKind}
 use Rattle.policy_text.specs.declared.fault.FaultKind.TheVariants.{BadName, BadNumber, BadPrefix, BadTruncate, UnknownAggregate, DoubleAggregate, BadKey}
 use Rattle.policy_text.specs.Words.{Word}
 use Rattle.policy_text.specs.Naming.{is_name}
 use Rattle.policy_text.specs.Elements.{element_of}
 use Rattle.policy_text.specs.Policies.{Aggregate as Definition}
-use Rattle.policy_text.specs.Results.{◌>>=◌, or_fault}
+use Rattle.policy_text.specs.Results.{or_fault}
 use Rattle.policy_text.specs.Classes.{name, number, element, prefix, prefix_or_fault, star, some_of, or_star, with_key, add_piece, add_pieces, key_of, place_of, aggregate_place, new_name, interval, bits_within}
 use Rattle.policy_text.specs.Grammar.{IsKey}
 use Rattle.policy_text.specs.LineParts.{IsKeyFault}
 use Rattle.policy_text.proofs.ElementLaws.{element_of-found, element_of-only}
 use Rattle.policy_text.proofs.KeyStepLaws.{IsKeyAfter, as_key, step_by_step}
-use Rattle.policy_text.proofs.SoundLaws.{bound, or_fault-Ok, with_key-sound}
+use Rattle.policy_text.proofs.SoundLaws.{or_fault-Ok, with_key-sound}
 use Rattle.policy_text.proofs.PlaceLaws.{ok_or_err}
 
 -- a step that failed
@@ -188,7 +189,7 @@ piece_fault before (piece ∷ pieces) kind e =
     (λ (named : (x : Element) × (element piece ≡ Ok x) × (with_key before x ≡ Err kind)). no_key before piece pieces named.0 kind named.1 named.2)
     (bound_err (element piece) (λ x. with_key before x) kind first))
     (λ (then : (more : List Element) × ((element piece >>= λ x. with_key before x) ≡ Ok more) × (add_pieces more pieces ≡ Err kind)).
-    let read = bound (element piece) (λ x. with_key before x) then.0 then.1 in
+    let read = bind_Ok (element piece) (λ x. with_key before x) then.0 then.1 in
     let added = with_key-sound before then.0 read.0 read.2 in
     later_piece before piece pieces read.0 kind read.1 added.again (piece_fault (before ++ read.0 ∷ []) pieces kind (ap (λ l. add_pieces l pieces) added.more_is ∙ then.2)))
     (bound_err (element piece >>= λ x. with_key before x) (λ more. add_pieces more pieces) kind e)

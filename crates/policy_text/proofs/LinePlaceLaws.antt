@@ -8,6 +8,7 @@ use Rattle.ipfix_element.specs.Element.{Element}
 use Rattle.ipfix_element.specs.Kinds.{kind_of}
 use Rattle.ipfix_element.specs.Registry.{registry}
 use Rattle.sequences.proofs.ResultLaws.{Err-Ok}
+use Rattle.sequences.specs.Results.{◌>>=◌}
 use Rattle.policy_text.specs.declared.fault.FaultKind.{FaultKind}
 use Rattle.policy_text.specs.declared.fault.FaultKind.TheVariants.{UnknownWord, BadTruncate}
 use Rattle.policy_text.specs.declared.rule.Action.{Action}
@@ -15,7 +16,6 @@ use Rattle.policy_text.specs.declared.rule.Action.TheVariants.{Pass, Withhold, A
 use Rattle.policy_text.specs.Words.{Word}
 use Rattle.policy_text.specs.Naming.{is_name}
 use Rattle.policy_text.specs.Policies.{Aggregate as Definition}
-use Rattle.policy_text.specs.Results.{◌>>=◌}
 use Rattle.policy_text.specs.Classes.{name, number, element, prefix, star, or_star, with_key, key_of, width_at, aggregate_place, new_name, interval, bits_within}
 use Rattle.policy_text.specs.Lines.{next_of, next, ended, truncate_of, element_action, aggregate_action, on_element, action_of, rule_of, aggregate_of}
 use Rattle.policy_text.specs.Grammar.{IsAggregate, AreAggregates}

@@ -5,12 +5,13 @@ use Rattle.std.proofs.lemmas.Bool.{cases_Bool, false≢true}
 use Rattle.ipfix_element.specs.Element.{Element, IsElement}
 use Rattle.ipfix_element.specs.Names.{element_name}
 use Rattle.sequences.proofs.ResultLaws.{same_Err, Err-Ok}
+use Rattle.sequences.specs.Results.{◌>>=◌}
 use Rattle.policy_text.specs.declared.fault.FaultKind.{FaultKind}
 use Rattle.policy_text.specs.declared.fault.FaultKind.TheVariants.{NoHeader, BadName, BadKey}
 use Rattle.policy_text.specs.declared.fault.PolicyFault.{PolicyFault}
 use Rattle.policy_text.specs.Words.{Word, words_of, lines_of, is_skipped}
 use Rattle.policy_text.specs.Policies.{Meaning, nothing}
-use Rattle.policy_text.specs.Results.{◌>>=◌, at_line, then_read, Parses, is_memory}
+use Rattle.policy_text.specs.Results.{at_line, then_read, Parses, is_memory}
 use Rattle.policy_text.specs.Classes.{element, with_key, add_piece, add_pieces, key_of}
 use Rattle.policy_text.specs.Lines.{line_of}
 use Rattle.policy_text.specs.Parsing.{is_header, step, line_step, read_lines, policy_of}

@@ -3,11 +3,11 @@ use Rattle.std.proofs.Common.{◌≡◌, ◌⊎◌, inl, inr, true, false, List,
 use Rattle.std.specs.Str.{bytes_eq}
 use Rattle.std.proofs.lemmas.Bool.{cases_Bool}
 use Rattle.sequences.proofs.ResultLaws.{Err-Ok, same_Err}
+use Rattle.sequences.specs.Results.{◌>>=◌}
 use Rattle.policy_text.specs.declared.fault.FaultKind.{FaultKind}
 use Rattle.policy_text.specs.declared.fault.FaultKind.TheVariants.{UnknownWord}
 use Rattle.policy_text.specs.Words.{Word}
 use Rattle.policy_text.specs.Policies.{Aggregate as Definition}
-use Rattle.policy_text.specs.Results.{◌>>=◌}
 use Rattle.policy_text.specs.Lines.{next_of, next, after, ended}
 use Rattle.policy_text.specs.Grammar.{IsAggregate}
 use Rattle.policy_text.specs.LineParts.{Part, parts_after, IsKindOf, IsKindBehind}

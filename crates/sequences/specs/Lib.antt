@@ -2,3 +2,4 @@ pub mod Octets
 pub mod Sequence
 pub mod Before
 pub mod Options
+pub mod Results

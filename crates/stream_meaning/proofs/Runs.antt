@@ -4,7 +4,7 @@ use Rattle.std.proofs.lemmas.List.{take_at, take-append-drop, map-append, take-a
 use Rattle.ipfix_template.specs.DataRecord.{DataRecord}
 use Rattle.ipfix_message.specs.declared.header.Header.{Header}
 use Rattle.ipfix_message.specs.Reading.{header_of}
-use Rattle.ipfix_session.specs.Contents.{Contents, ◌>>=◌}
+use Rattle.ipfix_session.specs.Contents.{Contents}
 use Rattle.ipfix_session.specs.Meaning.{Meaning, domain_of, contents_of, gap_of, meaning_of, with_domain, records_after, joined, records_meant}
 use Rattle.ipfix_session.specs.declared.read_error.ReadError.{ReadError}
 use Rattle.ipfix_session.proofs.MeaningLaws.{records_after-append, records_after-one}
@@ -13,6 +13,7 @@ use Rattle.subscriber_stream.specs.Message.{message, run_length, next_message, b
 use Rattle.subscriber_stream.specs.Calls.{Call, Given, Pulled, pulls_of, octets_from}
 use Rattle.subscriber_stream.proofs.CallLaws.{parts_more, parts_bring}
 use Rattle.subscriber_stream.proofs.Standings.{records_in-append, next_none}
+use Rattle.sequences.specs.Results.{◌>>=◌}
 use Rattle.stream_meaning.specs.Served.{AreStreamable, AreInRange, records_given, messages_in, messages_got, place_from, place_reached}
 use Rattle.stream_meaning.specs.Means.{plain_meaning, AreRead, Means}
 use Rattle.stream_meaning.proofs.Tables.{empty, AreKnown, after_parts}
