@@ -1,9 +1,9 @@
 -- Where the first `::` stands.
-use Rattle.std.proofs.Common.{◌≡◌, ℕ, zero, suc, ◌+◌, ◌<◌, ◌≤◌, true, false, ◌&&◌, eqb, List, [], ◌∷◌, ◌++◌, length, get_or, take, drop, Option, Some, None, refl, sym, ap, ◌∙◌, arith, ⊎_elim, ◌-◌, length-drop}
+use Rattle.std.proofs.Common.{◌≡◌, ℕ, zero, suc, ◌+◌, ◌<◌, ◌≤◌, true, false, ◌&&◌, eqb, List, [], ◌∷◌, ◌++◌, length, get_or, take, drop, Option, Some, None, refl, sym, ap, ◌∙◌, arith, ⊎_elim, ◌-◌}
 use Rattle.std.specs.List.{position}
 use Rattle.std.proofs.lemmas.Bool.{cases_Bool, and_parts, eqb-true, eq-eqb}
 use Rattle.std.proofs.lemmas.Option.{none-some, some_pair_parts}
-use Rattle.std.proofs.lemmas.List.{take_all, take_rest}
+use Rattle.std.proofs.lemmas.List.{take_rest}
 use Rattle.flow_prefix.specs.Reading.{at_double, onto_left, cut_at}
 
 pub cut_at-found : (byte : ℕ) (text : List ℕ) (i : ℕ) → position (λ c. eqb c byte) text ≡ Some i → Some (take i text, take (length text - (i + 1)) (drop (i + 1) text)) ≡ cut_at byte text

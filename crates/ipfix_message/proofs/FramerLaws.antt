@@ -1,12 +1,10 @@
 -- The steps of a Framer, over plain lists.
-use Rattle.std.proofs.Common.{◌≡◌, ℕ, ◌+◌, ◌-◌, List, [], ◌∷◌, ◌++◌, length, take, drop, Option, Some, None, refl, sym, ap, subst, ◌∙◌, append_assoc, append-nil, arith, inr}
+use Rattle.std.proofs.Common.{◌≡◌, ℕ, ◌+◌, ◌-◌, List, [], ◌∷◌, ◌++◌, take, drop, Option, Some, None, refl, sym, ap, subst, ◌∙◌, append_assoc, append-nil, arith, inr}
 use Rattle.std.specs.List.{concat, All}
 use Rattle.std.proofs.lemmas.List.{take-append-drop}
 use Rattle.std.proofs.Math.Seq.{take-add}
 use Rattle.std.proofs.lemmas.List.Elements.{All-append, All-nil, All-cons}
-use Rattle.std.proofs.lemmas.List.Folds.{concat-append}
 use Rattle.std.specs.Prelude.{MatchOption}
-use Rattle.std.proofs.lemmas.Grind.{common_steps}
 use Rattle.sequences.proofs.ListLaws.{concat_push}
 use Rattle.ipfix_message.specs.declared.frame_error.FrameError.{FrameError}
 use Rattle.ipfix_message.specs.declared.frame_error.FrameError.TheVariants.{BadVersion, BadLength, OutOfMemory}

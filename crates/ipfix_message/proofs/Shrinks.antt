@@ -1,9 +1,9 @@
 -- What stands at the front takes some octets.
-use Rattle.std.proofs.Common.{◌≡◌, ℕ, zero, suc, ◌+◌, ◌-◌, ◌<◌, ◌≤◌, Bool, true, false, cond, ltb, eqb, List, ◌∷◌, length, take, drop, Option, Some, None, Result, Ok, Err, refl, arith, length-drop}
+use Rattle.std.proofs.Common.{◌≡◌, ℕ, zero, suc, ◌+◌, ◌-◌, ◌≤◌, Bool, true, false, ltb, eqb, List, ◌∷◌, length, take, drop, Option, Some, None, Result, Ok, Err, arith, length-drop}
 use Rattle.std.specs.Prelude.{◌||◌, IfSome}
 use Rattle.std.proofs.lemmas.Bool.{ltb-false, or_parts, cond_both}
 use Rattle.ipfix_template.specs.Octets.{number_at}
-use Rattle.ipfix_template.specs.Sequence.{Front, End, Fault, Next, TakesSome}
+use Rattle.ipfix_template.specs.Sequence.{TakesSome}
 use Rattle.ipfix_template.specs.declared.template.Template.{Template}
 use Rattle.sequences.specs.Options.{◌>>=◌}
 use Rattle.sequences.proofs.SequenceLaws.{Lessens, takes_some}

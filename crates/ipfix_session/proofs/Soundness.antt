@@ -1,11 +1,11 @@
 -- What is split by a template that is kept is a sound record, and takes some octets.
 use Rattle.std.proofs.Common.{inl, inr, ◌≡◌, ℕ, ◌+◌, ◌<◌, ◌≤◌, Bool, true, false, cond, ltb, leb, eqb, List, [], ◌∷◌, ◌++◌, length, take, drop, Option, Some, None, refl, ap, ◌∙◌, arith, length-append, length-drop}
-use Rattle.std.specs.Prelude.{◌&&◌, MatchBool, IfSome}
+use Rattle.std.specs.Prelude.{MatchBool, IfSome}
 use Rattle.std.specs.List.{sum_by, list_all}
 use Rattle.std.proofs.lemmas.Bool.{leb-true, ltb-false, eqb-false, le-leb, eq-eqb, and_from, cond_both}
 use Rattle.std.proofs.lemmas.List.Sums.{sum_by-cons}
 use Rattle.sequences.specs.Octets.{be_value, be_octets}
-use Rattle.sequences.specs.Sequence.{Front, End, Fault, Next, TakesSome}
+use Rattle.sequences.specs.Sequence.{TakesSome}
 use Rattle.sequences.proofs.OctetLaws.{length-be_octets}
 use Rattle.ipfix_octets.specs.Variable.{IsVarText, shortest_text, value_within, varlen_at}
 use Rattle.ipfix_template.specs.declared.field.FieldSpec.{FieldSpec}

@@ -1,6 +1,6 @@
 -- Fewer than 256 aggregates leave a name.
 use Rattle.std.proofs.Common.{◌≡◌, ℕ, zero, suc, ◌+◌, ◌-◌, ◌*◌, ◌/◌, ◌%◌, ◌<◌, ◌≤◌, true, false, not, eqb, List, [], ◌∷◌, length, filter, map, None, refl, sym, ap, ◌∙◌, subst, arith, ⊎_elim, mod-lt}
-use Rattle.std.specs.List.{AllByRecursion, list_any, position_or_len}
+use Rattle.std.specs.List.{list_any, position_or_len}
 use Rattle.std.specs.Str.{bytes_eq}
 use Rattle.std.proofs.lemmas.Slice.Eq.{bytes_eq-Decides}
 use Rattle.std.proofs.lemmas.List.{length-map}

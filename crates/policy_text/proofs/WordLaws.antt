@@ -1,7 +1,7 @@
 -- The first word of a line.
-use Rattle.std.proofs.Common.{◌≡◌, ℕ, suc, ◌+◌, ◌-◌, ◌<◌, ◌≤◌, Bool, true, false, not, List, [], ◌∷◌, length, get_or, take, drop, filter, Some, None, refl, sym, ap, ◌∙◌, arith, ⊎_elim, length-drop, length-take-le}
+use Rattle.std.proofs.Common.{◌≡◌, ℕ, suc, ◌+◌, ◌-◌, ◌<◌, ◌≤◌, Bool, true, false, not, List, [], ◌∷◌, length, get_or, take, drop, filter, Some, None, refl, sym, ap, ◌∙◌, arith, ⊎_elim, length-take-le}
 use Rattle.std.specs.List.{slice_split, position_or_len, position}
-use Rattle.std.proofs.lemmas.List.{take_all, drop_all, drop_more, take_rest}
+use Rattle.std.proofs.lemmas.List.{drop_all, drop_more, take_rest}
 use Rattle.std.proofs.lemmas.List.Sums.{prefix_len_stops, prefix_len_passes}
 use Rattle.std.proofs.lemmas.List.Splits.{slice_split_first, slice_split_none, slice_split-cons_yes}
 use Rattle.std.proofs.lemmas.Option.{same_Some, none-some}

@@ -3,7 +3,7 @@ use Rattle.std.proofs.Common.{◌≡◌, ℕ, suc, ◌+◌, ◌<◌, ◌≤◌, 
 use Rattle.std.specs.List.{AllByRecursion}
 use Rattle.std.proofs.lemmas.List.{take-append-drop, take_at, take_all}
 use Rattle.ipfix_template.specs.DataRecord.{DataRecord}
-use Rattle.subscriber_stream.specs.Parts.{Part, parts, records_in}
+use Rattle.subscriber_stream.specs.Parts.{parts, records_in}
 use Rattle.subscriber_stream.specs.Message.{run_length, built, place_after}
 use Rattle.subscriber_stream.specs.declared.limits.Limits.{Limits}
 use Rattle.subscriber_stream.specs.Shapes.{shapes_of}

@@ -9,7 +9,7 @@ use Rattle.sequences.specs.Octets.{be_octets, IsNumber}
 use Rattle.sequences.proofs.OctetLaws.{length-be_octets, be_value-be_octets}
 use Rattle.ipfix_template.specs.declared.field.FieldSpec.{FieldSpec}
 use Rattle.ipfix_template.specs.declared.template.Template.{Template}
-use Rattle.ipfix_template.specs.Template.{least_octets, shortest_record, is_options, IsAccepted, refusal_of, specifier_of, specifier, template_record, IsWritable}
+use Rattle.ipfix_template.specs.Template.{least_octets, is_options, refusal_of, specifier_of, specifier, template_record, IsWritable}
 use Rattle.ipfix_template.specs.Template as template
 use Rattle.ipfix_message.specs.declared.header.Header.{Header}
 use Rattle.ipfix_message.specs.declared.item.Item.{Item}

@@ -1,8 +1,5 @@
-use Rattle.std.proofs.Common.{◌≡◌, Ok, Result, List, sym, ◌∙◌}
+use Rattle.std.proofs.Common.{sym, ◌∙◌}
 use Rattle.sequences.proofs.ResultLaws.{same_Ok}
-use Rattle.ipfix_message.specs.declared.header.Header.{Header}
-use Rattle.ipfix_message.specs.declared.item.Item.{Item}
-use Rattle.ipfix_message.specs.declared.decode_error.DecodeError.{DecodeError}
 use Rattle.ipfix_message.proofs.GrammarOnly.{message_only, message_header}
 use Rattle.ipfix_message.proofs.laws.one_message.Goals as goal
 
