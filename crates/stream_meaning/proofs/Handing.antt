@@ -11,7 +11,8 @@ use Rattle.subscriber_stream.specs.Standing.{Standing, StandsAt, FitsLimits}
 use Rattle.subscriber_stream.specs.Calls.{Call, Given, Pulled, Pull, pulls_of, octets_from, Serves}
 use Rattle.subscriber_stream.proofs.CallLaws.{served, parts_bring, run_some}
 use Rattle.subscriber_stream.proofs.Standings.{records_in-append}
-use Rattle.stream_meaning.specs.Served.{IsStreamable, AreStreamable, AreInRange, records_given, messages_in, messages_got, place_from, place_reached, pulls}
+use Rattle.sequences.proofs.ListLaws.{AllByRecursion-append}
+use Rattle.stream_meaning.specs.Served.{IsStreamable, AreStreamable, AreInRange, records_given, messages_in, messages_got, place_from, place_reached, pulls, IsInRange}
 use Rattle.stream_meaning.specs.Means.{Means}
 use Rattle.stream_meaning.specs.HandedOut.{AreHandedOut}
 use Rattle.stream_meaning.proofs.Runs.{got, means_so_far, means_all}
@@ -49,10 +50,6 @@ messages_append [] ys = refl
 messages_append (None ∷ xs) ys = messages_append xs ys
 messages_append (Some m ∷ xs) ys = ap (λ (ms : List (List ℕ)). m ∷ ms) (messages_append xs ys)
 
-ranges_append : (calls others : List Call) → AreInRange calls → AreInRange others → AreInRange (calls ++ others)
-ranges_append [] others first second = second
-ranges_append (call ∷ calls) others first second = (first.0, ranges_append calls others first.1 second)
-
 ranges_front : (calls others : List Call) → AreInRange (calls ++ others) → AreInRange calls
 ranges_front [] others all = tt
 ranges_front (call ∷ calls) others all = (all.0, ranges_front calls others all.1)
@@ -77,7 +74,7 @@ handed_given messages records more p are =
     let last = Given more ∷ [] in
     record {
       calls = are.calls ++ last;
-      ranges = ranges_append are.calls last are.ranges (tt, tt);
+      ranges = AllByRecursion-append IsInRange are.calls last are.ranges (tt, tt);
       given = given_append are.calls last ∙ ap (λ (rs : List DataRecord). records_given are.calls ++ rs) (append-nil more) ∙ ap (λ (rs : List DataRecord). rs ++ more) are.given;
       got = got_append are.calls last ∙ append-nil (messages_got are.calls) ∙ are.got;
       reached = reached_append are.calls last ∙ are.reached;
@@ -93,7 +90,7 @@ handed_answer messages answer records p now target time below are is =
     let here : built (records_given are.calls) (place_reached are.calls) now target ≡ answer = ap (λ (rs : List DataRecord). built rs (place_reached are.calls) now target) are.given ∙ ap (λ (q : ℕ). built records q now target) are.reached ∙ sym is in
     record {
       calls = are.calls ++ last;
-      ranges = ranges_append are.calls last are.ranges ((time, below), tt);
+      ranges = AllByRecursion-append IsInRange are.calls last are.ranges ((time, below), tt);
       given = given_append are.calls last ∙ append-nil (records_given are.calls) ∙ are.given;
       got = got_append are.calls last
           ∙ ap (λ (o : Option (List ℕ)). messages_got are.calls ++ messages_in (o ∷ [])) here
@@ -110,12 +107,8 @@ no_shapes = omega arith
 pub none_streamable : AreStreamable []
 none_streamable = record { each = tt; shapes = no_shapes }
 
-each_append : (records more : List DataRecord) → AllByRecursion IsStreamable records → AllByRecursion IsStreamable more → AllByRecursion IsStreamable (records ++ more)
-each_append [] more first second = second
-each_append (r ∷ records) more first second = (first.0, each_append records more first.1 second)
-
 pub streamable_more : (limits : Limits) (records more : List DataRecord) (p : ℕ) → AreStreamable records → AllByRecursion IsStreamable more → FitsLimits limits records p more → limits.shapes ≤ 65280 → AreStreamable (records ++ more)
-streamable_more limits records more p may each fits few = record { each = each_append records more may.each each; shapes = omega (arith, fits.shapes, few) }
+streamable_more limits records more p may each fits few = record { each = AllByRecursion-append IsStreamable records more may.each each; shapes = omega (arith, fits.shapes, few) }
 
 -- ---- what is known of the messages
 
