@@ -174,10 +174,6 @@ each_below family [] (n ∷ ns) h = absurd h
 each_below family (word ∷ words) [] h = tt
 each_below family (word ∷ words) (n ∷ ns) h = (part_below family word n h.0, each_below family words ns h.1)
 
-below_append : (b : ℕ) (xs ys : List ℕ) → AllBelowBase b xs → AllBelowBase b ys → AllBelowBase b (xs ++ ys)
-below_append b [] ys p q = q
-below_append b (x ∷ xs) ys p q = (p.0, below_append b xs ys p.1 q)
-
 below_zeros : (b zeros : ℕ) → 0 < b → AllBelowBase b (replicate zeros 0)
 below_zeros b zero positive = tt
 below_zeros b (suc zeros) positive = (positive, below_zeros b zeros positive)
@@ -188,7 +184,7 @@ written_below Ipv6 text parts h =
     ⊎_elim (λ (groups : AreParts Ipv6 text parts). each_below Ipv6 groups.words parts groups.each)
     (λ (short : AreShortened text parts).
     let P : List ℕ → Type 0 = λ ps. AllBelowBase 65536 ps in
-    subst P (sym short.groups_are) (below_append 65536 (short.left ++ replicate short.zeros 0) short.right (below_append 65536 short.left (replicate short.zeros 0) (each_below Ipv6 short.before_is.words short.left short.before_is.each) (below_zeros 65536 short.zeros (omega arith))) (each_below Ipv6 short.after_is.words short.right short.after_is.each)))
+    subst P (sym short.groups_are) (AllByRecursion-append (λ d. d < 65536) (short.left ++ replicate short.zeros 0) short.right (AllByRecursion-append (λ d. d < 65536) short.left (replicate short.zeros 0) (each_below Ipv6 short.before_is.words short.left short.before_is.each) (below_zeros 65536 short.zeros (omega arith))) (each_below Ipv6 short.after_is.words short.right short.after_is.each)))
     h
 
 pub address_below : (family : Family) (text : List ℕ) (n : ℕ) → IsAddress family text n → n < 2 ^ width family

@@ -7,6 +7,7 @@ use Rattle.ipfix_element.specs.Element.{Element, IsElement}
 use Rattle.ipfix_element.specs.Names.{element_name}
 use Rattle.flow_prefix.specs.Prefixes.{IsPrefix}
 use Rattle.flow_prefix.specs.Printing.{prefix_text}
+use Rattle.sequences.proofs.ListLaws.{AllByRecursion-append}
 use Rattle.policy_text.specs.declared.fault.FaultKind.{FaultKind}
 use Rattle.policy_text.specs.declared.fault.FaultKind.TheVariants.{BadName, BadNumber, BadPrefix}
 use Rattle.policy_text.specs.declared.rule.Rule.{Rule}
@@ -197,10 +198,6 @@ rules_plain : (aggregates : List Definition) (rest : List Rule) → AreRules agg
 rules_plain aggregates [] h = tt
 rules_plain aggregates (r ∷ rest) h = (rule_plain aggregates r h.0, rules_plain aggregates rest h.1)
 
-plain_append_lines : (xs ys : List (List Word)) → AllByRecursion ArePlain xs → AllByRecursion ArePlain ys → AllByRecursion ArePlain (xs ++ ys)
-plain_append_lines [] ys p q = q
-plain_append_lines (x ∷ xs) ys p q = (p.0, plain_append_lines xs ys p.1 q)
-
 header_plain : ArePlain header
 header_plain = (record { some = omega arith; each = refl }, (record { some = omega arith; each = refl }, tt))
 
@@ -213,7 +210,7 @@ pub reads_back : ReadsBack
 unfolding policy_text policy_of
 reads_back policy h =
     let lines = map aggregate_words policy.aggregates ++ map (rule_words policy.aggregates) policy.rules in
-    let plain = plain_append_lines (map aggregate_words policy.aggregates) (map (rule_words policy.aggregates) policy.rules) (aggregates_plain [] policy.aggregates h.aggregates) (rules_plain policy.aggregates policy.rules h.rules) in
+    let plain = AllByRecursion-append ArePlain (map aggregate_words policy.aggregates) (map (rule_words policy.aggregates) policy.rules) (aggregates_plain [] policy.aggregates h.aggregates) (rules_plain policy.aggregates policy.rules h.rules) in
     let few_aggregates = h.few_aggregates in
     let few_rules = h.few_rules in
     let added = adds_append nothing (record { aggregates = policy.aggregates; rules = [] }) policy (map aggregate_words policy.aggregates) (map (rule_words policy.aggregates) policy.rules) (aggregates_added [] policy.aggregates h.aggregates (omega arith)) (rules_added policy.aggregates [] policy.rules h.rules (omega arith)) in
