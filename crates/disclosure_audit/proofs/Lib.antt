@@ -1,4 +1,3 @@
 pub mod QueueLaws
-pub mod FieldLaws
 pub mod SplitLaws
 pub mod LineLaws

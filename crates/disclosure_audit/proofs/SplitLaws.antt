@@ -1,12 +1,14 @@
 -- Words that are joined by an octet that stands in none of them are found again by splitting there.
 use Rattle.std.proofs.Common.{◌≡◌, ℕ, ◌^◌, ◌<◌, ◌≤◌, Bool, true, false, not, eqb, List, [], ◌∷◌, ◌++◌, refl, sym, ap, ◌∙◌, arith}
-use Rattle.std.specs.List.{list_all, slice_split, join_with_byte}
+use Rattle.std.specs.List.{list_all, slice_split, join_with_byte, All, AllByRecursion}
 use Rattle.std.specs.Char.{digit_value}
 use Rattle.std.specs.Fmt.{decimal}
 use Rattle.std.specs.Str.Parse.{AllDigits}
 use Rattle.std.proofs.lemmas.Fmt.{decimal_is_IsNumeral}
 use Rattle.std.proofs.lemmas.List.Folds.{list_all-append}
 use Rattle.std.proofs.lemmas.Bool.{ne_eqb, and_parts, and_from, not-true}
+use Rattle.sequences.proofs.JoinLaws.{split-joined}
+use Rattle.std.proofs.lemmas.List.Elements.{All-from_recursion}
 
 -- the octet stands nowhere in the word
 abbrev pub lacks : ℕ → List ℕ → Bool
@@ -18,30 +20,25 @@ all_lack c words = list_all (lacks c) words
 abbrev pub parted : ℕ → List ℕ → List (List ℕ)
 parted c text = slice_split (λ b. eqb b c) text
 
-pub parted-last : (c : ℕ) (word : List ℕ) → lacks c word ≡ true → parted c word ≡ word ∷ []
-parted-last c [] h = refl
-parted-last c (b ∷ word) h =
+lacks-all : (c : ℕ) (word : List ℕ) → lacks c word ≡ true → AllByRecursion (λ b. eqb b c ≡ false) word
+lacks-all c [] h = tt
+lacks-all c (b ∷ word) h =
     let both = and_parts (not (eqb b c)) (lacks c word) h in
-    rw (not-true (eqb b c) both.0, parted-last c word both.1) refl
+    (not-true (eqb b c) both.0, lacks-all c word both.1)
 
-pub parted-first : (c : ℕ) (word rest : List ℕ) → eqb c c ≡ true → lacks c word ≡ true → parted c (word ++ c ∷ rest) ≡ word ∷ parted c rest
-parted-first c [] rest same h = rw same refl
-parted-first c (b ∷ word) rest same h =
-    let both = and_parts (not (eqb b c)) (lacks c word) h in
-    rw (not-true (eqb b c) both.0, parted-first c word rest same both.1) refl
+all_lack-each : (c : ℕ) (words : List (List ℕ)) → all_lack c words ≡ true → AllByRecursion (All (λ b. eqb b c ≡ false)) words
+all_lack-each c [] h = tt
+all_lack-each c (word ∷ words) h =
+    let both = and_parts (lacks c word) (all_lack c words) h in
+    (All-from_recursion (λ b. eqb b c ≡ false) word (lacks-all c word both.0), all_lack-each c words both.1)
 
-pub parted-joined : (c : ℕ) (word : List ℕ) (words : List (List ℕ)) → eqb c c ≡ true → lacks c word ≡ true → all_lack c words ≡ true → parted c (join_with_byte c (word ∷ words)) ≡ word ∷ words
-parted-joined c word [] same h hs = parted-last c word h
-parted-joined c word (next ∷ words) same h hs =
-    let both = and_parts (lacks c next) (all_lack c words) hs in
-    parted-first c word (join_with_byte c (next ∷ words)) same h ∙ ap (λ ws. word ∷ ws) (parted-joined c next words same both.0 both.1)
+parted-joined : (c : ℕ) (word : List ℕ) (words : List (List ℕ)) → eqb c c ≡ true → all_lack c (word ∷ words) ≡ true → parted c (join_with_byte c (word ∷ words)) ≡ word ∷ words
+parted-joined c word words same h = split-joined (λ b. eqb b c) c word words same (all_lack-each c (word ∷ words) h)
 
 -- so words that lack the octet are the same where their joins are
 pub joined_same : (c : ℕ) (v : List ℕ) (vs : List (List ℕ)) (w : List ℕ) (ws : List (List ℕ)) → eqb c c ≡ true → all_lack c (v ∷ vs) ≡ true → all_lack c (w ∷ ws) ≡ true → join_with_byte c (v ∷ vs) ≡ join_with_byte c (w ∷ ws) → v ∷ vs ≡ w ∷ ws
 joined_same c v vs w ws same left right e =
-    let l = and_parts (lacks c v) (all_lack c vs) left in
-    let r = and_parts (lacks c w) (all_lack c ws) right in
-    sym (parted-joined c v vs same l.0 l.1) ∙ ap (parted c) e ∙ parted-joined c w ws same r.0 r.1
+    sym (parted-joined c v vs same left) ∙ ap (parted c) e ∙ parted-joined c w ws same right
 
 pub lacks-append : (c : ℕ) (xs ys : List ℕ) → lacks c xs ≡ true → lacks c ys ≡ true → lacks c (xs ++ ys) ≡ true
 lacks-append c xs ys h k = list_all-append (λ b. not (eqb b c)) xs ys ∙ and_from (lacks c xs) (lacks c ys) h k

@@ -26,6 +26,8 @@ use Rattle.ipfix_template.specs.Equality.{same_pen}
 use Rattle.policy_judge.specs.Match.{is_met, is_on_records, is_for, covers, is_same_element, is_element, matches_field}
 use Rattle.policy_judge.specs.Verdicts.{element_action, element_verdict_by, element_verdict_of}
 use Rattle.policy_judge.proofs.FirstRuleLaws.{element_there}
+use Rattle.ipfix_element.proofs.NameLaws.{same_element}
+use Rattle.ipfix_template.specs.SameTemplate.{pen_is}
 use Rattle.flow_anonymize.specs.Remaining.{verdicts_of}
 use Rattle.flow_anonymize.specs.Within.{IsWithin, AreWithin, AreJudged}
 
@@ -44,17 +46,10 @@ sized Millis len width e allowed = absurd cc
 sized Text len width e allowed = absurd cc
 sized Octets len width e allowed = absurd cc
 
-pen_is : (a b : Option ℕ) → same_pen a b ≡ true → a ≡ b
-pen_is None None e = refl
-pen_is (Some a) (Some b) e = ap (λ (n : ℕ). Some n) (eqb-true a b e)
-pen_is None (Some b) e = absurd cc
-pen_is (Some a) None e = absurd cc
-
-same_element : (e f : Element) → is_same_element e f ≡ true → e ≡ f
-same_element e f is =
+element_is : (e f : Element) → is_same_element e f ≡ true → e ≡ f
+element_is e f is =
     let parts = and_parts (same_pen e.pen f.pen) (e.number == f.number) is in
-    ap (λ (pen : Option ℕ). record { pen = pen; number = e.number }) (pen_is e.pen f.pen parts.0)
-    ∙ ap (λ (number : ℕ). record { pen = f.pen; number = number }) (eqb-true e.number f.number parts.1)
+    same_element e f (pen_is e.pen f.pen parts.0) (eqb-true e.number f.number parts.1)
 
 fixed_length : (f : FieldSpec) (value : List ℕ) → is_variable f ≡ false → fits_field f value ≡ true → length value ≡ f.length
 fixed_length f value fixed fits = eqb-true _ _ (rw fixed at fits)
@@ -71,7 +66,7 @@ one_action aggregates element Keep f value met is allowed fits = tt
 one_action aggregates element Remove f value met is allowed fits = tt
 one_action aggregates None (Truncate bits) f value met is allowed fits = absurd cc
 one_action aggregates (Some e) (Truncate bits) f value met is allowed fits =
-    let same = same_element f.element e met in
+    let same = element_is f.element e met in
     let width : width_of_kind (kind_of f.element) ≡ Some is.0 = rw same is.1 in
     let size = sized (kind_of f.element) f.length is.0 width allowed in
     let long = fixed_length f value size.1 fits in

@@ -13,6 +13,7 @@ use Rattle.policy_judge.specs.Verdicts.{record_verdict_by, element_verdict_by, r
 use Rattle.policy_judge.specs.Laws.{concerning}
 use Rattle.policy_judge.proofs.NeverLaws.{acts_alone}
 use Rattle.disclosure_audit.specs.declared.entry.RemovedField.{RemovedField}
+use Rattle.flow_anonymize.proofs.Sound.{removed_from}
 use Rattle.flow_anonymize.specs.declared.disclosure.Reason.TheVariants as because
 use Rattle.flow_anonymize.specs.Outcome.{Outcome, Passes, Withholds}
 use Rattle.flow_anonymize.specs.Remaining.{verdicts_of, keeps, is_kept, shown_value, kept_fields, kept_values, removed_fields}
@@ -52,9 +53,6 @@ values_acted (v ∷ vs) (w ∷ ws) (u ∷ us) same =
     ap (λ a. map shown (cond (keeps a) ((v, w) ∷ some_ws) some_ws)) same.0
     ∙ elim (keeps u.action) as (λ b. map shown (cond b ((v, w) ∷ some_ws) some_ws) ≡ map shown (cond b ((v, u) ∷ some_us) some_us))
     [ true ↦ ap (λ a. shown_value a v ∷ kept_values vs ws) same.0 ∙ ap (λ xs. shown_value u.action v ∷ xs) rest | false ↦ rest ]
-
-removed_from : ℕ → List ElementVerdict → List RemovedField
-removed_from n ws = map (λ p. record { place = p.0; rule = p.1.rule }) (filter (λ p. not (is_kept p.1)) (enumerate_from n ws))
 
 removed_acted : (n : ℕ) (ws us : List ElementVerdict) → AllZip ActAlike ws us → map unnumbered_field (removed_from n ws) ≡ map unnumbered_field (removed_from n us)
 unfolding removed_from

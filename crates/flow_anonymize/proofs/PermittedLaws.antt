@@ -18,6 +18,7 @@ use Rattle.policy_judge.specs.declared.verdict.ElementVerdict.{ElementVerdict}
 use Rattle.policy_judge.specs.Match.{matches_field}
 use Rattle.policy_judge.specs.Verdicts.{first_rule, element_verdict_by, record_verdict_of, element_verdict_of}
 use Rattle.disclosure_audit.specs.declared.entry.RemovedField.{RemovedField}
+use Rattle.std.proofs.lemmas.List.{length-map}
 use Rattle.flow_anonymize.specs.declared.disclosure.Reason.TheVariants as because
 use Rattle.flow_anonymize.specs.Outcome.{Passes, Withholds}
 use Rattle.flow_anonymize.specs.Remaining.{verdicts_of, keeps, is_kept, shown_value, kept_fields, kept_values, removed_fields}
@@ -144,10 +145,6 @@ on_elements name domain r rules =
     (λ place f at. let there : 0 + place ≡ place = omega arith in
     ap (λ n. element_verdict_of name domain r n rules) there ∙ ap (λ (g : Option FieldSpec). element_verdict_by (first_rule (matches_field name domain r (option_map (λ f. f.element) g)) rules)) at)
 
-length_map : {A B : Type 0} (f : A → B) (xs : List A) → length (map f xs) ≡ length xs
-length_map f [] = refl
-length_map f (x ∷ xs) = ap suc (length_map f xs)
-
 pub only_permitted_passes : OnlyPermittedPasses
 only_permitted_passes name domain r rules kept removed octets is =
     let on = λ (f : FieldSpec). verdict_on name domain r rules f.element in
@@ -157,7 +154,7 @@ only_permitted_passes name domain r rules kept removed octets is =
     let passed = passed_by (record_verdict_of name domain r rules).action (record_verdict_of name domain r rules).rule (first_lost r.template.scope (removed_fields ws)) (remaining r ws) (removed_fields ws) kept removed here in
     let fields : kept_fields r.template.fields ws ≡ kept.template.fields = ap (λ (x : DataRecord). x.template.fields) passed.record_is in
     let whole : r.template.scope - 0 ≡ r.template.scope = omega arith in
-    let scope_stays = rw whole at (scope_kept r.template.scope 0 r.template.fields ws (length_map on r.template.fields) passed.none_lost) in
+    let scope_stays = rw whole at (scope_kept r.template.scope 0 r.template.fields ws (length-map r.template.fields on) passed.none_lost) in
     let values : kept_values r.values ws ≡ kept.values = ap (λ (x : DataRecord). x.values) passed.record_is in
     record {
       each = λ place field value h t. each_permitted on r.template.fields r.values octets place field value (rw fields h) (rw values t);

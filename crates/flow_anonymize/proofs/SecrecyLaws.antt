@@ -14,6 +14,7 @@ use Rattle.policy_judge.specs.declared.verdict.ElementVerdict.{ElementVerdict}
 use Rattle.policy_judge.specs.Occurrences.{sources, destinations}
 use Rattle.policy_judge.specs.Match.{is_met, is_on_records, denies, are_inside, is_for, covers, is_element, element_at, matches_record, matches_field}
 use Rattle.policy_judge.specs.Verdicts.{first_rule, record_verdict_by, element_verdict_by, record_verdict_of, element_verdict_of}
+use Rattle.std.proofs.lemmas.List.{length-map}
 use Rattle.flow_anonymize.specs.Outcome.{Outcome}
 use Rattle.flow_anonymize.specs.Remaining.{verdicts_of, keeps, is_kept, shown_value, kept_values, removed_fields}
 use Rattle.flow_anonymize.specs.Disclosed.{remaining_template, first_lost, unless_lost, transformed, by_verdict}
@@ -30,14 +31,10 @@ all_map : {A : Type 0} (test : A → Bool) (xs : List A) → list_all test xs �
 all_map test [] = refl
 all_map test (x ∷ xs) = ap (λ b. test x && b) (all_map test xs)
 
-length_map : {A B : Type 0} (f : A → B) (xs : List A) → length (map f xs) ≡ length xs
-length_map f [] = refl
-length_map f (x ∷ xs) = ap suc (length_map f xs)
-
 inside_alike : (deny : Bool) (vs ws : List (List ℕ)) (prefix : Prefix) → map (contains prefix) vs ≡ map (contains prefix) ws → are_inside deny vs prefix ≡ are_inside deny ws prefix
 inside_alike true vs ws prefix same = any_map (contains prefix) vs ∙ ap (list_any (λ b. b)) same ∙ sym (any_map (contains prefix) ws)
 inside_alike false vs ws prefix same =
-    let count : length vs ≡ length ws = sym (length_map (contains prefix) vs) ∙ ap length same ∙ length_map (contains prefix) ws in
+    let count : length vs ≡ length ws = sym (length-map vs (contains prefix)) ∙ ap length same ∙ length-map ws (contains prefix) in
     let all : list_all (contains prefix) vs ≡ list_all (contains prefix) ws = all_map (contains prefix) vs ∙ ap (list_all (λ b. b)) same ∙ sym (all_map (contains prefix) ws) in
     ap (λ n. nat_lt 0 n && list_all (contains prefix) vs) count ∙ ap (λ b. nat_lt 0 (length ws) && b) all
 

@@ -108,7 +108,7 @@ few_left (f ∷ fs) (w ∷ ws) =
 
 -- ---- scope fields
 
-removed_from : ℕ → List ElementVerdict → List RemovedField
+unfoldable pub removed_from : ℕ → List ElementVerdict → List RemovedField
 removed_from n ws = map (λ p. record { place = p.0; rule = p.1.rule }) (filter (λ p. not (is_kept p.1)) (enumerate_from n ws))
 
 scope_stays : (scope n : ℕ) (fs : List FieldSpec) (ws : List ElementVerdict) → first_lost scope (removed_from n ws) ≡ None → length ws ≡ length fs

@@ -6,12 +6,13 @@ use Rattle.std.proofs.Math.Nat.{pow-zero, pow-succ', mul_assoc, add-mul}
 use Rattle.std.proofs.lemmas.Nat.{pow-add}
 use Rattle.std.proofs.lemmas.Option.{cond_some, none-some}
 use Rattle.std.proofs.lemmas.Bool.{cases_lt, le-leb, lt-ltb, le-ltb, eq-eqb, ne_eqb}
+use Rattle.sequences.specs.Options.{◌>>=◌}
 use Rattle.flow_prefix.specs.declared.family.Family.{Family}
 use Rattle.flow_prefix.specs.declared.family.Family.TheVariants.{Ipv4, Ipv6}
 use Rattle.flow_prefix.specs.declared.parts.Parts.{Parts}
 use Rattle.flow_prefix.specs.Family.{places, base, width}
 use Rattle.flow_prefix.specs.Parts.{continued, counted}
-use Rattle.flow_prefix.specs.Reading.{◌>>=◌, whole, number_in, filled, groups_of, all_parts_of, address_of, long_or_short, at_double, parts_of}
+use Rattle.flow_prefix.specs.Reading.{whole, number_in, filled, groups_of, all_parts_of, address_of, long_or_short, at_double, parts_of}
 
 -- what the count and the number of parts say of them
 pub record Counts (family : Family) (parts : List ℕ) (p : Parts) : Type 0 where

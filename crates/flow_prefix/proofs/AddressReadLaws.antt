@@ -7,15 +7,18 @@ use Rattle.std.proofs.lemmas.Int.Digits.{number_lt, digits_value-lt}
 use Rattle.std.proofs.lemmas.List.{length-replicate}
 use Rattle.std.proofs.lemmas.Option.{cond_some, same_Some}
 use Rattle.std.proofs.lemmas.Bool.{lt-ltb, ltb-true, eq-eqb, eqb-true}
+use Rattle.sequences.specs.Options.{◌>>=◌}
+use Rattle.sequences.proofs.OptionLaws.{bind_some}
+use Rattle.sequences.proofs.ListLaws.{Lacks, AllByRecursion-append}
 use Rattle.flow_prefix.specs.declared.family.Family.{Family}
 use Rattle.flow_prefix.specs.declared.family.Family.TheVariants.{Ipv4, Ipv6}
 use Rattle.flow_prefix.specs.Family.{places, base, separator, width}
 use Rattle.flow_prefix.specs.Text.{IsPart, AreParts, AreShortened, WritesParts, IsAddress}
-use Rattle.flow_prefix.specs.Reading.{◌>>=◌, parts_of, groups_of, at_double, filled, whole, long_or_short, all_parts_of, address_of}
+use Rattle.flow_prefix.specs.Reading.{parts_of, groups_of, at_double, filled, whole, long_or_short, all_parts_of, address_of}
 use Rattle.flow_prefix.proofs.ScanLaws.{at_double-text}
 use Rattle.flow_prefix.proofs.PowerLaws.{power_up}
 use Rattle.flow_prefix.proofs.AddressLaws.{whole_power}
-use Rattle.flow_prefix.proofs.AddressTextLaws.{bind-some, parts_of-found, parts_of-only, groups_of-found, groups_of-only, part_digits, Lacks, Lacks-digits, Lacks-append, Lacks-middle}
+use Rattle.flow_prefix.proofs.AddressTextLaws.{parts_of-found, parts_of-only, groups_of-found, groups_of-only, part_digits, Lacks-digits, Lacks-middle}
 use Rattle.flow_prefix.proofs.DoubleLaws.{at_double-groups, at_double-sides}
 
 -- the parts of a whole address
@@ -30,15 +33,15 @@ whole-found family parts all e =
 
 long-found : (family : Family) (text parts : List ℕ) → (parts_of family text >>= whole family) ≡ Some parts → AreParts family text parts × (length parts ≡ places family)
 long-found family text parts e =
-    let read = bind-some (parts_of family text) (whole family) parts e in
+    let read = bind_some (parts_of family text) (whole family) parts e in
     let chosen = whole-found family read.0 parts read.2 in
     let P : List ℕ → Type 0 = λ ps. AreParts family text ps × (length ps ≡ places family) in
     subst P chosen.1 (parts_of-found family text read.0 read.1, chosen.0)
 
 short-found : (text before after parts : List ℕ) → at_double text ≡ Some (before, after) → (groups_of before >>= λ left. groups_of after >>= λ right. filled left right) ≡ Some parts → IsWhole Ipv6 text parts
 short-found text before after parts place e =
-    let l = bind-some (groups_of before) (λ left. groups_of after >>= λ right. filled left right) parts e in
-    let r = bind-some (groups_of after) (λ right. filled l.0 right) parts l.2 in
+    let l = bind_some (groups_of before) (λ left. groups_of after >>= λ right. filled left right) parts e in
+    let r = bind_some (groups_of after) (λ right. filled l.0 right) parts l.2 in
     let zeros = 8 - (length l.0 + length r.0) in
     let chosen = cond_some (ltb (length l.0 + length r.0) 8) (l.0 ++ replicate zeros 0 ++ r.0) parts r.2 in
     let room = ltb-true (length l.0 + length r.0) 8 chosen.0 in
@@ -71,7 +74,7 @@ all_parts_of-found Ipv6 text parts e = by_sides text parts (at_double text) refl
 pub address_of-found : (family : Family) (text : List ℕ) (n : ℕ) → address_of family text ≡ Some n → IsAddress family text n
 unfolding address_of
 address_of-found family text n e =
-    let read = bind-some (all_parts_of family text) (λ parts. Some (number_from_digits (base family) parts)) n e in
+    let read = bind_some (all_parts_of family text) (λ parts. Some (number_from_digits (base family) parts)) n e in
     let h = all_parts_of-found family text read.0 read.1 in
     record { parts = read.0; written = h.written; all = h.all; value = sym (same_Some (number_from_digits (base family) read.0) n read.2) }
 
@@ -102,12 +105,11 @@ address_of-only family text n h = rw (all_parts_of-only family text h.parts h.wr
 
 -- an address has digits and separators alone
 joined_lacks : (family : Family) (byte : ℕ) → digit_value byte ≡ 36 → eqb (separator family) byte ≡ false → (words : List (List ℕ)) (parts : List ℕ) → AllZip (IsPart family) words parts → Lacks byte (join_with_byte (separator family) words)
-unfolding Lacks
 joined_lacks family byte other apart [] parts h = tt
 joined_lacks family byte other apart (word ∷ words) [] h = absurd h
 joined_lacks family byte other apart (word ∷ []) (n ∷ ns) h = Lacks-digits byte other word (part_digits family word n h.0).1
 joined_lacks family byte other apart (word ∷ next ∷ words) (n ∷ ns) h =
-    Lacks-append byte word (separator family ∷ join_with_byte (separator family) (next ∷ words)) (Lacks-digits byte other word (part_digits family word n h.0).1) (apart, joined_lacks family byte other apart (next ∷ words) ns h.1)
+    AllByRecursion-append (λ c. eqb c byte ≡ false) word (separator family ∷ join_with_byte (separator family) (next ∷ words)) (Lacks-digits byte other word (part_digits family word n h.0).1) (apart, joined_lacks family byte other apart (next ∷ words) ns h.1)
 
 parts_lack : (family : Family) (byte : ℕ) → digit_value byte ≡ 36 → eqb (separator family) byte ≡ false → (text parts : List ℕ) → AreParts family text parts → Lacks byte text
 parts_lack family byte other apart text parts h =
@@ -115,10 +117,9 @@ parts_lack family byte other apart text parts h =
     subst P (sym h.joined) (joined_lacks family byte other apart h.words parts h.each)
 
 shortened_lacks : (byte : ℕ) → digit_value byte ≡ 36 → eqb 58 byte ≡ false → (text parts : List ℕ) → AreShortened text parts → Lacks byte text
-unfolding Lacks
 shortened_lacks byte other apart text parts h =
     let P : List ℕ → Type 0 = λ t. Lacks byte t in
-    subst P (sym h.text_is) (Lacks-append byte h.before (58 ∷ 58 ∷ h.after) (parts_lack Ipv6 byte other apart h.before h.left h.before_is) (apart, (apart, parts_lack Ipv6 byte other apart h.after h.right h.after_is)))
+    subst P (sym h.text_is) (AllByRecursion-append (λ c. eqb c byte ≡ false) h.before (58 ∷ 58 ∷ h.after) (parts_lack Ipv6 byte other apart h.before h.left h.before_is) (apart, (apart, parts_lack Ipv6 byte other apart h.after h.right h.after_is)))
 
 pub written_lacks : (family : Family) (byte : ℕ) → digit_value byte ≡ 36 → eqb (separator family) byte ≡ false → (text parts : List ℕ) → WritesParts family text parts → Lacks byte text
 written_lacks Ipv4 byte other apart text parts h = parts_lack Ipv4 byte other apart text parts h
@@ -173,10 +174,6 @@ each_below family [] (n ∷ ns) h = absurd h
 each_below family (word ∷ words) [] h = tt
 each_below family (word ∷ words) (n ∷ ns) h = (part_below family word n h.0, each_below family words ns h.1)
 
-below_append : (b : ℕ) (xs ys : List ℕ) → AllBelowBase b xs → AllBelowBase b ys → AllBelowBase b (xs ++ ys)
-below_append b [] ys p q = q
-below_append b (x ∷ xs) ys p q = (p.0, below_append b xs ys p.1 q)
-
 below_zeros : (b zeros : ℕ) → 0 < b → AllBelowBase b (replicate zeros 0)
 below_zeros b zero positive = tt
 below_zeros b (suc zeros) positive = (positive, below_zeros b zeros positive)
@@ -187,7 +184,7 @@ written_below Ipv6 text parts h =
     ⊎_elim (λ (groups : AreParts Ipv6 text parts). each_below Ipv6 groups.words parts groups.each)
     (λ (short : AreShortened text parts).
     let P : List ℕ → Type 0 = λ ps. AllBelowBase 65536 ps in
-    subst P (sym short.groups_are) (below_append 65536 (short.left ++ replicate short.zeros 0) short.right (below_append 65536 short.left (replicate short.zeros 0) (each_below Ipv6 short.before_is.words short.left short.before_is.each) (below_zeros 65536 short.zeros (omega arith))) (each_below Ipv6 short.after_is.words short.right short.after_is.each)))
+    subst P (sym short.groups_are) (AllByRecursion-append (λ d. d < 65536) (short.left ++ replicate short.zeros 0) short.right (AllByRecursion-append (λ d. d < 65536) short.left (replicate short.zeros 0) (each_below Ipv6 short.before_is.words short.left short.before_is.each) (below_zeros 65536 short.zeros (omega arith))) (each_below Ipv6 short.after_is.words short.right short.after_is.each)))
     h
 
 pub address_below : (family : Family) (text : List ℕ) (n : ℕ) → IsAddress family text n → n < 2 ^ width family

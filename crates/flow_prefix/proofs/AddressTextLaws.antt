@@ -1,26 +1,26 @@
 -- An address that is read is written so, and one that is written so is read.
-use Rattle.std.proofs.Common.{◌≡◌, ℕ, zero, suc, ◌<◌, ◌≤◌, false, eqb, List, [], ◌∷◌, ◌++◌, length, Option, Some, None, refl, sym, ap, ◌∙◌, subst, arith, ⊎_elim, length-append}
-use Rattle.std.specs.List.{AllZip, All, join_with_byte, slice_split}
+use Rattle.std.proofs.Common.{◌≡◌, ℕ, ◌<◌, ◌≤◌, false, eqb, List, [], ◌∷◌, ◌++◌, length, Some, refl, sym, ap, ◌∙◌, subst, arith, ⊎_elim, length-append}
+use Rattle.std.specs.List.{AllZip, All, join_with_byte, slice_split, AllByRecursion}
 use Rattle.std.specs.Fmt.{decimal}
 use Rattle.std.specs.Char.{digit_value}
 use Rattle.std.specs.Str.Parse.{AllDigits}
 use Rattle.std.proofs.lemmas.Fmt.{decimal_is_IsNumeral}
 use Rattle.std.proofs.lemmas.Int.Digits.{digits_value-lt}
-use Rattle.std.proofs.lemmas.List.Splits.{slice_split_at, slice_split_none, join_with_byte-slice_split}
+use Rattle.std.proofs.lemmas.List.Splits.{join_with_byte-slice_split}
 use Rattle.std.proofs.lemmas.Option.{none-some, same_Some}
 use Rattle.std.proofs.lemmas.Bool.{cases_lt, lt-ltb, le-ltb, eq-eqb, ne_eqb}
+use Rattle.sequences.specs.Options.{◌>>=◌}
+use Rattle.sequences.proofs.OptionLaws.{bind_some}
+use Rattle.sequences.proofs.ListLaws.{Lacks}
+use Rattle.std.proofs.lemmas.List.Elements.{All-from_recursion}
+use Rattle.sequences.proofs.JoinLaws.{split-joined}
 use Rattle.flow_prefix.specs.declared.family.Family.{Family}
 use Rattle.flow_prefix.specs.declared.family.Family.TheVariants.{Ipv4, Ipv6}
 use Rattle.flow_prefix.specs.Family.{separator}
 use Rattle.flow_prefix.specs.Text.{IsPart, AreParts}
-use Rattle.flow_prefix.specs.Reading.{◌>>=◌, part_of, each_part_of, parts_of, groups_of}
+use Rattle.flow_prefix.specs.Reading.{part_of, each_part_of, parts_of, groups_of}
 use Rattle.flow_prefix.proofs.NumeralLaws.{number_of-found, number_of-only, digits_number-found, digits_number-only}
 use Rattle.flow_prefix.proofs.PowerLaws.{power_up}
-
--- what a step that gave a value was given
-pub bind-some : {A B : Type 0} (o : Option A) (f : A → Option B) (y : B) → (o >>= f) ≡ Some y → (x : A) × (o ≡ Some x) × (f x ≡ Some y)
-bind-some None f y e = absurd (none-some y e)
-bind-some (Some x) f y e = (x, refl, e)
 
 pub part_of-found : (family : Family) (word : List ℕ) (n : ℕ) → part_of family word ≡ Some n → IsPart family word n
 unfolding part_of
@@ -50,8 +50,8 @@ unfolding each_part_of
 each_part_of-found family [] [] e = tt
 each_part_of-found family [] (n ∷ ns) e = cc
 each_part_of-found family (word ∷ words) parts e =
-    let first = bind-some (part_of family word) (λ n. each_part_of family words >>= λ ns. Some (n ∷ ns)) parts e in
-    let rest = bind-some (each_part_of family words) (λ ns. Some (first.0 ∷ ns)) parts first.2 in
+    let first = bind_some (part_of family word) (λ n. each_part_of family words >>= λ ns. Some (n ∷ ns)) parts e in
+    let rest = bind_some (each_part_of family words) (λ ns. Some (first.0 ∷ ns)) parts first.2 in
     let all : first.0 ∷ rest.0 ≡ parts = same_Some (first.0 ∷ rest.0) parts rest.2 in
     let P : List ℕ → Type 0 = λ ps. AllZip (IsPart family) (word ∷ words) ps in
     subst P all (part_of-found family word first.0 first.1, each_part_of-found family words rest.0 rest.1)
@@ -85,40 +85,24 @@ separator_value : (family : Family) → digit_value (separator family) ≡ 36
 separator_value Ipv4 = refl
 separator_value Ipv6 = refl
 
--- the byte stands nowhere in the text
-unfoldable pub Lacks : ℕ → List ℕ → Type 0
-Lacks byte [] = Unit {0}
-Lacks byte (c ∷ cs) = (eqb c byte ≡ false) × Lacks byte cs
-
 pub Lacks-digits : (byte : ℕ) → digit_value byte ≡ 36 → (ds : List ℕ) → AllDigits 16 ds → Lacks byte ds
-unfolding Lacks
 Lacks-digits byte other [] h = tt
 Lacks-digits byte other (c ∷ cs) h = (digit_other c byte h.0 other, Lacks-digits byte other cs h.1)
 
-pub Lacks-append : (byte : ℕ) (xs ys : List ℕ) → Lacks byte xs → Lacks byte ys → Lacks byte (xs ++ ys)
-unfolding Lacks
-Lacks-append byte [] ys p q = q
-Lacks-append byte (x ∷ xs) ys p q = (p.0, Lacks-append byte xs ys p.1 q)
-
 pub Lacks-middle : (byte : ℕ) (xs ys : List ℕ) → Lacks byte (xs ++ byte ∷ ys) → ⊥
-unfolding Lacks
 Lacks-middle byte [] ys h = let e = h.0 in let same = eq-eqb byte byte refl in cc
 Lacks-middle byte (x ∷ xs) ys h = Lacks-middle byte xs ys h.1
 
--- the words come back from the joined text
-Lacks-all : (byte : ℕ) (xs : List ℕ) → Lacks byte xs → All (λ c. eqb c byte ≡ false) xs
-unfolding Lacks
-Lacks-all byte [] h k d low = absurd (omega arith)
-Lacks-all byte (x ∷ xs) h zero d low = h.0
-Lacks-all byte (x ∷ xs) h (suc k) d low = Lacks-all byte xs h.1 k d (omega arith)
+no_separator : (family : Family) (words : List (List ℕ)) (parts : List ℕ) → AllZip (IsPart family) words parts → AllByRecursion (All (λ c. eqb c (separator family) ≡ false)) words
+no_separator family [] parts h = tt
+no_separator family (word ∷ words) [] h = absurd h
+no_separator family (word ∷ words) (n ∷ ns) h =
+    (All-from_recursion (λ c. eqb c (separator family) ≡ false) word (Lacks-digits (separator family) (separator_value family) word (part_digits family word n h.0).1), no_separator family words ns h.1)
 
+-- the words come back from the joined text
 pub split_joined : (family : Family) (word : List ℕ) (words : List (List ℕ)) (parts : List ℕ) → AllZip (IsPart family) (word ∷ words) parts → slice_split (λ c. eqb c (separator family)) (join_with_byte (separator family) (word ∷ words)) ≡ word ∷ words
-split_joined family word words [] h = absurd h
-split_joined family word [] (n ∷ ns) h =
-    slice_split_none (λ c. eqb c (separator family)) word (Lacks-all (separator family) word (Lacks-digits (separator family) (separator_value family) word (part_digits family word n h.0).1))
-split_joined family word (next ∷ words) (n ∷ ns) h =
-    slice_split_at (λ c. eqb c (separator family)) word (separator family) (join_with_byte (separator family) (next ∷ words)) (Lacks-all (separator family) word (Lacks-digits (separator family) (separator_value family) word (part_digits family word n h.0).1)) (eq-eqb (separator family) (separator family) refl)
-    ∙ ap (λ t. word ∷ t) (split_joined family next words ns h.1)
+split_joined family word words parts h =
+    split-joined (λ c. eqb c (separator family)) (separator family) word words (eq-eqb (separator family) (separator family) refl) (no_separator family (word ∷ words) parts h)
 
 pub parts_of-found : (family : Family) (text parts : List ℕ) → parts_of family text ≡ Some parts → AreParts family text parts
 unfolding parts_of

@@ -6,7 +6,7 @@ use Rattle.std.proofs.lemmas.Nat.{pow-add, pow_pos, div-mul-add}
 use Rattle.std.proofs.lemmas.Bool.{cases_lt}
 use Rattle.std.proofs.lemmas.List.{take_more}
 use Rattle.sequences.specs.Octets.{be_value, be_octets, AreOctets}
-use Rattle.sequences.proofs.OctetLaws.{byte_at-pow, be_value-append, be_value-below, be_value-be_octets, length-be_octets, pow_positive}
+use Rattle.sequences.proofs.OctetLaws.{byte_at-pow, be_value-append, be_value-below, be_value-be_octets, length-be_octets, pow_positive, AreOctets-rest}
 use Rattle.flow_prefix.specs.Bits.{truncated, kept_octets, KeepsBits}
 use Rattle.flow_prefix.proofs.PowerLaws.{octet_power}
 
@@ -60,9 +60,6 @@ truncated-none k v below =
     let quotient : v / 2 ^ (8 * k) ≡ 0 = div-eq_of_lt below_power in
     let same : 8 * k - 0 ≡ 8 * k = omega arith in
     rw (same, quotient) (omega arith)
-
-AreOctets-rest : (x : ℕ) (xs : List ℕ) → AreOctets (x ∷ xs) → AreOctets xs
-AreOctets-rest x xs h i = h (suc i)
 
 first_after : (k n octet rest : ℕ) → octet < 256 → rest < 256 ^ k → 8 ≤ n → byte_at k (octet * 256 ^ k + truncated (8 * k) (n - 8) rest) ≡ octet
 first_after k n octet rest small below h =

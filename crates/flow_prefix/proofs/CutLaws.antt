@@ -5,11 +5,10 @@ use Rattle.std.proofs.lemmas.List.{take_at, drop_more, take-append-drop}
 use Rattle.std.proofs.lemmas.List.Sums.{prefix_len_stops}
 use Rattle.std.proofs.lemmas.Option.{none-some, some_pair_parts}
 use Rattle.std.proofs.lemmas.Bool.{not-false, eqb-true, eq-eqb, lt-ltb, le-ltb, cases_lt}
+use Rattle.sequences.proofs.ListLaws.{Lacks}
 use Rattle.flow_prefix.specs.Reading.{cut_at}
-use Rattle.flow_prefix.proofs.AddressTextLaws.{Lacks}
 
 place_middle : (byte : ℕ) (front rest : List ℕ) → Lacks byte front → position_or_len (λ c. eqb c byte) (front ++ byte ∷ rest) ≡ length front
-unfolding Lacks
 place_middle byte [] rest h = rw (eq-eqb byte byte refl) refl
 place_middle byte (c ∷ cs) rest h = let after = place_middle byte cs rest h.1 in rw h.0 (omega (arith, after))
 

@@ -6,13 +6,14 @@ use Rattle.std.proofs.lemmas.Option.{some_pair_parts, none-some}
 use Rattle.std.proofs.lemmas.List.Splits.{slice_split_first, slice_split_none}
 use Rattle.std.proofs.lemmas.List.Sums.{prefix_len_passes}
 use Rattle.std.proofs.lemmas.Bool.{not-true, cases_lt, le-leb, lt-leb, lt-ltb, le-ltb}
+use Rattle.sequences.specs.Options.{◌>>=◌}
 use Rattle.flow_prefix.specs.declared.family.Family.{Family}
 use Rattle.flow_prefix.specs.declared.family.Family.TheVariants.{Ipv4, Ipv6}
 use Rattle.flow_prefix.proofs.PowerLaws.{digit_fits}
 use Rattle.flow_prefix.specs.declared.parts.Parts.{Parts}
 use Rattle.flow_prefix.specs.Family.{places, base, separator}
 use Rattle.flow_prefix.specs.Parts.{continued}
-use Rattle.flow_prefix.specs.Reading.{◌>>=◌, part_of, each_part_of, parts_of, cut_at}
+use Rattle.flow_prefix.specs.Reading.{part_of, each_part_of, parts_of, cut_at}
 
 pub continued-none : (family : Family) (front : Parts) → continued family front None ≡ None
 unfolding continued

@@ -2,6 +2,7 @@
 use Rattle.std.proofs.Common.{◌≡◌, ◌≢◌, ◌⊎◌, ◌↔◌, inl, inr, ℕ, ◌<◌, ◌≤◌, List, ◌∷◌, ◌++◌, Option, Some, None, Result, Ok, Err, IfOk, refl, sym, ap, ◌∙◌, subst, arith, ⊎_elim}
 use Rattle.std.specs.Fmt.{decimal}
 use Rattle.std.proofs.lemmas.Bool.{lt-ltb, le-ltb, eq-eqb, ne_eqb, cases_lt, cases_eq}
+use Rattle.sequences.proofs.ResultLaws.{Err-Ok}
 use Rattle.flow_prefix.specs.declared.family.Family.{Family}
 use Rattle.flow_prefix.specs.declared.family.Family.TheVariants.{Ipv4, Ipv6}
 use Rattle.flow_prefix.specs.declared.fault.PrefixFault.{PrefixFault}
@@ -104,13 +105,10 @@ ok_judged text p h (Good within same) =
     let P : Prefix → Type 0 = λ q. IsPrefixText text q in
     subst P (sym is) (text_in text h.family h.address h.bits h.form within same)
 
-ok_err : (p : Prefix) → Ok p ≡ Err BadText → ⊥
-ok_err p e = cc
-
 found_by : (text : List ℕ) (r : Result Prefix PrefixFault) → (r ≡ Err BadText) ⊎ IsJudged text r → IfOk r (λ p. IsPrefixText text p)
 found_by text (Err e) h = tt
 found_by text (Ok p) h =
-    ⊎_elim (λ (bad : Ok p ≡ Err BadText). absurd (ok_err p bad))
+    ⊎_elim (λ (bad : Ok p ≡ Err BadText). absurd (Err-Ok BadText p (sym bad)))
     (λ (judgement : IsJudged text (Ok p)). ok_judged text p judgement (judgement_of judgement.family judgement.address judgement.bits))
     h
 

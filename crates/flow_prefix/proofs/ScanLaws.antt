@@ -1,18 +1,14 @@
 -- Where the first `::` stands.
-use Rattle.std.proofs.Common.{◌≡◌, ℕ, zero, suc, ◌+◌, ◌<◌, ◌≤◌, true, false, ◌&&◌, eqb, List, [], ◌∷◌, ◌++◌, length, get_or, take, drop, Option, Some, None, refl, sym, ap, ◌∙◌, arith, ⊎_elim, ◌-◌, length-drop}
+use Rattle.std.proofs.Common.{◌≡◌, ℕ, zero, suc, ◌+◌, ◌<◌, ◌≤◌, true, false, ◌&&◌, eqb, List, [], ◌∷◌, ◌++◌, length, get_or, take, drop, Option, Some, None, refl, sym, ap, ◌∙◌, arith, ⊎_elim, ◌-◌}
 use Rattle.std.specs.List.{position}
 use Rattle.std.proofs.lemmas.Bool.{cases_Bool, and_parts, eqb-true, eq-eqb}
 use Rattle.std.proofs.lemmas.Option.{none-some, some_pair_parts}
-use Rattle.std.proofs.lemmas.List.{take_all}
+use Rattle.std.proofs.lemmas.List.{take_rest}
 use Rattle.flow_prefix.specs.Reading.{at_double, onto_left, cut_at}
-
--- what a slice from a place on is
-rest_from : (n : ℕ) (text : List ℕ) → take (length text - n) (drop n text) ≡ drop n text
-rest_from n text = take_all (length text - n) (drop n text) (omega (arith, length-drop n text))
 
 pub cut_at-found : (byte : ℕ) (text : List ℕ) (i : ℕ) → position (λ c. eqb c byte) text ≡ Some i → Some (take i text, take (length text - (i + 1)) (drop (i + 1) text)) ≡ cut_at byte text
 unfolding cut_at
-cut_at-found byte text i e = rw (e, rest_from) refl
+cut_at-found byte text i e = rw (e, take_rest) refl
 
 pub cut_at-none : (byte : ℕ) (text : List ℕ) → position (λ c. eqb c byte) text ≡ None → cut_at byte text ≡ None
 unfolding cut_at
@@ -62,7 +58,7 @@ at_double-at text at low high none first second =
     let place : at - 1 + 1 ≡ at = omega arith in
     let after : at - 1 + 2 ≡ at + 1 = omega arith in
     let found = at_double-found text (at - 1) (omega arith) (λ k small double. none k (omega arith) double) (record { first = first; second = rw place second }) in
-    rw rest_from (sym (rw after at found))
+    rw take_rest (sym (rw after at found))
 
 -- the text is what stands on both sides
 onto_left-some : (c : ℕ) (o : Option (List ℕ × List ℕ)) (before after : List ℕ) → onto_left c o ≡ Some (before, after) → (rest : List ℕ) × (o ≡ Some (rest, after)) × (before ≡ c ∷ rest)

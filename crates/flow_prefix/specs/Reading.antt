@@ -2,6 +2,7 @@
 use Rattle.std.specs.Prelude.{ℕ, ◌+◌, ◌-◌, List, [], ◌∷◌, ◌++◌, length, Option, Some, None, Result, Ok, Err, nat_lt, ◌==◌, ◌&&◌, if◌then◌else◌, replicate, position, take, drop}
 use Rattle.std.specs.List.{slice_split}
 use Rattle.std.specs.Int.Digits.{number_from_digits}
+use Rattle.sequences.specs.Options.{◌>>=◌}
 use Rattle.flow_prefix.specs.declared.family.Family.{Family}
 use Rattle.flow_prefix.specs.declared.family.Family.TheVariants.{Ipv4, Ipv6}
 use Rattle.flow_prefix.specs.declared.fault.PrefixFault.{PrefixFault}
@@ -12,11 +13,6 @@ use Rattle.flow_prefix.specs.Bits.{truncated}
 use Rattle.flow_prefix.specs.Family.{width, places, base, separator}
 use Rattle.flow_prefix.specs.Net.{Net}
 use Rattle.flow_prefix.specs.Numerals.{number_of, digits_number}
-
-infixl 10 ◌>>=◌
-abbrev pub ◌>>=◌ : {A B : Type 0} → Option A → (A → Option B) → Option B
-(Some x) >>= f = f x
-None >>= f = None
 
 -- what stands before the first such byte, and behind it
 unfoldable pub cut_at : ℕ → List ℕ → Option (List ℕ × List ℕ)

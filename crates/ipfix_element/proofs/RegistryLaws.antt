@@ -1,7 +1,7 @@
 -- The registry has each number once and each name once, and no name like that of an element by its number.
 use Rattle.std.proofs.Common.{◌≡◌, ℕ, ◌<◌, Bool, true, false, cond, not, ◌&&◌, eqb, ltb, leb, List, [], ◌∷◌, get_or, length, Option, Some, None, IfSome, refl, ap, sym, ◌∙◌, subst}
 use Rattle.std.specs.List.{find, list_all}
-use Rattle.std.proofs.lemmas.Bool.{false≢true}
+use Rattle.std.proofs.lemmas.Bool.{false≢true, and_parts, not-true}
 use Rattle.std.proofs.lemmas.Bool.Decides.{Decides-eqb, Decides-ltb}
 use Rattle.std.proofs.lemmas.Slice.Eq.{bytes_eq-Decides}
 use Rattle.ipfix_element.specs.declared.registry.TheConstants.{NUMBERS}
@@ -42,22 +42,14 @@ all_kept_apart : list_all keeps_apart registry ≡ true
 unfolding registry keeps_apart holds looks_numbered
 all_kept_apart = refl
 
-both : (b c : Bool) → (b && c) ≡ true → (b ≡ true) × (c ≡ true)
-both true c h = (refl, h)
-both false c h = absurd (false≢true h)
-
-not_true : (b : Bool) → not b ≡ true → b ≡ false
-not_true true h = absurd (false≢true h)
-not_true false h = refl
-
 -- a line is found by its number, its name leads back to it, and looks like no number's
 pub line_is : (number : ℕ) (line : Registered) → line_of number ≡ Some line → (find (λ n. is_named n line.name) NUMBERS ≡ Some number) × (looks_numbered line.name ≡ false)
 unfolding keeps_apart
 line_is number line e =
     let found = find_both (λ l. eqb l.number number) keeps_apart registry line e all_kept_apart in
     let same = (Decides-eqb line.number number).0 found.0 in
-    let parts = both (holds (find (λ n. is_named n line.name) NUMBERS) line.number) _ found.1 in
-    (holds-Some _ _ parts.0 ∙ ap Some same, not_true _ parts.1)
+    let parts = and_parts (holds (find (λ n. is_named n line.name) NUMBERS) line.number) _ found.1 in
+    (holds-Some _ _ parts.0 ∙ ap Some same, not-true _ parts.1)
 
 pub named_only : (number : ℕ) (text : List ℕ) → IsLineName number text → find (λ n. is_named n text) NUMBERS ≡ Some number
 named_only number text (line, is, name) =
@@ -91,5 +83,5 @@ pub line_word : (number : ℕ) (line : Registered) → line_of number ≡ Some l
 unfolding is_word
 line_word number line e =
     let found = find_both (λ l. eqb l.number number) is_word registry line e all_words in
-    let parts = both (ltb 0 (length line.name)) _ found.1 in
+    let parts = and_parts (ltb 0 (length line.name)) _ found.1 in
     ((Decides-ltb 0 (length line.name)).0 parts.0, parts.1)

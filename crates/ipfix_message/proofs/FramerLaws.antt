@@ -1,12 +1,11 @@
 -- The steps of a Framer, over plain lists.
-use Rattle.std.proofs.Common.{◌≡◌, ℕ, ◌+◌, ◌-◌, List, [], ◌∷◌, ◌++◌, length, take, drop, Option, Some, None, refl, sym, ap, subst, ◌∙◌, append_assoc, append-nil, arith, inr}
+use Rattle.std.proofs.Common.{◌≡◌, ℕ, ◌+◌, ◌-◌, List, [], ◌∷◌, ◌++◌, take, drop, Option, Some, None, refl, sym, ap, subst, ◌∙◌, append_assoc, append-nil, arith, inr}
 use Rattle.std.specs.List.{concat, All}
 use Rattle.std.proofs.lemmas.List.{take-append-drop}
 use Rattle.std.proofs.Math.Seq.{take-add}
 use Rattle.std.proofs.lemmas.List.Elements.{All-append, All-nil, All-cons}
-use Rattle.std.proofs.lemmas.List.Folds.{concat-append}
 use Rattle.std.specs.Prelude.{MatchOption}
-use Rattle.std.proofs.lemmas.Grind.{common_steps}
+use Rattle.sequences.proofs.ListLaws.{concat_push}
 use Rattle.ipfix_message.specs.declared.frame_error.FrameError.{FrameError}
 use Rattle.ipfix_message.specs.declared.frame_error.FrameError.TheVariants.{BadVersion, BadLength, OutOfMemory}
 use Rattle.ipfix_message.specs.declared.framer.scan.Front.{Front}
@@ -16,10 +15,6 @@ use Rattle.ipfix_message.specs.Framing.{IsWhole, IsPartial, IsFaulty, EndsWith, 
 use Rattle.ipfix_message.specs.Fronts.{IsFront, AreMessages, IsExtent, AreCut}
 use Rattle.ipfix_message.specs.FramerState.{FramerState, Continues, FailsBy}
 use Rattle.ipfix_message.proofs.FramingLaws.{framed_once, framed_on}
-
--- the octets from a place on, as a slice has them
-pub rest_from : (octets : List ℕ) (place : ℕ) → take (length octets - place) (drop place octets) ≡ drop place octets
-rest_from octets place = grind (arith, common_steps)
 
 -- no octets are less than a message
 partial_nothing : IsPartial []
@@ -34,15 +29,9 @@ all_framed octets messages each e = record {
   ends = (refl, partial_nothing);
 }
 
-concat-one : (m : List ℕ) → concat (m ∷ []) ≡ m
-concat-one m = append-nil m
-
 -- one message more
 pub each_more : (messages : List (List ℕ)) (m : List ℕ) → All IsWhole messages → IsWhole m → All IsWhole (messages ++ m ∷ [])
 each_more messages m each w = All-append IsWhole messages (m ∷ []) each (All-cons IsWhole m [] w (All-nil IsWhole))
-
-pub concat-more : (messages : List (List ℕ)) (m : List ℕ) → concat (messages ++ m ∷ []) ≡ concat messages ++ m
-concat-more messages m = concat-append messages (m ∷ []) ∙ ap (λ (octets : List ℕ). concat messages ++ octets) (concat-one m)
 
 -- the octets up to a whole message, and that message
 pub AreMessages-more : (octets : List ℕ) (whole n : ℕ) → AreMessages (take whole octets) → IsWhole (take n (drop whole octets)) → AreMessages (take (whole + n) octets)
@@ -51,7 +40,7 @@ AreMessages-more octets whole n before w = record {
   joined =
       take-add whole n octets
       ∙ ap (λ (front : List ℕ). front ++ take n (drop whole octets)) before.joined
-      ∙ sym (concat-more before.messages (take n (drop whole octets)));
+      ∙ sym (concat_push before.messages (take n (drop whole octets)));
   each = each_more before.messages (take n (drop whole octets)) before.each w;
 }
 
@@ -61,7 +50,7 @@ joined_more octets left messages n e =
     e
     ∙ ap (λ (rest : List ℕ). concat messages ++ rest) (sym (take-append-drop n left))
     ∙ sym (append_assoc (concat messages) (take n left) (drop n left))
-    ∙ ap (λ (front : List ℕ). front ++ drop n left) (sym (concat-more messages (take n left)))
+    ∙ ap (λ (front : List ℕ). front ++ drop n left) (sym (concat_push messages (take n left)))
 
 -- what is cut off octets that are whole messages, until no message is at the front, are those messages
 messages_all : (octets left : List ℕ) (found messages : List (List ℕ)) (f : Front) → octets ≡ concat found ++ left → All IsWhole found → IsFront left f → ((n : ℕ) → f ≡ Whole n → ⊥) → All IsWhole messages → octets ≡ concat messages → found ≡ messages

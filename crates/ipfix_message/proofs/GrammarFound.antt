@@ -2,14 +2,18 @@
 use Rattle.std.proofs.Common.{inl, inr, ◌⊎◌, ◌≡◌, ℕ, zero, suc, ◌+◌, ◌-◌, ◌<◌, ◌≤◌, Bool, true, false, cond, ltb, eqb, List, [], ◌∷◌, ◌++◌, length, take, drop, Option, Some, None, Result, Ok, Err, refl, sym, ap, subst, ◌∙◌, append_assoc, arith, length-append, length-drop}
 use Rattle.std.specs.Prelude.{◌||◌, MatchBool}
 use Rattle.std.proofs.Math.Seq.{take-add}
-use Rattle.std.proofs.lemmas.Bool.{ltb-true, ltb-false, eqb-true}
-use Rattle.std.proofs.lemmas.List.{take-append-drop, length-take-le, drop-drop}
+use Rattle.std.proofs.lemmas.Bool.{ltb-true, ltb-false, eqb-true, or_parts}
+use Rattle.std.proofs.lemmas.List.{take-append-drop, length-take-le, drop-drop, nil_from_length}
 use Rattle.sequences.proofs.SequenceLaws.{read_all-step}
 use Rattle.ipfix_template.specs.Octets.{number_at, IsNumber}
 use Rattle.ipfix_template.specs.Sequence.{Front, End, Fault, Next, with_front, read_on, read_all}
-use Rattle.ipfix_template.specs.Values.{◌>>=◌}
 use Rattle.ipfix_template.specs.declared.field.FieldSpec.{FieldSpec}
 use Rattle.ipfix_template.specs.declared.template.Template.{Template}
+use Rattle.sequences.specs.Options.{◌>>=◌}
+use Rattle.sequences.proofs.OptionLaws.{bind_some}
+use Rattle.sequences.proofs.ResultLaws.{same_Ok}
+use Rattle.std.proofs.lemmas.Option.{none-some, same_Some}
+use Rattle.ipfix_message.proofs.ReadingSteps.{read_items, read_head}
 use Rattle.ipfix_message.specs.declared.header.Header.{Header}
 use Rattle.ipfix_message.specs.declared.decode_error.DecodeError.{DecodeError}
 use Rattle.ipfix_message.specs.declared.decode_error.DecodeError.TheVariants.{ShortHeader, BadVersion, BadLength, BadSetLength}
@@ -18,17 +22,12 @@ use Rattle.ipfix_message.specs.declared.item.Item.TheVariants as items
 use Rattle.ipfix_message.specs.Records.{bare_item, template_item}
 use Rattle.ipfix_message.specs.Grammar.{IsSpecifier, AreSpecifiers, IsBody, IsTemplateRecord, AreTemplateRecords, IsContent, IsSet, AreSets, IsHeader, IsMessage}
 use Rattle.ipfix_message.specs.Reading.{header_of, read_header, field_at, fields_at, scoped_at, template_at, found_template, template_front, set_items, found_set, set_front, after_header, items_of}
-use Rattle.ipfix_message.proofs.Shrinks.{or_false, template_takes, set_takes}
+use Rattle.ipfix_message.proofs.Shrinks.{template_takes, set_takes}
 
 -- a test that chose a side
 chosen : {A : Type 0} (b : Bool) (x y z : A) → cond b x y ≡ z → ((b ≡ true) × (x ≡ z)) ⊎ ((b ≡ false) × (y ≡ z))
 chosen true x y z e = inl (refl, e)
 chosen false x y z e = inr (refl, e)
-
--- a step that did not fail
-bind_some : {A B : Type 0} (o : Option A) (f : A → Option B) (y : B) → (o >>= f) ≡ Some y → (x : A) × (o ≡ Some x) × (f x ≡ Some y)
-bind_some (Some x) f y e = (x, refl, e)
-bind_some None f y e = absurd cc
 
 -- ---- numbers
 
@@ -38,14 +37,8 @@ number_here place width octets fits = record { wide = length-take-le width (drop
 
 -- ---- Field Specifiers
 
-some_field : (x y : FieldSpec × List ℕ) → Some x ≡ Some y → x ≡ y
-some_field x y e = cc
-
 abbrev IsField : List ℕ → FieldSpec × List ℕ → Type 0
 IsField octets found = (text : List ℕ) × (octets ≡ text ++ found.1) × IsSpecifier text found.0
-
-none_some : (x : FieldSpec × List ℕ) → None ≡ Some x → ⊥
-none_some x e = absurd cc
 
 plain_found : (octets : List ℕ) → 4 ≤ length octets → number_at 0 2 octets < 32768 → IsField octets (record { element = record { pen = None; number = number_at 0 2 octets }; length = number_at 2 2 octets }, drop 4 octets)
 plain_found octets four small = (
@@ -72,28 +65,25 @@ field_found octets found e =
     let marked : FieldSpec × List ℕ = (record { element = record { pen = Some (number_at 4 4 octets); number = number - 32768 }; length = number_at 2 2 octets }, drop 8 octets) in
     let inner = cond (ltb number 32768) (Some plain) (cond (ltb (length octets) 8) None (Some marked)) in
     elim (chosen (ltb (length octets) 4) None inner (Some found) e) [
-      | inl short ↦ absurd (none_some found short.1)
+      | inl short ↦ absurd (none-some found short.1)
       | inr long ↦
           let four = ltb-false _ _ long.0 in
           elim (chosen (ltb number 32768) (Some plain) (cond (ltb (length octets) 8) None (Some marked)) (Some found) long.1) [
-            | inl is ↦ subst (IsField octets) (some_field plain found is.1) (plain_found octets four (ltb-true _ _ is.0))
+            | inl is ↦ subst (IsField octets) (same_Some plain found is.1) (plain_found octets four (ltb-true _ _ is.0))
             | inr is ↦
                 elim (chosen (ltb (length octets) 8) None (Some marked) (Some found) is.1) [
-                  | inl short ↦ absurd (none_some found short.1)
-                  | inr more ↦ subst (IsField octets) (some_field marked found more.1) (marked_found octets (ltb-false _ _ more.0) (ltb-false _ _ is.0))
+                  | inl short ↦ absurd (none-some found short.1)
+                  | inr more ↦ subst (IsField octets) (same_Some marked found more.1) (marked_found octets (ltb-false _ _ more.0) (ltb-false _ _ is.0))
                 ]
           ]
     ]
-
-some_fields : (x y : List FieldSpec × List ℕ) → Some x ≡ Some y → x ≡ y
-some_fields x y e = cc
 
 abbrev AreFields : ℕ → List ℕ → List FieldSpec × List ℕ → Type 0
 AreFields count octets found = (text : List ℕ) × (octets ≡ text ++ found.1) × (length found.0 ≡ count) × AreSpecifiers text found.0
 
 fields_found : (count : ℕ) (octets : List ℕ) (found : List FieldSpec × List ℕ) → fields_at count octets ≡ Some found → AreFields count octets found
 unfolding fields_at
-fields_found zero octets found e = subst (AreFields 0 octets) (some_fields ([], octets) found e) ([], refl, refl, refl)
+fields_found zero octets found e = subst (AreFields 0 octets) (same_Some {A = List FieldSpec × List ℕ} ([], octets) found e) ([], refl, refl, refl)
 fields_found (suc count) octets found e =
     let first = bind_some (field_at octets) (λ field. fields_at count field.1 >>= λ others. Some (field.0 ∷ others.0, others.1)) found e in
     let field = first.0 in
@@ -102,13 +92,10 @@ fields_found (suc count) octets found e =
     let here = field_found octets field first.1 in
     let more = fields_found count field.1 others second.1 in
     let parts : octets ≡ (here.0 ++ more.0) ++ others.1 = here.1 ∙ ap (λ (t : List ℕ). here.0 ++ t) more.1 ∙ sym (append_assoc here.0 more.0 others.1) in
-    subst (AreFields (suc count) octets) (some_fields (field.0 ∷ others.0, others.1) found second.2)
+    subst (AreFields (suc count) octets) (same_Some {A = List FieldSpec × List ℕ} (field.0 ∷ others.0, others.1) found second.2)
     (here.0 ++ more.0, parts, omega (arith, more.2), (here.0, more.0, refl, here.2, more.3))
 
 -- ---- template records
-
-some_template : (x y : Template × List ℕ) → Some x ≡ Some y → x ≡ y
-some_template x y e = cc
 
 abbrev IsWhole : Bool → ℕ → List ℕ → Template × List ℕ → Type 0
 IsWhole options count octets found = (text : List ℕ) × (octets ≡ text ++ found.1) × (length found.0.fields ≡ count) × IsBody options text found.0
@@ -122,10 +109,7 @@ scoped_found scope count octets found e =
     let first = bind_some (fields_at count octets) (λ fields. Some (record { fields = fields.0; scope = scope }, fields.1)) found e in
     let fields = first.0 in
     let here = fields_found count octets fields first.1 in
-    subst (IsScoped scope count octets) (some_template (record { fields = fields.0; scope = scope }, fields.1) found first.2) (here.0, here.1, here.2, refl, here.3)
-
-none_template : (x : Template × List ℕ) → None ≡ Some x → ⊥
-none_template x e = absurd cc
+    subst (IsScoped scope count octets) (same_Some {A = Template × List ℕ} (record { fields = fields.0; scope = scope }, fields.1) found first.2) (here.0, here.1, here.2, refl, here.3)
 
 template_found : (options : Bool) (count : ℕ) (octets : List ℕ) (found : Template × List ℕ) → template_at options count octets ≡ Some found → IsWhole options count octets found
 unfolding template_at
@@ -134,7 +118,7 @@ template_found false count octets found e =
     (here.0, here.1, here.2, (here.3, here.4))
 template_found true count octets found e =
     elim (chosen (ltb (length octets) 2) None (scoped_at (number_at 0 2 octets) count (drop 2 octets)) (Some found) e) [
-      | inl short ↦ absurd (none_template found short.1)
+      | inl short ↦ absurd (none-some found short.1)
       | inr long ↦
           let two = ltb-false _ _ long.0 in
           let here = scoped_found (number_at 0 2 octets) count (drop 2 octets) found long.1 in
@@ -186,15 +170,9 @@ template_front_found options octets = by_length (ltb (length octets) 4) refl whe
   by_length true e = ltb-true _ _ e
   by_length false e = count_found options octets (eqb (number_at 2 2 octets) 0) (ltb-false _ _ e) refl
 
-abbrev read_items : List Item → Result (List Item) DecodeError
-read_items found = Ok found
-
-ok_is : (x y : List Item) → read_items x ≡ read_items y → x ≡ y
-ok_is x y e = cc
-
 -- items behind others that were read
 with_ok : (before : List Item) (r : Result (List Item) DecodeError) (found : List Item) → with_front before r ≡ read_items found → (others : List Item) × (r ≡ read_items others) × (before ++ others ≡ found)
-with_ok before (Ok others) found e = (others, refl, ok_is (before ++ others) found e)
+with_ok before (Ok others) found e = (others, refl, same_Ok (before ++ others) found e)
 with_ok before (Err d) found e = absurd cc
 
 -- what follows is read, where it is shorter
@@ -202,7 +180,7 @@ abbrev RecordsBelow : Bool → ℕ → Type 0
 RecordsBelow options n = (octets : List ℕ) (found : List Item) → length octets < n → read_all (template_front options) octets ≡ read_items found → AreTemplateRecords options octets found
 
 records_by : (options : Bool) (n : ℕ) (octets : List ℕ) (found : List Item) (front : TemplateFront) → RecordsBelow options n → IsTemplateFront options octets front → ((items : List Item) (rest : List ℕ) → front ≡ Next items rest → length rest < n) → read_on front (read_all (template_front options)) ≡ read_items found → AreTemplateRecords options octets found
-records_by options n octets found End again is smaller e = subst (AreTemplateRecords options octets) (ok_is [] found e) is
+records_by options n octets found End again is smaller e = subst (AreTemplateRecords options octets) (same_Ok [] found e) is
 records_by options n octets found (Fault fault) again is smaller e = absurd cc
 records_by options n octets found (Next items rest) again is smaller e =
     let w = with_ok items (read_all (template_front options) rest) found e in
@@ -227,8 +205,8 @@ content_by : (id place : ℕ) (content : List ℕ) (found : List Item) (template
     → MatchBool templates (AreTemplateRecords false content found) (MatchBool options (AreTemplateRecords true content found) (MatchBool reserved (found ≡ items.Skipped id ∷ []) (found ≡ items.DataSet id place (length content) ∷ [])))
 content_by id place content found true options reserved e = records_found false content found e
 content_by id place content found false true reserved e = records_found true content found e
-content_by id place content found false false true e = sym (ok_is _ found e)
-content_by id place content found false false false e = sym (ok_is _ found e)
+content_by id place content found false false true e = sym (same_Ok _ found e)
+content_by id place content found false false false e = sym (same_Ok _ found e)
 
 content_found : (id place : ℕ) (content : List ℕ) (found : List Item) → set_items id place content ≡ read_items found → IsContent id place content found
 unfolding set_items
@@ -239,10 +217,6 @@ abbrev IsSetFront : ℕ → List ℕ → TemplateFront → Type 0
 IsSetFront total octets End = octets ≡ []
 IsSetFront total octets (Fault e) = Unit {0}
 IsSetFront total octets (Next found rest) = (text : List ℕ) × (octets ≡ text ++ rest) × IsSet (total - length octets) text found
-
-no_octets : (octets : List ℕ) → length octets ≡ 0 → octets ≡ []
-no_octets [] e = refl
-no_octets (x ∷ xs) e = absurd (omega arith)
 
 set_here : (total : ℕ) (octets : List ℕ) (r : Result (List Item) DecodeError) → 4 ≤ number_at 2 2 octets → number_at 2 2 octets ≤ length octets
     → set_items (number_at 0 2 octets) (total - length octets + 4) (take (number_at 2 2 octets - 4) (drop 4 octets)) ≡ r → IsSetFront total octets (found_set r (drop (number_at 2 2 octets) octets))
@@ -265,11 +239,11 @@ set_front_found total octets =
     by_end (eqb (length octets) 0) (ltb (length octets) 4) (ltb (number_at 2 2 octets) 4 || ltb (length octets) (number_at 2 2 octets)) refl refl where
       by_end : (none short outside : Bool) → eqb (length octets) 0 ≡ none → (ltb (number_at 2 2 octets) 4 || ltb (length octets) (number_at 2 2 octets)) ≡ outside
           → IsSetFront total octets (cond none End (cond short (Fault BadSetLength) (cond outside (Fault BadSetLength) (found_set (set_items (number_at 0 2 octets) (total - length octets + 4) (take (number_at 2 2 octets - 4) (drop 4 octets))) (drop (number_at 2 2 octets) octets)))))
-      by_end true short outside e f = no_octets octets (eqb-true _ _ e)
+      by_end true short outside e f = nil_from_length octets (eqb-true _ _ e)
       by_end false true outside e f = tt
       by_end false false true e f = tt
       by_end false false false e f =
-          let both = or_false (ltb (number_at 2 2 octets) 4) (ltb (length octets) (number_at 2 2 octets)) f in
+          let both = or_parts (ltb (number_at 2 2 octets) 4) (ltb (length octets) (number_at 2 2 octets)) f in
           set_here total octets (set_items (number_at 0 2 octets) (total - length octets + 4) (take (number_at 2 2 octets - 4) (drop 4 octets))) (ltb-false _ _ both.0) (ltb-false _ _ both.1) refl
 
 -- what follows is read, where it is shorter
@@ -277,7 +251,7 @@ abbrev SetsBelow : ℕ → ℕ → Type 0
 SetsBelow total n = (place : ℕ) (octets : List ℕ) (found : List Item) → length octets < n → total ≡ place + length octets → read_all (set_front total) octets ≡ read_items found → (sets : ℕ) × AreSets sets place octets found
 
 sets_by : (total n place : ℕ) (octets : List ℕ) (found : List Item) (front : TemplateFront) → total ≡ place + length octets → SetsBelow total n → IsSetFront total octets front → ((items : List Item) (rest : List ℕ) → front ≡ Next items rest → length rest < n) → read_on front (read_all (set_front total)) ≡ read_items found → (sets : ℕ) × AreSets sets place octets found
-sets_by total n place octets found End sum again is smaller e = (0, (is, sym (ok_is [] found e)))
+sets_by total n place octets found End sum again is smaller e = (0, (is, sym (same_Ok [] found e)))
 sets_by total n place octets found (Fault fault) sum again is smaller e = absurd cc
 sets_by total n place octets found (Next items rest) sum again is smaller e =
     let w = with_ok items (read_all (set_front total) rest) found e in
@@ -293,12 +267,6 @@ sets_within (suc n) total place octets found less sum e =
     (sym (read_all-step (set_front total) (set_takes total) octets) ∙ e)
 
 -- ---- messages
-
-abbrev read_head : Header → Result Header DecodeError
-read_head h = Ok h
-
-head_is : (x y : Header) → read_head x ≡ read_head y → x ≡ y
-head_is x y e = cc
 
 header_here : (octets : List ℕ) → 16 ≤ length octets → number_at 0 2 octets ≡ 10 → number_at 2 2 octets ≡ length octets → IsHeader (take 16 octets) (length octets) (header_of octets)
 header_here octets long version len =
@@ -332,7 +300,7 @@ header_found octets h e = by_tests (ltb (length octets) 16) (eqb (number_at 0 2 
   by_tests false true false a b c is = absurd cc
   by_tests false true true a b c is =
       let long = ltb-false _ _ a in
-      (long, subst (IsHeader (take 16 octets) (length octets)) (head_is (header_of octets) h is) (header_here octets long (eqb-true _ _ b) (eqb-true _ _ c)))
+      (long, subst (IsHeader (take 16 octets) (length octets)) (same_Ok (header_of octets) h is) (header_here octets long (eqb-true _ _ b) (eqb-true _ _ c)))
 
 -- what is read as a message is one of the grammar
 pub message_found : (octets : List ℕ) (found : List Item) → items_of octets ≡ read_items found → (h : Header) × IsMessage octets h found

@@ -1,5 +1,5 @@
 -- What is in the grammar is read.
-use Rattle.std.proofs.Common.{◌≡◌, ℕ, zero, suc, ◌+◌, ◌-◌, Bool, true, false, cond, ltb, eqb, List, [], ◌∷◌, ◌++◌, length, take, drop, Option, Some, None, Result, Ok, refl, sym, ap, subst, ◌∙◌, append_assoc, arith, length-append}
+use Rattle.std.proofs.Common.{◌≡◌, ℕ, zero, suc, ◌+◌, ◌-◌, Bool, true, false, cond, ltb, eqb, List, [], ◌∷◌, ◌++◌, length, take, drop, Option, Some, None, Ok, refl, sym, ap, subst, ◌∙◌, append_assoc, arith, length-append}
 use Rattle.std.specs.Prelude.{MatchBool}
 use Rattle.std.proofs.lemmas.Bool.{lt-ltb, le-ltb, eq-eqb, ne_eqb}
 use Rattle.std.proofs.lemmas.List.{take_at, drop_at}
@@ -8,6 +8,9 @@ use Rattle.ipfix_template.specs.Octets.{be_value, number_at, IsNumber}
 use Rattle.ipfix_template.specs.Sequence.{Front, End, Next, with_front, read_on, read_all}
 use Rattle.ipfix_template.specs.declared.field.FieldSpec.{FieldSpec}
 use Rattle.ipfix_template.specs.declared.template.Template.{Template}
+use Rattle.ipfix_template.specs.SameTemplate.{field_of}
+use Rattle.ipfix_message.proofs.FieldSteps.{found_fields}
+use Rattle.ipfix_message.proofs.ReadingSteps.{read_items, read_head}
 use Rattle.ipfix_message.specs.declared.header.Header.{Header}
 use Rattle.ipfix_message.specs.declared.decode_error.DecodeError.{DecodeError}
 use Rattle.ipfix_message.specs.declared.item.Item.{Item}
@@ -33,10 +36,7 @@ next_number place width n before a rest wide is =
 abbrev found_field : FieldSpec → List ℕ → Option (FieldSpec × List ℕ)
 found_field f rest = Some (f, rest)
 
-abbrev spec_of : Option ℕ → ℕ → ℕ → FieldSpec
-spec_of pen number len = record { element = record { pen = pen; number = number }; length = len }
-
-plain_only : (octets rest : List ℕ) (number len : ℕ) → IsSpecifierOf None octets number len → field_at (octets ++ rest) ≡ found_field (spec_of None number len) rest
+plain_only : (octets rest : List ℕ) (number len : ℕ) → IsSpecifierOf None octets number len → field_at (octets ++ rest) ≡ found_field (field_of None number len) rest
 unfolding field_at
 plain_only octets rest number len is =
     let a = is.0 in
@@ -48,7 +48,7 @@ plain_only octets rest number len is =
     let plain : ltb number 32768 ≡ true = lt-ltb _ _ is.4 in
     rw (joined, enough, first_number 2 number a (b ++ rest) is.3, plain, next_number 2 2 len a b rest is.3.wide is.5, after) refl
 
-enterprise_only : (octets rest : List ℕ) (pen number len : ℕ) → IsSpecifierOf (Some pen) octets number len → field_at (octets ++ rest) ≡ found_field (spec_of (Some pen) number len) rest
+enterprise_only : (octets rest : List ℕ) (pen number len : ℕ) → IsSpecifierOf (Some pen) octets number len → field_at (octets ++ rest) ≡ found_field (field_of (Some pen) number len) rest
 unfolding field_at
 enterprise_only octets rest pen number len is =
     let a = is.0 in
@@ -67,15 +67,12 @@ enterprise_only octets rest pen number len is =
     let bare : number + 32768 - 32768 ≡ number = omega arith in
     rw (joined, enough, first_number 2 (number + 32768) a (b ++ (c ++ rest)) is.4, marked, long, pen-at, next_number 2 2 len a b (c ++ rest) is.4.wide is.5, after, bare) refl
 
-field_by : (pen : Option ℕ) (octets rest : List ℕ) (number len : ℕ) → IsSpecifierOf pen octets number len → field_at (octets ++ rest) ≡ found_field (spec_of pen number len) rest
+field_by : (pen : Option ℕ) (octets rest : List ℕ) (number len : ℕ) → IsSpecifierOf pen octets number len → field_at (octets ++ rest) ≡ found_field (field_of pen number len) rest
 field_by None octets rest number len is = plain_only octets rest number len is
 field_by (Some pen) octets rest number len is = enterprise_only octets rest pen number len is
 
 field_only : (f : FieldSpec) (octets rest : List ℕ) → IsSpecifier octets f → field_at (octets ++ rest) ≡ found_field f rest
 field_only f octets rest is = field_by f.element.pen octets rest f.element.number f.length is
-
-abbrev found_fields : List FieldSpec → List ℕ → Option (List FieldSpec × List ℕ)
-found_fields fs rest = Some (fs, rest)
 
 fields_only : (fs : List FieldSpec) (octets rest : List ℕ) → AreSpecifiers octets fs → fields_at (length fs) (octets ++ rest) ≡ found_fields fs rest
 unfolding fields_at
@@ -88,9 +85,6 @@ fields_only (f ∷ fs) octets rest is =
 
 abbrev found_whole : Template → List ℕ → Option (Template × List ℕ)
 found_whole t rest = Some (t, rest)
-
-abbrev template_of : List FieldSpec → ℕ → Template
-template_of fields scope = record { fields = fields; scope = scope }
 
 scoped_only : (t : Template) (octets rest : List ℕ) → AreSpecifiers octets t.fields → scoped_at t.scope (length t.fields) (octets ++ rest) ≡ found_whole t rest
 unfolding scoped_at
@@ -107,12 +101,6 @@ body_only true t octets rest is =
 
 abbrev next_item : Item → List ℕ → Front Item DecodeError
 next_item item rest = Next (item ∷ []) rest
-
-abbrev read_items : List Item → Result (List Item) DecodeError
-read_items found = Ok found
-
-abbrev read_head : Header → Result Header DecodeError
-read_head h = Ok h
 
 by_count : (options : Bool) (id count : ℕ) (body rest : List ℕ) (item : Item) (none : Bool) → eqb count 0 ≡ none → MatchBool none ((body ≡ []) × (item ≡ bare_item options id)) ((t : Template) × (length t.fields ≡ count) × IsBody options body t × (item ≡ template_item options id t))
     → cond none (next_item (bare_item options id) (body ++ rest)) (found_template options id (template_at options count (body ++ rest))) ≡ next_item item rest

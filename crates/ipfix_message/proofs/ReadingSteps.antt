@@ -3,6 +3,7 @@ use Rattle.std.proofs.Common.{◌≡◌, ℕ, true, eqb, List, ◌++◌, length,
 use Rattle.std.proofs.lemmas.List.{append-nil}
 use Rattle.sequences.proofs.SequenceLaws.{with_front-append, read_all-step}
 use Rattle.ipfix_template.specs.Sequence.{Front, End, Fault, Next, with_front, read_on, read_all, TakesSome}
+use Rattle.ipfix_message.specs.declared.header.Header.{Header}
 use Rattle.ipfix_message.specs.declared.decode_error.DecodeError.{DecodeError}
 use Rattle.ipfix_message.specs.declared.decode_error.DecodeError.TheVariants.{ShortHeader, BadVersion, BadLength, BadSetLength, TemplateOverrun, OutOfMemory}
 use Rattle.ipfix_message.specs.declared.item.Item.{Item}
@@ -19,8 +20,12 @@ some_more front takes before added rest after whole at e =
     with_front-append before added (read_all front after)
     ∙ ap (with_front before) (sym (read_all-step front takes rest ∙ ap (λ f. read_on f (read_all front)) at)) ∙ e
 
-abbrev read_items : List Item → Reading
+-- what was read, as a result
+abbrev pub read_items : List Item → Reading
 read_items items = Ok items
+
+abbrev pub read_head : Header → Result Header DecodeError
+read_head h = Ok h
 
 -- nothing more
 pub no_more : (front : List ℕ → Front Item DecodeError) → TakesSome front → (before : List Item) (rest : List ℕ) (whole : Reading) → front rest ≡ End → with_front before (read_all front rest) ≡ whole → whole ≡ Ok before

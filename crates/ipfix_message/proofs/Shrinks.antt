@@ -1,24 +1,15 @@
 -- What stands at the front takes some octets.
-use Rattle.std.proofs.Common.{◌≡◌, ℕ, zero, suc, ◌+◌, ◌-◌, ◌<◌, ◌≤◌, Bool, true, false, cond, ltb, eqb, List, ◌∷◌, length, take, drop, Option, Some, None, Result, Ok, Err, refl, arith, length-drop}
+use Rattle.std.proofs.Common.{◌≡◌, ℕ, zero, suc, ◌+◌, ◌-◌, ◌≤◌, Bool, true, false, ltb, eqb, List, ◌∷◌, length, take, drop, Option, Some, None, Result, Ok, Err, arith, length-drop}
 use Rattle.std.specs.Prelude.{◌||◌, IfSome}
-use Rattle.std.proofs.lemmas.Bool.{ltb-false}
+use Rattle.std.proofs.lemmas.Bool.{ltb-false, or_parts, cond_both}
 use Rattle.ipfix_template.specs.Octets.{number_at}
-use Rattle.ipfix_template.specs.Sequence.{Front, End, Fault, Next, TakesSome}
-use Rattle.ipfix_template.specs.Values.{◌>>=◌}
+use Rattle.ipfix_template.specs.Sequence.{TakesSome}
 use Rattle.ipfix_template.specs.declared.template.Template.{Template}
+use Rattle.sequences.specs.Options.{◌>>=◌}
+use Rattle.sequences.proofs.SequenceLaws.{Lessens, takes_some}
 use Rattle.ipfix_message.specs.declared.decode_error.DecodeError.{DecodeError}
 use Rattle.ipfix_message.specs.declared.item.Item.{Item}
 use Rattle.ipfix_message.specs.Reading.{field_at, fields_at, scoped_at, template_at, found_template, template_front, set_items, found_set, set_front}
-
--- what holds of both sides of a test
-pub on_both : {A : Type 0} (P : A → Type 0) (b : Bool) (x y : A) → (b ≡ true → P x) → (b ≡ false → P y) → P (cond b x y)
-on_both P true x y p q = p refl
-on_both P false x y p q = q refl
-
--- neither of two tests holds
-pub or_false : (a b : Bool) → (a || b) ≡ false → (a ≡ false) × (b ≡ false)
-or_false false b e = (refl, e)
-or_false true b e = absurd cc
 
 -- what was found leaves no more than this
 abbrev LeavesAtMost : {A : Type 0} → ℕ → Option (A × List ℕ) → Type 0
@@ -34,9 +25,9 @@ LeavesAtMost-bind {A} {B} n (Some x) f h step = weaker (f x) (step x) where
 field_leaves : (octets : List ℕ) → LeavesAtMost (length octets) (field_at octets)
 unfolding field_at
 field_leaves octets =
-    on_both (LeavesAtMost (length octets)) (ltb (length octets) 4) _ _ (λ _. tt)
-    (λ _. on_both (LeavesAtMost (length octets)) (ltb (number_at 0 2 octets) 32768) _ _ (λ _. omega (arith, length-drop 4 octets))
-    (λ _. on_both (LeavesAtMost (length octets)) (ltb (length octets) 8) _ _ (λ _. tt) (λ _. omega (arith, length-drop 8 octets))))
+    cond_both (ltb (length octets) 4) _ _ (LeavesAtMost (length octets)) (λ _. tt)
+    (λ _. cond_both (ltb (number_at 0 2 octets) 32768) _ _ (LeavesAtMost (length octets)) (λ _. omega (arith, length-drop 4 octets))
+    (λ _. cond_both (ltb (length octets) 8) _ _ (LeavesAtMost (length octets)) (λ _. tt) (λ _. omega (arith, length-drop 8 octets))))
 
 fields_leave : (count : ℕ) (octets : List ℕ) → LeavesAtMost (length octets) (fields_at count octets)
 unfolding fields_at
@@ -54,27 +45,18 @@ template_leaves : (options : Bool) (count : ℕ) (octets : List ℕ) → LeavesA
 unfolding template_at
 template_leaves false count octets = scoped_leaves 0 count octets
 template_leaves true count octets =
-    on_both (LeavesAtMost (length octets)) (ltb (length octets) 2) _ _ (λ _. tt)
+    cond_both (ltb (length octets) 2) _ _ (LeavesAtMost (length octets)) (λ _. tt)
     (λ _. weaker (scoped_at (number_at 0 2 octets) count (drop 2 octets)) (scoped_leaves (number_at 0 2 octets) count (drop 2 octets))) where
       weaker : (r : Option (Template × List ℕ)) → LeavesAtMost (length (drop 2 octets)) r → LeavesAtMost (length octets) r
       weaker None g = tt
       weaker (Some y) g = omega (arith, g, length-drop 2 octets)
 
--- what stands at the front is gone before what follows
-abbrev Lessens : ℕ → Front Item DecodeError → Type 0
-Lessens n End = Unit {0}
-Lessens n (Fault e) = Unit {0}
-Lessens n (Next items rest) = length rest < n
-
-takes_some : (front : List ℕ → Front Item DecodeError) → ((octets : List ℕ) → Lessens (length octets) (front octets)) → TakesSome front
-takes_some front h octets rest items e = rw e at (h octets)
-
 pub template_takes : (options : Bool) → TakesSome (template_front options)
 unfolding template_front
 template_takes options =
     takes_some (template_front options)
-    (λ octets. on_both (Lessens (length octets)) (ltb (length octets) 4) _ _ (λ _. tt)
-    (λ long. on_both (Lessens (length octets)) (eqb (number_at 2 2 octets) 0) _ _
+    (λ octets. cond_both (ltb (length octets) 4) _ _ (Lessens (length octets)) (λ _. tt)
+    (λ long. cond_both (eqb (number_at 2 2 octets) 0) _ _ (Lessens (length octets))
     (λ _. let some = ltb-false _ _ long in omega (arith, some, length-drop 4 octets))
     (λ _. found octets (number_at 0 2 octets) (template_at options (number_at 2 2 octets) (drop 4 octets)) (ltb-false _ _ long) (template_leaves options (number_at 2 2 octets) (drop 4 octets))))) where
       found : (octets : List ℕ) (id : ℕ) (r : Option (Template × List ℕ)) → 4 ≤ length octets → LeavesAtMost (length (drop 4 octets)) r → Lessens (length octets) (found_template options id r)
@@ -85,14 +67,14 @@ pub set_takes : (total : ℕ) → TakesSome (set_front total)
 unfolding set_front
 set_takes total =
     takes_some (set_front total)
-    (λ octets. on_both (Lessens (length octets)) (eqb (length octets) 0) _ _ (λ _. tt)
-    (λ _. on_both (Lessens (length octets)) (ltb (length octets) 4) _ _ (λ _. tt)
-    (λ _. on_both (Lessens (length octets)) (ltb (number_at 2 2 octets) 4 || ltb (length octets) (number_at 2 2 octets)) _ _ (λ _. tt)
+    (λ octets. cond_both (eqb (length octets) 0) _ _ (Lessens (length octets)) (λ _. tt)
+    (λ _. cond_both (ltb (length octets) 4) _ _ (Lessens (length octets)) (λ _. tt)
+    (λ _. cond_both (ltb (number_at 2 2 octets) 4 || ltb (length octets) (number_at 2 2 octets)) _ _ (Lessens (length octets)) (λ _. tt)
     (λ fits. found octets (set_items (number_at 0 2 octets) (total - length octets + 4) (take (number_at 2 2 octets - 4) (drop 4 octets))) fits)))) where
       found : (octets : List ℕ) (r : Result (List Item) DecodeError) → (ltb (number_at 2 2 octets) 4 || ltb (length octets) (number_at 2 2 octets)) ≡ false → Lessens (length octets) (found_set r (drop (number_at 2 2 octets) octets))
       found octets (Err e) fits = tt
       found octets (Ok items) fits =
-          let both = or_false (ltb (number_at 2 2 octets) 4) (ltb (length octets) (number_at 2 2 octets)) fits in
+          let both = or_parts (ltb (number_at 2 2 octets) 4) (ltb (length octets) (number_at 2 2 octets)) fits in
           let least = ltb-false _ _ both.0 in
           let most = ltb-false _ _ both.1 in
           omega (arith, least, most, length-drop (number_at 2 2 octets) octets)

@@ -5,7 +5,7 @@ use Rattle.ipfix_template.specs.Octets.{number_at}
 use Rattle.ipfix_template.specs.Sequence.{Front, End, Fault, Next, read_all}
 use Rattle.ipfix_template.specs.declared.field.FieldSpec.{FieldSpec}
 use Rattle.ipfix_template.specs.declared.template.Template.{Template}
-use Rattle.ipfix_template.specs.Values.{◌>>=◌}
+use Rattle.sequences.specs.Options.{◌>>=◌}
 use Rattle.ipfix_message.specs.Records.{bare_item, template_item}
 use Rattle.ipfix_message.specs.declared.header.Header.{Header}
 use Rattle.ipfix_message.specs.declared.decode_error.DecodeError.{DecodeError}

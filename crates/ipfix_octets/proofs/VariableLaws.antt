@@ -4,6 +4,7 @@ use Rattle.std.proofs.Math.Seq.{take-add}
 use Rattle.std.proofs.lemmas.Bool.{le-ltb, leb-true, le-leb, eqb-true, eqb-false, ne_eqb}
 use Rattle.std.proofs.lemmas.List.{take_at, drop_at, length-take-le}
 use Rattle.sequences.specs.Octets.{be_value, IsNumber, AreOctets}
+use Rattle.std.proofs.lemmas.Option.{same_Some}
 use Rattle.ipfix_octets.specs.Variable.{IsVarText, value_within, varlen_at}
 
 -- a value that is found lies within the octets, where it was looked for
@@ -101,15 +102,12 @@ shows_text text value rest is =
     let all : (length text - length value) + length value ≡ length text = omega (arith, ap length e.1, length-append e.0 value) in
     rw all (take_at text rest (length text) refl)
 
-some_is : (x y : ℕ × ℕ) → Some x ≡ Some y → x ≡ y
-some_is x y e = cc
-
 -- two texts at the front of the same octets are one, and so are their values
 pub one_reading : (octets a b x y v w : List ℕ) → octets ≡ a ++ x → octets ≡ b ++ y → IsVarText a v → IsVarText b w → (a ≡ b) × (v ≡ w)
 one_reading octets a b x y v w first second is-a is-b =
     let joined : a ++ x ≡ b ++ y = sym first ∙ second in
     let places : (length a - length v, length v) ≡ (length b - length w, length w) =
-    some_is _ _ (sym (varlen_at-only a v x is-a) ∙ ap varlen_at joined ∙ varlen_at-only b w y is-b) in
+    same_Some _ _ (sym (varlen_at-only a v x is-a) ∙ ap varlen_at joined ∙ varlen_at-only b w y is-b) in
     let start : length a - length v ≡ length b - length w = ap (λ (p : ℕ × ℕ). p.0) places in
     let len : length v ≡ length w = ap (λ (p : ℕ × ℕ). p.1) places in (
       sym (shows_text a v x is-a) ∙ rw (start, len, joined) (shows_text b w y is-b),

@@ -7,11 +7,9 @@ use Rattle.ipfix_template.specs.declared.template.Template.{Template}
 use Rattle.ipfix_template.specs.Template.{is_options}
 use Rattle.ipfix_message.specs.declared.item.Item.{Item}
 use Rattle.ipfix_message.specs.declared.item.Item.TheVariants.{Define, Withdraw, WithdrawAll, Refused, DataSet, Skipped}
+use Rattle.std.proofs.lemmas.Option.{same_Some}
 use Rattle.ipfix_session.specs.LastDefinition.{LeavesAlone, IsInForce}
 use Rattle.ipfix_session.specs.InForce.{same_kind, is_other_kind, unless_of_kind, template_in_force}
-
-some_is : (u t : Template) → (let s : Template → Option Template = λ x. Some x in s u ≡ s t) → u ≡ t
-some_is u t e = cc
 
 -- one item more that leaves it alone
 after_one : (id : ℕ) (items : List Item) (t : Template) (item : Item) → LeavesAlone id (is_options t) item → IsInForce id items t → IsInForce id (item ∷ items) t
@@ -39,7 +37,7 @@ found id (Define other u ∷ older) t e = defines (λ k. found id older t k) (id
   defines rec true is at = record {
     newer = [];
     older = older;
-    items_are = ap (λ (i : ℕ). Define i u ∷ older) (sym (eqb-true id other is)) ∙ ap (λ (x : Template). Define id x ∷ older) (some_is u t at);
+    items_are = ap (λ (i : ℕ). Define i u ∷ older) (sym (eqb-true id other is)) ∙ ap (λ (x : Template). Define id x ∷ older) (same_Some u t at);
     alone = tt;
   }
   defines rec false is at = after_one id older t (Define other u) (record { undecided = is; stays = λ d. absurd cc }) (rec at)
@@ -58,7 +56,7 @@ found id (WithdrawAll options ∷ older) t e = all (λ k. found id older t k) (t
     kept : (other : Bool) → is_other_kind options u ≡ other → cond other (Some u) None ≡ Some t → IsInForce id (WithdrawAll options ∷ older) t
     kept false k at2 = absurd cc
     kept true k at2 =
-        let same : u ≡ t = some_is u t at2 in
+        let same : u ≡ t = same_Some u t at2 in
         after_one id older t (WithdrawAll options)
         (record { undecided = refl; stays = λ d. other_kind options (is_options t) (ap (λ (x : Template). not (same_kind options (is_options x))) (sym same) ∙ k) (kind_is options (is_options t) d) })
         (rec (is ∙ at2))

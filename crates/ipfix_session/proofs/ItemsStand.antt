@@ -1,8 +1,8 @@
 -- What a message's items define may be kept, and its Data Sets lie within it.
-use Rattle.std.proofs.Common.{◌≡◌, ℕ, zero, suc, ◌+◌, ◌-◌, ◌≤◌, Bool, true, false, cond, ltb, eqb, List, [], ◌∷◌, ◌++◌, length, take, drop, Option, Some, None, Result, Ok, Err, refl, ap, ◌∙◌, arith, length-append, length-drop}
+use Rattle.std.proofs.Common.{◌≡◌, ℕ, zero, suc, ◌+◌, ◌-◌, ◌≤◌, Bool, true, false, cond, ltb, eqb, List, ◌∷◌, ◌++◌, length, take, drop, Option, Some, None, Result, Ok, Err, refl, ap, ◌∙◌, arith, length-append, length-drop}
 use Rattle.std.specs.Prelude.{◌||◌, IfSome}
 use Rattle.std.specs.List.{AllByRecursion, flat_map, list_all}
-use Rattle.std.proofs.lemmas.Bool.{ltb-false}
+use Rattle.std.proofs.lemmas.Bool.{ltb-false, or_parts, cond_both}
 use Rattle.std.proofs.lemmas.List.{length-take-le}
 use Rattle.std.proofs.lemmas.List.Concat.{flat_map-cons}
 use Rattle.sequences.specs.Octets.{be_octets, number_at}
@@ -13,13 +13,14 @@ use Rattle.ipfix_template.specs.declared.template.Template.{Template}
 use Rattle.ipfix_template.specs.declared.template.Refused.{Refused}
 use Rattle.ipfix_template.specs.declared.template.Refused.TheVariants.{BadId, BadLength, BadScope, EmptyRecord}
 use Rattle.ipfix_template.specs.Template.{specifier, specifier_of, record_head, template_record, has_allowed_length, has_bad_scope, refusal_of, is_options, shortest_record}
-use Rattle.ipfix_template.specs.Values.{◌>>=◌}
 use Rattle.ipfix_message.specs.declared.header.Header.{Header}
 use Rattle.ipfix_message.specs.declared.decode_error.DecodeError.{DecodeError}
 use Rattle.ipfix_message.specs.declared.item.Item.{Item}
 use Rattle.ipfix_message.specs.Records.{set_id, bare_item, judged_item}
 use Rattle.ipfix_message.specs.Reading.{read_header, field_at, fields_at, scoped_at, template_at, found_template, template_front, set_items, found_set, set_front, after_header, items_of}
-use Rattle.ipfix_message.proofs.Shrinks.{on_both, or_false, set_takes, template_takes}
+use Rattle.ipfix_message.proofs.Shrinks.{set_takes, template_takes}
+use Rattle.sequences.specs.Options.{◌>>=◌}
+use Rattle.sequences.proofs.ListLaws.{AllByRecursion-append}
 use Rattle.ipfix_session.specs.Keeping.{IsKeepable, StandsIn, StandIn}
 
 -- ---- what holds of each item at the front holds of all that are read
@@ -33,16 +34,12 @@ abbrev AllRead : {A E : Type 0} → (A → Type 0) → Result (List A) E → Typ
 AllRead P (Ok found) = AllByRecursion P found
 AllRead P (Err e) = Unit {0}
 
-all_append : {A : Type 0} (P : A → Type 0) (xs ys : List A) → AllByRecursion P xs → AllByRecursion P ys → AllByRecursion P (xs ++ ys)
-all_append P [] ys p q = q
-all_append P (x ∷ xs) ys p q = (p.0, all_append P xs ys p.1 q)
-
 read_on_all : {A E : Type 0} (P : A → Type 0) (f : Front A E) (after : List ℕ → Result (List A) E) → AllFront P f → ((found : List A) (rest : List ℕ) → f ≡ Next found rest → AllRead P (after rest)) → AllRead P (read_on f after)
 read_on_all P End after here others = tt
 read_on_all P (Fault e) after here others = tt
 read_on_all {A} {E} P (Next found rest) after here others = joined (after rest) (others found rest refl) where
   joined : (r : Result (List A) E) → AllRead P r → AllRead P (with_front found r)
-  joined (Ok more) h = all_append P found more here h
+  joined (Ok more) h = AllByRecursion-append P found more here h
   joined (Err e) h = tt
 
 all_within : {A E : Type 0} (P : A → Type 0) (front : List ℕ → Front A E) (most : ℕ) → TakesSome front → ((octets : List ℕ) → length octets ≤ most → AllFront P (front octets)) → (steps : ℕ) (octets : List ℕ) → length octets ≤ most → AllRead P (read_within steps front octets)
@@ -77,10 +74,10 @@ fields_size fs = length (flat_map specifier fs)
 field_shorter : (octets : List ℕ) → Shorter specifier_size (length octets) (field_at octets)
 unfolding field_at
 field_shorter octets =
-    on_both (Shorter specifier_size (length octets)) (ltb (length octets) 4) _ _ (λ _. tt)
-    (λ long. let four = ltb-false _ _ long in on_both (Shorter specifier_size (length octets)) (ltb (number_at 0 2 octets) 32768) _ _
+    cond_both (ltb (length octets) 4) _ _ (Shorter specifier_size (length octets)) (λ _. tt)
+    (λ long. let four = ltb-false _ _ long in cond_both (ltb (number_at 0 2 octets) 32768) _ _ (Shorter specifier_size (length octets))
     (λ _. omega (arith, four, length-drop 4 octets, length-registered (number_at 0 2 octets) (number_at 2 2 octets)))
-    (λ _. on_both (Shorter specifier_size (length octets)) (ltb (length octets) 8) _ _ (λ _. tt)
+    (λ _. cond_both (ltb (length octets) 8) _ _ (Shorter specifier_size (length octets)) (λ _. tt)
     (λ longer. let eight = ltb-false _ _ longer in omega (arith, eight, length-drop 8 octets, length-specifier (Some (number_at 4 4 octets)) (number_at 0 2 octets - 32768) (number_at 2 2 octets)))))
 
 fields_shorter : (count : ℕ) (octets : List ℕ) → Shorter fields_size (length octets) (fields_at count octets)
@@ -116,7 +113,7 @@ template_shorter false count octets = weaker (scoped_at 0 count octets) (scoped_
   weaker None h = tt
   weaker (Some o) h = omega (arith, h)
 template_shorter true count octets =
-    on_both (Shorter (λ t. 2 + template_size t) (length octets)) (ltb (length octets) 2) _ _ (λ _. tt)
+    cond_both (ltb (length octets) 2) _ _ (Shorter (λ t. 2 + template_size t) (length octets)) (λ _. tt)
     (λ long. weaker (ltb-false _ _ long) (scoped_at (number_at 0 2 octets) count (drop 2 octets)) (scoped_shorter (number_at 0 2 octets) count (drop 2 octets))) where
       weaker : 2 ≤ length octets → (r : Option (Template × List ℕ)) → Shorter template_size (length (drop 2 octets)) r → Shorter (λ t. 2 + template_size t) (length octets) r
       weaker long None h = tt
@@ -139,7 +136,7 @@ pub record OfItsKind (options : Bool) (t : Template) : Type 0 where
 
 scope_kind : (options : Bool) (t : Template) → has_bad_scope options t ≡ false → is_options t ≡ options
 scope_kind false t e = e
-scope_kind true t e = some (or_false (eqb t.scope 0) (ltb (length t.fields) t.scope) e) where
+scope_kind true t e = some (or_parts (eqb t.scope 0) (ltb (length t.fields) t.scope) e) where
   some : (eqb t.scope 0 ≡ false) × (ltb (length t.fields) t.scope ≡ false) → ltb 0 t.scope ≡ true
   some p = grind (arith, p.0)
 
@@ -168,7 +165,7 @@ keepable_of id options t accepted few =
 
 bare_stands : (total : ℕ) (options : Bool) (id : ℕ) → StandsIn total (bare_item options id)
 bare_stands total options id =
-    on_both (StandsIn total) (eqb id (set_id options)) _ _ (λ _. tt) (λ _. on_both (StandsIn total) (ltb id 256) _ _ (λ _. tt) (λ _. tt))
+    cond_both (eqb id (set_id options)) _ _ (StandsIn total) (λ _. tt) (λ _. cond_both (ltb id 256) _ _ (StandsIn total) (λ _. tt) (λ _. tt))
 
 judged_stands : (total id : ℕ) (options : Bool) (t : Template) (refused : Option Refused) → refusal_of id options t ≡ refused → 24 + scope_size options + template_size t ≤ 65535 → StandsIn total (judged_item id t refused)
 judged_stands total id options t None is few = keepable_of id options t is few
@@ -177,8 +174,8 @@ judged_stands total id options t (Some why) is few = tt
 template_stands : (total : ℕ) (options : Bool) (octets : List ℕ) → length octets ≤ 65515 → AllFront (StandsIn total) (template_front options octets)
 unfolding template_front
 template_stands total options octets few =
-    on_both (AllFront (StandsIn total)) (ltb (length octets) 4) _ _ (λ _. tt)
-    (λ long. on_both (AllFront (StandsIn total)) (eqb (number_at 2 2 octets) 0) _ _
+    cond_both (ltb (length octets) 4) _ _ (AllFront (StandsIn total)) (λ _. tt)
+    (λ long. cond_both (eqb (number_at 2 2 octets) 0) _ _ (AllFront (StandsIn total))
     (λ _. (bare_stands total options (number_at 0 2 octets), tt))
     (λ _. found (ltb-false _ _ long) (template_at options (number_at 2 2 octets) (drop 4 octets)) (template_shorter options (number_at 2 2 octets) (drop 4 octets)))) where
       found : 4 ≤ length octets → (r : Option (Template × List ℕ)) → Shorter (λ t. scope_size options + template_size t) (length (drop 4 octets)) r → AllFront (StandsIn total) (found_template options (number_at 0 2 octets) r)
@@ -190,17 +187,17 @@ template_stands total options octets few =
 content_stands : (total id place : ℕ) (content : List ℕ) → 20 ≤ place → place + length content ≤ total → total ≤ 65535 → AllRead (StandsIn total) (set_items id place content)
 unfolding set_items
 content_stands total id place content low high few =
-    on_both (AllRead (StandsIn total)) (eqb id 2) _ _ (λ _. all_read (StandsIn total) (template_front false) 65515 (template_takes false) (template_stands total false) content (omega (arith, low, high, few)))
-    (λ _. on_both (AllRead (StandsIn total)) (eqb id 3) _ _ (λ _. all_read (StandsIn total) (template_front true) 65515 (template_takes true) (template_stands total true) content (omega (arith, low, high, few)))
-    (λ _. on_both (AllRead (StandsIn total)) (ltb id 256) _ _ (λ _. (tt, tt)) (λ _. ((low, high), tt))))
+    cond_both (eqb id 2) _ _ (AllRead (StandsIn total)) (λ _. all_read (StandsIn total) (template_front false) 65515 (template_takes false) (template_stands total false) content (omega (arith, low, high, few)))
+    (λ _. cond_both (eqb id 3) _ _ (AllRead (StandsIn total)) (λ _. all_read (StandsIn total) (template_front true) 65515 (template_takes true) (template_stands total true) content (omega (arith, low, high, few)))
+    (λ _. cond_both (ltb id 256) _ _ (AllRead (StandsIn total)) (λ _. (tt, tt)) (λ _. ((low, high), tt))))
 
 set_stands : (total : ℕ) → total ≤ 65535 → 16 ≤ total → (octets : List ℕ) → length octets ≤ total - 16 → AllFront (StandsIn total) (set_front total octets)
 unfolding set_front
 set_stands total few some octets within =
-    on_both (AllFront (StandsIn total)) (eqb (length octets) 0) _ _ (λ _. tt)
-    (λ _. on_both (AllFront (StandsIn total)) (ltb (length octets) 4) _ _ (λ _. tt)
-    (λ _. on_both (AllFront (StandsIn total)) (ltb (number_at 2 2 octets) 4 || ltb (length octets) (number_at 2 2 octets)) _ _ (λ _. tt)
-    (λ fits. found (set_items (number_at 0 2 octets) (total - length octets + 4) (take (number_at 2 2 octets - 4) (drop 4 octets))) (stands (or_false (ltb (number_at 2 2 octets) 4) (ltb (length octets) (number_at 2 2 octets)) fits))))) where
+    cond_both (eqb (length octets) 0) _ _ (AllFront (StandsIn total)) (λ _. tt)
+    (λ _. cond_both (ltb (length octets) 4) _ _ (AllFront (StandsIn total)) (λ _. tt)
+    (λ _. cond_both (ltb (number_at 2 2 octets) 4 || ltb (length octets) (number_at 2 2 octets)) _ _ (AllFront (StandsIn total)) (λ _. tt)
+    (λ fits. found (set_items (number_at 0 2 octets) (total - length octets + 4) (take (number_at 2 2 octets - 4) (drop 4 octets))) (stands (or_parts (ltb (number_at 2 2 octets) 4) (ltb (length octets) (number_at 2 2 octets)) fits))))) where
       found : (r : Result (List Item) DecodeError) → AllRead (StandsIn total) r → AllFront (StandsIn total) (found_set r (drop (number_at 2 2 octets) octets))
       found (Ok said) h = h
       found (Err e) h = tt

@@ -3,8 +3,9 @@ use Rattle.std.proofs.Common.{◌≡◌, ℕ, List, [], ◌∷◌, ◌++◌, rev
 use Rattle.std.proofs.lemmas.List.{append-nil, reverse-append}
 use Rattle.ipfix_template.specs.DataRecord.{DataRecord}
 use Rattle.ipfix_message.specs.Reading.{header_of}
+use Rattle.sequences.specs.Results.{◌>>=◌}
 use Rattle.ipfix_session.specs.declared.read_error.ReadError.{ReadError}
-use Rattle.ipfix_session.specs.Contents.{Contents, ◌>>=◌}
+use Rattle.ipfix_session.specs.Contents.{Contents}
 use Rattle.ipfix_session.specs.Meaning.{domain_of, contents_of, gap_of, meaning_of, with_domain, records_after, joined, records_meant}
 
 abbrev Records : Type 0

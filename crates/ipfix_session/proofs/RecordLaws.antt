@@ -10,14 +10,12 @@ use Rattle.ipfix_template.specs.declared.template.Template.{Template}
 use Rattle.ipfix_template.specs.Template.{IsAccepted, shortest_record}
 use Rattle.ipfix_template.specs.Values.{Splits, values_at, found_record, record_front, records_in}
 use Rattle.ipfix_template.proofs.SplitLaws.{values_at-found, values_at-only, Splits-least}
+use Rattle.sequences.proofs.ResultLaws.{same_Ok}
 use Rattle.ipfix_session.specs.DataSetContent.{AreRecords}
 use Rattle.ipfix_session.proofs.Soundness.{record_takes, shortest_some}
 
 abbrev Rows : Type 0
 Rows = Result (List (List (List ℕ))) (Unit {0})
-
-abbrev ok : List (List (List ℕ)) → Rows
-ok rows = Ok rows
 
 front_end : (t : Template) (octets : List ℕ) → length octets < shortest_record t → record_front t octets ≡ End
 unfolding record_front
@@ -56,14 +54,11 @@ front_is : (t : Template) → IsAccepted t → (octets : List ℕ) → AreOctets
 unfolding record_front
 front_is t accepted octets fits = front_by t accepted octets fits (ltb (length octets) (shortest_record t)) refl (values_at t.fields octets) refl
 
-rows_are : (a b : List (List (List ℕ))) → ok a ≡ ok b → a ≡ b
-rows_are a b e = cc
-
 found_in : (t : Template) → IsAccepted t → (n : ℕ) (octets : List ℕ) → length octets < n → AreOctets octets → (rows : List (List (List ℕ))) → records_in t octets ≡ Ok rows → AreRecords t octets rows
 found_in t accepted zero octets few fits rows e = absurd (omega arith)
 found_in t accepted (suc n) octets few fits rows e = by (λ rest less fit more same. found_in t accepted n rest (omega arith) fit more same) (record_front t octets) (front_is t accepted octets fits) (sym (read_all-step (record_front t) (record_takes t accepted) octets) ∙ e) where
   by : ((rest : List ℕ) → length rest < length octets → AreOctets rest → (more : List (List (List ℕ))) → records_in t rest ≡ Ok more → AreRecords t rest more) → (f : Front (List (List ℕ)) (Unit {0})) → IsFrontOf t octets f → read_on f (read_all (record_front t)) ≡ Ok rows → AreRecords t octets rows
-  by rec End short at = subst (λ rs. AreRecords t octets rs) (rows_are [] rows at) short
+  by rec End short at = subst (λ rs. AreRecords t octets rs) (same_Ok [] rows at) short
   by rec (Fault w) is at = absurd cc
   by rec (Next items rest) is at = others (records_in t rest) refl at where
     others : (r : Rows) → records_in t rest ≡ r → with_front items r ≡ Ok rows → AreRecords t octets rows
@@ -71,7 +66,7 @@ found_in t accepted (suc n) octets few fits rows e = by (λ rest less fit more s
     others (Ok more) same at2 =
         let back : rest ≡ drop (length is.0) octets = sym (ap (drop (length is.0)) is.3 ∙ drop_at is.0 rest (length is.0) refl) in
         let here = rec rest is.5 (subst AreOctets (sym back) (AreOctets-drop (length is.0) octets fits)) more same in
-        subst (λ rs. AreRecords t octets rs) (ap (λ xs. xs ++ more) (sym is.2) ∙ rows_are (items ++ more) rows at2) (is.0, rest, is.3, is.4, here)
+        subst (λ rs. AreRecords t octets rs) (ap (λ xs. xs ++ more) (sym is.2) ∙ same_Ok (items ++ more) rows at2) (is.0, rest, is.3, is.4, here)
 
 pub found : (t : Template) → IsAccepted t → (octets : List ℕ) → AreOctets octets → (rows : List (List (List ℕ))) → records_in t octets ≡ Ok rows → AreRecords t octets rows
 found t accepted octets fits rows e = found_in t accepted (suc (length octets)) octets (omega arith) fits rows e

@@ -12,6 +12,8 @@ use Rattle.ipfix_message.specs.declared.decode_error.DecodeError.TheVariants as 
 use Rattle.ipfix_message.specs.declared.item.Item.{Item}
 use Rattle.ipfix_message.specs.Reading as reading
 use Rattle.ipfix_message.specs.Reading.{header_of, read_header, after_header, items_of}
+use Rattle.sequences.proofs.ResultLaws.{same_Ok}
+use Rattle.ipfix_message.proofs.ReadingSteps.{read_head}
 use Rattle.ipfix_session.specs.declared.read.Skips.{Skips}
 use Rattle.ipfix_session.specs.declared.read.Gap.{Gap}
 use Rattle.ipfix_session.specs.declared.read_error.ReadError.{ReadError}
@@ -59,14 +61,8 @@ items_fault older message decode.TemplateOverrun fails = no_items_fault older me
 
 -- ---- the header
 
-abbrev read_head : Header → Result Header DecodeError
-read_head h = Ok h
-
-ok_is : (a b : Header) → read_head a ≡ read_head b → a ≡ b
-ok_is a b e = cc
-
 header_by : (short version whole : Bool) (x h : Header) → read_head h ≡ cond short (Err decode.ShortHeader) (cond version (cond whole (read_head x) (Err decode.BadLength)) (Err decode.BadVersion)) → h ≡ x
-header_by false true true x h e = ok_is h x e
+header_by false true true x h e = same_Ok h x e
 header_by true version whole x h e = absurd cc
 header_by false false whole x h e = absurd cc
 header_by false true false x h e = absurd cc
@@ -106,7 +102,7 @@ found_fault held older message h said (Malformed d) found fails = means_overrun 
 abbrev meaning : Header → List DataRecord → Skips → Option Gap → Meaning
 meaning h records skips gap = record { header = h; records = records; skips = skips; gap = gap }
 
-abbrev means : Meaning → Result Meaning ReadError
+abbrev pub means : Meaning → Result Meaning ReadError
 means m = Ok m
 
 -- the contents of the message

@@ -1,7 +1,7 @@
 -- How a Data Set is read, record by record.
 use Rattle.std.proofs.Common.{◌≡◌, ℕ, ◌+◌, ◌-◌, ◌<◌, ◌≤◌, List, [], ◌∷◌, ◌++◌, length, take, drop, get_or, map, Option, Some, None, Result, Ok, Err, refl, sym, ap, ◌∙◌, subst, append_assoc, arith}
 use Rattle.std.specs.Global.{Vec}
-use Rattle.std.proofs.lemmas.List.{append-nil, take_more, map_push, length-take}
+use Rattle.std.proofs.lemmas.List.{append-nil, take_more, map_push, length-take, map-append}
 use Rattle.sequences.proofs.SequenceLaws.{with_front-append, with_front-nil, read_all-step}
 use Rattle.ipfix_template.specs.Sequence.{Front, End, Fault, Next, with_front, read_on, read_all}
 use Rattle.ipfix_template.specs.declared.template.Template.{Template}
@@ -17,7 +17,7 @@ use Rattle.ipfix_session.specs.Keeping.{IsKeepable}
 use Rattle.ipfix_session.specs.DataSets.{IsOverrun, ShowsRecord, AddsRecords}
 use Rattle.ipfix_session.proofs.Soundness.{record_takes, sound_of}
 
-abbrev Rows : Type 0
+abbrev pub Rows : Type 0
 Rows = List (List (List ℕ))
 
 -- ---- one value more
@@ -37,15 +37,11 @@ pub record ReadsOn (t : Template) (content rest : List ℕ) (old new : List Data
   pub added : new ≡ old ++ map (record_of t) rows
   pub read : with_front rows (read_all (record_front t) rest) ≡ records_in t content
 
-abbrev read_rows : Rows → Result Rows (Unit {0})
+abbrev pub read_rows : Rows → Result Rows (Unit {0})
 read_rows rows = Ok rows
 
 pub reads_first : (t : Template) (content : List ℕ) (old : List DataRecord) → ReadsOn t content content old old
 reads_first t content old = record { rows = []; added = sym (append-nil old); read = with_front-nil (records_in t content) }
-
-map-append : (t : Template) (xs ys : Rows) → map (record_of t) (xs ++ ys) ≡ map (record_of t) xs ++ map (record_of t) ys
-map-append t [] ys = refl
-map-append t (x ∷ xs) ys = ap (λ (rs : List DataRecord). record_of t x ∷ rs) (map-append t xs ys)
 
 -- what stands at the front, and what is read after it
 at_front : (t : Template) → IsKeepable t → (rest : List ℕ) (f : Front (List (List ℕ)) (Unit {0})) → record_front t rest ≡ f → read_all (record_front t) rest ≡ read_on f (read_all (record_front t))
@@ -58,7 +54,7 @@ reads_more t content rest after old new r keepable shown so_far =
       rows = so_far.rows ++ row;
       added = ap (λ (rs : List DataRecord). rs ++ r ∷ []) so_far.added ∙ append_assoc old (map (record_of t) so_far.rows) (r ∷ [])
           ∙ ap (λ (s : DataRecord). old ++ (map (record_of t) so_far.rows ++ s ∷ [])) shown.0
-          ∙ ap (λ (rs : List DataRecord). old ++ rs) (sym (map-append t so_far.rows row));
+          ∙ ap (λ (rs : List DataRecord). old ++ rs) (sym (map-append (record_of t) so_far.rows row));
       read = with_front-append so_far.rows row (read_all (record_front t) after)
           ∙ ap (with_front so_far.rows) (sym (at_front t keepable rest (Next row after) shown.1)) ∙ so_far.read;
     }

@@ -17,6 +17,7 @@ use Rattle.std.proofs.lemmas.Map.{lookup-none}
 use Rattle.std.proofs.lemmas.Map.Keys.{IsDistinct-from_sorted, IsDistinct-tail, sorted_head}
 use Rattle.std.proofs.lemmas.Map.Entries.{none_past_head}
 use Rattle.ipfix_template.specs.declared.template.Template.{Template}
+use Rattle.sequences.proofs.OptionLaws.{none_from_is_some}
 use Rattle.ipfix_session.specs.declared.shelf.Shelf.{Shelf}
 use Rattle.ipfix_session.specs.Keeping.{at_key}
 use Rattle.ipfix_session.specs.Shelves.{with_template, templates_in, template_of, shown_on, on_shelf}
@@ -67,12 +68,8 @@ shown_room : {X : Type 0} (f : X → Template) (k : ℕ) (es : List (ℕ × Opti
 shown_room f k [] none = refl
 shown_room f k (e ∷ es) none = room_by f (nat_cmp k e.0) k e es (insert_entry nat_cmp es k None) none (shown_room f k es)
 
-none_there : {X : Type 0} (o : Option X) → is_some o ≡ false → o ≡ None
-none_there None is = refl
-none_there (Some x) is = absurd cc
-
 pub shown-room : {X : Type 0} (f : X → Template) (k : ℕ) (es : List (ℕ × Option X)) → is_some (at_key k es) ≡ false → templates_in f (insert_entry nat_cmp es k None) ≡ templates_in f es
-shown-room f k es none = shown_room f k es (none_there (at_key k es) none)
+shown-room f k es none = shown_room f k es (none_from_is_some (at_key k es) none)
 
 -- an ID that had a place or is still to come has a place then or is still to come
 pub room_step : (old new here later : Bool) → (old ≡ true → new ≡ true) → (here ≡ true → new ≡ true) → (old || (here || later)) ≡ true → (new || later) ≡ true

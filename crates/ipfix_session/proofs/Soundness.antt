@@ -1,20 +1,21 @@
 -- What is split by a template that is kept is a sound record, and takes some octets.
 use Rattle.std.proofs.Common.{inl, inr, ◌≡◌, ℕ, ◌+◌, ◌<◌, ◌≤◌, Bool, true, false, cond, ltb, leb, eqb, List, [], ◌∷◌, ◌++◌, length, take, drop, Option, Some, None, refl, ap, ◌∙◌, arith, length-append, length-drop}
-use Rattle.std.specs.Prelude.{◌&&◌, MatchBool, IfSome}
+use Rattle.std.specs.Prelude.{MatchBool, IfSome}
 use Rattle.std.specs.List.{sum_by, list_all}
-use Rattle.std.proofs.lemmas.Bool.{leb-true, ltb-false, eqb-false, le-leb, eq-eqb}
+use Rattle.std.proofs.lemmas.Bool.{leb-true, ltb-false, eqb-false, le-leb, eq-eqb, and_from, cond_both}
 use Rattle.std.proofs.lemmas.List.Sums.{sum_by-cons}
 use Rattle.sequences.specs.Octets.{be_value, be_octets}
-use Rattle.sequences.specs.Sequence.{Front, End, Fault, Next, TakesSome}
+use Rattle.sequences.specs.Sequence.{TakesSome}
 use Rattle.sequences.proofs.OctetLaws.{length-be_octets}
 use Rattle.ipfix_octets.specs.Variable.{IsVarText, shortest_text, value_within, varlen_at}
 use Rattle.ipfix_template.specs.declared.field.FieldSpec.{FieldSpec}
 use Rattle.ipfix_template.specs.declared.template.Template.{Template}
 use Rattle.ipfix_template.specs.declared.template.Refused.TheVariants.{BadLength, BadScope, EmptyRecord}
 use Rattle.ipfix_template.specs.Template.{is_variable, least_octets, shortest_record, has_allowed_length, has_bad_scope, refusal_of, is_options, IsAccepted}
-use Rattle.ipfix_template.specs.Values.{IsText, Splits, span_at, values_at, ◌>>=◌, found_record, record_front, fits_field, fit_fields, value_text, record_text}
+use Rattle.ipfix_template.specs.Values.{IsText, Splits, span_at, values_at, found_record, record_front, fits_field, fit_fields, value_text, record_text}
 use Rattle.ipfix_template.specs.DataRecord.{IsSound}
-use Rattle.ipfix_message.proofs.Shrinks.{on_both}
+use Rattle.sequences.specs.Options.{◌>>=◌}
+use Rattle.sequences.proofs.SequenceLaws.{Lessens, takes_some}
 use Rattle.ipfix_session.specs.Keeping.{IsKeepable}
 
 -- ---- values that were split fit their fields, and their shortest texts are no longer than what was split
@@ -54,10 +55,6 @@ text_fits f text value few is =
     let both = text_by (is_variable f) f.length text value few is in
     record { fits = both.0; shortest = both.1 }
 
-and_both : (a b : Bool) → a ≡ true → b ≡ true → (a && b) ≡ true
-and_both true b p q = q
-and_both false b p q = absurd cc
-
 pub record ValuesFit (fs : List FieldSpec) (text : List ℕ) (values : List (List ℕ)) : Type 0 where
   pub fit : fit_fields fs values ≡ true
   pub shortest : length (record_text fs values) ≤ length text
@@ -73,7 +70,7 @@ values_fit (f ∷ fs) text (v ∷ vs) few is =
     let first = text_fits f front v (omega (arith, wide, few)) is.3 in
     let others = values_fit fs back vs (omega (arith, wide, few)) is.4 in
     record {
-      fit = and_both (fits_field f v) (fit_fields fs vs) first.fits others.fit;
+      fit = and_from (fits_field f v) (fit_fields fs vs) first.fits others.fit;
       shortest = omega (arith, wide, first.shortest, others.shortest, length-append (value_text f v) (record_text fs vs));
     }
 
@@ -101,20 +98,20 @@ SpanFits least total span = IfSome span (λ s. (least ≤ s.0 + s.1) × (s.0 + s
 
 within_fits : (start len : ℕ) (octets : List ℕ) → 1 ≤ start → SpanFits 1 (length octets) (value_within start len octets)
 within_fits start len octets some =
-    on_both (SpanFits 1 (length octets)) (leb (start + len) (length octets)) _ _ (λ is. (omega (arith, some), leb-true _ _ is)) (λ _. tt)
+    cond_both (leb (start + len) (length octets)) _ _ (SpanFits 1 (length octets)) (λ is. (omega (arith, some), leb-true _ _ is)) (λ _. tt)
 
 var_fits : (octets : List ℕ) → SpanFits 1 (length octets) (varlen_at octets)
 unfolding varlen_at
 var_fits [] = tt
 var_fits (first ∷ rest) =
-    on_both (SpanFits 1 (length (first ∷ rest))) (eqb first 255) _ _
-    (λ _. on_both (SpanFits 1 (length (first ∷ rest))) (ltb (length rest) 2) _ _ (λ _. tt) (λ _. within_fits 3 (be_value (take 2 rest)) (first ∷ rest) (omega arith)))
+    cond_both (eqb first 255) _ _ (SpanFits 1 (length (first ∷ rest)))
+    (λ _. cond_both (ltb (length rest) 2) _ _ (SpanFits 1 (length (first ∷ rest))) (λ _. tt) (λ _. within_fits 3 (be_value (take 2 rest)) (first ∷ rest) (omega arith)))
     (λ _. within_fits 1 first (first ∷ rest) (omega arith))
 
 span_by : (variable : Bool) (len : ℕ) (octets : List ℕ) → SpanFits (cond variable 1 len) (length octets) (cond variable (varlen_at octets) (cond (leb len (length octets)) (Some (0, len)) None))
 span_by true len octets = var_fits octets
 span_by false len octets =
-    on_both (SpanFits len (length octets)) (leb len (length octets)) _ _ (λ is. let le = leb-true _ _ is in (omega arith, omega (arith, le))) (λ _. tt)
+    cond_both (leb len (length octets)) _ _ (SpanFits len (length octets)) (λ is. let le = leb-true _ _ is in (omega arith, omega (arith, le))) (λ _. tt)
 
 span_fits : (f : FieldSpec) (octets : List ℕ) → SpanFits (least_octets f) (length octets) (span_at f octets)
 span_fits f octets = span_by (is_variable f) f.length octets
@@ -134,19 +131,14 @@ values_take (f ∷ fs) octets = first (λ rest. values_take fs rest) (span_at f 
   first more None fits = tt
   first more (Some s) fits = others s (take s.1 (drop s.0 octets)) (values_at fs (drop (s.0 + s.1) octets)) fits (more (drop (s.0 + s.1) octets))
 
-abbrev Lessens : ℕ → Front (List (List ℕ)) (Unit {0}) → Type 0
-Lessens n End = Unit {0}
-Lessens n (Fault e) = Unit {0}
-Lessens n (Next rows rest) = length rest < n
-
 record_lessens : (t : Template) → IsAccepted t → (octets : List ℕ) → Lessens (length octets) (record_front t octets)
 unfolding record_front
 record_lessens t accepted octets =
-    on_both (Lessens (length octets)) (ltb (length octets) (shortest_record t)) _ _ (λ _. tt)
+    cond_both (ltb (length octets) (shortest_record t)) _ _ (Lessens (length octets)) (λ _. tt)
     (λ _. found (values_at t.fields octets) (values_take t.fields octets)) where
       found : (o : Option (List (List ℕ) × List ℕ)) → TakesLeast (sum_by least_octets t.fields) (length octets) o → Lessens (length octets) (found_record o)
       found None h = tt
       found (Some o) h = let some = shortest_some t accepted in omega (arith, some, h)
 
 pub record_takes : (t : Template) → IsAccepted t → TakesSome (record_front t)
-record_takes t accepted octets rest rows e = rw e at (record_lessens t accepted octets)
+record_takes t accepted = takes_some (record_front t) (record_lessens t accepted)

@@ -1,5 +1,5 @@
 -- How a message's items are read, one after another.
-use Rattle.std.proofs.Common.{arith, ◌≡◌, ℕ, ◌+◌, ◌<◌, ◌^◌, Bool, cond, eqb, List, [], ◌∷◌, ◌++◌, reverse, take, drop, map, length, Option, Some, None, Result, Ok, Err, refl, sym, ap, ◌∙◌, subst, append_assoc}
+use Rattle.std.proofs.Common.{arith, ◌≡◌, ℕ, ◌+◌, ◌<◌, ◌^◌, Bool, cond, eqb, List, [], ◌∷◌, ◌++◌, reverse, take, drop, map, Option, Some, None, Result, Ok, Err, refl, sym, ap, ◌∙◌, subst, append_assoc}
 use Rattle.std.specs.Prelude.{OnOk}
 use Rattle.std.specs.Option.{option_map}
 use Rattle.std.proofs.lemmas.List.{append-nil, reverse-append}
@@ -9,11 +9,12 @@ use Rattle.ipfix_template.specs.Values.{records_in}
 use Rattle.ipfix_template.specs.DataRecord.{DataRecord}
 use Rattle.ipfix_message.specs.declared.item.Item.{Item}
 use Rattle.ipfix_message.specs.declared.item.Item.TheVariants.{Define, Withdraw, WithdrawAll, Refused, DataSet, Skipped}
+use Rattle.sequences.specs.Results.{◌>>=◌}
 use Rattle.ipfix_session.specs.declared.read.Skips.{Skips}
 use Rattle.ipfix_session.specs.declared.read_error.ReadError.{ReadError}
 use Rattle.ipfix_session.specs.declared.read_error.ReadError.TheVariants.{Malformed, RecordOverrun, OutOfMemory}
 use Rattle.ipfix_session.specs.InForce.{template_in_force, unless_of_kind}
-use Rattle.ipfix_session.specs.Contents.{Contents, nothing, skips_of, both, only_skips, only_records, record_of, rows_of, set_contents, item_contents, contents_after, ◌>>=◌}
+use Rattle.ipfix_session.specs.Contents.{Contents, nothing, skips_of, both, only_skips, only_records, record_of, rows_of, set_contents, item_contents, contents_after}
 use Rattle.ipfix_session.specs.Keeping.{AreInForce}
 use Rattle.ipfix_session.specs.declared.changes.Changes.{Changes}
 use Rattle.ipfix_session.specs.Changing.{after}
@@ -138,7 +139,7 @@ pub record Walks (message : List ℕ) (found : ℕ → Option Template) (rest : 
   pub read : with_contents so_far (contents_after done message rest) ≡ contents_after older message said
   pub order : reverse rest ++ done ≡ reverse said ++ older
 
-abbrev read_contents : Contents → Result Contents ReadError
+abbrev pub read_contents : Contents → Result Contents ReadError
 read_contents c = Ok c
 
 with_nothing : (r : Result Contents ReadError) → with_contents nothing r ≡ r
@@ -184,10 +185,6 @@ walks_read message found so_far older said walks = sym walks.read ∙ ap read_co
 
 pub walks_keeps : (message : List ℕ) (found : ℕ → Option Template) (so_far : Contents) (older said : List Item) → Walks message found [] so_far older said → AreInForce found (reverse said ++ older)
 walks_keeps message found so_far older said walks = subst (λ (items : List Item). AreInForce found items) walks.order walks.keeps
-
-pub no_items : (items : List Item) → length items ≡ 0 → items ≡ []
-no_items [] e = refl
-no_items (item ∷ items) e = absurd (omega (arith, e))
 
 -- the counts stay below the number of items, which fits
 pub record HasRoom (s : Skips) (left total : ℕ) : Type 0 where

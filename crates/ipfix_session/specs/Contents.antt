@@ -6,6 +6,7 @@ use Rattle.ipfix_template.specs.Values.{records_in}
 use Rattle.ipfix_template.specs.DataRecord.{DataRecord}
 use Rattle.ipfix_message.specs.declared.item.Item.{Item}
 use Rattle.ipfix_message.specs.declared.item.Item.TheVariants.{Define, Withdraw, WithdrawAll, Refused, DataSet, Skipped}
+use Rattle.sequences.specs.Results.{◌>>=◌}
 use Rattle.ipfix_session.specs.InForce.{template_in_force}
 use Rattle.ipfix_session.specs.declared.read.Skips.{Skips}
 use Rattle.ipfix_session.specs.declared.read_error.ReadError.{ReadError}
@@ -34,11 +35,6 @@ both a b = record {
   records = a.records ++ b.records;
   skips = skips_of (a.skips.unknown + b.skips.unknown) (a.skips.reserved + b.skips.reserved) (a.skips.refused + b.skips.refused);
 }
-
-infixl 10 ◌>>=◌
-abbrev pub ◌>>=◌ : {A B : Type 0} → Result A ReadError → (A → Result B ReadError) → Result B ReadError
-(Ok x) >>= f = f x
-(Err e) >>= f = Err e
 
 abbrev pub record_of : Template → List (List ℕ) → DataRecord
 record_of t values = record { template = t; values = values }

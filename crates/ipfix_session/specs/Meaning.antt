@@ -8,7 +8,8 @@ use Rattle.ipfix_message.specs.declared.header.Header.{Header}
 use Rattle.ipfix_message.specs.declared.decode_error.DecodeError.{DecodeError}
 use Rattle.ipfix_message.specs.declared.item.Item.{Item}
 use Rattle.ipfix_message.specs.Reading.{header_of, items_of}
-use Rattle.ipfix_session.specs.Contents.{Contents, contents_after, ◌>>=◌}
+use Rattle.sequences.specs.Results.{◌>>=◌}
+use Rattle.ipfix_session.specs.Contents.{Contents, contents_after}
 use Rattle.ipfix_session.specs.declared.read.Skips.{Skips}
 use Rattle.ipfix_session.specs.declared.read.Gap.{Gap}
 use Rattle.ipfix_session.specs.declared.read_error.ReadError.{ReadError}

@@ -4,6 +4,7 @@ use Rattle.std.specs.Prelude.{◌&&◌, Result, Ok, Err, OnErr}
 use Rattle.std.specs.List.{flat_map}
 use Rattle.std.proofs.lemmas.List.{take_at, append-nil, drop_all, take_more, flat_map_more}
 use Rattle.std.proofs.lemmas.List.Concat.{flat_map-cons}
+use Rattle.std.proofs.lemmas.Bool.{and_parts}
 use Rattle.ipfix_template.specs.Template.{specifier, is_options, record_head, template_record}
 use Rattle.ipfix_template.specs.declared.template.Template.{Template}
 use Rattle.ipfix_template.specs.declared.field.FieldSpec.{FieldSpec}
@@ -13,27 +14,25 @@ use Rattle.ipfix_template.specs.Values.{fits_field, fit_fields, value_text, reco
 pub kept : (old new more : List ℕ) → new ≡ old ++ more → take (length old) new ≡ old
 kept old new more is = rw is (take_at old more (length old) refl)
 
-and_left : (a b : Bool) → (a && b) ≡ true → a ≡ true
-and_left true b e = refl
-and_left false b e = e
-
-and_right : (a b : Bool) → (a && b) ≡ true → b ≡ true
-and_right true b e = e
-and_right false b e = absurd cc
+-- the ID does not change a template record's length
+pub length-template_record : (id : ℕ) (options : Bool) (t : Template) → length (template_record id options t) ≡ length (template_record 256 options t)
+unfolding template_record
+length-template_record id true t = refl
+length-template_record id false t = refl
 
 -- there are as many values as fields
 pub fit_fields-length : (fs : List FieldSpec) (vs : List (List ℕ)) → fit_fields fs vs ≡ true → length fs ≡ length vs
 fit_fields-length [] [] fit = refl
 fit_fields-length [] (v ∷ vs) fit = absurd cc
 fit_fields-length (f ∷ fs) [] fit = absurd cc
-fit_fields-length (f ∷ fs) (v ∷ vs) fit = ap suc (fit_fields-length fs vs (and_right (fits_field f v) (fit_fields fs vs) fit))
+fit_fields-length (f ∷ fs) (v ∷ vs) fit = ap suc (fit_fields-length fs vs (and_parts (fits_field f v) (fit_fields fs vs) fit).1)
 
 -- and each fits its field
 pub fit_fields-at : (fs : List FieldSpec) (vs : List (List ℕ)) (i : ℕ) (f : FieldSpec) (v : List ℕ) → fit_fields fs vs ≡ true → i < length fs → fits_field (get_or fs i f) (get_or vs i v) ≡ true
 fit_fields-at [] vs i f v fit lt = absurd (omega arith)
 fit_fields-at (g ∷ fs) [] i f v fit lt = absurd cc
-fit_fields-at (g ∷ fs) (w ∷ vs) zero f v fit lt = and_left (fits_field g w) (fit_fields fs vs) fit
-fit_fields-at (g ∷ fs) (w ∷ vs) (suc i) f v fit lt = fit_fields-at fs vs i f v (and_right (fits_field g w) (fit_fields fs vs) fit) (omega arith)
+fit_fields-at (g ∷ fs) (w ∷ vs) zero f v fit lt = (and_parts (fits_field g w) (fit_fields fs vs) fit).0
+fit_fields-at (g ∷ fs) (w ∷ vs) (suc i) f v fit lt = fit_fields-at fs vs i f v (and_parts (fits_field g w) (fit_fields fs vs) fit).1 (omega arith)
 
 -- one value more
 pub record_text-more : (fs : List FieldSpec) (vs : List (List ℕ)) (i : ℕ) (f : FieldSpec) (v : List ℕ) → i < length fs → i < length vs → record_text (take (i + 1) fs) (take (i + 1) vs) ≡ record_text (take i fs) (take i vs) ++ value_text (get_or fs i f) (get_or vs i v)

@@ -11,13 +11,10 @@ use Rattle.ipfix_template.specs.declared.spans.Split.TheVariants.{Record, Paddin
 use Rattle.ipfix_template.specs.Template.{shortest_record}
 use Rattle.ipfix_template.specs.Values.{Splits, values_at, found_record, record_front}
 use Rattle.ipfix_template.specs.Shown.{values_shown, Shows, IsSplitBy, IsFound, IsPadding}
-use Rattle.ipfix_template.proofs.SplitLaws.{values_at-found, values_at-only, Splits-least}
+use Rattle.ipfix_template.proofs.SplitLaws.{values_at-found, values_at-only, Splits-least, found_values}
 
 abbrev RecordFront : Type 0
 RecordFront = Front (List (List ℕ)) (Unit {0})
-
-abbrev found_values : List (List ℕ) × List ℕ → Option (List (List ℕ) × List ℕ)
-found_values found = Some found
 
 next_is : (short : Bool) (found : Option (List (List ℕ) × List ℕ)) (values : List (List ℕ)) (rest : List ℕ) → cond short End (found_record found) ≡ Next (values ∷ []) rest → found ≡ Some (values, rest)
 next_is true found values rest e = absurd cc

@@ -9,9 +9,12 @@ use Rattle.sequences.specs.Octets.{AreOctets}
 use Rattle.sequences.proofs.OctetLaws.{AreOctets-drop}
 use Rattle.ipfix_octets.specs.Variable.{IsVarText, varlen_at}
 use Rattle.ipfix_octets.proofs.VariableLaws.{varlen_at-found, varlen_at-only, shows_value, text_ends}
+use Rattle.sequences.specs.Options.{◌>>=◌}
+use Rattle.sequences.proofs.OptionLaws.{bind_some}
+use Rattle.std.proofs.lemmas.Option.{same_Some}
 use Rattle.ipfix_template.specs.declared.field.FieldSpec.{FieldSpec}
 use Rattle.ipfix_template.specs.Template.{is_variable, least_octets}
-use Rattle.ipfix_template.specs.Values.{IsText, Splits, span_at, values_at, ◌>>=◌}
+use Rattle.ipfix_template.specs.Values.{IsText, Splits, span_at, values_at}
 
 -- ---- one field
 
@@ -64,23 +67,15 @@ span_at-only f text value rest is = only_by (is_variable f) f.length text value 
 
 -- ---- all fields
 
--- a step that did not fail
-bind_some : {A B : Type 0} (o : Option A) (f : A → Option B) (y : B) → (o >>= f) ≡ Some y → (x : A) × (o ≡ Some x) × (f x ≡ Some y)
-bind_some (Some x) f y e = (x, refl, e)
-bind_some None f y e = absurd cc
-
-abbrev found_values : List (List ℕ) × List ℕ → Option (List (List ℕ) × List ℕ)
+abbrev pub found_values : List (List ℕ) × List ℕ → Option (List (List ℕ) × List ℕ)
 found_values found = Some found
-
-some_is : (x y : List (List ℕ) × List ℕ) → found_values x ≡ found_values y → x ≡ y
-some_is x y e = cc
 
 -- what is found is split so by the fields
 pub values_at-found : (fs : List FieldSpec) (octets : List ℕ) → AreOctets octets → (found : List (List ℕ) × List ℕ) → values_at fs octets ≡ Some found → (text : List ℕ) × (octets ≡ text ++ found.1) × Splits fs text found.0
 unfolding values_at
 values_at-found [] octets fits found e =
     let P : List (List ℕ) × List ℕ → Type 0 = λ p. (text : List ℕ) × (octets ≡ text ++ p.1) × Splits [] text p.0 in
-    subst P (some_is ([], octets) found e) ([], refl, refl)
+    subst P (same_Some {A = List (List ℕ) × List ℕ} ([], octets) found e) ([], refl, refl)
 values_at-found (f ∷ fs) octets fits found e =
     let first = bind_some (span_at f octets) (λ span. values_at fs (drop (span.0 + span.1) octets) >>= λ o. Some (take span.1 (drop span.0 octets) ∷ o.0, o.1)) found e in
     let span = first.0 in
@@ -91,7 +86,7 @@ values_at-found (f ∷ fs) octets fits found e =
     let is-text = span_at-found f octets fits span first.1 in
     let parts : octets ≡ (front ++ more.0) ++ others.1 = sym {a = front ++ drop (span.0 + span.1) octets} {b = octets} (take-append-drop (span.0 + span.1) octets) ∙ ap (λ (t : List ℕ). front ++ t) more.1 ∙ sym (append_assoc front more.0 others.1) in
     let P : List (List ℕ) × List ℕ → Type 0 = λ p. (text : List ℕ) × (octets ≡ text ++ p.1) × Splits (f ∷ fs) text p.0 in
-    subst P (some_is (take span.1 (drop span.0 octets) ∷ others.0, others.1) found second.2) (front ++ more.0, parts, (front, more.0, refl, is-text, more.2))
+    subst P (same_Some {A = List (List ℕ) × List ℕ} (take span.1 (drop span.0 octets) ∷ others.0, others.1) found second.2) (front ++ more.0, parts, (front, more.0, refl, is-text, more.2))
 
 -- what is split so is found, whatever follows
 pub values_at-only : (fs : List FieldSpec) (text rest : List ℕ) (values : List (List ℕ)) → Splits fs text values → values_at fs (text ++ rest) ≡ Some (values, rest)
@@ -111,7 +106,7 @@ values_at-only (f ∷ fs) text rest (v ∷ vs) is =
 pub one_split : (fs : List FieldSpec) (octets a b x y : List ℕ) (v w : List (List ℕ)) → octets ≡ a ++ x → octets ≡ b ++ y → Splits fs a v → Splits fs b w → (a ≡ b) × (v ≡ w)
 one_split fs octets a b x y v w first second is-a is-b =
     let joined : a ++ x ≡ b ++ y = sym first ∙ second in
-    let same = some_is (v, x) (w, y) (sym (values_at-only fs a x v is-a) ∙ ap (values_at fs) joined ∙ values_at-only fs b y w is-b) in
+    let same = same_Some {A = List (List ℕ) × List ℕ} (v, x) (w, y) (sym (values_at-only fs a x v is-a) ∙ ap (values_at fs) joined ∙ values_at-only fs b y w is-b) in
     let rests : x ≡ y = ap (λ (p : List (List ℕ) × List ℕ). p.1) same in
     let len : length a ≡ length b = omega (arith, ap length joined, length-append a x, length-append b y, ap length rests) in
     (sym (take_at a x (length a) refl) ∙ ap (take (length a)) joined ∙ take_at b y (length a) (sym len), ap (λ (p : List (List ℕ) × List ℕ). p.0) same)

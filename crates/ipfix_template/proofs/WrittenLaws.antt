@@ -1,13 +1,14 @@
 -- What is written is read as what it was, and as nothing else.
 use Rattle.std.proofs.Common.{inl, inr, ◌≡◌, ℕ, ◌+◌, ◌^◌, ◌<◌, ◌≤◌, Bool, true, false, cond, leb, eqb, ltb, List, [], ◌∷◌, ◌++◌, length, take, drop, Option, Some, None, refl, sym, ap, ◌∙◌, append_assoc, arith}
-use Rattle.std.specs.Prelude.{◌&&◌, MatchBool, IfSome}
+use Rattle.std.specs.Prelude.{MatchBool, IfSome}
 use Rattle.std.specs.List.{flat_map, AllByRecursion}
-use Rattle.std.proofs.lemmas.Bool.{leb-true, ltb-true, eqb-true}
+use Rattle.std.proofs.lemmas.Bool.{leb-true, ltb-true, eqb-true, and_parts}
 use Rattle.std.proofs.lemmas.List.{take_at, drop_at}
 use Rattle.std.proofs.lemmas.List.Concat.{flat_map-cons}
 use Rattle.sequences.specs.Octets.{be_value, be_octets}
 use Rattle.sequences.proofs.OctetLaws.{length-be_octets, be_value-be_octets}
 use Rattle.ipfix_octets.specs.Variable.{IsVarText, shortest_text}
+use Rattle.ipfix_template.specs.SameTemplate.{field_from_parts, template_from_parts}
 use Rattle.ipfix_template.specs.declared.field.FieldSpec.{FieldSpec}
 use Rattle.ipfix_template.specs.declared.template.Template.{Template}
 use Rattle.ipfix_template.specs.Template.{is_variable, specifier_of, specifier, template_record, IsSpecifier, IsWritable}
@@ -32,21 +33,13 @@ value_by false len value fits = (refl, eqb-true _ _ fits)
 value_text-is : (f : FieldSpec) (value : List ℕ) → fits_field f value ≡ true → IsText f (value_text f value) value
 value_text-is f value fits = value_by (is_variable f) f.length value fits
 
-and_left : (a b : Bool) → (a && b) ≡ true → a ≡ true
-and_left true b e = refl
-and_left false b e = e
-
-and_right : (a b : Bool) → (a && b) ≡ true → b ≡ true
-and_right true b e = e
-and_right false b e = absurd cc
-
 -- values that fit are split again from what is written for them
 pub record_text-splits : (fs : List FieldSpec) (vs : List (List ℕ)) → fit_fields fs vs ≡ true → Splits fs (record_text fs vs) vs
 record_text-splits [] [] fit = refl
 record_text-splits [] (v ∷ vs) fit = absurd cc
 record_text-splits (f ∷ fs) [] fit = absurd cc
 record_text-splits (f ∷ fs) (v ∷ vs) fit =
-    (value_text f v, record_text fs vs, refl, value_text-is f v (and_left (fits_field f v) (fit_fields fs vs) fit), record_text-splits fs vs (and_right (fits_field f v) (fit_fields fs vs) fit))
+    (value_text f v, record_text fs vs, refl, value_text-is f v (and_parts (fits_field f v) (fit_fields fs vs) fit).0, record_text-splits fs vs (and_parts (fits_field f v) (fit_fields fs vs) fit).1)
 
 pub record_text-only : (fs : List FieldSpec) (vs : List (List ℕ)) (text before after : List ℕ) (values : List (List ℕ)) → fit_fields fs vs ≡ true → record_text fs vs ++ before ≡ text ++ after → Splits fs text values → (text ≡ record_text fs vs) × (values ≡ vs)
 record_text-only fs vs text before after values fit parts is =
@@ -89,15 +82,6 @@ one_specifier (Some p) (Some q) m n k l x y mf nf kf lf pf qf e =
     let some : ℕ → Option ℕ = λ v. Some v in
     (ap some third.0, omega (arith, first.0), second.0, third.1)
 
-abbrev spec_of : Option ℕ → ℕ → ℕ → FieldSpec
-spec_of pen number len = record { element = record { pen = pen; number = number }; length = len }
-
-same_spec : (f g : FieldSpec) → f.element.pen ≡ g.element.pen → f.element.number ≡ g.element.number → f.length ≡ g.length → f ≡ g
-same_spec f g pen number len =
-    ap (λ (p : Option ℕ). spec_of p f.element.number f.length) pen
-    ∙ ap (λ (n : ℕ). spec_of g.element.pen n f.length) number
-    ∙ ap (λ (l : ℕ). spec_of g.element.pen g.element.number l) len
-
 -- as many specifiers at the front are the same specifiers
 same_fields : (fs gs : List FieldSpec) (x y : List ℕ) → AllByRecursion IsSpecifier fs → AllByRecursion IsSpecifier gs → length fs ≡ length gs → flat_map specifier fs ++ x ≡ flat_map specifier gs ++ y → (fs ≡ gs) × (x ≡ y)
 same_fields [] [] x y fits-f fits-g even e = (refl, e)
@@ -108,14 +92,8 @@ same_fields (f ∷ fs) (g ∷ gs) x y fits-f fits-g even e =
     let right : flat_map specifier (g ∷ gs) ++ y ≡ specifier g ++ (flat_map specifier gs ++ y) = ap (λ (t : List ℕ). t ++ y) (flat_map-cons specifier g gs) ∙ append_assoc (specifier g) (flat_map specifier gs) y in
     let first = one_specifier f.element.pen g.element.pen f.element.number g.element.number f.length g.length (flat_map specifier fs ++ x) (flat_map specifier gs ++ y) fits-f.0.number fits-g.0.number fits-f.0.len fits-g.0.len fits-f.0.pen fits-g.0.pen (sym left ∙ e ∙ right) in
     let others = same_fields fs gs x y fits-f.1 fits-g.1 (omega arith) first.3 in
-    let same : f ≡ g = same_spec f g first.0 first.1 first.2 in
+    let same : f ≡ g = field_from_parts f g first.0 first.1 first.2 in
     (ap (λ (h : FieldSpec). h ∷ fs) same ∙ ap (λ (hs : List FieldSpec). g ∷ hs) others.0, others.1)
-
-abbrev template_of : List FieldSpec → ℕ → Template
-template_of fields scope = record { fields = fields; scope = scope }
-
-same_template : (s t : Template) → s.fields ≡ t.fields → s.scope ≡ t.scope → s ≡ t
-same_template s t fields scope = ap (λ (f : List FieldSpec). template_of f s.scope) fields ∙ ap (λ (n : ℕ). template_of t.fields n) scope
 
 -- what is written for a template determines ID and template, whatever follows
 pub one_written : (options : Bool) (a b : ℕ) (s t : Template) (x y : List ℕ) → IsWritable a options s → IsWritable b options t → template_record a options s ++ x ≡ template_record b options t ++ y → (a ≡ b) × (s ≡ t) × (x ≡ y)
@@ -124,10 +102,10 @@ one_written false a b s t x y fits-s fits-t e =
     let first = numbers 2 a b ((be_octets 2 (length s.fields) ++ flat_map specifier s.fields) ++ x) ((be_octets 2 (length t.fields) ++ flat_map specifier t.fields) ++ y) (omega (arith, fits-s.id_fits)) (omega (arith, fits-t.id_fits)) e in
     let second = numbers 2 (length s.fields) (length t.fields) (flat_map specifier s.fields ++ x) (flat_map specifier t.fields ++ y) (omega (arith, fits-s.count_fits)) (omega (arith, fits-t.count_fits)) first.1 in
     let third = same_fields s.fields t.fields x y fits-s.fields fits-t.fields second.0 second.1 in
-    (first.0, same_template s t third.0 (fits-s.scope_of_plain refl ∙ sym (fits-t.scope_of_plain refl)), third.1)
+    (first.0, template_from_parts s t third.0 (fits-s.scope_of_plain refl ∙ sym (fits-t.scope_of_plain refl)), third.1)
 one_written true a b s t x y fits-s fits-t e =
     let first = numbers 2 a b (((be_octets 2 (length s.fields) ++ be_octets 2 s.scope) ++ flat_map specifier s.fields) ++ x) (((be_octets 2 (length t.fields) ++ be_octets 2 t.scope) ++ flat_map specifier t.fields) ++ y) (omega (arith, fits-s.id_fits)) (omega (arith, fits-t.id_fits)) e in
     let second = numbers 2 (length s.fields) (length t.fields) ((be_octets 2 s.scope ++ flat_map specifier s.fields) ++ x) ((be_octets 2 t.scope ++ flat_map specifier t.fields) ++ y) (omega (arith, fits-s.count_fits)) (omega (arith, fits-t.count_fits)) first.1 in
     let scope = numbers 2 s.scope t.scope (flat_map specifier s.fields ++ x) (flat_map specifier t.fields ++ y) (omega (arith, fits-s.scope_fits)) (omega (arith, fits-t.scope_fits)) second.1 in
     let third = same_fields s.fields t.fields x y fits-s.fields fits-t.fields second.0 scope.1 in
-    (first.0, same_template s t third.0 scope.0, third.1)
+    (first.0, template_from_parts s t third.0 scope.0, third.1)

@@ -1,20 +1,11 @@
 -- Templates that the test finds equal are equal.
-use Rattle.std.specs.Prelude.{◌≡◌, ℕ, Bool, true, false, List, [], ◌∷◌, Option, Some, None, ◌==◌, ◌&&◌, refl}
-use Rattle.std.proofs.Common.{sym, ap, ◌∙◌, eqb}
-use Rattle.std.proofs.lemmas.Bool.{eqb-true, eq-eqb}
+use Rattle.std.specs.Prelude.{◌≡◌, ℕ, true, List, [], ◌∷◌, Option, Some, None, ◌==◌, ◌&&◌, refl}
+use Rattle.std.proofs.Common.{sym, ap, ◌∙◌}
+use Rattle.std.proofs.lemmas.Bool.{eqb-true, eq-eqb, and_parts, and_from}
 use Rattle.std.specs.Cmp.{IsPartialEquivalence, IsEquivalence, partial_equiv_from_equiv, decided}
-use Rattle.ipfix_element.specs.Element.{Element}
 use Rattle.ipfix_template.specs.declared.field.FieldSpec.{FieldSpec}
 use Rattle.ipfix_template.specs.declared.template.Template.{Template}
 use Rattle.ipfix_template.specs.Equality.{same_pen, same_field, same_fields, same_template, hashed_template}
-
-both : (a b : Bool) → (a && b) ≡ true → (a ≡ true) × (b ≡ true)
-both true b e = (refl, e)
-both false b e = absurd cc
-
-from_both : (a b : Bool) → a ≡ true → b ≡ true → (a && b) ≡ true
-from_both true b p q = q
-from_both false b p q = absurd cc
 
 number_is : (a b : ℕ) → (a == b) ≡ true → a ≡ b
 number_is a b e = eqb-true a b e
@@ -22,7 +13,7 @@ number_is a b e = eqb-true a b e
 number_same : (a : ℕ) → (a == a) ≡ true
 number_same a = eq-eqb a a refl
 
-pen_is : (a b : Option ℕ) → same_pen a b ≡ true → a ≡ b
+pub pen_is : (a b : Option ℕ) → same_pen a b ≡ true → a ≡ b
 pen_is None None e = refl
 pen_is (Some a) (Some b) e = ap (λ (n : ℕ). Some n) (number_is a b e)
 pen_is None (Some b) e = absurd cc
@@ -32,25 +23,30 @@ pen_same : (a : Option ℕ) → same_pen a a ≡ true
 pen_same None = refl
 pen_same (Some a) = number_same a
 
-abbrev field_of : Option ℕ → ℕ → ℕ → FieldSpec
+-- a Field Specifier of its parts
+abbrev pub field_of : Option ℕ → ℕ → ℕ → FieldSpec
 field_of pen number len = record { element = record { pen = pen; number = number }; length = len }
+
+pub field_from_parts : (f g : FieldSpec) → f.element.pen ≡ g.element.pen → f.element.number ≡ g.element.number → f.length ≡ g.length → f ≡ g
+field_from_parts f g pen number len =
+    ap (λ (p : Option ℕ). field_of p f.element.number f.length) pen
+    ∙ ap (λ (n : ℕ). field_of g.element.pen n f.length) number
+    ∙ ap (λ (l : ℕ). field_of g.element.pen g.element.number l) len
 
 field_is : (f g : FieldSpec) → same_field f g ≡ true → f ≡ g
 field_is f g e =
-    let element = both (same_pen f.element.pen g.element.pen) ((f.element.number == g.element.number) && (f.length == g.length)) e in
-    let others = both (f.element.number == g.element.number) (f.length == g.length) element.1 in
-    ap (λ (pen : Option ℕ). field_of pen f.element.number f.length) (pen_is f.element.pen g.element.pen element.0)
-    ∙ ap (λ (number : ℕ). field_of g.element.pen number f.length) (number_is f.element.number g.element.number others.0)
-    ∙ ap (λ (len : ℕ). field_of g.element.pen g.element.number len) (number_is f.length g.length others.1)
+    let element = and_parts (same_pen f.element.pen g.element.pen) ((f.element.number == g.element.number) && (f.length == g.length)) e in
+    let others = and_parts (f.element.number == g.element.number) (f.length == g.length) element.1 in
+    field_from_parts f g (pen_is f.element.pen g.element.pen element.0) (number_is f.element.number g.element.number others.0) (number_is f.length g.length others.1)
 
 field_same : (f : FieldSpec) → same_field f f ≡ true
 field_same f =
-    from_both (same_pen f.element.pen f.element.pen) _ (pen_same f.element.pen) (from_both (f.element.number == f.element.number) (f.length == f.length) (number_same f.element.number) (number_same f.length))
+    and_from (same_pen f.element.pen f.element.pen) _ (pen_same f.element.pen) (and_from (f.element.number == f.element.number) (f.length == f.length) (number_same f.element.number) (number_same f.length))
 
 fields_are : (fs gs : List FieldSpec) → same_fields fs gs ≡ true → fs ≡ gs
 fields_are [] [] e = refl
 fields_are (f ∷ fs) (g ∷ gs) e =
-    let parts = both (same_field f g) (same_fields fs gs) e in
+    let parts = and_parts (same_field f g) (same_fields fs gs) e in
     let first = field_is f g parts.0 in
     let others = fields_are fs gs parts.1 in
     cc
@@ -59,19 +55,21 @@ fields_are (f ∷ fs) [] e = absurd cc
 
 fields_same : (fs : List FieldSpec) → same_fields fs fs ≡ true
 fields_same [] = refl
-fields_same (f ∷ fs) = from_both _ _ (field_same f) (fields_same fs)
+fields_same (f ∷ fs) = and_from _ _ (field_same f) (fields_same fs)
 
 abbrev template_of : List FieldSpec → ℕ → Template
 template_of fields scope = record { fields = fields; scope = scope }
 
+pub template_from_parts : (s t : Template) → s.fields ≡ t.fields → s.scope ≡ t.scope → s ≡ t
+template_from_parts s t fields scope = ap (λ (fs : List FieldSpec). template_of fs s.scope) fields ∙ ap (λ (n : ℕ). template_of t.fields n) scope
+
 pub same_template-is : (s t : Template) → same_template s t ≡ true → s ≡ t
 same_template-is s t e =
-    let parts = both (same_fields s.fields t.fields) (s.scope == t.scope) e in
-    ap (λ (fields : List FieldSpec). template_of fields s.scope) (fields_are s.fields t.fields parts.0)
-    ∙ ap (λ (scope : ℕ). template_of t.fields scope) (number_is s.scope t.scope parts.1)
+    let parts = and_parts (same_fields s.fields t.fields) (s.scope == t.scope) e in
+    template_from_parts s t (fields_are s.fields t.fields parts.0) (number_is s.scope t.scope parts.1)
 
 pub same_template-itself : (t : Template) → same_template t t ≡ true
-same_template-itself t = from_both _ _ (fields_same t.fields) (number_same t.scope)
+same_template-itself t = and_from _ _ (fields_same t.fields) (number_same t.scope)
 
 pub same_template-whole : IsEquivalence same_template
 same_template-whole = decided same_template (λ s t. (same_template-is s t, λ e. ap (same_template s) (sym e) ∙ same_template-itself s))

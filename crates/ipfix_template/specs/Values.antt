@@ -2,6 +2,7 @@
 use Rattle.std.specs.Prelude.{◌≡◌, ℕ, ◌+◌, Bool, true, false, List, [], ◌∷◌, ◌++◌, length, take, drop, Option, Some, None, Result, MatchBool, nat_lt, nat_le, ◌==◌, ◌&&◌, if◌then◌else◌}
 use Rattle.ipfix_octets.specs.Variable.{IsVarText, shortest_text, varlen_at}
 use Rattle.ipfix_octets.specs.Sequence.{Front, End, Fault, Next, read_all}
+use Rattle.sequences.specs.Options.{◌>>=◌}
 use Rattle.ipfix_template.specs.declared.field.FieldSpec.{FieldSpec}
 use Rattle.ipfix_template.specs.declared.template.Template.{Template}
 use Rattle.ipfix_template.specs.Template.{is_variable, shortest_record}
@@ -22,11 +23,6 @@ abbrev pub span_at : FieldSpec → List ℕ → Option (ℕ × ℕ)
 span_at f octets =
     if is_variable f then varlen_at octets
     else if nat_le f.length (length octets) then Some (0, f.length) else None
-
-infixl 10 ◌>>=◌
-abbrev pub ◌>>=◌ : {A B : Type 0} → Option A → (A → Option B) → Option B
-(Some x) >>= f = f x
-None >>= f = None
 
 -- the values of fields at the front of octets, and the octets after them
 unfoldable pub values_at : List FieldSpec → List ℕ → Option (List (List ℕ) × List ℕ)

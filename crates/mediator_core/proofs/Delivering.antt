@@ -1,10 +1,9 @@
 -- Messages that are pulled and written one after another.
-use Rattle.std.proofs.Common.{◌≡◌, ℕ, suc, ◌+◌, ◌*◌, ◌≤◌, ◌<◌, ◌^◌, Bool, true, false, cond, List, [], ◌∷◌, ◌++◌, length, take, drop, Option, Some, None, refl, sym, ap, ◌∙◌, subst, arith, append-nil, length-append, length-drop}
+use Rattle.std.proofs.Common.{◌≡◌, ℕ, ◌+◌, ◌*◌, ◌≤◌, ◌<◌, ◌^◌, Bool, true, false, cond, List, [], ◌∷◌, ◌++◌, length, take, drop, Option, Some, None, refl, sym, ap, ◌∙◌, subst, arith, length-append, length-drop}
 use Rattle.std.specs.List.{concat}
 use Rattle.std.specs.Io.KnownBytes.{Appends}
 use Rattle.std.proofs.KnownBytes.{Appends-trans, Appends-nil}
 use Rattle.std.proofs.lemmas.List.{take-append-drop, length-take}
-use Rattle.std.proofs.lemmas.List.Folds.{concat-append}
 use Rattle.ipfix_template.specs.DataRecord.{DataRecord}
 use Rattle.subscriber_stream.specs.Shapes.{shapes_of, is_among, id_of}
 use Rattle.subscriber_stream.specs.Parts.{Part, Announcement, Entry, parts, parts_at, records_in}
@@ -24,21 +23,15 @@ use Rattle.mediator_history.specs.Entries.{Entry as HistoryEntry}
 use Rattle.mediator_history.specs.Sessions.{messages_of}
 use Rattle.mediator_history.specs.Auditing.{audit_list}
 use Rattle.mediator_history.specs.Disclosed.{disclosed}
+use Rattle.subscriber_stream.proofs.CallLaws.{run_some}
+use Rattle.stream_meaning.proofs.Runs.{some_message}
+use Rattle.std.proofs.lemmas.Option.{same_Some}
+use Rattle.sequences.proofs.ListLaws.{take-add-append, concat_push}
 use Rattle.mediator_core.specs.declared.desk.Desk.{Desk}
 use Rattle.mediator_core.specs.Desks.{Stands, Small}
 use Rattle.mediator_core.specs.Steps.{end_of}
 use Rattle.mediator_core.specs.declared.job.OfflineFault.{OfflineFault}
 use Rattle.mediator_core.specs.Pulling.{HandsOut, IsDelivering, SameElse, StopsWriting, Delivers, StopsDelivery, FailsDelivery}
-
-pub run_some : (target : ℕ) (ps : List Part) → 1 ≤ run_length target ps
-unfolding run_length
-run_some target ps = omega arith
-
-abbrev message_some : List ℕ → Option (List ℕ)
-message_some m = Some m
-
-same_message : (a b : List ℕ) → message_some a ≡ message_some b → a ≡ b
-same_message a b e = cc
 
 -- ---- a message is pulled
 
@@ -72,7 +65,7 @@ pulled records now target p m streamable below is = at (drop p (parts records)) 
             (known_split (take p (parts records)) (drop p (parts records)) empty (subst (AreKnown empty) (sym (take-append-drop p (parts records))) (parts_known records streamable))).1
 
         short : length m < 65536
-        short = subst (λ x. length x < 65536) (same_message _ m (ap (next_message now target (length (records_in (take p (parts records))))) (sym e) ∙ is))
+        short = subst (λ x. length x < 65536) (same_Some _ m (ap (next_message now target (length (records_in (take p (parts records))))) (sym e) ∙ is))
             (run_fits target now (length (records_in (take p (parts records)))) (after_parts empty (take p (parts records))) part ps below known)
 
 -- nothing is built exactly where all was handed out
@@ -106,26 +99,12 @@ pub parts_few : (records : List DataRecord) → length (parts records) ≤ 2 * l
 unfolding parts
 parts_few records = parts_after-few [] records
 
-take-add-append : (xs ys : List ℕ) (n : ℕ) → take (length xs + n) (xs ++ ys) ≡ xs ++ take n ys
-take-add-append [] ys n = ap (λ k. take k ys) zero where
-  zero : 0 + n ≡ n
-  zero = omega arith
-take-add-append (x ∷ xs) ys n = ap (λ k. take k (x ∷ (xs ++ ys))) next ∙ ap (λ t. x ∷ t) (take-add-append xs ys n) where
-  next : length (x ∷ xs) + n ≡ suc (length xs + n)
-  next = omega arith
-
 -- ---- messages one after another
 
 pub hands-snoc : (records : List DataRecord) (now target p q : ℕ) (ms : List (List ℕ)) (m : List ℕ) → HandsOut records now target p ms q → built records q now target ≡ Some m
     → HandsOut records now target p (ms ++ m ∷ []) (place_after records q target)
 hands-snoc records now target p q [] m hands is = (subst (λ x. built records x now target ≡ Some m) (sym hands) is, ap (λ x. place_after records x target) hands)
 hands-snoc records now target p q (n ∷ ms) m hands is = (hands.0, hands-snoc records now target (place_after records p target) q ms m hands.1 is)
-
-pub concat-snoc : (ms : List (List ℕ)) (m : List ℕ) → concat (ms ++ m ∷ []) ≡ concat ms ++ m
-concat-snoc ms m = concat-append ms (m ∷ []) ∙ ap (λ t. concat ms ++ t) (one m)
-  where
-    one : (m : List ℕ) → concat (m ∷ []) ≡ m
-    one m = append-nil m
 
 -- ---- a desk that pulls
 
@@ -181,8 +160,8 @@ pulling_goes_on old d e held holds writes m so below same limits gives writing c
   messages = so.messages ++ m ∷ [];
   job = same.job ∙ so.job;
   audit = same.audit ∙ so.audit;
-  sent = omega (arith, so.sent, counting, ap length (concat-snoc so.messages m), length-append (concat so.messages) m);
-  written = subst (Appends held writes) (sym (concat-snoc so.messages m)) (Appends-trans held holds writes (concat so.messages) m so.written writing);
+  sent = omega (arith, so.sent, counting, ap length (concat_push so.messages m), length-append (concat so.messages) m);
+  written = subst (Appends held writes) (sym (concat_push so.messages m)) (Appends-trans held holds writes (concat so.messages) m so.written writing);
   handed = λ h p start small. next h p start small (so.handed h p start small);
 }
   where
@@ -310,11 +289,11 @@ turn_fails old d e held holds writes m fault failed start so p stops = record {
     )
 
     front : WritesFront held writes (concat (so.messages ++ m ∷ [])) (length (concat so.messages) + stops.sent) failed
-    front = subst (λ l. WritesFront held writes l (length (concat so.messages) + stops.sent) failed) (sym (concat-snoc so.messages m)) (record {
+    front = subst (λ l. WritesFront held writes l (length (concat so.messages) + stops.sent) failed) (sym (concat_push so.messages m)) (record {
       short = omega (arith, stops.front.short, length-append (concat so.messages) m);
       written = subst (Appends held writes) (sym (take-add-append (concat so.messages) m stops.sent)) (Appends-trans held holds writes (concat so.messages) (take stops.sent m) so.written stops.front.written);
       failed = stops.front.failed;
     })
 
 pub some_same : (o : Option (List ℕ)) (a b : List ℕ) → o ≡ Some a → b ≡ a → o ≡ Some b
-some_same o a b is same = is ∙ ap message_some (sym same)
+some_same o a b is same = is ∙ ap some_message (sym same)

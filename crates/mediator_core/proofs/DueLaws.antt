@@ -6,14 +6,14 @@ use Rattle.sequences.proofs.BeforeLaws.{each_with_before-append}
 use Rattle.ipfix_template.specs.DataRecord.{DataRecord}
 use Rattle.subscriber_stream.specs.Parts.{Part, parts, records_in}
 use Rattle.subscriber_stream.specs.Message.{run_length, taken, next_message, built, place_after}
-use Rattle.subscriber_stream.proofs.CallLaws.{parts_more}
+use Rattle.subscriber_stream.proofs.CallLaws.{parts_more, run_some}
 use Rattle.mediator_history.specs.Entries.{Entry}
 use Rattle.mediator_history.specs.Disclosed.{given_at, disclosed}
 use Rattle.mediator_core.specs.declared.job.OfflineJob.{OfflineJob}
 use Rattle.mediator_core.specs.Offline.{cuts_by, next_message as next_entry, history_of, disclosed_by, and_then, pulled, due_by, due}
 use Rattle.mediator_core.specs.Pulling.{HandsOut}
 use Rattle.mediator_core.specs.Due.{end_by, AreDue}
-use Rattle.mediator_core.proofs.Delivering.{run_some, at_end}
+use Rattle.mediator_core.proofs.Delivering.{at_end}
 use Rattle.mediator_core.proofs.InHand.{history_more, handed_all}
 use Rattle.mediator_core.proofs.Ends.{parts_none}
 

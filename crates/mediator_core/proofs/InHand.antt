@@ -4,7 +4,7 @@ use Rattle.std.specs.Prelude.{fold}
 use Rattle.std.specs.List.{concat}
 use Rattle.std.specs.Io.KnownBytes.{Appends}
 use Rattle.std.proofs.KnownBytes.{Appends-trans, Appends-nil}
-use Rattle.std.proofs.lemmas.List.{drop_all}
+use Rattle.std.proofs.lemmas.List.{drop_all, take-append-le}
 use Rattle.std.proofs.lemmas.List.Folds.{concat-append}
 use Rattle.std.proofs.lemmas.Grind.{flat_map-append}
 use Rattle.sequences.specs.Before.{each_after}
@@ -28,6 +28,7 @@ use Rattle.mediator_history.specs.Sessions.{messages_of}
 use Rattle.ipfix_session.specs.Standing.{StandsFor}
 use Rattle.subscriber_stream.specs.Standing.{StandsAt}
 use Rattle.std.proofs.Math.Seq.{drop-append_seam}
+use Rattle.sequences.proofs.ListLaws.{take-add-append}
 use Rattle.mediator_core.specs.declared.desk.Desk.{Desk}
 use Rattle.mediator_core.specs.declared.job.OfflineJob.{OfflineJob}
 use Rattle.mediator_core.specs.Recording.{lines_of, KeepsDesk, WritesSome, WritesOn, StopsLines}
@@ -40,7 +41,6 @@ use Rattle.mediator_core.specs.declared.fault.Fault.{Fault}
 use Rattle.mediator_core.specs.declared.fault.Fault.TheVariants as fault
 use Rattle.mediator_core.specs.declared.job.OfflineFault.{OfflineFault}
 use Rattle.mediator_core.specs.declared.job.OfflineFault.TheVariants.{Read, Write, Framing, Turns, Core, Cut, AuditWrite}
-use Rattle.mediator_core.proofs.Lines.{take-add-append, take-within}
 use Rattle.mediator_core.proofs.Delivering.{pulled, streamable_of}
 
 -- ---- one message more
@@ -364,7 +364,7 @@ stops_delivering f d1 d2 job messages octets held holds writes aheld aholds fail
         taken : take sent (concat (due job (messages ++ octets ∷ []))) ≡ concat (due job messages) ++ take n (concat fails.messages)
         taken = ap (λ k. take k (concat (due job (messages ++ octets ∷ [])))) (is ∙ ap (λ k. k + n) (sent_same ∙ r.sent)) ∙ ap (take (length (concat (due job messages)) + n)) whole
             ∙ take-add-append (concat (due job messages)) (concat fails.messages ++ concat front.0) n
-            ∙ ap (λ t. concat (due job messages) ++ t) (take-within (concat fails.messages) (concat front.0) n (omega (arith, w.short)))
+            ∙ ap (λ t. concat (due job messages) ++ t) (take-append-le n (concat fails.messages) (concat front.0) (omega (arith, w.short)))
 
     memory : Appends holds writes (concat fails.messages) → WritesInHand job messages octets held writes aheld aholds
     memory so =

@@ -1,27 +1,15 @@
 -- Lines that are written one after another.
-use Rattle.std.proofs.Common.{◌≡◌, ℕ, zero, suc, ◌+◌, ◌≤◌, ◌<◌, List, [], ◌∷◌, ◌++◌, length, take, drop, Option, refl, sym, ap, ◌∙◌, subst, arith, append_assoc, length-append}
+use Rattle.std.proofs.Common.{◌≡◌, ℕ, ◌+◌, ◌≤◌, ◌<◌, List, [], ◌∷◌, ◌++◌, length, take, drop, Option, sym, ap, ◌∙◌, subst, arith, append_assoc, length-append}
 use Rattle.std.specs.Prelude.{get_or, Result, Ok, Err, OnErr}
 use Rattle.std.specs.Io.KnownBytes.{Appends}
 use Rattle.std.proofs.KnownBytes.{Appends-trans}
-use Rattle.std.proofs.lemmas.List.{take_more, take-append-drop, take_all}
+use Rattle.std.proofs.lemmas.List.{take_more, take-append-drop, take_all, take-append-le}
 use Rattle.std.proofs.lemmas.Grind.{flat_map-append}
 use Rattle.mediator_history.proofs.HistoryLaws.{flat_map-push}
 use Rattle.disclosure_audit.specs.declared.entry.AuditEntry.{AuditEntry}
 use Rattle.disclosure_audit.specs.Lines.{line_of}
+use Rattle.sequences.proofs.ListLaws.{take-add-append}
 use Rattle.mediator_core.specs.Recording.{lines_of, WritesSome}
-
-pub take-add-append : (xs ys : List ℕ) (n : ℕ) → take (length xs + n) (xs ++ ys) ≡ xs ++ take n ys
-take-add-append [] ys n = ap (λ k. take k ys) none where
-  none : 0 + n ≡ n
-  none = omega arith
-take-add-append (x ∷ xs) ys n = ap (λ k. take k (x ∷ (xs ++ ys))) next ∙ ap (λ t. x ∷ t) (take-add-append xs ys n) where
-  next : length (x ∷ xs) + n ≡ suc (length xs + n)
-  next = omega arith
-
-pub take-within : (xs ys : List ℕ) (n : ℕ) → n ≤ length xs → take n (xs ++ ys) ≡ take n xs
-take-within xs ys zero le = refl
-take-within [] ys (suc n) le = absurd (omega arith)
-take-within (x ∷ xs) ys (suc n) le = ap (λ t. x ∷ t) (take-within xs ys n (omega arith))
 
 lines_so_far : (entries : List AuditEntry) (i : ℕ) (e : AuditEntry) → i < length entries → e ≡ get_or entries i e → lines_of (take (i + 1) entries) ≡ lines_of (take i entries) ++ line_of e
 lines_so_far entries i e within at = ap lines_of (take_more entries i e within ∙ ap (λ x. take i entries ++ x ∷ []) (sym at)) ∙ flat_map-push line_of (take i entries) e
@@ -45,7 +33,7 @@ lines_stop a b c entries i e within at so some = record {
     front : take (length (lines_of (take i entries)) + some.count) (lines_of entries) ≡ lines_of (take i entries) ++ take some.count (line_of e)
     front = ap (take (length (lines_of (take i entries)) + some.count)) whole
         ∙ take-add-append (lines_of (take i entries)) (line_of e ++ lines_of (drop (i + 1) entries)) some.count
-        ∙ ap (λ t. lines_of (take i entries) ++ t) (take-within (line_of e) (lines_of (drop (i + 1) entries)) some.count some.within)
+        ∙ ap (λ t. lines_of (take i entries) ++ t) (take-append-le some.count (line_of e) (lines_of (drop (i + 1) entries)) some.within)
 
 pub lines_end : (a b : Option (List ℕ)) (entries : List AuditEntry) (i : ℕ) → length entries ≤ i → Appends a b (lines_of (take i entries)) → Appends a b (lines_of entries)
 lines_end a b entries i past so = subst (λ l. Appends a b (lines_of l)) (take_all i entries past) so

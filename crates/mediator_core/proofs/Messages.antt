@@ -5,7 +5,7 @@ use Rattle.std.specs.List.{flat_map, enumerate_from}
 use Rattle.std.proofs.lemmas.List.Concat.{flat_map-cons}
 use Rattle.std.proofs.lemmas.List.Folds.{flat_map-map}
 use Rattle.ipfix_message.specs.Reading.{header_of}
-use Rattle.ipfix_session.specs.Contents.{Contents, ◌>>=◌}
+use Rattle.ipfix_session.specs.Contents.{Contents}
 use Rattle.ipfix_session.specs.Meaning.{Meaning, meaning_of, contents_of, gap_of, domain_of}
 use Rattle.ipfix_session.specs.declared.read_error.ReadError.{ReadError}
 use Rattle.mediator_history.specs.Entries.{Entry, Message, Cut}
@@ -15,6 +15,8 @@ use Rattle.mediator_history.specs.Accepted.{records_meant, records_at, accepted_
 use Rattle.mediator_history.specs.Disclosed.{passed, outcome_for, given_at}
 use Rattle.mediator_history.specs.Auditing.{audit_of, audit_at}
 use Rattle.mediator_history.specs.Cuts.{is_cut_by}
+use Rattle.sequences.proofs.ResultLaws.{same_Ok}
+use Rattle.sequences.specs.Results.{◌>>=◌}
 use Rattle.mediator_core.specs.Shares.{given, notes_from}
 use Rattle.mediator_core.specs.Offline.{stream_limits, next_message, cuts_by}
 
@@ -34,18 +36,12 @@ flat_map-one f x = flat_map-cons f x [] ∙ append-nil (f x)
 pub served_alone : (h : List Entry) → flat_map subscribed_in h ≡ 1 ∷ [] → is_served 1 h ≡ true → served h ≡ 1 ∷ []
 served_alone h alone on = ap (filter (λ sub. is_served sub h)) alone ∙ filter-one (λ sub. is_served sub h) 1 on
 
-abbrev meant : Meaning → Result Meaning ReadError
-meant m = Ok m
-
-same_meaning : (a b : Meaning) → meant a ≡ meant b → a ≡ b
-same_meaning a b e = cc
-
 -- the header of what is meant is that of the message
 pub meaning_header : (older : List (List ℕ)) (octets : List ℕ) (m : Meaning) → meaning_of older octets ≡ Ok m → m.header ≡ header_of octets
 unfolding meaning_of
 meaning_header older octets m e = found (contents_of older octets) e where
   found : (contents : Result Contents ReadError) → (contents >>= λ c. Ok (record { header = header_of octets; records = c.records; skips = c.skips; gap = gap_of older octets })) ≡ Ok m → m.header ≡ header_of octets
-  found (Ok c) e = ap (λ x. x.header) (sym (same_meaning (record { header = header_of octets; records = c.records; skips = c.skips; gap = gap_of older octets }) m e))
+  found (Ok c) e = ap (λ x. x.header) (sym (same_Ok (record { header = header_of octets; records = c.records; skips = c.skips; gap = gap_of older octets }) m e))
   found (Err w) e = absurd cc
 
 pub given_message : (h : List Entry) (number : ℕ) (octets : List ℕ) (m : Meaning) → is_served 1 h ≡ true → meaning_of (messages_of 1 h) octets ≡ Ok m

@@ -34,6 +34,7 @@ use Rattle.mediator_history.specs.Auditing.{audit_of, audit_at, audit_list, audi
 use Rattle.mediator_history.specs.Cuts.{overflows}
 use Rattle.mediator_history.proofs.HistoryLaws.{flat_map-push, is_served-cut, policy-message, name-message, is_served-message, subscribed-message, messages-message, accepted-push, disclosed-push, audit-push, octets-push}
 use Rattle.mediator_history.proofs.Counts.{few_records}
+use Rattle.sequences.proofs.ListLaws.{AllByRecursion-append}
 use Rattle.mediator_core.specs.declared.desk.Desk.{Desk}
 use Rattle.mediator_core.specs.Shares.{given, noted, notes_from}
 use Rattle.mediator_core.specs.declared.fault.Fault.{Fault}
@@ -43,10 +44,6 @@ use Rattle.mediator_core.specs.Offline.{stream_limits, has_journal_room, next_me
 use Rattle.mediator_core.specs.Desks.{Stands, Small}
 use Rattle.mediator_core.specs.Steps.{end_of, Accepts, Counts, HandsOver, LacksRoom, NamesRoom, RefusesMessage}
 use Rattle.mediator_core.proofs.Messages.{filter-none, served_alone, given_message, audit_message, cuts_none, cuts_one}
-
-all-append : {A : Type 0} (P : A → Type 0) (xs ys : List A) → AllByRecursion P xs → AllByRecursion P ys → AllByRecursion P (xs ++ ys)
-all-append P [] ys p q = q
-all-append P (x ∷ xs) ys p q = (p.0, all-append P xs ys p.1 q)
 
 nothing_waits : (records : List DataRecord) → length (records_in (drop (length (parts records)) (parts records))) ≡ 0
 nothing_waits records = ap (λ ps. length (records_in ps)) (drop_all (length (parts records)) (parts records) (omega arith))
@@ -198,7 +195,7 @@ taken old new h octets m gives notes so small t = (none, subst (λ x. Stands new
       listed = omega (arith, ap length listed, length-append (disclosed 1 h) gives, accepts, small.listed, ap length t.giving, given-few old.job.name.now m.header.domain old.policy.rules m.records);
       audited = omega (arith, ap length audited, length-append (audit_list h) notes, accepts, small.audited, ap length t.noting, notes-few old.entries 0 old.job.name.now m.header.domain old.policy.rules m.records);
       shapes = omega (arith, ap (λ l. length (shapes_of l)) listed, t.fits.shapes);
-      streamable = subst (AllByRecursion IsStreamable) (sym listed) (all-append IsStreamable (disclosed 1 h) gives small.streamable t.streamable);
+      streamable = subst (AllByRecursion IsStreamable) (sym listed) (AllByRecursion-append IsStreamable (disclosed 1 h) gives small.streamable t.streamable);
     }
 
 -- ---- a message that cuts the subscription

@@ -9,7 +9,6 @@ use Rattle.sequences.proofs.OctetLaws.{be_value-below, AreOctets-drop, AreOctets
 use Rattle.ipfix_template.specs.DataRecord.{DataRecord}
 use Rattle.ipfix_message.specs.declared.decode_error.DecodeError.TheVariants.{ShortHeader, BadVersion, BadLength}
 use Rattle.ipfix_message.specs.Reading.{header_of, read_header, after_header, items_of}
-use Rattle.ipfix_session.specs.Contents.{◌>>=◌}
 use Rattle.ipfix_session.specs.Meaning.{Meaning, meaning_of, contents_of, read_items, items_of_domain, domain_of, gap_of}
 use Rattle.subscriber_stream.specs.Parts.{parts, records_in}
 use Rattle.subscriber_stream.proofs.CallLaws.{parts_bring}
@@ -17,6 +16,7 @@ use Rattle.subscriber_stream.proofs.Standings.{records_in-append}
 use Rattle.mediator_history.specs.Entries.{Entry}
 use Rattle.mediator_history.specs.Disclosed.{disclosed}
 use Rattle.mediator_history.specs.Auditing.{audit_list}
+use Rattle.sequences.specs.Results.{◌>>=◌}
 use Rattle.mediator_core.specs.declared.desk.Desk.{Desk}
 use Rattle.mediator_core.specs.Desks.{Stands, Small}
 use Rattle.mediator_core.specs.Steps.{HasCounts}

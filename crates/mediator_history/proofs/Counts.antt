@@ -2,7 +2,7 @@
 use Rattle.std.proofs.Common.{◌≡◌, ℕ, zero, suc, ◌+◌, ◌-◌, ◌≤◌, Bool, true, false, ltb, eqb, List, [], ◌∷◌, length, take, drop, Option, Some, None, Result, Ok, Err, refl, ◌∙◌, arith, length-append, length-drop}
 use Rattle.std.specs.Prelude.{◌||◌}
 use Rattle.std.specs.List.{sum_by}
-use Rattle.std.proofs.lemmas.Bool.{ltb-false}
+use Rattle.std.proofs.lemmas.Bool.{ltb-false, or_parts, cond_both}
 use Rattle.std.proofs.lemmas.List.{length-take, length-map}
 use Rattle.std.proofs.lemmas.List.Sums.{sum_by-append, sum_by-cons}
 use Rattle.sequences.specs.Octets.{number_at}
@@ -17,11 +17,11 @@ use Rattle.ipfix_message.specs.declared.item.Item.{Item}
 use Rattle.ipfix_message.specs.declared.item.Item.TheVariants.{Define, Withdraw, WithdrawAll, Refused as RefusedItem, DataSet, Skipped}
 use Rattle.ipfix_message.specs.Records.{set_id, bare_item, judged_item, template_item}
 use Rattle.ipfix_message.specs.Reading.{header_of, read_header, template_at, found_template, template_front, set_items, found_set, set_front, after_header, items_of}
-use Rattle.ipfix_message.proofs.Shrinks.{on_both, or_false}
 use Rattle.ipfix_session.specs.declared.read_error.ReadError.{ReadError}
-use Rattle.ipfix_session.specs.Contents.{Contents, ◌>>=◌, both, record_of, rows_of, set_contents, item_contents, contents_after}
+use Rattle.ipfix_session.specs.Contents.{Contents, both, record_of, rows_of, set_contents, item_contents, contents_after}
 use Rattle.ipfix_session.specs.InForce.{template_in_force}
 use Rattle.ipfix_session.specs.Meaning.{read_items, contents_of, meaning_of, items_of_domain, domain_of, gap_of}
+use Rattle.sequences.specs.Results.{◌>>=◌}
 use Rattle.mediator_history.specs.Accepted.{records_meant}
 
 -- ---- what is read weighs no more than the octets, if what stands at the front does
@@ -74,7 +74,7 @@ count_within front each (suc steps) octets = count_on steps (front octets) (read
 
 record_is_one : (t : Template) (octets : List ℕ) → FrontIsOne (record_front t octets)
 unfolding record_front
-record_is_one t octets = on_both FrontIsOne (ltb (length octets) (shortest_record t)) _ _ (λ _. tt) (λ _. one (values_at t.fields octets)) where
+record_is_one t octets = cond_both (ltb (length octets) (shortest_record t)) _ _ FrontIsOne (λ _. tt) (λ _. one (values_at t.fields octets)) where
   one : (found : Option (List (List ℕ) × List ℕ)) → FrontIsOne (found_record found)
   one None = tt
   one (Some found) = omega arith
@@ -119,11 +119,11 @@ light_within front each (suc steps) octets = light_on (front octets) (read_withi
 template_is_light : (options : Bool) (octets : List ℕ) → FrontIsLight (template_front options octets)
 unfolding template_front
 template_is_light options octets =
-    on_both FrontIsLight (ltb (length octets) 4) _ _ (λ _. tt)
-    (λ _. on_both FrontIsLight (eqb (number_at 2 2 octets) 0) _ _ (λ _. bare (number_at 0 2 octets))
+    cond_both (ltb (length octets) 4) _ _ FrontIsLight (λ _. tt)
+    (λ _. cond_both (eqb (number_at 2 2 octets) 0) _ _ FrontIsLight (λ _. bare (number_at 0 2 octets))
     (λ _. found (template_at options (number_at 2 2 octets) (drop 4 octets)))) where
       bare : (id : ℕ) → sum_by weight (bare_item options id ∷ []) ≡ 0
-      bare id = sum_by-cons weight (bare_item options id) [] ∙ on_both (λ i. weight i + 0 ≡ 0) (eqb id (set_id options)) _ _ (λ _. refl) (λ _. on_both (λ i. weight i + 0 ≡ 0) (ltb id 256) _ _ (λ _. refl) (λ _. refl))
+      bare id = sum_by-cons weight (bare_item options id) [] ∙ cond_both (eqb id (set_id options)) _ _ (λ i. weight i + 0 ≡ 0) (λ _. refl) (λ _. cond_both (ltb id 256) _ _ (λ i. weight i + 0 ≡ 0) (λ _. refl) (λ _. refl))
 
       judged : (id : ℕ) (t : Template) (why : Option Refused) → weight (judged_item id t why) + 0 ≡ 0
       judged id t None = refl
@@ -141,9 +141,9 @@ SetWeighs n (Err e) = Unit {0}
 set_weighs : (id place : ℕ) (content : List ℕ) → SetWeighs (length content) (set_items id place content)
 unfolding set_items read_all
 set_weighs id place content =
-    on_both (SetWeighs (length content)) (eqb id 2) _ _ (λ _. lighter _ (light_within (template_front false) (template_is_light false) (suc (length content)) content))
-    (λ _. on_both (SetWeighs (length content)) (eqb id 3) _ _ (λ _. lighter _ (light_within (template_front true) (template_is_light true) (suc (length content)) content))
-    (λ _. on_both (SetWeighs (length content)) (ltb id 256) _ _ (λ _. omega (arith, sum_by-cons weight (Skipped id) [])) (λ _. omega (arith, sum_by-cons weight (DataSet id place (length content)) [])))) where
+    cond_both (eqb id 2) _ _ (SetWeighs (length content)) (λ _. lighter _ (light_within (template_front false) (template_is_light false) (suc (length content)) content))
+    (λ _. cond_both (eqb id 3) _ _ (SetWeighs (length content)) (λ _. lighter _ (light_within (template_front true) (template_is_light true) (suc (length content)) content))
+    (λ _. cond_both (ltb id 256) _ _ (SetWeighs (length content)) (λ _. omega (arith, sum_by-cons weight (Skipped id) [])) (λ _. omega (arith, sum_by-cons weight (DataSet id place (length content)) [])))) where
       lighter : (r : Result (List Item) DecodeError) → ReadIsLight r → SetWeighs (length content) r
       lighter (Ok found) h = omega (arith, h)
       lighter (Err e) h = tt
@@ -154,15 +154,15 @@ length_taken n octets = omega (arith, length-take n octets)
 set_front_weighs : (total : ℕ) (octets : List ℕ) → FrontWeighs weight (length octets) (set_front total octets)
 unfolding set_front
 set_front_weighs total octets =
-    on_both (FrontWeighs weight (length octets)) (eqb (length octets) 0) _ _ (λ _. tt)
-    (λ _. on_both (FrontWeighs weight (length octets)) (ltb (length octets) 4) _ _ (λ _. tt)
-    (λ _. on_both (FrontWeighs weight (length octets)) (ltb (number_at 2 2 octets) 4 || ltb (length octets) (number_at 2 2 octets)) _ _ (λ _. tt)
+    cond_both (eqb (length octets) 0) _ _ (FrontWeighs weight (length octets)) (λ _. tt)
+    (λ _. cond_both (ltb (length octets) 4) _ _ (FrontWeighs weight (length octets)) (λ _. tt)
+    (λ _. cond_both (ltb (number_at 2 2 octets) 4 || ltb (length octets) (number_at 2 2 octets)) _ _ (FrontWeighs weight (length octets)) (λ _. tt)
     (λ fits. found (take (number_at 2 2 octets - 4) (drop 4 octets)) (length_taken (number_at 2 2 octets - 4) (drop 4 octets)) (set_items (number_at 0 2 octets) (total - length octets + 4) (take (number_at 2 2 octets - 4) (drop 4 octets))) (set_weighs (number_at 0 2 octets) (total - length octets + 4) (take (number_at 2 2 octets - 4) (drop 4 octets))) fits)))
   where
     found : (content : List ℕ) → length content ≤ number_at 2 2 octets - 4 → (r : Result (List Item) DecodeError) → SetWeighs (length content) r → (ltb (number_at 2 2 octets) 4 || ltb (length octets) (number_at 2 2 octets)) ≡ false → FrontWeighs weight (length octets) (found_set r (drop (number_at 2 2 octets) octets))
     found content long (Err e) h fits = tt
     found content long (Ok items) h fits =
-        let both = or_false (ltb (number_at 2 2 octets) 4) (ltb (length octets) (number_at 2 2 octets)) fits in
+        let both = or_parts (ltb (number_at 2 2 octets) 4) (ltb (length octets) (number_at 2 2 octets)) fits in
         let least = ltb-false (number_at 2 2 octets) 4 both.0 in
         let most = ltb-false (length octets) (number_at 2 2 octets) both.1 in
         omega (arith, least, most, h, long, length-drop (number_at 2 2 octets) octets)

@@ -1,7 +1,7 @@
 -- The element that a word names is the one whose name it is.
-use Rattle.std.proofs.Common.{◌≡◌, ℕ, zero, suc, ◌^◌, ◌<◌, Bool, true, false, ◌&&◌, cond, eqb, ltb, List, [], ◌∷◌, length, Option, Some, None, IfSome, refl, sym, ap, ◌∙◌, subst, arith, ⊎_elim}
+use Rattle.std.proofs.Common.{◌≡◌, ℕ, ◌^◌, ◌<◌, Bool, true, false, ◌&&◌, cond, eqb, ltb, List, [], ◌∷◌, length, Option, Some, None, IfSome, refl, sym, ap, ◌∙◌, subst, arith, ⊎_elim}
 use Rattle.std.specs.List.{find, list_all, position_or_len}
-use Rattle.std.specs.Str.{bytes_eq, IsUtf8, IsAscii}
+use Rattle.std.specs.Str.{bytes_eq, IsUtf8}
 use Rattle.std.specs.Fmt.{decimal}
 use Rattle.std.specs.Str.Parse.{AllDigits}
 use Rattle.std.proofs.lemmas.Str.{IsUtf8-from_ascii}
@@ -17,10 +17,14 @@ use Rattle.ipfix_element.specs.Names.{element_name, numbered_name, name_on, is_n
 use Rattle.ipfix_element.proofs.RegistryLaws.{find_both}
 use Rattle.ipfix_element.proofs.NameLaws.{named_how, one_name, one_word}
 use Rattle.flow_prefix.specs.Numerals.{number_of}
-use Rattle.flow_prefix.specs.Reading.{◌>>=◌, cut_at}
+use Rattle.flow_prefix.specs.Reading.{cut_at}
 use Rattle.flow_prefix.proofs.NumeralLaws.{number_of-found, number_of-only}
-use Rattle.flow_prefix.proofs.AddressTextLaws.{bind-some, Lacks, digit_other}
+use Rattle.flow_prefix.proofs.AddressTextLaws.{digit_other}
 use Rattle.flow_prefix.proofs.CutLaws.{cut_at-middle}
+use Rattle.sequences.specs.Options.{◌>>=◌}
+use Rattle.sequences.proofs.OptionLaws.{bind_some}
+use Rattle.sequences.proofs.ListLaws.{Lacks}
+use Rattle.policy_text.proofs.NameLaws.{ascii_by}
 use Rattle.policy_text.specs.Words.{Word}
 use Rattle.policy_text.specs.Elements.{checked, element_at, on_sides, behind_e, numbered_of, listed_or, element_of}
 
@@ -29,7 +33,7 @@ HasPen e = IfSome e.pen (λ pen. pen < 2 ^ 32)
 
 element_at-pen : (pen : Option ℕ) (word : Word) (e : Element) → IfSome pen (λ p. p < 2 ^ 32) → element_at pen word ≡ Some e → HasPen e
 element_at-pen pen word e small found =
-    let read = bind-some (number_of 32767 word) (λ n. Some (record { pen = pen; number = n })) e found in
+    let read = bind_some (number_of 32767 word) (λ n. Some (record { pen = pen; number = n })) e found in
     let is : record { pen = pen; number = read.0 } ≡ e = same_Some (record { pen = pen; number = read.0 }) e read.2 in
     let P : Element → Type 0 = λ x. HasPen x in
     subst P is small
@@ -37,7 +41,7 @@ element_at-pen pen word e small found =
 on_sides-pen : (numbers : Word) (sides : Option (List ℕ × List ℕ)) (e : Element) → on_sides numbers sides ≡ Some e → HasPen e
 on_sides-pen numbers None e found = element_at-pen None numbers e tt found
 on_sides-pen numbers (Some sides) e found =
-    let read = bind-some (number_of 4294967295 sides.0) (λ pen. element_at (Some pen) sides.1) e found in
+    let read = bind_some (number_of 4294967295 sides.0) (λ pen. element_at (Some pen) sides.1) e found in
     let bound = (number_of-found 4294967295 sides.0 read.0 (omega arith) read.1).bound in
     element_at-pen (Some read.0) sides.1 e (omega arith) read.2
 
@@ -60,7 +64,7 @@ listed_or-pen None word e found = numbered_of-pen word e found
 pub element_of-found : (word : Word) (e : Element) → element_of word ≡ Some e → IsElement e × (word ≡ element_name e)
 unfolding element_of
 element_of-found word e found =
-    let read = bind-some (listed_or (find (λ line. bytes_eq line.name word) registry) word) (checked word) e found in
+    let read = bind_some (listed_or (find (λ line. bytes_eq line.name word) registry) word) (checked word) e found in
     let passed = cond_some (ltb read.0.number 32768 && bytes_eq (element_name read.0) word) read.0 e read.2 in
     let tests = and_parts (ltb read.0.number 32768) (bytes_eq (element_name read.0) word) passed.0 in
     let pen = listed_or-pen (find (λ line. bytes_eq line.name word) registry) word read.0 read.1 in
@@ -111,12 +115,10 @@ listed-passes word line e =
     checked-passes word (record { pen = None; number = line.number }) (ltb-true line.number 32768 tests.0) (sym (own ∙ name))
 
 digits_lack_slash : (ds : List ℕ) → AllDigits 10 ds → Lacks 47 ds
-unfolding Lacks
 digits_lack_slash [] h = tt
 digits_lack_slash (c ∷ cs) h = let low = h.0 in (digit_other c 47 (omega arith) refl, digits_lack_slash cs h.1)
 
 no_place : (byte : ℕ) (octets : List ℕ) → Lacks byte octets → position_or_len (λ c. eqb c byte) octets ≡ length octets
-unfolding Lacks
 no_place byte [] h = refl
 no_place byte (c ∷ cs) h = let rest = no_place byte cs h.1 in rw h.0 (omega (arith, rest))
 
@@ -153,15 +155,10 @@ element_of-only word e ok name =
     let read = element_of-found word some.0 some.1 in
     some.1 ∙ ap (λ (x : Element). Some x) (sym (one_name e some.0 ok read.0 (sym name ∙ read.1)))
 
+octet_ascii : (c : ℕ) → is_name_octet c ≡ true → c < 128
+octet_ascii c h = grind (arith, nat_tests)
+
 -- a word that is no text names no element
-name_octet_ascii : (c : ℕ) → is_name_octet c ≡ true → c < 128
-name_octet_ascii c h = grind (arith, nat_tests)
-
-ascii_octets : (octets : List ℕ) → list_all is_name_octet octets ≡ true → IsAscii octets
-ascii_octets [] h i = omega arith
-ascii_octets (c ∷ cs) h zero = name_octet_ascii c (and_parts (is_name_octet c) (list_all is_name_octet cs) h).0
-ascii_octets (c ∷ cs) h (suc i) = ascii_octets cs (and_parts (is_name_octet c) (list_all is_name_octet cs) h).1 i
-
 pub element_of-text : (word : Word) → (IsUtf8 word → ⊥) → element_of word ≡ None
 element_of-text word none = by_answer (element_of word) refl
   where
@@ -171,7 +168,7 @@ element_of-text word none = by_answer (element_of word) refl
         let read = element_of-found word x e in
         let one = one_word x read.0 in
         let P : List ℕ → Type 0 = λ t. list_all is_name_octet t ≡ true in
-        absurd (none (IsUtf8-from_ascii word (ascii_octets word (subst P (sym read.1) one.1))))
+        absurd (none (IsUtf8-from_ascii word (ascii_by is_name_octet octet_ascii word (subst P (sym read.1) one.1))))
 
 -- whatever answers by names answers so
 pub element_of-answer : (word : Word) (r : Option Element) → IfSome r (λ e. IsElement e × (word ≡ element_name e)) → ((e : Element) → IsElement e → word ≡ element_name e → r ≡ Some e) → r ≡ element_of word

@@ -3,13 +3,15 @@ use Rattle.std.proofs.Common.{◌≡◌, ◌⊎◌, inl, inr, ℕ, ◌+◌, ◌<
 use Rattle.std.specs.Str.{bytes_eq}
 use Rattle.std.proofs.lemmas.Slice.Eq.{bytes_eq-Decides}
 use Rattle.std.proofs.lemmas.Bool.{cases_Bool, leb-true, leb-false, lt-leb, le-leb, false≢true}
+use Rattle.sequences.proofs.ResultLaws.{Err-Ok, same_Err, bind_Ok}
+use Rattle.sequences.specs.Results.{◌>>=◌}
 use Rattle.policy_text.specs.declared.fault.FaultKind.{FaultKind}
 use Rattle.policy_text.specs.declared.fault.FaultKind.TheVariants.{NoHeader, UnknownWord, TooMany}
 use Rattle.policy_text.specs.declared.fault.PolicyFault.{PolicyFault}
 use Rattle.policy_text.specs.declared.rule.Rule.{Rule}
 use Rattle.policy_text.specs.Words.{Word, words_of, lines_of, is_skipped}
 use Rattle.policy_text.specs.Policies.{Meaning, nothing, with_rule, with_aggregate, Aggregate as Definition}
-use Rattle.policy_text.specs.Results.{◌>>=◌, at_line, then_read}
+use Rattle.policy_text.specs.Results.{at_line, then_read}
 use Rattle.policy_text.specs.Lines.{next_of, rule_of, aggregate_of, rule_line, aggregate_line, line_of}
 use Rattle.policy_text.specs.Parsing.{is_header, step, line_step, read_lines, policy_of}
 use Rattle.policy_text.specs.Grammar.{IsAggregate, IsPolicy}
@@ -20,9 +22,8 @@ use Rattle.policy_text.specs.FirstFault.{MayStand, AwaitsAggregate, IsFaulty, Is
 use Rattle.policy_text.specs.LineParts.Part.{first_word}
 use Rattle.policy_text.proofs.ParsingLaws.{read_lines-cons, read_lines-done, read_lines-empty}
 use Rattle.policy_text.proofs.KeptLaws.{IsPolicy-nothing, with_rule-kept, with_aggregate-kept}
-use Rattle.policy_text.proofs.SoundLaws.{err-Ok, bound}
 use Rattle.policy_text.proofs.SpellLaws.{rule_line-found, rule_line-only, line_of-found, line_of-only, line_step-found, header-found}
-use Rattle.policy_text.proofs.PlaceLaws.{Completes, IsStuck, Place, ok_or_err, same_kind, kind_behind}
+use Rattle.policy_text.proofs.PlaceLaws.{Completes, IsStuck, Place, ok_or_err, kind_behind}
 use Rattle.policy_text.proofs.KindLaws.{bound_err}
 use Rattle.policy_text.proofs.LinePlaceLaws.{rule_reads, aggregate_reads}
 
@@ -63,16 +64,13 @@ aggregate_is_no_rule : (words tail : List Word) → codes "aggregate" ∷ words 
 unfolding first_letter
 aggregate_is_no_rule words tail e = let same : 97 ≡ 114 = ap first_letter e in omega (arith, same)
 
-front_word : List Word → Word
+unfoldable pub front_word : List Word → Word
 front_word [] = []
 front_word (word ∷ words) = word
 
 rule_first : (word : Word) (words tail : List Word) → bytes_eq word (codes "rule") ≡ false → word ∷ words ≡ codes "rule" ∷ tail → ⊥
 unfolding front_word
 rule_first word words tail other e = false≢true (sym other ∙ (bytes_eq-Decides word (codes "rule")).1 (ap front_word e))
-
-fault_ok : (fault : PolicyFault) (q : Meaning) → ◌≡◌ {A = Result Meaning PolicyFault} (Err fault) (Ok q) → ⊥
-fault_ok fault q e = cc
 
 -- what may stand, or waits for an aggregate
 abbrev Goes : Meaning → List Word → Type 0
@@ -97,7 +95,7 @@ rule_goes policy words room c =
 
 rule_of_line : (policy new : Meaning) (words : List Word) → length policy.rules < 4096 → line_of policy (codes "rule" ∷ words) ≡ Ok new → (r : Rule) × (rule_of policy.aggregates words ≡ Ok r)
 rule_of_line policy new words room e =
-    let read = bound (rule_of policy.aggregates words) (λ r. Ok (with_rule policy r)) new (sym (rule_room policy words room) ∙ e) in
+    let read = bind_Ok (rule_of policy.aggregates words) (λ r. Ok (with_rule policy r)) new (sym (rule_room policy words room) ∙ e) in
     (read.0, read.1)
 
 rule_went : (policy : Meaning) (words : List Word) → length policy.rules < 4096 → Goes policy (codes "rule" ∷ words) → Completes policy.aggregates rule_of words
@@ -130,7 +128,7 @@ aggregate_went : (policy : Meaning) (words : List Word) → length policy.aggreg
 aggregate_went policy words room g =
     ⊎_elim (λ (now : MayStand (Some policy) (codes "aggregate" ∷ words)).
     let read = stands_read policy (codes "aggregate" ∷ words) now in
-    let step = bound (aggregate_of policy.aggregates words) (λ a. Ok (with_aggregate policy a)) read.0 (sym (aggregate_room policy words room) ∙ read.1) in
+    let step = bind_Ok (aggregate_of policy.aggregates words) (λ a. Ok (with_aggregate policy a)) read.0 (sym (aggregate_room policy words room) ∙ read.1) in
     (step.0, step.1))
     (λ (later : AwaitsAggregate (Some policy) (codes "aggregate" ∷ words)). absurd (aggregate_is_no_rule (words ++ later.1.name ∷ []) later.4.tail later.4.words_are))
     g
@@ -199,13 +197,13 @@ rule_line_fault : (policy : Meaning) (words : List Word) (kind : FaultKind) → 
 rule_line_fault policy words kind valid e =
     ⊎_elim (λ (full : leb 4096 (length policy.rules) ≡ true).
     let many = leb-true 4096 (length policy.rules) full in
-    let same = same_kind TooMany kind (sym (rule_full policy words many) ∙ e) in
+    let same = same_Err TooMany kind (sym (rule_full policy words many) ∙ e) in
     let P : FaultKind → Type 0 = λ k. IsLineFault (Some policy) (codes "rule" ∷ words) k in
     subst P same (first_word_fault policy (codes "rule") words TooMany (λ more. rule_full policy more many) (λ a more new adds. let room = adds.room in omega arith) refl))
     (λ (free : leb 4096 (length policy.rules) ≡ false).
     let room = leb-false 4096 (length policy.rules) free in
     ⊎_elim (λ (failed : rule_of policy.aggregates words ≡ Err kind). rule_fault policy words kind room ((rule_reads policy.aggregates valid.aggregates).faults words kind failed))
-    (λ (read : (r : Rule) × (rule_of policy.aggregates words ≡ Ok r) × (Ok (with_rule policy r) ≡ Err kind)). absurd (err-Ok kind (with_rule policy read.0) (sym read.2)))
+    (λ (read : (r : Rule) × (rule_of policy.aggregates words ≡ Ok r) × (Ok (with_rule policy r) ≡ Err kind)). absurd (Err-Ok kind (with_rule policy read.0) (sym read.2)))
     (bound_err (rule_of policy.aggregates words) (λ r. Ok (with_rule policy r)) kind (sym (rule_room policy words room) ∙ e)))
     (cases_Bool (leb 4096 (length policy.rules)))
 
@@ -213,19 +211,19 @@ aggregate_line_fault : (policy : Meaning) (words : List Word) (kind : FaultKind)
 aggregate_line_fault policy words kind e =
     ⊎_elim (λ (full : leb 256 (length policy.aggregates) ≡ true).
     let many = leb-true 256 (length policy.aggregates) full in
-    let same = same_kind TooMany kind (sym (aggregate_full policy words many) ∙ e) in
+    let same = same_Err TooMany kind (sym (aggregate_full policy words many) ∙ e) in
     let P : FaultKind → Type 0 = λ k. IsLineFault (Some policy) (codes "aggregate" ∷ words) k in
     subst P same (first_word_fault policy (codes "aggregate") words TooMany (λ more. aggregate_full policy more many) (λ a more new adds. aggregate_is_no_rule more adds.tail adds.words_are) refl))
     (λ (free : leb 256 (length policy.aggregates) ≡ false).
     let room = leb-false 256 (length policy.aggregates) free in
     ⊎_elim (λ (failed : aggregate_of policy.aggregates words ≡ Err kind). aggregate_fault policy words kind room ((aggregate_reads policy.aggregates room).faults words kind failed))
-    (λ (read : (a : Definition) × (aggregate_of policy.aggregates words ≡ Ok a) × (Ok (with_aggregate policy a) ≡ Err kind)). absurd (err-Ok kind (with_aggregate policy read.0) (sym read.2)))
+    (λ (read : (a : Definition) × (aggregate_of policy.aggregates words ≡ Ok a) × (Ok (with_aggregate policy a) ≡ Err kind)). absurd (Err-Ok kind (with_aggregate policy read.0) (sym read.2)))
     (bound_err (aggregate_of policy.aggregates words) (λ a. Ok (with_aggregate policy a)) kind (sym (aggregate_room policy words room) ∙ e)))
     (cases_Bool (leb 256 (length policy.aggregates)))
 
 other_line_fault : (policy : Meaning) (word : Word) (words : List Word) (kind : FaultKind) → bytes_eq word (codes "rule") ≡ false → bytes_eq word (codes "aggregate") ≡ false → line_of policy (word ∷ words) ≡ Err kind → IsLineFault (Some policy) (word ∷ words) kind
 other_line_fault policy word words kind r a e =
-    let same = same_kind UnknownWord kind (sym (unknown_word policy word words r a) ∙ e) in
+    let same = same_Err UnknownWord kind (sym (unknown_word policy word words r a) ∙ e) in
     let P : FaultKind → Type 0 = λ k. IsLineFault (Some policy) (word ∷ words) k in
     subst P same (first_word_fault policy word words UnknownWord (λ more. unknown_word policy word more r a) (λ b more new adds. rule_first word more adds.tail r adds.words_are) (rw (r, a) refl))
 
@@ -359,9 +357,6 @@ later_line S T n line lines fault onto f =
       fault_is = f.fault_is;
     }
 
-same_fault : (a b : PolicyFault) → ◌≡◌ {A = Result Meaning PolicyFault} (Err a) (Err b) → a ≡ b
-same_fault a b e = cc
-
 this_line : (S : List (List ℕ) → Option Meaning → Type 0) (n : ℕ) (line : List ℕ) (lines : List (List ℕ)) (fault : PolicyFault) (kind : FaultKind) (so_far : Option Meaning) → record { line = n; kind = kind } ≡ fault → S [] so_far → is_skipped (words_of line) ≡ false → IsLineFault so_far (words_of line) kind → FaultIn S n (line ∷ lines) fault
 this_line S n line lines fault kind so_far same spelled counts f =
     let P : PolicyFault → Type 0 = λ x. FaultIn S n (line ∷ lines) x in
@@ -393,10 +388,10 @@ record LineFailed (p : Meaning) (line : List ℕ) (kind : FaultKind) : Type 0 wh
 line_failed : (p : Meaning) (line : List ℕ) (kind : FaultKind) → line_step true p line ≡ Err kind → LineFailed p line kind
 unfolding line_step step
 line_failed p line kind e =
-    ⊎_elim (λ (skip : is_skipped (words_of line) ≡ true). absurd (err-Ok kind (true, p) (sym (rw skip at e))))
+    ⊎_elim (λ (skip : is_skipped (words_of line) ≡ true). absurd (Err-Ok kind (true, p) (sym (rw skip at e))))
     (λ (kept : is_skipped (words_of line) ≡ false).
     ⊎_elim (λ (failed : line_of p (words_of line) ≡ Err kind). record { counts = kept; failed = failed })
-    (λ (read : (q : Meaning) × (line_of p (words_of line) ≡ Ok q) × (Ok (true, q) ≡ Err kind)). absurd (err-Ok kind (true, read.0) (sym read.2)))
+    (λ (read : (q : Meaning) × (line_of p (words_of line) ≡ Ok q) × (Ok (true, q) ≡ Err kind)). absurd (Err-Ok kind (true, read.0) (sym read.2)))
     (bound_err (line_of p (words_of line)) (λ q. Ok (true, q)) kind (rw kept at e)))
     (cases_Bool (is_skipped (words_of line)))
 
@@ -407,11 +402,11 @@ lines_by p n line lines fault valid later (Ok x) stepped e =
     (later x.1 (adds_kept p x.1 (words_of line) valid read.line_is) (ap (λ b. read_lines b x.1 (n + 1) lines) read.started_is ∙ e))
 lines_by p n line lines fault valid later (Err kind) stepped e =
     let failed = line_failed p line kind stepped in
-    this_line (LeadTo p) n line lines fault kind (Some p) (same_fault (record { line = n; kind = kind }) fault e) refl failed.counts
+    this_line (LeadTo p) n line lines fault kind (Some p) (same_Err (record { line = n; kind = kind }) fault e) refl failed.counts
     (line_fault p (words_of line) kind valid failed.counts failed.failed)
 
 lines_fault : (p : Meaning) (n : ℕ) (lines : List (List ℕ)) (fault : PolicyFault) → IsPolicy p → read_lines true p n lines ≡ Err fault → FaultIn (LeadTo p) n lines fault
-lines_fault p n [] fault valid e = absurd (fault_ok fault p (sym e ∙ read_lines-done p n))
+lines_fault p n [] fault valid e = absurd (Err-Ok fault p (sym e ∙ read_lines-done p n))
 lines_fault p n (line ∷ lines) fault valid e =
     lines_by p n line lines fault valid (λ q kept f. lines_fault q (n + 1) lines fault kept f) (line_step true p line) refl (sym (read_lines-cons true p n line lines) ∙ e)
 
@@ -436,13 +431,13 @@ abbrev started_with : Meaning → Result (Bool × Meaning) FaultKind
 started_with q = Ok (true, q)
 
 header_by : (words : List Word) (kind : FaultKind) (b : Bool) → (cond b (Ok nothing) (Err NoHeader) >>= started_with) ≡ Err kind → (b ≡ false) × (NoHeader ≡ kind)
-header_by words kind true e = absurd (err-Ok kind (true, nothing) (sym e))
-header_by words kind false e = (refl, same_kind NoHeader kind e)
+header_by words kind true e = absurd (Err-Ok kind (true, nothing) (sym e))
+header_by words kind false e = (refl, same_Err NoHeader kind e)
 
 header_failed : (line : List ℕ) (kind : FaultKind) → line_step false nothing line ≡ Err kind → HeaderFailed line kind
 unfolding line_step step
 header_failed line kind e =
-    ⊎_elim (λ (skip : is_skipped (words_of line) ≡ true). absurd (err-Ok kind (false, nothing) (sym (rw skip at e))))
+    ⊎_elim (λ (skip : is_skipped (words_of line) ≡ true). absurd (Err-Ok kind (false, nothing) (sym (rw skip at e))))
     (λ (kept : is_skipped (words_of line) ≡ false).
     let h = header_by (words_of line) kind (is_header (words_of line)) (rw kept at e) in
     record { counts = kept; failed = h.0; kind_is = h.1 })
@@ -462,11 +457,11 @@ all_by n line lines fault later (Ok x) stepped e =
 all_by n line lines fault later (Err kind) stepped e =
     let failed = header_failed line kind stepped in
     let P : FaultKind → Type 0 = λ k. IsLineFault None (words_of line) k in
-    inl (this_line SpellSoFar n line lines fault kind None (same_fault (record { line = n; kind = kind }) fault e) tt failed.counts
+    inl (this_line SpellSoFar n line lines fault kind None (same_Err (record { line = n; kind = kind }) fault e) tt failed.counts
     (subst P failed.kind_is (header_fault (words_of line) failed.counts failed.failed)))
 
 all_fault : (n : ℕ) (lines : List (List ℕ)) (fault : PolicyFault) → read_lines false nothing n lines ≡ Err fault → FaultIn SpellSoFar n lines fault ⊎ NoLines lines fault
-all_fault n [] fault e = inr (tt, same_fault fault (record { line = 1; kind = NoHeader }) (sym e ∙ read_lines-empty nothing n))
+all_fault n [] fault e = inr (tt, same_Err fault (record { line = 1; kind = NoHeader }) (sym e ∙ read_lines-empty nothing n))
 all_fault n (line ∷ lines) fault e =
     all_by n line lines fault (λ f. all_fault (n + 1) lines fault f) (line_step false nothing line) refl (sym (read_lines-cons false nothing n line lines) ∙ e)
 

@@ -1,21 +1,19 @@
 -- Fewer than 256 aggregates leave a name.
 use Rattle.std.proofs.Common.{◌≡◌, ℕ, zero, suc, ◌+◌, ◌-◌, ◌*◌, ◌/◌, ◌%◌, ◌<◌, ◌≤◌, true, false, not, eqb, List, [], ◌∷◌, length, filter, map, None, refl, sym, ap, ◌∙◌, subst, arith, ⊎_elim, mod-lt}
-use Rattle.std.specs.List.{AllByRecursion, list_any, position_or_len}
+use Rattle.std.specs.List.{list_any, position_or_len}
 use Rattle.std.specs.Str.{bytes_eq}
 use Rattle.std.proofs.lemmas.Slice.Eq.{bytes_eq-Decides}
 use Rattle.std.proofs.lemmas.List.{length-map}
 use Rattle.std.proofs.lemmas.Bool.{cases_Bool, ne_eqb, eqb-true, le-ltb, false≢true}
 use Rattle.std.proofs.lemmas.Bool.Decides.{nat_tests}
 use Rattle.std.proofs.Math.Nat.{div-add-mod}
+use Rattle.sequences.proofs.ListLaws.{Lacks}
 use Rattle.policy_text.specs.Words.{Word}
 use Rattle.policy_text.specs.Naming.{is_name}
 use Rattle.policy_text.specs.Policies.{Aggregate as Definition}
 use Rattle.policy_text.specs.Classes.{place_of}
 
-abbrev Absent : ℕ → List ℕ → Type 0
-Absent n xs = AllByRecursion (λ x. eqb x n ≡ false) xs
-
-absent_from : (n : ℕ) (xs : List ℕ) → list_any (λ x. eqb x n) xs ≡ false → Absent n xs
+absent_from : (n : ℕ) (xs : List ℕ) → list_any (λ x. eqb x n) xs ≡ false → Lacks n xs
 absent_from n [] h = tt
 absent_from n (x ∷ xs) h =
     ⊎_elim (λ (same : eqb x n ≡ true). absurd (false≢true (sym (rw same at h))))
@@ -40,7 +38,7 @@ shorter n (x ∷ xs) h =
     (λ (other : eqb x n ≡ false). let less = shorter n xs (rw other at h) in rw other (omega arith))
     (cases_Bool (eqb x n))
 
-absent_before : (k n : ℕ) (xs : List ℕ) → k < n → Absent k (without n xs) → Absent k xs
+absent_before : (k n : ℕ) (xs : List ℕ) → k < n → Lacks k (without n xs) → Lacks k xs
 absent_before k n [] low h = tt
 absent_before k n (x ∷ xs) low h =
     ⊎_elim (λ (same : eqb x n ≡ true).
@@ -54,7 +52,7 @@ absent_before k n (x ∷ xs) low h =
 record FreshNumber (n : ℕ) (xs : List ℕ) : Type 0 where
   k : ℕ
   low : k < n
-  absent : Absent k xs
+  absent : Lacks k xs
 
 fresh_number : (n : ℕ) (xs : List ℕ) → length xs < n → FreshNumber n xs
 fresh_number zero xs h = absurd (omega arith)
@@ -89,7 +87,7 @@ letters_name k low =
     let first : k / 16 < 16 = omega (arith, div-add-mod k 16) in
     two_letters (k / 16) (k % 16) first second
 
-unplaced : (w : Word) (aggregates : List Definition) → Absent (code w) (map (λ a. code a.name) aggregates) → position_or_len (λ a. bytes_eq a.name w) aggregates ≡ length aggregates
+unplaced : (w : Word) (aggregates : List Definition) → Lacks (code w) (map (λ a. code a.name) aggregates) → position_or_len (λ a. bytes_eq a.name w) aggregates ≡ length aggregates
 unplaced w [] h = refl
 unplaced w (a ∷ rest) h =
     ⊎_elim (λ (same : bytes_eq a.name w ≡ true). absurd (false≢true (sym h.0 ∙ ap (λ x. eqb (code x) (code w)) ((bytes_eq-Decides a.name w).0 same) ∙ eqb_self (code w))))
@@ -109,6 +107,6 @@ pub fresh_name : (aggregates : List Definition) → length aggregates < 256 → 
 fresh_name aggregates few =
     let codes : List ℕ = map (λ (a : Definition). code a.name) aggregates in
     let f = fresh_number 256 codes (omega (arith, length-map aggregates (λ (a : Definition). code a.name))) in
-    let P : ℕ → Type 0 = λ n. Absent n codes in
+    let P : ℕ → Type 0 = λ n. Lacks n codes in
     let at = unplaced (letters f.k) aggregates (subst P (sym (code-letters f.k)) f.absent) in
     record { name = letters f.k; named = letters_name f.k f.low; unused = rw (at, le-ltb (length aggregates) (length aggregates) (omega arith)) refl }

@@ -4,8 +4,8 @@ use Rattle.std.specs.List.{slice_split}
 use Rattle.ipfix_element.specs.Element.{Element}
 use Rattle.flow_prefix.specs.Reading.{cut_at}
 use Rattle.flow_prefix.proofs.PartsLaws.{slice_split-cut, slice_split-whole}
+use Rattle.sequences.specs.Results.{◌>>=◌}
 use Rattle.policy_text.specs.Words.{Word}
-use Rattle.policy_text.specs.Results.{◌>>=◌}
 use Rattle.policy_text.specs.Classes.{add_piece, add_pieces, key_of}
 use Rattle.policy_text.proofs.ResultLaws.{bind-Ok}
 

@@ -7,6 +7,8 @@ use Rattle.std.proofs.lemmas.Bool.{cases_Bool, lt-ltb}
 use Rattle.ipfix_element.specs.Element.{Element}
 use Rattle.ipfix_element.specs.Kinds.{kind_of}
 use Rattle.ipfix_element.specs.Registry.{registry}
+use Rattle.sequences.proofs.ResultLaws.{Err-Ok}
+use Rattle.sequences.specs.Results.{◌>>=◌}
 use Rattle.policy_text.specs.declared.fault.FaultKind.{FaultKind}
 use Rattle.policy_text.specs.declared.fault.FaultKind.TheVariants.{UnknownWord, BadTruncate}
 use Rattle.policy_text.specs.declared.rule.Action.{Action}
@@ -14,7 +16,6 @@ use Rattle.policy_text.specs.declared.rule.Action.TheVariants.{Pass, Withhold, A
 use Rattle.policy_text.specs.Words.{Word}
 use Rattle.policy_text.specs.Naming.{is_name}
 use Rattle.policy_text.specs.Policies.{Aggregate as Definition}
-use Rattle.policy_text.specs.Results.{◌>>=◌}
 use Rattle.policy_text.specs.Classes.{name, number, element, prefix, star, or_star, with_key, key_of, width_at, aggregate_place, new_name, interval, bits_within}
 use Rattle.policy_text.specs.Lines.{next_of, next, ended, truncate_of, element_action, aggregate_action, on_element, action_of, rule_of, aggregate_of}
 use Rattle.policy_text.specs.Grammar.{IsAggregate, AreAggregates}
@@ -23,7 +24,7 @@ use Rattle.policy_text.specs.LineParts.{Part, parts_after, rule_parts, aggregate
 use Rattle.policy_text.specs.LineParts.Part.{keyword, who, domain, network, action, known_name, element_or_star, treatment, bits, unused_name, key_list, seconds}
 use Rattle.policy_text.proofs.KeyStepLaws.{as_key}
 use Rattle.policy_text.proofs.PrintedClassLaws.{or_star-star, new_name-printed, number-printed, interval-printed, bits-printed, key-printed}
-use Rattle.policy_text.proofs.SoundLaws.{err-Ok, rule_action, rule_to, rule_behind_from, rule_from, rule_behind_domain, rule_domain, rule_behind_who, rule_who, aggregate_end, aggregate_grace, aggregate_behind_interval, aggregate_interval, aggregate_behind_key, aggregate_key, aggregate_behind_name}
+use Rattle.policy_text.proofs.SoundLaws.{rule_action, rule_to, rule_behind_from, rule_from, rule_behind_domain, rule_domain, rule_behind_who, rule_who, aggregate_end, aggregate_grace, aggregate_behind_interval, aggregate_interval, aggregate_behind_key, aggregate_key, aggregate_behind_name}
 use Rattle.policy_text.proofs.PlaceLaws.{Reader, Completes, IsDead, Reads, Reads-same, Agree-all, behind, dead, ok_or_err, word_step, taken, class_step, keyword_step, ends, end_reads}
 use Rattle.policy_text.proofs.KindLaws.{who_kind, domain_kind, network_kind, element_or_star_kind, grace_kind, interval_kind, bits_kind, place_kind, new_name_kind, key_kind}
 use Rattle.policy_text.proofs.FreshLaws.{fresh_name}
@@ -121,8 +122,8 @@ counted-err make q word words kind e = rw e refl
 
 not_ended : {B : Type 0} (words : List Word) (last : Word) (x y : B) → (ended (words ++ last ∷ []) >>= λ done. Ok x) ≡ Ok y → ⊥
 unfolding ended
-not_ended [] last x y e = err-Ok UnknownWord y e
-not_ended (word ∷ words) last x y e = err-Ok UnknownWord y e
+not_ended [] last x y e = Err-Ok UnknownWord y e
+not_ended (word ∷ words) last x y e = Err-Ok UnknownWord y e
 
 -- a second word behind `aggregate`
 two_words : {B : Type 0} (make : Option Element × Action → B) (q : List Definition) (word : Word) (words : List Word) (last : Word) (r : Result ℕ FaultKind) (y : B) → aggregate_place q word ≡ r → counted make q (word ∷ words ++ last ∷ []) ≡ Ok y → ⊥
@@ -132,8 +133,8 @@ two_words make q word words last (Err kind) y e h = ok_or_err (counted make q (w
 no_place : (word : Word) (place : ℕ) → aggregate_place [] word ≡ Ok place → ⊥
 unfolding aggregate_place
 no_place word place e =
-    ⊎_elim (λ (t : is_name word ≡ true). err-Ok _ place (rw t at e))
-    (λ (f : is_name word ≡ false). err-Ok _ place (rw f at e))
+    ⊎_elim (λ (t : is_name word ≡ true). Err-Ok _ place (rw t at e))
+    (λ (f : is_name word ≡ false). Err-Ok _ place (rw f at e))
     (cases_Bool (is_name word))
 
 counted_branch : {B : Type 0} (here : List Definition) (make : Option Element × Action → B) (word : Word) (r : Result ℕ FaultKind) → aggregate_place here word ≡ r → Branch here known_name [] (counted make) word

@@ -1,5 +1,5 @@
 -- A name is text.
-use Rattle.std.proofs.Common.{◌≡◌, ℕ, zero, suc, ◌<◌, ◌&&◌, leb, true, [], ◌∷◌, length, get_or, arith}
+use Rattle.std.proofs.Common.{◌≡◌, ℕ, zero, suc, ◌<◌, ◌&&◌, leb, true, [], ◌∷◌, length, get_or, arith, Bool, List}
 use Rattle.std.specs.List.{list_all}
 use Rattle.std.specs.Char.{is_ascii_lowercase}
 use Rattle.std.specs.Str.{IsUtf8, IsAscii}
@@ -9,13 +9,14 @@ use Rattle.std.proofs.lemmas.Bool.Decides.{nat_tests}
 use Rattle.policy_text.specs.Words.{Word}
 use Rattle.policy_text.specs.Naming.{is_name, is_name_octet}
 
+-- octets that pass a test of ASCII ones are ASCII
+pub ascii_by : (test : ℕ → Bool) → ((c : ℕ) → test c ≡ true → c < 128) → (octets : List ℕ) → list_all test octets ≡ true → IsAscii octets
+ascii_by test low [] h i = omega arith
+ascii_by test low (c ∷ cs) h zero = low c (and_parts (test c) (list_all test cs) h).0
+ascii_by test low (c ∷ cs) h (suc i) = ascii_by test low cs (and_parts (test c) (list_all test cs) h).1 i
+
 octet_ascii : (c : ℕ) → is_name_octet c ≡ true → c < 128
 octet_ascii c h = grind (arith, nat_tests)
-
-octets_ascii : (word : Word) → list_all is_name_octet word ≡ true → IsAscii word
-octets_ascii [] h i = omega arith
-octets_ascii (c ∷ cs) h zero = octet_ascii c (and_parts (is_name_octet c) (list_all is_name_octet cs) h).0
-octets_ascii (c ∷ cs) h (suc i) = octets_ascii cs (and_parts (is_name_octet c) (list_all is_name_octet cs) h).1 i
 
 -- a name's octets, and its length
 pub record NameParts (word : Word) : Type 0 where
@@ -30,4 +31,4 @@ name_parts word h =
     record { first = both.0; octets = both.1 }
 
 pub is_name-text : (word : Word) → is_name word ≡ true → IsUtf8 word
-is_name-text word h = IsUtf8-from_ascii word (octets_ascii word (name_parts word h).octets)
+is_name-text word h = IsUtf8-from_ascii word (ascii_by is_name_octet octet_ascii word (name_parts word h).octets)

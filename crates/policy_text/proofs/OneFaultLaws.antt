@@ -4,12 +4,14 @@ use Rattle.std.specs.List.{slice_split}
 use Rattle.std.proofs.lemmas.Bool.{cases_Bool, false≢true}
 use Rattle.ipfix_element.specs.Element.{Element, IsElement}
 use Rattle.ipfix_element.specs.Names.{element_name}
+use Rattle.sequences.proofs.ResultLaws.{same_Err, Err-Ok}
+use Rattle.sequences.specs.Results.{◌>>=◌}
 use Rattle.policy_text.specs.declared.fault.FaultKind.{FaultKind}
 use Rattle.policy_text.specs.declared.fault.FaultKind.TheVariants.{NoHeader, BadName, BadKey}
 use Rattle.policy_text.specs.declared.fault.PolicyFault.{PolicyFault}
 use Rattle.policy_text.specs.Words.{Word, words_of, lines_of, is_skipped}
 use Rattle.policy_text.specs.Policies.{Meaning, nothing}
-use Rattle.policy_text.specs.Results.{◌>>=◌, at_line, then_read, Parses, is_memory}
+use Rattle.policy_text.specs.Results.{at_line, then_read, Parses, is_memory}
 use Rattle.policy_text.specs.Classes.{element, with_key, add_piece, add_pieces, key_of}
 use Rattle.policy_text.specs.Lines.{line_of}
 use Rattle.policy_text.specs.Parsing.{is_header, step, line_step, read_lines, policy_of}
@@ -24,9 +26,8 @@ use Rattle.policy_text.proofs.KeptLaws.{IsPolicy-nothing}
 use Rattle.policy_text.proofs.KeyStepLaws.{IsKeyAfter, as_key, step_by_step}
 use Rattle.policy_text.proofs.SoundLaws.{key_push, with_key-sound}
 use Rattle.policy_text.proofs.SpellLaws.{line_step-only, header-only, skip-only, is_header-is, policy_of-found, policy_of-only}
-use Rattle.policy_text.proofs.PlaceLaws.{same_kind}
 use Rattle.policy_text.proofs.KindLaws.{element_here, element_word, element_kind, with_key_kind}
-use Rattle.policy_text.proofs.FirstFaultLaws.{read_stands, line_fault, adds_kept, fault_found}
+use Rattle.policy_text.proofs.FirstFaultLaws.{read_stands, line_fault, adds_kept, fault_found, front_word}
 
 -- the kind of a key's fault is that of its reading
 read_key : (before key : List Element) (others : List Word) → IsKeyAfter before key → add_pieces before (map element_name key ++ others) ≡ add_pieces (before ++ key) others
@@ -78,7 +79,7 @@ one_kind_of element_or_star word k l f g = f ∙ sym g
 one_kind_of treatment word k l f g = f ∙ sym g
 one_kind_of bits word k l f g = f ∙ sym g
 one_kind_of unused_name word k l f g = f ∙ sym g
-one_kind_of key_list word k l f g = same_kind k l (sym (key_fault_read word k f) ∙ key_fault_read word l g)
+one_kind_of key_list word k l f g = same_Err k l (sym (key_fault_read word k f) ∙ key_fault_read word l g)
 one_kind_of seconds word k l f g = f ∙ sym g
 one_kind_of line_end word k l f g = f ∙ sym g
 
@@ -103,17 +104,13 @@ tail_of : List Word → List Word
 tail_of [] = []
 tail_of (word ∷ words) = words
 
-head_of : List Word → Word
-head_of [] = []
-head_of (word ∷ words) = word
-
 same_tail : (a b : Word) (x y : List Word) → a ∷ x ≡ b ∷ y → x ≡ y
 unfolding tail_of
 same_tail a b x y e = ap tail_of e
 
 same_head : (a b : Word) (x y : List Word) → a ∷ x ≡ b ∷ y → a ≡ b
-unfolding head_of
-same_head a b x y e = ap head_of e
+unfolding front_word
+same_head a b x y e = ap front_word e
 
 longer_on : (a b : Word) (long front rest : List Word) → a ≡ b → Longer long front rest → Longer (a ∷ long) (b ∷ front) rest
 longer_on a b long front rest same h = record {
@@ -269,21 +266,15 @@ parses-first text (Err fault) h = reported text fault (is_memory fault.kind) h
 pub first_fault : FirstFault
 first_fault text fault = (fault_found text fault, fault_only text fault)
 
-same_fault : (a b : PolicyFault) → ◌≡◌ {A = Result Meaning PolicyFault} (Err a) (Err b) → a ≡ b
-same_fault a b e = cc
-
-fault_ok : (fault : PolicyFault) (q : Meaning) → ◌≡◌ {A = Result Meaning PolicyFault} (Err fault) (Ok q) → ⊥
-fault_ok fault q e = cc
-
 policy_or_fault_by : (text : List ℕ) (r : Result Meaning PolicyFault) → policy_of text ≡ r →
     ((policy : Meaning) × Spells text policy × ((fault : PolicyFault) → IsFirstFault text fault → ⊥))
     ⊎ ((fault : PolicyFault) × IsFirstFault text fault × ((other : PolicyFault) → IsFirstFault text other → other ≡ fault) × ((policy : Meaning) → Spells text policy → ⊥))
-policy_or_fault_by text (Ok policy) e = inl (policy, policy_of-found text policy e, λ fault f. fault_ok fault policy (sym (fault_only text fault f) ∙ e))
+policy_or_fault_by text (Ok policy) e = inl (policy, policy_of-found text policy e, λ fault f. Err-Ok fault policy (sym (fault_only text fault f) ∙ e))
 policy_or_fault_by text (Err fault) e = inr (
   fault,
   fault_found text fault e,
-  λ other f. same_fault other fault (sym (fault_only text other f) ∙ e),
-  λ policy spelled. fault_ok fault policy (sym e ∙ policy_of-only text policy spelled),
+  λ other f. same_Err other fault (sym (fault_only text other f) ∙ e),
+  λ policy spelled. Err-Ok fault policy (sym e ∙ policy_of-only text policy spelled),
 )
 
 pub policy_or_fault : PolicyOrFault

@@ -2,12 +2,13 @@
 use Rattle.std.proofs.Common.{◌≡◌, ℕ, ◌+◌, Bool, true, false, cond, List, [], ◌∷◌, Some, None, Result, Ok, Err, MatchBool, refl, ap, ◌∙◌}
 use Rattle.flow_prefix.specs.Reading.{cut_at}
 use Rattle.flow_prefix.proofs.PartsLaws.{slice_split-cut, slice_split-whole}
+use Rattle.sequences.specs.Results.{◌>>=◌}
 use Rattle.policy_text.specs.declared.fault.FaultKind.{FaultKind}
 use Rattle.policy_text.specs.declared.fault.FaultKind.TheVariants.{NoHeader, UnknownWord, BadName, BadNumber, BadPrefix, BadTruncate, UnknownAggregate, DoubleAggregate, BadKey, TooMany, OutOfMemory}
 use Rattle.policy_text.specs.declared.fault.PolicyFault.{PolicyFault}
 use Rattle.policy_text.specs.Words.{words_of, lines_of, is_skipped}
 use Rattle.policy_text.specs.Policies.{Meaning, nothing}
-use Rattle.policy_text.specs.Results.{◌>>=◌, Fails, at_line, then_read, is_memory, fault_at}
+use Rattle.policy_text.specs.Results.{Fails, at_line, then_read, is_memory, fault_at}
 use Rattle.policy_text.specs.Parsing.{step, line_step, read_lines, policy_of}
 
 -- what is read after a line

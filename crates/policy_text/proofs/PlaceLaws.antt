@@ -2,16 +2,16 @@
 use Rattle.std.proofs.Common.{◌≡◌, ◌⊎◌, inl, inr, true, false, List, [], ◌∷◌, ◌++◌, Result, Ok, Err, refl, sym, ap, ◌∙◌, subst, ⊎_elim}
 use Rattle.std.specs.Str.{bytes_eq}
 use Rattle.std.proofs.lemmas.Bool.{cases_Bool}
+use Rattle.sequences.proofs.ResultLaws.{Err-Ok, same_Err}
+use Rattle.sequences.specs.Results.{◌>>=◌}
 use Rattle.policy_text.specs.declared.fault.FaultKind.{FaultKind}
 use Rattle.policy_text.specs.declared.fault.FaultKind.TheVariants.{UnknownWord}
 use Rattle.policy_text.specs.Words.{Word}
 use Rattle.policy_text.specs.Policies.{Aggregate as Definition}
-use Rattle.policy_text.specs.Results.{◌>>=◌}
 use Rattle.policy_text.specs.Lines.{next_of, next, after, ended}
 use Rattle.policy_text.specs.Grammar.{IsAggregate}
 use Rattle.policy_text.specs.LineParts.{Part, parts_after, IsKindOf, IsKindBehind}
 use Rattle.policy_text.specs.LineParts.Part.{keyword, line_end}
-use Rattle.policy_text.proofs.SoundLaws.{err-Ok}
 use Rattle.std.proofs.lemmas.Slice.Eq.{bytes_eq-Decides}
 
 -- what reads the words of a line where these aggregates are defined
@@ -43,7 +43,7 @@ pub record Reads {B : Type 0} (here : List Definition) (parts : List Part) (read
   pub faults : (words : List Word) (kind : FaultKind) → read here words ≡ Err kind → Place here parts read words kind
 
 pub ok_or_err : {A : Type 0} (r : Result A FaultKind) (kind : FaultKind) (y : A) → r ≡ Err kind → r ≡ Ok y → ⊥
-ok_or_err r kind y e f = err-Ok kind y (sym e ∙ f)
+ok_or_err r kind y e f = Err-Ok kind y (sym e ∙ f)
 
 -- two readers that agree
 pub record Agree {B : Type 0} (here : List Definition) (read other : Reader B) : Type 0 where
@@ -125,9 +125,6 @@ place_behind here part parts read word words kind p = record {
   kind_is = kind_behind part parts word p.front p.rest kind p.kind_is;
 }
 
-pub same_kind : (k l : FaultKind) → {A : Type 0} → ◌≡◌ {A = Result A FaultKind} (Err k) (Err l) → k ≡ l
-same_kind k l e = cc
-
 first_place : {B : Type 0} (here : List Definition) (part : Part) (parts : List Part) (read : Reader B) → read here [] ≡ Err UnknownWord → (words : List Word) × Completes here read words → ((word : Word) → IsDead here part read word ⊎ Reads here (parts_after part word parts) (behind read word)) → (words : List Word) (kind : FaultKind) → read here words ≡ Err kind → Place here (part ∷ parts) read words kind
 first_place here part parts read empty opens by_word [] kind e = record {
   front = [];
@@ -135,11 +132,11 @@ first_place here part parts read empty opens by_word [] kind e = record {
   words_are = refl;
   begun = opens;
   stuck = λ y f. ok_or_err (read here []) UnknownWord y empty f;
-  kind_is = same_kind kind UnknownWord (sym e ∙ empty);
+  kind_is = same_Err kind UnknownWord (sym e ∙ empty);
 }
 first_place here part parts read empty opens by_word (word ∷ words) kind e =
     ⊎_elim (λ (d : IsDead here part read word).
-    let same = same_kind d.kind kind (sym (d.fails words) ∙ e) in
+    let same = same_Err d.kind kind (sym (d.fails words) ∙ e) in
     let P : FaultKind → Type 0 = λ k. IsKindOf part word k in
     record { front = []; rest = word ∷ words; words_are = refl; begun = opens; stuck = d.stuck; kind_is = subst P same d.kind_is })
     (λ (alive : Reads here (parts_after part word parts) (behind read word)). place_behind here part parts read word words kind (alive.faults words kind e))
@@ -215,10 +212,10 @@ ends y q words = ended words >>= λ done. Ok y
 
 end_place : {B : Type 0} (here : List Definition) (y : B) (words : List Word) (kind : FaultKind) → ends y here words ≡ Err kind → Place here [] (ends y) words kind
 unfolding ended
-end_place here y [] kind e = absurd (err-Ok kind y (sym e))
+end_place here y [] kind e = absurd (Err-Ok kind y (sym e))
 end_place {B} here y (word ∷ words) kind e =
     let d = dead here line_end (ends y) word UnknownWord (λ q ws. refl) refl in
-    record { front = []; rest = word ∷ words; words_are = refl; begun = ([], inl (y, refl)); stuck = d.stuck; kind_is = same_kind kind UnknownWord (sym e) }
+    record { front = []; rest = word ∷ words; words_are = refl; begun = ([], inl (y, refl)); stuck = d.stuck; kind_is = same_Err kind UnknownWord (sym e) }
 
 pub end_reads : {B : Type 0} (here : List Definition) (y : B) → Reads here [] (ends y)
 unfolding ended

@@ -1,13 +1,16 @@
 -- Words without blanks and line feeds, and the lines of such words.
 use Rattle.std.proofs.Common.{◌≡◌, ℕ, zero, suc, ◌^◌, ◌<◌, Bool, true, false, not, ◌&&◌, eqb, List, [], ◌∷◌, ◌++◌, length, filter, map, refl, sym, ap, ◌∙◌, arith, append_assoc, length-append}
-use Rattle.std.specs.List.{All, AllByRecursion, list_all, slice_split, join_with_byte, flat_map}
+use Rattle.std.specs.List.{All, AllByRecursion, list_all, join_with_byte, flat_map}
 use Rattle.std.specs.Char.{is_digit}
 use Rattle.std.specs.Fmt.{decimal}
 use Rattle.std.proofs.lemmas.Fmt.{decimal_is_IsNumeral}
-use Rattle.std.proofs.lemmas.List.Splits.{slice_split_at, slice_split_none}
+use Rattle.std.proofs.lemmas.List.Splits.{slice_split_at}
 use Rattle.std.proofs.lemmas.Bool.{ne_eqb, false≢true, and_parts, and_from, not-true}
 use Rattle.flow_prefix.proofs.NumeralLaws.{test_from_AllDigits}
-use Rattle.flow_prefix.proofs.AddressTextLaws.{Lacks}
+use Rattle.sequences.proofs.ListLaws.{AllByRecursion-append, Lacks}
+use Rattle.std.proofs.lemmas.List.Elements.{All-from_recursion}
+use Rattle.sequences.proofs.JoinLaws.{split-joined}
+use Rattle.policy_text.proofs.WordLaws.{word_some}
 use Rattle.policy_text.specs.Words.{Word, is_blank, is_word, words_of, lines_of}
 use Rattle.policy_text.specs.Printing.{line_text}
 
@@ -43,7 +46,6 @@ plain_each p skips (c ∷ cs) h =
     and_from (plain c) (list_all plain cs) first (plain_each p skips cs both.1)
 
 pub plain_lacking : (word : Word) → Lacks 32 word → Lacks 9 word → Lacks 13 word → Lacks 10 word → list_all plain word ≡ true
-unfolding Lacks
 plain_lacking [] a b d e = refl
 plain_lacking (c ∷ cs) a b d e = and_from (plain c) (list_all plain cs) (from_four c a.0 b.0 d.0 e.0) (plain_lacking cs a.1 b.1 d.1 e.1)
 
@@ -63,42 +65,28 @@ no_blank [] h k d low = absurd (omega arith)
 no_blank (c ∷ cs) h zero d low = not-true (is_blank c) (and_parts (not (is_blank c)) (not (eqb c 10)) (and_parts (plain c) (list_all plain cs) h).0).0
 no_blank (c ∷ cs) h (suc k) d low = no_blank cs (and_parts (plain c) (list_all plain cs) h).1 k d (omega arith)
 
-no_feed : (word : Word) → list_all plain word ≡ true → AllByRecursion (λ c. eqb c 10 ≡ false) word
+no_feed : (word : Word) → list_all plain word ≡ true → Lacks 10 word
 no_feed [] h = tt
 no_feed (c ∷ cs) h = (not-true (eqb c 10) (and_parts (not (is_blank c)) (not (eqb c 10)) (and_parts (plain c) (list_all plain cs) h).0).1, no_feed cs (and_parts (plain c) (list_all plain cs) h).1)
 
-keeps_word : (word : Word) (words : List Word) → 0 < length word → filter is_word (word ∷ words) ≡ word ∷ filter is_word words
-keeps_word [] words h = absurd (omega arith)
-keeps_word (c ∷ cs) words h = refl
-
 keeps_words : (words : List Word) → ArePlain words → filter is_word words ≡ words
 keeps_words [] h = refl
-keeps_words (word ∷ words) h = keeps_word word words h.0.some ∙ ap (λ ws. word ∷ ws) (keeps_words words h.1)
+keeps_words (word ∷ words) h = word_some word words h.0.some ∙ ap (λ ws. word ∷ ws) (keeps_words words h.1)
 
-split_words : (word : Word) (words : List Word) → ArePlain (word ∷ words) → slice_split is_blank (join_with_byte 32 (word ∷ words)) ≡ word ∷ words
-split_words word [] h = slice_split_none is_blank word (no_blank word h.0.each)
-split_words word (next ∷ words) h =
-    slice_split_at is_blank word 32 (join_with_byte 32 (next ∷ words)) (no_blank word h.0.each) refl ∙ ap (λ ws. word ∷ ws) (split_words next words h.1)
+no_blanks : (words : List Word) → ArePlain words → AllByRecursion (All (λ c. is_blank c ≡ false)) words
+no_blanks [] h = tt
+no_blanks (word ∷ words) h = (no_blank word h.0.each, no_blanks words h.1)
 
 -- the words of a printed line
 pub words_of-joined : (words : List Word) → ArePlain words → words_of (join_with_byte 32 words) ≡ words
 unfolding words_of
 words_of-joined [] h = refl
-words_of-joined (word ∷ words) h = ap (filter is_word) (split_words word words h) ∙ keeps_words (word ∷ words) h
+words_of-joined (word ∷ words) h = ap (filter is_word) (split-joined is_blank 32 word words refl (no_blanks (word ∷ words) h)) ∙ keeps_words (word ∷ words) h
 
-feed_append : (xs ys : Word) → AllByRecursion (λ c. eqb c 10 ≡ false) xs → AllByRecursion (λ c. eqb c 10 ≡ false) ys → AllByRecursion (λ c. eqb c 10 ≡ false) (xs ++ ys)
-feed_append [] ys p q = q
-feed_append (x ∷ xs) ys p q = (p.0, feed_append xs ys p.1 q)
-
-joined_no_feed : (words : List Word) → ArePlain words → AllByRecursion (λ c. eqb c 10 ≡ false) (join_with_byte 32 words)
+joined_no_feed : (words : List Word) → ArePlain words → Lacks 10 (join_with_byte 32 words)
 joined_no_feed [] h = tt
 joined_no_feed (word ∷ []) h = no_feed word h.0.each
-joined_no_feed (word ∷ next ∷ words) h = feed_append word (32 ∷ join_with_byte 32 (next ∷ words)) (no_feed word h.0.each) (refl, joined_no_feed (next ∷ words) h.1)
-
-all_of : (octets : Word) → AllByRecursion (λ c. eqb c 10 ≡ false) octets → All (λ c. eqb c 10 ≡ false) octets
-all_of [] h k d low = absurd (omega arith)
-all_of (c ∷ cs) h zero d low = h.0
-all_of (c ∷ cs) h (suc k) d low = all_of cs h.1 k d (omega arith)
+joined_no_feed (word ∷ next ∷ words) h = AllByRecursion-append (λ c. eqb c 10 ≡ false) word (32 ∷ join_with_byte 32 (next ∷ words)) (no_feed word h.0.each) (refl, joined_no_feed (next ∷ words) h.1)
 
 -- the lines of a printed text
 pub lines_of-printed : (lines : List (List Word)) → AllByRecursion ArePlain lines → lines_of (flat_map line_text lines) ≡ map (join_with_byte 32) lines ++ [] ∷ []
@@ -106,7 +94,7 @@ lines_of-printed [] h = refl
 lines_of-printed (words ∷ lines) h =
     let joined = join_with_byte 32 words in
     ap lines_of (append_assoc joined (10 ∷ []) (flat_map line_text lines))
-    ∙ slice_split_at (λ c. eqb c 10) joined 10 (flat_map line_text lines) (all_of joined (joined_no_feed words h.0)) refl
+    ∙ slice_split_at (λ c. eqb c 10) joined 10 (flat_map line_text lines) (All-from_recursion (λ c. eqb c 10 ≡ false) joined (joined_no_feed words h.0)) refl
     ∙ ap (λ ls. joined ∷ ls) (lines_of-printed lines h.1)
 
 joined_plain : (c : ℕ) (words : List Word) → plain c ≡ true → ArePlain words → list_all plain (join_with_byte c words) ≡ true

@@ -1,16 +1,15 @@
 -- Lines as they are printed, piece by piece.
-use Rattle.std.proofs.Common.{◌≡◌, ℕ, zero, suc, ◌+◌, ◌<◌, cond, List, [], ◌∷◌, ◌++◌, length, get_or, take, map, Option, Result, Ok, Err, is_ok, OnOk, refl, sym, ap, ◌∙◌, arith, append_assoc, append-nil, length-take-le, codes}
+use Rattle.std.proofs.Common.{◌≡◌, ℕ, zero, suc, ◌+◌, ◌<◌, cond, List, [], ◌∷◌, ◌++◌, length, get_or, take, map, Option, Result, Ok, Err, is_ok, OnOk, refl, sym, ap, ◌∙◌, arith, append_assoc, append-nil, codes}
 use Rattle.std.specs.List.{join_with_byte, flat_map}
-use Rattle.std.proofs.lemmas.List.{take_more}
+use Rattle.std.proofs.lemmas.List.{take_more, map_push}
 use Rattle.std.proofs.lemmas.List.Concat.{flat_map-append}
 use Rattle.ipfix_element.specs.Element.{Element}
-use Rattle.ipfix_element.specs.Names.{element_name}
 use Rattle.policy_text.specs.declared.rule.Action.{Action}
 use Rattle.policy_text.specs.declared.rule.Action.TheVariants.{Pass, Withhold, Aggregate, Keep, Remove, Truncate}
 use Rattle.policy_text.specs.Words.{Word}
 use Rattle.policy_text.specs.Policies.{Aggregate as Definition}
 use Rattle.policy_text.specs.Grammar.{name_at}
-use Rattle.policy_text.specs.Printing.{action_words, key_text, line_text, rule_words, word_or_star, itself}
+use Rattle.policy_text.specs.Printing.{action_words, line_text, rule_words, word_or_star, itself}
 use Rattle.flow_prefix.specs.Printing.{prefix_text}
 use Rattle.std.specs.Fmt.{decimal}
 use Rattle.policy_text.specs.declared.rule.Rule.{Rule}
@@ -34,50 +33,11 @@ name_at_past [] place past = refl
 name_at_past (b ∷ rest) zero past = absurd (omega arith)
 name_at_past (b ∷ rest) (suc place) past = name_at_past rest place (omega arith)
 
--- the comma before each piece but the first
-pub comma_before : ℕ → List ℕ
-comma_before zero = []
-comma_before (suc i) = 44 ∷ []
-
-join_push : (word : Word) (words : List Word) (last : Word) → join_with_byte 44 ((word ∷ words) ++ last ∷ []) ≡ join_with_byte 44 (word ∷ words) ++ 44 ∷ last
-join_push word [] last = refl
-join_push word (next ∷ words) last = ap (λ t. word ++ 44 ∷ t) (join_push next words last) ∙ sym (append_assoc word (44 ∷ join_with_byte 44 (next ∷ words)) (44 ∷ last))
-
-map_push : (xs : List Element) (x : Element) → map element_name (xs ++ x ∷ []) ≡ map element_name xs ++ element_name x ∷ []
-map_push [] x = refl
-map_push (y ∷ ys) x = ap (λ t. element_name y ∷ t) (map_push ys x)
-
-key_push : (key : List Element) (e : Element) → key_text (key ++ e ∷ []) ≡ key_text key ++ (comma_before (length key) ++ element_name e)
-unfolding comma_before
-key_push [] e = refl
-key_push (k ∷ key) e = ap (λ ws. join_with_byte 44 (element_name k ∷ ws)) (map_push key e) ∙ join_push (element_name k) (map element_name key) (element_name e)
-
--- a turn of the loop over a key
-pub key_turn : (key : List Element) (i : ℕ) (e : Element) → i < length key → e ≡ get_or key i e → key_text (take (i + 1) key) ≡ key_text (take i key) ++ (comma_before i ++ element_name e)
-key_turn key i e low is =
-    let count : length (take i key) ≡ i = length-take-le i key (omega arith) in
-    ap key_text (take_more key i e low ∙ ap (λ (x : Element). take i key ++ x ∷ []) (sym is)) ∙ key_push (take i key) e
-    ∙ ap (λ n. key_text (take i key) ++ (comma_before n ++ element_name e)) count
-
-pub comma_none : (i : ℕ) → i ≡ 0 → comma_before i ≡ []
-unfolding comma_before
-comma_none zero e = refl
-comma_none (suc i) e = absurd (omega arith)
-
-pub comma_some : (i : ℕ) → 0 < i → comma_before i ≡ 44 ∷ []
-unfolding comma_before
-comma_some zero h = absurd (omega arith)
-comma_some (suc i) h = refl
-
-map-push : {A : Type 0} (f : A → List Word) (xs : List A) (x : A) → map f (xs ++ x ∷ []) ≡ map f xs ++ f x ∷ []
-map-push f [] x = refl
-map-push f (y ∷ ys) x = ap (λ t. f y ∷ t) (map-push f ys x)
-
 -- a turn of a loop over lines
 pub lines_turn : {A : Type 0} (f : A → List Word) (xs : List A) (i : ℕ) (x : A) → i < length xs → x ≡ get_or xs i x → flat_map line_text (map f (take (i + 1) xs)) ≡ flat_map line_text (map f (take i xs)) ++ line_text (f x)
 lines_turn {A} f xs i x low is =
     ap (λ ys. flat_map line_text (map f ys)) (take_more xs i x low ∙ ap (λ (y : A). take i xs ++ y ∷ []) (sym is))
-    ∙ ap (flat_map line_text) (map-push f (take i xs) x)
+    ∙ ap (flat_map line_text) (map_push f (take i xs) x)
     ∙ flat_map-append line_text (map f (take i xs)) (f x ∷ [])
     ∙ ap (λ t. flat_map line_text (map f (take i xs)) ++ t) (append-nil (line_text (f x)))
 

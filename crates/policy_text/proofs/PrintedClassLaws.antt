@@ -1,13 +1,12 @@
 -- Each printed word is read back by its class.
-use Rattle.std.proofs.Common.{◌≡◌, ℕ, zero, suc, ◌^◌, ◌<◌, ◌≤◌, true, false, eqb, List, [], ◌∷◌, ◌++◌, length, get_or, map, Option, Some, None, Result, Ok, Err, refl, sym, ap, ◌∙◌, subst, arith, ⊎_elim, append_assoc, append-nil, length-append}
+use Rattle.std.proofs.Common.{◌≡◌, ℕ, zero, suc, ◌^◌, ◌<◌, ◌≤◌, true, false, eqb, List, [], ◌∷◌, ◌++◌, length, get_or, map, Option, Some, None, Result, Ok, Err, refl, sym, ap, ◌∙◌, subst, arith, ⊎_elim, append_assoc, append-nil, length-append, IfSome}
 use Rattle.std.proofs.lemmas.List.{length-map}
-use Rattle.std.specs.List.{All, AllByRecursion, list_all, slice_split, join_with_byte}
+use Rattle.std.specs.List.{All, AllByRecursion, list_all}
 use Rattle.std.specs.Char.{is_ascii_lowercase, digit_value}
 use Rattle.std.specs.Str.{bytes_eq}
 use Rattle.std.specs.Fmt.{decimal}
 use Rattle.std.proofs.lemmas.Fmt.{decimal_is_IsNumeral}
 use Rattle.std.proofs.lemmas.Slice.Eq.{bytes_eq-Decides}
-use Rattle.std.proofs.lemmas.List.Splits.{slice_split_at, slice_split_none}
 use Rattle.std.proofs.lemmas.Bool.{ne_eqb, false≢true, and_parts, le-leb, le-ltb, cases_Bool}
 use Rattle.ipfix_element.specs.Element.{Element, IsElement}
 use Rattle.ipfix_element.specs.Registry.{registry}
@@ -24,9 +23,12 @@ use Rattle.flow_prefix.specs.Reading.{prefix_of, cut_at}
 use Rattle.flow_prefix.specs.Prefixes.{IsPrefix}
 use Rattle.flow_prefix.specs.Printing.{prefix_text}
 use Rattle.flow_prefix.proofs.NumeralLaws.{number_of-only}
-use Rattle.flow_prefix.proofs.AddressTextLaws.{Lacks, Lacks-append, Lacks-digits, AllDigits-wider}
+use Rattle.flow_prefix.proofs.AddressTextLaws.{Lacks-digits, AllDigits-wider}
 use Rattle.flow_prefix.proofs.AddressReadLaws.{written_lacks}
 use Rattle.flow_prefix.proofs.PrintLaws.{prefix_text-is, reads_back}
+use Rattle.sequences.proofs.ResultLaws.{Err-Ok}
+use Rattle.sequences.proofs.ListLaws.{Lacks, AllByRecursion-append}
+use Rattle.sequences.proofs.JoinLaws.{split-joined}
 use Rattle.policy_text.specs.declared.fault.FaultKind.{FaultKind}
 use Rattle.policy_text.specs.declared.fault.FaultKind.TheVariants.{BadName, BadNumber, BadPrefix}
 use Rattle.policy_text.specs.Words.{Word}
@@ -34,7 +36,7 @@ use Rattle.policy_text.specs.Naming.{is_name, is_name_octet}
 use Rattle.policy_text.specs.Elements.{element_of}
 use Rattle.policy_text.specs.Policies.{Aggregate as Definition}
 use Rattle.policy_text.specs.Classes.{name, number, element, prefix, prefix_or_fault, star, or_star, add_piece, add_pieces, key_of, place_of, aggregate_place, new_name, interval, bits_within}
-use Rattle.policy_text.specs.Grammar.{IsKey, IfGiven}
+use Rattle.policy_text.specs.Grammar.{IsKey}
 use Rattle.policy_text.specs.Printing.{word_or_star, key_text}
 use Rattle.policy_text.proofs.NameLaws.{name_parts}
 use Rattle.policy_text.proofs.ElementLaws.{element_of-only}
@@ -57,12 +59,11 @@ element_plain e ok =
     record { some = word.0; each = plain_each element_octet (record { space = refl; tab = refl; carriage = refl; feed = refl }) (element_name e) word.1 }
 
 form_lacks : (family : Family) (byte : ℕ) → digit_value byte ≡ 36 → eqb (separator family) byte ≡ false → eqb 47 byte ≡ false → (text : List ℕ) (address bits : ℕ) → IsPrefixForm text family address bits → Lacks byte text
-unfolding Lacks
 form_lacks family byte other apart slash text address bits h =
     let short = h.three_digits in
     let digits = Lacks-digits byte other (decimal bits) (AllDigits-wider (decimal bits) (decimal_is_IsNumeral bits (omega arith)).0.1) in
     let P : List ℕ → Type 0 = λ t. Lacks byte t in
-    subst P (sym h.text_is) (Lacks-append byte h.front (47 ∷ decimal bits) (written_lacks family byte other apart h.front h.is_address.parts h.is_address.written) (slash, digits))
+    subst P (sym h.text_is) (AllByRecursion-append (λ c. eqb c byte ≡ false) h.front (47 ∷ decimal bits) (written_lacks family byte other apart h.front h.is_address.parts h.is_address.written) (slash, digits))
 
 form_some : (text : List ℕ) (family : Family) (address bits : ℕ) → IsPrefixForm text family address bits → 0 < length text
 form_some text family address bits h = omega (arith, ap length h.text_is, length-append h.front (47 ∷ decimal bits))
@@ -117,13 +118,9 @@ pub prefix-printed : (p : Prefix) → IsPrefix p → prefix (prefix_text p) ≡ 
 unfolding prefix
 prefix-printed p ok = ap prefix_or_fault (reads_back p ok)
 
--- no class reads `*`
-err_ok : {A : Type 0} (kind : FaultKind) (a : A) → ◌≡◌ {A = Result A FaultKind} (Err kind) (Ok a) → ⊥
-err_ok kind a e = cc
-
 star_apart : {A : Type 0} (class : Word → Result A FaultKind) (kind : FaultKind) (word : Word) (a : A) → class word ≡ Ok a → class star ≡ Err kind → bytes_eq word star ≡ false
 star_apart class kind word a read none =
-    ⊎_elim (λ (same : bytes_eq word star ≡ true). absurd (err_ok kind a (sym none ∙ ap class (sym ((bytes_eq-Decides word star).0 same)) ∙ read)))
+    ⊎_elim (λ (same : bytes_eq word star ≡ true). absurd (Err-Ok kind a (sym none ∙ ap class (sym ((bytes_eq-Decides word star).0 same)) ∙ read)))
     (λ (other : bytes_eq word star ≡ false). other)
     (cases_Bool (bytes_eq word star))
 
@@ -136,7 +133,7 @@ unfolding or_star
 or_star-star class = refl
 
 -- a value's word, or `*`
-pub or_star-printed : {A : Type 0} (class : Word → Result A FaultKind) (kind : FaultKind) (word : A → Word) (P : A → Type 0) → ((a : A) → P a → class (word a) ≡ Ok a) → class star ≡ Err kind → (o : Option A) → IfGiven P o → or_star class (word_or_star word o) ≡ Ok o
+pub or_star-printed : {A : Type 0} (class : Word → Result A FaultKind) (kind : FaultKind) (word : A → Word) (P : A → Type 0) → ((a : A) → P a → class (word a) ≡ Ok a) → class star ≡ Err kind → (o : Option A) → IfSome o P → or_star class (word_or_star word o) ≡ Ok o
 or_star-printed class kind word P reads none None h = or_star-star class
 or_star-printed class kind word P reads none (Some a) h = or_star-word class kind (word a) a (reads a h) none
 
@@ -162,11 +159,9 @@ lacks_comma [] h k d low = absurd (omega arith)
 lacks_comma (c ∷ cs) h zero d low = ne_eqb c 44 (λ same. false≢true (ap element_octet (sym same) ∙ (and_parts (element_octet c) (list_all element_octet cs) h).0))
 lacks_comma (c ∷ cs) h (suc k) d low = lacks_comma cs (and_parts (element_octet c) (list_all element_octet cs) h).1 k d (omega arith)
 
-split_names : (e : Element) (es : List Element) → IsElement e → AllByRecursion IsElement es → slice_split (λ c. eqb c 44) (join_with_byte 44 (element_name e ∷ map element_name es)) ≡ element_name e ∷ map element_name es
-split_names e [] ok h = slice_split_none (λ c. eqb c 44) (element_name e) (lacks_comma (element_name e) (one_word e ok).1)
-split_names e (next ∷ es) ok h =
-    slice_split_at (λ c. eqb c 44) (element_name e) 44 (join_with_byte 44 (element_name next ∷ map element_name es)) (lacks_comma (element_name e) (one_word e ok).1) refl
-    ∙ ap (λ ws. element_name e ∷ ws) (split_names next es h.0 h.1)
+lack_commas : (es : List Element) → AllByRecursion IsElement es → AllByRecursion (All (λ c. eqb c 44 ≡ false)) (map element_name es)
+lack_commas [] h = tt
+lack_commas (e ∷ es) h = (lacks_comma (element_name e) (one_word e h.0).1, lack_commas es h.1)
 
 pieces-printed : (before key : List Element) → IsKeyAfter before key → add_pieces before (map element_name key) ≡ Ok (before ++ key)
 unfolding add_pieces add_piece
@@ -177,4 +172,4 @@ pieces-printed before (e ∷ es) h =
 pub key-printed : (key : List Element) → IsKey key → 1 ≤ length key → key_of (key_text key) ≡ Ok key
 unfolding key_of
 key-printed [] h some = absurd (omega arith)
-key-printed (e ∷ es) h some = ap (add_pieces []) (split_names e es h.elements.0 h.elements.1) ∙ pieces-printed [] (e ∷ es) (step_by_step (e ∷ es) h)
+key-printed (e ∷ es) h some = ap (add_pieces []) (split-joined (λ c. eqb c 44) 44 (element_name e) (map element_name es) refl (lack_commas (e ∷ es) h.elements)) ∙ pieces-printed [] (e ∷ es) (step_by_step (e ∷ es) h)

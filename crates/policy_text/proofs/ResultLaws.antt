@@ -1,8 +1,9 @@
 -- Faults through steps.
 use Rattle.std.proofs.Common.{◌≡◌, Result, Ok, Err, refl, ap, ◌∙◌}
+use Rattle.sequences.specs.Results.{◌>>=◌}
 use Rattle.policy_text.specs.declared.fault.FaultKind.{FaultKind}
 use Rattle.policy_text.specs.declared.fault.FaultKind.TheVariants.{NoHeader, UnknownWord, BadName, BadNumber, BadPrefix, BadTruncate, UnknownAggregate, DoubleAggregate, BadKey, TooMany, OutOfMemory}
-use Rattle.policy_text.specs.Results.{◌>>=◌, Fails}
+use Rattle.policy_text.specs.Results.{Fails}
 
 -- a fault of a step is that of the whole
 pub Fails-bind : {A B : Type 0} (kind : FaultKind) (r : Result A FaultKind) (f : A → Result B FaultKind) → Fails kind r → Fails kind (r >>= f)

@@ -1,5 +1,5 @@
 -- What is printed of a policy is read as that policy.
-use Rattle.std.proofs.Common.{◌≡◌, ℕ, ◌+◌, ◌^◌, ◌<◌, ◌≤◌, true, false, List, [], ◌∷◌, ◌++◌, length, map, Option, Some, None, Result, Ok, refl, sym, ap, ◌∙◌, subst, arith, append_assoc, append-nil, length-append, codes}
+use Rattle.std.proofs.Common.{◌≡◌, ℕ, ◌+◌, ◌^◌, ◌<◌, ◌≤◌, true, false, List, [], ◌∷◌, ◌++◌, length, map, Option, Some, None, Result, Ok, refl, sym, ap, ◌∙◌, subst, arith, append_assoc, append-nil, length-append, codes, IfSome}
 use Rattle.std.specs.List.{AllByRecursion, join_with_byte}
 use Rattle.std.specs.Fmt.{decimal}
 use Rattle.std.proofs.lemmas.Bool.{lt-leb}
@@ -7,6 +7,7 @@ use Rattle.ipfix_element.specs.Element.{Element, IsElement}
 use Rattle.ipfix_element.specs.Names.{element_name}
 use Rattle.flow_prefix.specs.Prefixes.{IsPrefix}
 use Rattle.flow_prefix.specs.Printing.{prefix_text}
+use Rattle.sequences.proofs.ListLaws.{AllByRecursion-append}
 use Rattle.policy_text.specs.declared.fault.FaultKind.{FaultKind}
 use Rattle.policy_text.specs.declared.fault.FaultKind.TheVariants.{BadName, BadNumber, BadPrefix}
 use Rattle.policy_text.specs.declared.rule.Rule.{Rule}
@@ -18,7 +19,7 @@ use Rattle.policy_text.specs.Policies.{Meaning, nothing, Aggregate as Definition
 use Rattle.policy_text.specs.Classes.{name, number, element, prefix, or_star, width_at}
 use Rattle.policy_text.specs.Lines.{next_of, next, after, ended, truncate_of, element_action, aggregate_action, on_element, action_of, rule_of, aggregate_of, rule_line, aggregate_line, line_of}
 use Rattle.policy_text.specs.Parsing.{is_header, step, line_step, read_lines, policy_of}
-use Rattle.policy_text.specs.Grammar.{name_at, IfGiven, IsAction, IsRule, IsAggregate, AreAggregates, AreRules}
+use Rattle.policy_text.specs.Grammar.{name_at, IsAction, IsRule, IsAggregate, AreAggregates, AreRules}
 use Rattle.policy_text.specs.Printing.{word_or_star, itself, action_words, rule_words, key_text, aggregate_words, header, policy_text, ReadsBack}
 use Rattle.policy_text.proofs.WordLaws.{words_of-nil}
 use Rattle.policy_text.proofs.ParsingLaws.{read_lines-cons, read_lines-done}
@@ -26,11 +27,11 @@ use Rattle.policy_text.proofs.PlainLaws.{IsPlain, ArePlain, decimal_plain, words
 use Rattle.policy_text.proofs.PrintedClassLaws.{name_plain, element_plain, prefix_plain, key_plain, name-printed, new_name-printed, aggregate_place-printed, number-printed, interval-printed, bits-printed, element-printed, prefix-printed, or_star-printed, name-star, number-star, prefix-star, element-star, key-printed}
 
 -- printed lines are plain
-given_plain : {A : Type 0} (word : A → Word) (P : A → Type 0) → ((a : A) → P a → IsPlain (word a)) → (o : Option A) → IfGiven P o → IsPlain (word_or_star word o)
+given_plain : {A : Type 0} (word : A → Word) (P : A → Type 0) → ((a : A) → P a → IsPlain (word a)) → (o : Option A) → IfSome o P → IsPlain (word_or_star word o)
 given_plain word P plain_of None h = record { some = omega arith; each = refl }
 given_plain word P plain_of (Some a) h = plain_of a h
 
-action_plain : (aggregates : List Definition) (e : Option Element) (action : Action) → IfGiven IsElement e → IsAction aggregates e action → ArePlain (action_words aggregates e action)
+action_plain : (aggregates : List Definition) (e : Option Element) (action : Action) → IfSome e IsElement → IsAction aggregates e action → ArePlain (action_words aggregates e action)
 action_plain aggregates e Pass ok h = (record { some = omega arith; each = refl }, tt)
 action_plain aggregates e Withhold ok h = (record { some = omega arith; each = refl }, tt)
 action_plain aggregates e (Aggregate place) ok h = (record { some = omega arith; each = refl }, (name_plain (name_at aggregates place) h.1, tt))
@@ -96,13 +97,13 @@ truncated_back : (width : Option ℕ) (w bits : ℕ) → width ≡ Some w → bi
 unfolding truncate_of next next_of
 truncated_back width w bits e within short = rw (e, bits-printed w bits within short) refl
 
-element_back : (e : Option Element) → IfGiven IsElement e → or_star element (word_or_star element_name e) ≡ Ok e
+element_back : (e : Option Element) → IfSome e IsElement → or_star element (word_or_star element_name e) ≡ Ok e
 element_back e h = or_star-printed element BadName element_name IsElement element-printed element-star e h
 
 no_element : {A : Type 0} (e : Option Element) (action : Action) (rest : A) → e ≡ None → ◌≡◌ {A = Result ((Option Element × Action) × A) FaultKind} (Ok ((None, action), rest)) (Ok ((e, action), rest))
 no_element e action rest none = ap (λ (x : Option Element). Ok ((x, action), rest)) (sym none)
 
-pub action_back : (aggregates : List Definition) (e : Option Element) (action : Action) → IfGiven IsElement e → IsAction aggregates e action → action_of aggregates (action_words aggregates e action) ≡ Ok ((e, action), [])
+pub action_back : (aggregates : List Definition) (e : Option Element) (action : Action) → IfSome e IsElement → IsAction aggregates e action → action_of aggregates (action_words aggregates e action) ≡ Ok ((e, action), [])
 unfolding action_of aggregate_action on_element element_action next next_of
 action_back aggregates e Pass ok h = no_element e Pass [] h
 action_back aggregates e Withhold ok h = no_element e Withhold [] h
@@ -197,10 +198,6 @@ rules_plain : (aggregates : List Definition) (rest : List Rule) → AreRules agg
 rules_plain aggregates [] h = tt
 rules_plain aggregates (r ∷ rest) h = (rule_plain aggregates r h.0, rules_plain aggregates rest h.1)
 
-plain_append_lines : (xs ys : List (List Word)) → AllByRecursion ArePlain xs → AllByRecursion ArePlain ys → AllByRecursion ArePlain (xs ++ ys)
-plain_append_lines [] ys p q = q
-plain_append_lines (x ∷ xs) ys p q = (p.0, plain_append_lines xs ys p.1 q)
-
 header_plain : ArePlain header
 header_plain = (record { some = omega arith; each = refl }, (record { some = omega arith; each = refl }, tt))
 
@@ -213,7 +210,7 @@ pub reads_back : ReadsBack
 unfolding policy_text policy_of
 reads_back policy h =
     let lines = map aggregate_words policy.aggregates ++ map (rule_words policy.aggregates) policy.rules in
-    let plain = plain_append_lines (map aggregate_words policy.aggregates) (map (rule_words policy.aggregates) policy.rules) (aggregates_plain [] policy.aggregates h.aggregates) (rules_plain policy.aggregates policy.rules h.rules) in
+    let plain = AllByRecursion-append ArePlain (map aggregate_words policy.aggregates) (map (rule_words policy.aggregates) policy.rules) (aggregates_plain [] policy.aggregates h.aggregates) (rules_plain policy.aggregates policy.rules h.rules) in
     let few_aggregates = h.few_aggregates in
     let few_rules = h.few_rules in
     let added = adds_append nothing (record { aggregates = policy.aggregates; rules = [] }) policy (map aggregate_words policy.aggregates) (map (rule_words policy.aggregates) policy.rules) (aggregates_added [] policy.aggregates h.aggregates (omega arith)) (rules_added policy.aggregates [] policy.rules h.rules (omega arith)) in

@@ -1,5 +1,5 @@
 -- What is read is what a policy's type keeps.
-use Rattle.std.proofs.Common.{◌≡◌, ℕ, suc, ◌+◌, ◌^◌, ◌<◌, ◌≤◌, Bool, true, false, cond, ◌&&◌, eqb, ltb, leb, List, [], ◌∷◌, ◌++◌, length, Option, Some, None, Result, Ok, Err, refl, sym, ap, ◌∙◌, subst, arith, ⊎_elim, append_assoc, append-nil, length-append, codes, is_some, not, IfOk}
+use Rattle.std.proofs.Common.{◌≡◌, ℕ, suc, ◌+◌, ◌^◌, ◌<◌, ◌≤◌, Bool, true, false, cond, ◌&&◌, eqb, ltb, leb, List, [], ◌∷◌, ◌++◌, length, Option, Some, None, Result, Ok, Err, refl, sym, ap, ◌∙◌, subst, arith, ⊎_elim, append_assoc, append-nil, length-append, codes, is_some, not, IfOk, IfSome}
 use Rattle.std.specs.List.{slice_split, position_or_len, list_any}
 use Rattle.std.proofs.lemmas.List.Splits.{length-slice_split}
 use Rattle.std.specs.Str.{bytes_eq}
@@ -16,6 +16,9 @@ use Rattle.flow_prefix.specs.Text.{IsPrefixText}
 use Rattle.flow_prefix.specs.Prefixes.{IsPrefix}
 use Rattle.flow_prefix.proofs.NumeralLaws.{number_of-found}
 use Rattle.flow_prefix.proofs.PrefixLaws.{prefix_of-found}
+use Rattle.sequences.proofs.ResultLaws.{same_Ok, Err-Ok, bind_Ok}
+use Rattle.sequences.proofs.OptionLaws.{none_from_is_some}
+use Rattle.sequences.specs.Results.{◌>>=◌}
 use Rattle.policy_text.specs.declared.fault.FaultKind.{FaultKind}
 use Rattle.policy_text.specs.declared.rule.Rule.{Rule}
 use Rattle.policy_text.specs.declared.rule.Action.{Action}
@@ -24,30 +27,19 @@ use Rattle.policy_text.specs.Words.{Word}
 use Rattle.policy_text.specs.Naming.{is_name}
 use Rattle.policy_text.specs.Elements.{element_of}
 use Rattle.policy_text.specs.Policies.{IsKeyLength, Aggregate as Definition}
-use Rattle.policy_text.specs.Results.{◌>>=◌, or_fault}
+use Rattle.policy_text.specs.Results.{or_fault}
 use Rattle.policy_text.specs.Classes.{name, number, element, prefix, prefix_or_fault, star, some_of, or_star, is_key_kind, width_at, with_key, add_piece, add_pieces, key_of, place_of, aggregate_place, new_name, interval, bits_within}
 use Rattle.policy_text.specs.Lines.{next_of, next, after, ended, truncate_of, element_action, aggregate_action, on_element, action_of, rule_of, aggregate_of}
-use Rattle.policy_text.specs.Grammar.{name_at, IfGiven, IsAction, IsRule, IsKey, IsAggregate}
+use Rattle.policy_text.specs.Grammar.{name_at, IsAction, IsRule, IsKey, IsAggregate}
 use Rattle.policy_text.specs.declared.fault.FaultKind.TheVariants.{UnknownWord, BadName, BadNumber, BadPrefix, BadTruncate, UnknownAggregate, DoubleAggregate, BadKey}
 use Rattle.policy_text.proofs.ElementLaws.{element_of-found}
 use Rattle.policy_text.proofs.KeyStepLaws.{IsKeyAfter, as_key}
 use Rattle.policy_text.proofs.WordLaws.{position-place}
 
-pub err-Ok : {A : Type 0} (kind : FaultKind) (y : A) → ◌≡◌ {A = Result A FaultKind} (Err kind) (Ok y) → ⊥
-err-Ok kind y e = cc
-
-pub same_Ok : {A : Type 0} (x y : A) → ◌≡◌ {A = Result A FaultKind} (Ok x) (Ok y) → x ≡ y
-same_Ok x y e = cc
-
--- what a step that gave a value was given
-pub bound : {A B : Type 0} (r : Result A FaultKind) (f : A → Result B FaultKind) (y : B) → (r >>= f) ≡ Ok y → (x : A) × (r ≡ Ok x) × (f x ≡ Ok y)
-bound (Ok x) f y e = (x, refl, e)
-bound (Err kind) f y e = absurd (err-Ok kind y e)
-
 -- a test that refuses
 pub guarded : {A : Type 0} (b : Bool) (kind : FaultKind) (x y : A) → cond b (Ok x) (Err kind) ≡ Ok y → (b ≡ true) × (x ≡ y)
 guarded true kind x y e = (refl, same_Ok x y e)
-guarded false kind x y e = absurd (err-Ok kind y e)
+guarded false kind x y e = absurd (Err-Ok kind y e)
 
 -- a word that is one of two
 pub either : {A : Type 0} (P : Type 0) (b : Bool) (r s : Result A FaultKind) (y : A) → cond b r s ≡ Ok y → (r ≡ Ok y → P) → (s ≡ Ok y → P) → P
@@ -55,30 +47,30 @@ either P true r s y e yes_case no_case = yes_case e
 either P false r s y e yes_case no_case = no_case e
 
 pub or_fault-Ok : {A : Type 0} (kind : FaultKind) (o : Option A) (y : A) → or_fault kind o ≡ Ok y → o ≡ Some y
-or_fault-Ok kind None y e = absurd (err-Ok kind y e)
+or_fault-Ok kind None y e = absurd (Err-Ok kind y e)
 or_fault-Ok kind (Some x) y e = ap (λ z. Some z) (same_Ok x y e)
 
 -- what a class gives, or nothing
-given_some : {A : Type 0} (P : A → Type 0) (r : Result A FaultKind) (o : Option A) → ((a : A) → r ≡ Ok a → P a) → some_of r ≡ Ok o → IfGiven P o
-given_some {A} P (Ok a) o sound e = let Q : Option A → Type 0 = λ x. IfGiven P x in subst Q (same_Ok (Some a) o e) (sound a refl)
-given_some P (Err kind) o sound e = absurd (err-Ok kind o e)
+given_some : {A : Type 0} (P : A → Type 0) (r : Result A FaultKind) (o : Option A) → ((a : A) → r ≡ Ok a → P a) → some_of r ≡ Ok o → IfSome o P
+given_some {A} P (Ok a) o sound e = let Q : Option A → Type 0 = λ x. IfSome x P in subst Q (same_Ok (Some a) o e) (sound a refl)
+given_some P (Err kind) o sound e = absurd (Err-Ok kind o e)
 
-given : {A : Type 0} (P : A → Type 0) (class : Word → Result A FaultKind) → ((w : Word) (a : A) → class w ≡ Ok a → P a) → (w : Word) (o : Option A) → or_star class w ≡ Ok o → IfGiven P o
+given : {A : Type 0} (P : A → Type 0) (class : Word → Result A FaultKind) → ((w : Word) (a : A) → class w ≡ Ok a → P a) → (w : Word) (o : Option A) → or_star class w ≡ Ok o → IfSome o P
 unfolding or_star
 given {A} P class sound w o e =
-    either (IfGiven P o) (bytes_eq w star) (Ok None) (some_of (class w)) o e
-    (λ none. let Q : Option A → Type 0 = λ x. IfGiven P x in subst Q (same_Ok None o none) tt)
+    either (IfSome o P) (bytes_eq w star) (Ok None) (some_of (class w)) o e
+    (λ none. let Q : Option A → Type 0 = λ x. IfSome x P in subst Q (same_Ok None o none) tt)
     (λ some. given_some P (class w) o (sound w) some)
 
 -- the word that the next class read
 next_word : {A : Type 0} (class : Word → Result A FaultKind) (words : List Word) (x : A × List Word) → next class words ≡ Ok x → (w : Word) × (class w ≡ Ok x.0)
 unfolding next
 next_word {A} class words x e =
-    let first = bound (next_of words) (λ w. class w.0 >>= λ a. Ok (a, w.1)) x e in
-    let second = bound (class first.0.0) (λ a. Ok (a, first.0.1)) x first.2 in
+    let first = bind_Ok (next_of words) (λ w. class w.0 >>= λ a. Ok (a, w.1)) x e in
+    let second = bind_Ok (class first.0.0) (λ a. Ok (a, first.0.1)) x first.2 in
     (first.0.0, second.1 ∙ ap (λ (y : A × List Word). Ok y.0) (same_Ok (second.0, first.0.1) x second.2))
 
-next_given : {A : Type 0} (P : A → Type 0) (class : Word → Result A FaultKind) → ((w : Word) (a : A) → class w ≡ Ok a → P a) → (words : List Word) (x : Option A × List Word) → next (or_star class) words ≡ Ok x → IfGiven P x.0
+next_given : {A : Type 0} (P : A → Type 0) (class : Word → Result A FaultKind) → ((w : Word) (a : A) → class w ≡ Ok a → P a) → (words : List Word) (x : Option A × List Word) → next (or_star class) words ≡ Ok x → IfSome x.0 P
 next_given P class sound words x e = let read = next_word (or_star class) words x e in given P class sound read.0 x.0 read.1
 
 -- each class
@@ -103,7 +95,7 @@ text_prefix text (V6 net) h = h.1
 
 prefix_by : (text : List ℕ) (r : Result Prefix PrefixFault) (p : Prefix) → IfOk r (λ q. IsPrefixText text q) → prefix_or_fault r ≡ Ok p → IsPrefix p
 prefix_by text (Ok q) p h e = let P : Prefix → Type 0 = λ x. IsPrefix x in subst P (same_Ok q p e) (text_prefix text q h)
-prefix_by text (Err fault) p h e = absurd (err-Ok BadPrefix p e)
+prefix_by text (Err fault) p h e = absurd (Err-Ok BadPrefix p e)
 
 prefix-sound : (w : Word) (p : Prefix) → prefix w ≡ Ok p → IsPrefix p
 unfolding prefix
@@ -132,12 +124,12 @@ place-sound aggregates w place e =
     let at = or_fault-Ok UnknownAggregate (place_of aggregates w) place (rw named at e) in
     let same = place_name aggregates w place at in
     rw same (named, at))
-    (λ (other : is_name w ≡ false). absurd (err-Ok BadName place (rw other at e)))
+    (λ (other : is_name w ≡ false). absurd (Err-Ok BadName place (rw other at e)))
     (cases_Bool (is_name w))
 
 -- actions
 record ActionSound (aggregates : List Definition) (e : Option Element) (what : Action) : Type 0 where
-  element_is : IfGiven IsElement e
+  element_is : IfSome e IsElement
   action_is : IsAction aggregates e what
 
 record Truncates (width : Option ℕ) (what : Action) : Type 0 where
@@ -151,7 +143,7 @@ record Truncates (width : Option ℕ) (what : Action) : Type 0 where
 bits-sound : (width : ℕ) (w : Word) (n : ℕ) → bits_within width w ≡ Ok n → (n ≤ width) × (n < 1000)
 unfolding bits_within
 bits-sound width w n e =
-    let read = bound (number 999 w) (λ bits. cond (leb bits width) (Ok bits) (Err BadTruncate)) n e in
+    let read = bind_Ok (number 999 w) (λ bits. cond (leb bits width) (Ok bits) (Err BadTruncate)) n e in
     let h = guarded (leb read.0 width) BadTruncate read.0 n read.2 in
     let low = number-sound 999 (omega arith) w read.0 read.1 in
     let within = leb-true read.0 width h.0 in
@@ -159,9 +151,9 @@ bits-sound width w n e =
 
 truncate-sound : (width : Option ℕ) (words : List Word) (x : Action × List Word) → truncate_of width words ≡ Ok x → Truncates width x.0
 unfolding truncate_of
-truncate-sound None words x e = absurd (err-Ok BadTruncate x e)
+truncate-sound None words x e = absurd (Err-Ok BadTruncate x e)
 truncate-sound (Some width) words x e =
-    let read = bound (next (bits_within width) words) (λ bits. Ok (Truncate bits.0, bits.1)) x e in
+    let read = bind_Ok (next (bits_within width) words) (λ bits. Ok (Truncate bits.0, bits.1)) x e in
     let word = next_word (bits_within width) words read.0 read.1 in
     let h = bits-sound width word.0 read.0.0 word.1 in
     record { w = width; bits = read.0.0; width_is = refl; what_is = ap (λ (y : Action × List Word). y.0) (same_Ok (Truncate read.0.0, read.0.1) x read.2); within = h.0; short = h.1 }
@@ -169,7 +161,7 @@ truncate-sound (Some width) words x e =
 element_action-sound : (aggregates : List Definition) (e : Option Element) (words : List Word) (x : Action × List Word) → element_action (width_at e) words ≡ Ok x → IsAction aggregates e x.0
 unfolding element_action
 element_action-sound aggregates e words x h =
-    let first = bound (next_of words) (λ w. cond (bytes_eq w.0 (codes "keep")) (Ok (Keep, w.1)) (cond (bytes_eq w.0 (codes "remove")) (Ok (Remove, w.1)) (cond (bytes_eq w.0 (codes "truncate")) (truncate_of (width_at e) w.1) (Err UnknownWord)))) x h in
+    let first = bind_Ok (next_of words) (λ w. cond (bytes_eq w.0 (codes "keep")) (Ok (Keep, w.1)) (cond (bytes_eq w.0 (codes "remove")) (Ok (Remove, w.1)) (cond (bytes_eq w.0 (codes "truncate")) (truncate_of (width_at e) w.1) (Err UnknownWord)))) x h in
     let w = first.0 in
     let P : Action × List Word → Type 0 = λ y. IsAction aggregates e y.0 in
     either (IsAction aggregates e x.0) (bytes_eq w.0 (codes "keep")) (Ok (Keep, w.1)) (cond (bytes_eq w.0 (codes "remove")) (Ok (Remove, w.1)) (cond (bytes_eq w.0 (codes "truncate")) (truncate_of (width_at e) w.1) (Err UnknownWord))) x first.2
@@ -180,13 +172,13 @@ element_action-sound aggregates e words x h =
     (λ cut. let t = truncate-sound (width_at e) w.1 x cut in
     let Q : Action → Type 0 = λ what. IsAction aggregates e what in
     subst Q t.what_is (t.w, t.width_is, t.within, t.short))
-    (λ none. absurd (err-Ok UnknownWord x none))))
+    (λ none. absurd (Err-Ok UnknownWord x none))))
 
 on_element-sound : (aggregates : List Definition) (words : List Word) (x : (Option Element × Action) × List Word) → on_element words ≡ Ok x → ActionSound aggregates x.0.0 x.0.1
 unfolding on_element
 on_element-sound aggregates words x h =
-    let first = bound (next (or_star element) words) (λ e. element_action (width_at e.0) e.1 >>= λ action. Ok ((e.0, action.0), action.1)) x h in
-    let second = bound (element_action (width_at first.0.0) first.0.1) (λ action. Ok ((first.0.0, action.0), action.1)) x first.2 in
+    let first = bind_Ok (next (or_star element) words) (λ e. element_action (width_at e.0) e.1 >>= λ action. Ok ((e.0, action.0), action.1)) x h in
+    let second = bind_Ok (element_action (width_at first.0.0) first.0.1) (λ action. Ok ((first.0.0, action.0), action.1)) x first.2 in
     let P : (Option Element × Action) × List Word → Type 0 = λ y. ActionSound aggregates y.0.0 y.0.1 in
     subst P (same_Ok ((first.0.0, second.0.0), second.0.1) x second.2)
     (record { element_is = next_given IsElement element element-sound words first.0 first.1; action_is = element_action-sound aggregates first.0.0 first.0.1 second.0 second.1 })
@@ -194,7 +186,7 @@ on_element-sound aggregates words x h =
 aggregate_action-sound : (aggregates : List Definition) (words : List Word) (x : (Option Element × Action) × List Word) → aggregate_action aggregates words ≡ Ok x → ActionSound aggregates x.0.0 x.0.1
 unfolding aggregate_action
 aggregate_action-sound aggregates words x h =
-    let read = bound (next (aggregate_place aggregates) words) (λ place. Ok ((None, Aggregate place.0), place.1)) x h in
+    let read = bind_Ok (next (aggregate_place aggregates) words) (λ place. Ok ((None, Aggregate place.0), place.1)) x h in
     let word = next_word (aggregate_place aggregates) words read.0 read.1 in
     let at = place-sound aggregates word.0 read.0.0 word.1 in
     let P : (Option Element × Action) × List Word → Type 0 = λ y. ActionSound aggregates y.0.0 y.0.1 in
@@ -203,7 +195,7 @@ aggregate_action-sound aggregates words x h =
 action_of-sound : (aggregates : List Definition) (words : List Word) (x : (Option Element × Action) × List Word) → action_of aggregates words ≡ Ok x → ActionSound aggregates x.0.0 x.0.1
 unfolding action_of
 action_of-sound aggregates words x h =
-    let first = bound (next_of words) (λ w. cond (bytes_eq w.0 (codes "pass")) (Ok ((None, Pass), w.1)) (cond (bytes_eq w.0 (codes "withhold")) (Ok ((None, Withhold), w.1)) (cond (bytes_eq w.0 (codes "aggregate")) (aggregate_action aggregates w.1) (cond (bytes_eq w.0 (codes "element")) (on_element w.1) (Err UnknownWord))))) x h in
+    let first = bind_Ok (next_of words) (λ w. cond (bytes_eq w.0 (codes "pass")) (Ok ((None, Pass), w.1)) (cond (bytes_eq w.0 (codes "withhold")) (Ok ((None, Withhold), w.1)) (cond (bytes_eq w.0 (codes "aggregate")) (aggregate_action aggregates w.1) (cond (bytes_eq w.0 (codes "element")) (on_element w.1) (Err UnknownWord))))) x h in
     let w = first.0 in
     let P : (Option Element × Action) × List Word → Type 0 = λ y. ActionSound aggregates y.0.0 y.0.1 in
     either (ActionSound aggregates x.0.0 x.0.1) (bytes_eq w.0 (codes "pass")) (Ok ((None, Pass), w.1)) (cond (bytes_eq w.0 (codes "withhold")) (Ok ((None, Withhold), w.1)) (cond (bytes_eq w.0 (codes "aggregate")) (aggregate_action aggregates w.1) (cond (bytes_eq w.0 (codes "element")) (on_element w.1) (Err UnknownWord)))) x first.2
@@ -214,7 +206,7 @@ action_of-sound aggregates words x h =
     (λ counted. aggregate_action-sound aggregates w.1 x counted)
     (λ last. either (ActionSound aggregates x.0.0 x.0.1) (bytes_eq w.0 (codes "element")) (on_element w.1) (Err UnknownWord) x last
     (λ on. on_element-sound aggregates w.1 x on)
-    (λ none. absurd (err-Ok UnknownWord x none)))))
+    (λ none. absurd (Err-Ok UnknownWord x none)))))
 
 -- a rule, word by word
 abbrev pub rule_end : Option Word → Option ℕ → Option Prefix → Option Prefix → (Option Element × Action) × List Word → Result Rule FaultKind
@@ -247,16 +239,16 @@ rule_who aggregates a = next (or_star name) a >>= λ who. rule_behind_who aggreg
 pub rule_of-sound : (aggregates : List Definition) (words : List Word) (r : Rule) → rule_of aggregates words ≡ Ok r → IsRule aggregates r
 unfolding rule_of
 rule_of-sound aggregates words r h =
-    let s0 = bound (after (codes "for") words) (λ a. rule_who aggregates a) r h in
-    let who = bound (next (or_star name) s0.0) (λ x. rule_behind_who aggregates x) r s0.2 in
-    let s1 = bound (after (codes "in") who.0.1) (λ b. rule_domain aggregates who.0.0 b) r who.2 in
-    let domain = bound (next (or_star (number 4294967295)) s1.0) (λ x. rule_behind_domain aggregates who.0.0 x) r s1.2 in
-    let s2 = bound (after (codes "from") domain.0.1) (λ c. rule_from aggregates who.0.0 domain.0.0 c) r domain.2 in
-    let from = bound (next (or_star prefix) s2.0) (λ x. rule_behind_from aggregates who.0.0 domain.0.0 x) r s2.2 in
-    let s3 = bound (after (codes "to") from.0.1) (λ d. rule_to aggregates who.0.0 domain.0.0 from.0.0 d) r from.2 in
-    let to = bound (next (or_star prefix) s3.0) (λ x. rule_action aggregates who.0.0 domain.0.0 from.0.0 x) r s3.2 in
-    let done = bound (action_of aggregates to.0.1) (λ x. rule_end who.0.0 domain.0.0 from.0.0 to.0.0 x) r to.2 in
-    let end = bound (ended done.0.1) (λ nothing_more. Ok (record { who = who.0.0; domain = domain.0.0; from = from.0.0; to = to.0.0; element = done.0.0.0; action = done.0.0.1 })) r done.2 in
+    let s0 = bind_Ok (after (codes "for") words) (λ a. rule_who aggregates a) r h in
+    let who = bind_Ok (next (or_star name) s0.0) (λ x. rule_behind_who aggregates x) r s0.2 in
+    let s1 = bind_Ok (after (codes "in") who.0.1) (λ b. rule_domain aggregates who.0.0 b) r who.2 in
+    let domain = bind_Ok (next (or_star (number 4294967295)) s1.0) (λ x. rule_behind_domain aggregates who.0.0 x) r s1.2 in
+    let s2 = bind_Ok (after (codes "from") domain.0.1) (λ c. rule_from aggregates who.0.0 domain.0.0 c) r domain.2 in
+    let from = bind_Ok (next (or_star prefix) s2.0) (λ x. rule_behind_from aggregates who.0.0 domain.0.0 x) r s2.2 in
+    let s3 = bind_Ok (after (codes "to") from.0.1) (λ d. rule_to aggregates who.0.0 domain.0.0 from.0.0 d) r from.2 in
+    let to = bind_Ok (next (or_star prefix) s3.0) (λ x. rule_action aggregates who.0.0 domain.0.0 from.0.0 x) r s3.2 in
+    let done = bind_Ok (action_of aggregates to.0.1) (λ x. rule_end who.0.0 domain.0.0 from.0.0 to.0.0 x) r to.2 in
+    let end = bind_Ok (ended done.0.1) (λ nothing_more. Ok (record { who = who.0.0; domain = domain.0.0; from = from.0.0; to = to.0.0; element = done.0.0.0; action = done.0.0.1 })) r done.2 in
     let action = action_of-sound aggregates to.0.1 done.0 done.1 in
     let P : Rule → Type 0 = λ x. IsRule aggregates x in
     subst P (same_Ok (record { who = who.0.0; domain = domain.0.0; from = from.0.0; to = to.0.0; element = done.0.0.0; action = done.0.0.1 }) r end.2)
@@ -303,8 +295,8 @@ pieces-sound : (key : List Element) (pieces : List Word) (out : List Element) �
 unfolding add_pieces add_piece
 pieces-sound key [] out h few e = let P : List Element → Type 0 = λ x. KeyFrom key x in subst P (same_Ok key out e) (record { elements = h; longer = omega arith; few = few })
 pieces-sound key (piece ∷ pieces) out h few e =
-    let first = bound (element piece >>= λ x. with_key key x) (λ more. add_pieces more pieces) out e in
-    let read = bound (element piece) (λ x. with_key key x) first.0 first.1 in
+    let first = bind_Ok (element piece >>= λ x. with_key key x) (λ more. add_pieces more pieces) out e in
+    let read = bind_Ok (element piece) (λ x. with_key key x) first.0 first.1 in
     let added = with_key-sound key first.0 read.0 read.2 in
     let P : List Element → Type 0 = λ x. IsKeyAfter [] x in
     let grown = subst P added.more_is (key_push [] key read.0 h (element-sound piece read.0 read.1) added.again) in
@@ -318,8 +310,8 @@ some_piece : (key : List Element) (pieces : List Word) (out : List Element) → 
 unfolding add_pieces add_piece
 some_piece key [] out some h few e = absurd (omega arith)
 some_piece key (piece ∷ pieces) out some h few e =
-    let first = bound (element piece >>= λ x. with_key key x) (λ more. add_pieces more pieces) out e in
-    let read = bound (element piece) (λ x. with_key key x) first.0 first.1 in
+    let first = bind_Ok (element piece >>= λ x. with_key key x) (λ more. add_pieces more pieces) out e in
+    let read = bind_Ok (element piece) (λ x. with_key key x) first.0 first.1 in
     let added = with_key-sound key first.0 read.0 read.2 in
     let P : List Element → Type 0 = λ x. IsKeyAfter [] x in
     let grown = subst P added.more_is (key_push [] key read.0 h (element-sound piece read.0 read.1) added.again) in
@@ -339,31 +331,27 @@ key-sound w key e =
 interval-sound : (w : Word) (n : ℕ) → interval w ≡ Ok n → (1 ≤ n) × (n ≤ 86400)
 unfolding interval
 interval-sound w n e =
-    let read = bound (number 86400 w) (λ seconds. cond (ltb seconds 1) (Err BadNumber) (Ok seconds)) n e in
+    let read = bind_Ok (number 86400 w) (λ seconds. cond (ltb seconds 1) (Err BadNumber) (Ok seconds)) n e in
     let high = number-sound 86400 (omega arith) w read.0 read.1 in
-    ⊎_elim (λ (low : ltb read.0 1 ≡ true). absurd (err-Ok BadNumber n (rw low at read.2)))
+    ⊎_elim (λ (low : ltb read.0 1 ≡ true). absurd (Err-Ok BadNumber n (rw low at read.2)))
     (λ (good : ltb read.0 1 ≡ false).
     let same = same_Ok read.0 n (rw good at read.2) in
     let low = ltb-false read.0 1 good in
     (omega (arith, same), omega (arith, same)))
     (cases_Bool (ltb read.0 1))
 
-none_place : (o : Option ℕ) → is_some o ≡ false → o ≡ None
-none_place None e = refl
-none_place (Some x) e = cc
-
 new_name-sound : (aggregates : List Definition) (w n : Word) → new_name aggregates w ≡ Ok n → (is_name n ≡ true) × (place_of aggregates n ≡ None)
 unfolding new_name
 new_name-sound aggregates w n e =
     ⊎_elim (λ (named : is_name w ≡ true).
     let inner = rw named at e in
-    ⊎_elim (λ (double : is_some (place_of aggregates w) ≡ true). absurd (err-Ok DoubleAggregate n (rw double at inner)))
+    ⊎_elim (λ (double : is_some (place_of aggregates w) ≡ true). absurd (Err-Ok DoubleAggregate n (rw double at inner)))
     (λ (fresh : is_some (place_of aggregates w) ≡ false).
     let same = same_Ok w n (rw fresh at inner) in
     let P : Word → Type 0 = λ x. (is_name x ≡ true) × (place_of aggregates x ≡ None) in
-    subst P same (named, none_place (place_of aggregates w) fresh))
+    subst P same (named, none_from_is_some (place_of aggregates w) fresh))
     (cases_Bool (is_some (place_of aggregates w))))
-    (λ (other : is_name w ≡ false). absurd (err-Ok BadName n (rw other at e)))
+    (λ (other : is_name w ≡ false). absurd (Err-Ok BadName n (rw other at e)))
     (cases_Bool (is_name w))
 
 -- an aggregate, word by word
@@ -391,14 +379,14 @@ aggregate_behind_name named = after (codes "key") named.1 >>= λ a. aggregate_ke
 pub aggregate_of-sound : (before : List Definition) (words : List Word) (a : Definition) → aggregate_of before words ≡ Ok a → IsAggregate before a
 unfolding aggregate_of
 aggregate_of-sound before words a h =
-    let named = bound (next (new_name before) words) (λ x. aggregate_behind_name x) a h in
-    let s0 = bound (after (codes "key") named.0.1) (λ x. aggregate_key named.0.0 x) a named.2 in
-    let key = bound (next key_of s0.0) (λ x. aggregate_behind_key named.0.0 x) a s0.2 in
-    let s1 = bound (after (codes "interval") key.0.1) (λ x. aggregate_interval named.0.0 key.0.0 x) a key.2 in
-    let seconds = bound (next interval s1.0) (λ x. aggregate_behind_interval named.0.0 key.0.0 x) a s1.2 in
-    let s2 = bound (after (codes "grace") seconds.0.1) (λ x. aggregate_grace named.0.0 key.0.0 seconds.0.0 x) a seconds.2 in
-    let grace = bound (next (number 86400) s2.0) (λ x. aggregate_end named.0.0 key.0.0 seconds.0.0 x) a s2.2 in
-    let end = bound (ended grace.0.1) (λ nothing_more. Ok (record { name = named.0.0; key = key.0.0; interval = seconds.0.0; grace = grace.0.0 })) a grace.2 in
+    let named = bind_Ok (next (new_name before) words) (λ x. aggregate_behind_name x) a h in
+    let s0 = bind_Ok (after (codes "key") named.0.1) (λ x. aggregate_key named.0.0 x) a named.2 in
+    let key = bind_Ok (next key_of s0.0) (λ x. aggregate_behind_key named.0.0 x) a s0.2 in
+    let s1 = bind_Ok (after (codes "interval") key.0.1) (λ x. aggregate_interval named.0.0 key.0.0 x) a key.2 in
+    let seconds = bind_Ok (next interval s1.0) (λ x. aggregate_behind_interval named.0.0 key.0.0 x) a s1.2 in
+    let s2 = bind_Ok (after (codes "grace") seconds.0.1) (λ x. aggregate_grace named.0.0 key.0.0 seconds.0.0 x) a seconds.2 in
+    let grace = bind_Ok (next (number 86400) s2.0) (λ x. aggregate_end named.0.0 key.0.0 seconds.0.0 x) a s2.2 in
+    let end = bind_Ok (ended grace.0.1) (λ nothing_more. Ok (record { name = named.0.0; key = key.0.0; interval = seconds.0.0; grace = grace.0.0 })) a grace.2 in
     let name_word = next_word (new_name before) words named.0 named.1 in
     let name_is = new_name-sound before name_word.0 named.0.0 name_word.1 in
     let key_word = next_word key_of s0.0 key.0 key.1 in

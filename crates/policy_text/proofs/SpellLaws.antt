@@ -15,6 +15,8 @@ use Rattle.flow_prefix.specs.Reading.{prefix_of}
 use Rattle.flow_prefix.specs.Text.{IsPrefixText}
 use Rattle.flow_prefix.proofs.NumeralLaws.{number_of-found}
 use Rattle.flow_prefix.proofs.PrefixLaws.{prefix_of-found, prefix_of-only}
+use Rattle.sequences.proofs.ResultLaws.{Err-Ok, same_Ok, bind_Ok}
+use Rattle.sequences.specs.Results.{◌>>=◌}
 use Rattle.policy_text.specs.declared.fault.FaultKind.{FaultKind}
 use Rattle.policy_text.specs.declared.fault.FaultKind.TheVariants.{UnknownAggregate, DoubleAggregate, UnknownWord, NoHeader, BadName, BadNumber, BadPrefix, BadTruncate, TooMany}
 use Rattle.policy_text.specs.declared.fault.PolicyFault.{PolicyFault}
@@ -25,7 +27,7 @@ use Rattle.policy_text.specs.Words.{Word, words_of, lines_of, is_skipped}
 use Rattle.policy_text.specs.Naming.{is_name}
 use Rattle.policy_text.specs.Elements.{element_of}
 use Rattle.policy_text.specs.Policies.{Meaning, nothing, with_rule, with_aggregate, Aggregate as Definition}
-use Rattle.policy_text.specs.Results.{◌>>=◌, at_line, then_read, Parses}
+use Rattle.policy_text.specs.Results.{at_line, then_read, Parses}
 use Rattle.policy_text.specs.Classes.{name, number, element, prefix, prefix_or_fault, star, some_of, or_star, with_key, add_piece, add_pieces, key_of, place_of, width_at, aggregate_place, new_name, interval, bits_within}
 use Rattle.policy_text.specs.Lines.{next_of, next, after, ended, truncate_of, element_action, aggregate_action, on_element, action_of, rule_of, aggregate_of, rule_line, aggregate_line, line_of}
 use Rattle.policy_text.specs.Parsing.{is_header, step, line_step, read_lines, policy_of}
@@ -35,26 +37,26 @@ use Rattle.policy_text.specs.Spelling.{IsPrefixWord, rule_tail, SpellsRule, Adds
 use Rattle.policy_text.proofs.ElementLaws.{element_of-found}
 use Rattle.policy_text.proofs.ParsingLaws.{read_lines-cons, read_lines-done, read_lines-empty}
 use Rattle.policy_text.proofs.PrintedClassLaws.{name-printed, or_star-word, or_star-star, or_star-printed, name-star, number-star, prefix-star}
-use Rattle.policy_text.proofs.SoundLaws.{err-Ok, same_Ok, bound, guarded, or_fault-Ok, place_name, with_key-sound, rule_end, rule_action, rule_to, rule_behind_from, rule_from, rule_behind_domain, rule_domain, rule_behind_who, rule_who, aggregate_end, aggregate_grace, aggregate_behind_interval, aggregate_interval, aggregate_behind_key, aggregate_key, aggregate_behind_name, rule_of-sound, aggregate_of-sound}
+use Rattle.policy_text.proofs.SoundLaws.{guarded, or_fault-Ok, place_name, with_key-sound, rule_end, rule_action, rule_to, rule_behind_from, rule_from, rule_behind_domain, rule_domain, rule_behind_who, rule_who, aggregate_end, aggregate_grace, aggregate_behind_interval, aggregate_interval, aggregate_behind_key, aggregate_key, aggregate_behind_name, rule_of-sound, aggregate_of-sound}
 use Rattle.policy_text.proofs.RoundLaws.{domain_back, action_back, aggregate_back}
 
 next_of-text : (words : List Word) (x : Word × List Word) → next_of words ≡ Ok x → words ≡ x.0 ∷ x.1
 unfolding next_of
-next_of-text [] x e = absurd (err-Ok UnknownWord x e)
+next_of-text [] x e = absurd (Err-Ok UnknownWord x e)
 next_of-text (w ∷ words) x e = ap (λ (y : Word × List Word). y.0 ∷ y.1) (same_Ok (w, words) x e)
 
 next-text : {A : Type 0} (class : Word → Result A FaultKind) (words : List Word) (x : A × List Word) → next class words ≡ Ok x → (w : Word) × (words ≡ w ∷ x.1) × (class w ≡ Ok x.0)
 unfolding next
 next-text {A} class words x e =
-    let first = bound (next_of words) (λ w. class w.0 >>= λ a. Ok (a, w.1)) x e in
-    let second = bound (class first.0.0) (λ a. Ok (a, first.0.1)) x first.2 in
+    let first = bind_Ok (next_of words) (λ w. class w.0 >>= λ a. Ok (a, w.1)) x e in
+    let second = bind_Ok (class first.0.0) (λ a. Ok (a, first.0.1)) x first.2 in
     let same = same_Ok (second.0, first.0.1) x second.2 in
     (first.0.0, next_of-text words first.0 first.1 ∙ ap (λ (y : A × List Word). first.0.0 ∷ y.1) same, second.1 ∙ ap (λ (y : A × List Word). Ok y.0) same)
 
 after-text : (keyword : Word) (words rest : List Word) → after keyword words ≡ Ok rest → words ≡ keyword ∷ rest
 unfolding after
 after-text keyword words rest e =
-    let first = bound (next_of words) (λ w. cond (bytes_eq w.0 keyword) (Ok w.1) (Err UnknownWord)) rest e in
+    let first = bind_Ok (next_of words) (λ w. cond (bytes_eq w.0 keyword) (Ok w.1) (Err UnknownWord)) rest e in
     let h = guarded (bytes_eq first.0.0 keyword) UnknownWord first.0.1 rest first.2 in
     let same = (bytes_eq-Decides first.0.0 keyword).0 h.0 in
     next_of-text words first.0 first.1 ∙ ap (λ w. w ∷ first.0.1) same ∙ ap (λ ws. keyword ∷ ws) h.1
@@ -62,12 +64,12 @@ after-text keyword words rest e =
 ended-text : (words : List Word) (u : Unit {0}) → ended words ≡ Ok u → words ≡ []
 unfolding ended
 ended-text [] u e = refl
-ended-text (w ∷ words) u e = absurd (err-Ok UnknownWord u e)
+ended-text (w ∷ words) u e = absurd (Err-Ok UnknownWord u e)
 
 -- the words of classes
 class_text : {A : Type 0} (class : Word → Result A FaultKind) (word : A → Word) → ((w : Word) (a : A) → class w ≡ Ok a → w ≡ word a) → (w : Word) (r : Result A FaultKind) (p : Option A) → class w ≡ r → some_of r ≡ Ok p → w ≡ word_or_star word p
 class_text class word spelled w (Ok a) p c h = spelled w a c ∙ ap (word_or_star word) (same_Ok (Some a) p h)
-class_text class word spelled w (Err k) p c h = absurd (err-Ok k p h)
+class_text class word spelled w (Err k) p c h = absurd (Err-Ok k p h)
 
 or_star-text : {A : Type 0} (class : Word → Result A FaultKind) (word : A → Word) → ((w : Word) (a : A) → class w ≡ Ok a → w ≡ word a) → (w : Word) (o : Option A) → or_star class w ≡ Ok o → w ≡ word_or_star word o
 unfolding or_star
@@ -92,7 +94,7 @@ element-text w e h = (element_of-found w e (or_fault-Ok BadName (element_of w) e
 
 prefix_by : (text : Word) (r : Result Prefix PrefixFault) (p : Prefix) → IfOk r (λ q. IsPrefixText text q) → prefix_or_fault r ≡ Ok p → IsPrefixText text p
 prefix_by text (Ok q) p h e = let P : Prefix → Type 0 = λ x. IsPrefixText text x in subst P (same_Ok q p e) h
-prefix_by text (Err fault) p h e = absurd (err-Ok BadPrefix p e)
+prefix_by text (Err fault) p h e = absurd (Err-Ok BadPrefix p e)
 
 prefix-text : (w : Word) (p : Prefix) → prefix w ≡ Ok p → IsPrefixText w p
 unfolding prefix
@@ -100,7 +102,7 @@ prefix-text w p e = prefix_by w (prefix_of w) p (prefix_of-found w) e
 
 prefix_some : (w : Word) (r : Result Prefix FaultKind) (o : Option Prefix) → prefix w ≡ r → some_of r ≡ Ok o → IsPrefixWord o w
 prefix_some w (Ok p) o c h = let P : Option Prefix → Type 0 = λ x. IsPrefixWord x w in subst P (same_Ok (Some p) o h) (prefix-text w p c)
-prefix_some w (Err k) o c h = absurd (err-Ok k o h)
+prefix_some w (Err k) o c h = absurd (Err-Ok k o h)
 
 prefix_word : (w : Word) (o : Option Prefix) → or_star prefix w ≡ Ok o → IsPrefixWord o w
 unfolding or_star
@@ -121,8 +123,8 @@ pieces-text : (before : List Element) (pieces : List Word) (out : List Element) 
 unfolding add_pieces add_piece
 pieces-text before [] out e = record { more = []; out_is = append-nil before ∙ same_Ok before out e; pieces_are = refl }
 pieces-text before (piece ∷ pieces) out e =
-    let first = bound (element piece >>= λ x. with_key before x) (λ more. add_pieces more pieces) out e in
-    let read = bound (element piece) (λ x. with_key before x) first.0 first.1 in
+    let first = bind_Ok (element piece >>= λ x. with_key before x) (λ more. add_pieces more pieces) out e in
+    let read = bind_Ok (element piece) (λ x. with_key before x) first.0 first.1 in
     let added = with_key-sound before first.0 read.0 read.2 in
     let rest = pieces-text first.0 pieces out first.2 in
     record {
@@ -140,8 +142,8 @@ key-text w key e =
 interval-text : (w : Word) (n : ℕ) → interval w ≡ Ok n → w ≡ decimal n
 unfolding interval
 interval-text w n e =
-    let read = bound (number 86400 w) (λ seconds. cond (ltb seconds 1) (Err BadNumber) (Ok seconds)) n e in
-    ⊎_elim (λ (low : ltb read.0 1 ≡ true). absurd (err-Ok BadNumber n (rw low at read.2)))
+    let read = bind_Ok (number 86400 w) (λ seconds. cond (ltb seconds 1) (Err BadNumber) (Ok seconds)) n e in
+    ⊎_elim (λ (low : ltb read.0 1 ≡ true). absurd (Err-Ok BadNumber n (rw low at read.2)))
     (λ (good : ltb read.0 1 ≡ false). number-text 86400 (omega arith) w read.0 read.1 ∙ ap decimal (same_Ok read.0 n (rw good at read.2)))
     (cases_Bool (ltb read.0 1))
 
@@ -150,23 +152,23 @@ unfolding new_name
 new_name-text aggregates w n e =
     ⊎_elim (λ (named : is_name w ≡ true).
     let inner = rw named at e in
-    ⊎_elim (λ (double : is_some (place_of aggregates w) ≡ true). absurd (err-Ok DoubleAggregate n (rw double at inner)))
+    ⊎_elim (λ (double : is_some (place_of aggregates w) ≡ true). absurd (Err-Ok DoubleAggregate n (rw double at inner)))
     (λ (fresh : is_some (place_of aggregates w) ≡ false). same_Ok w n (rw fresh at inner))
     (cases_Bool (is_some (place_of aggregates w))))
-    (λ (other : is_name w ≡ false). absurd (err-Ok BadName n (rw other at e)))
+    (λ (other : is_name w ≡ false). absurd (Err-Ok BadName n (rw other at e)))
     (cases_Bool (is_name w))
 
 place-text : (aggregates : List Definition) (w : Word) (place : ℕ) → aggregate_place aggregates w ≡ Ok place → w ≡ name_at aggregates place
 unfolding aggregate_place
 place-text aggregates w place e =
     ⊎_elim (λ (named : is_name w ≡ true). sym (place_name aggregates w place (or_fault-Ok UnknownAggregate (place_of aggregates w) place (rw named at e))))
-    (λ (other : is_name w ≡ false). absurd (err-Ok BadName place (rw other at e)))
+    (λ (other : is_name w ≡ false). absurd (Err-Ok BadName place (rw other at e)))
     (cases_Bool (is_name w))
 
 bits-text : (width : ℕ) (w : Word) (n : ℕ) → bits_within width w ≡ Ok n → w ≡ decimal n
 unfolding bits_within
 bits-text width w n e =
-    let read = bound (number 999 w) (λ bits. cond (leb bits width) (Ok bits) (Err BadTruncate)) n e in
+    let read = bind_Ok (number 999 w) (λ bits. cond (leb bits width) (Ok bits) (Err BadTruncate)) n e in
     number-text 999 (omega arith) w read.0 read.1 ∙ ap decimal (guarded (leb read.0 width) BadTruncate read.0 n read.2).1
 
 -- actions
@@ -177,9 +179,9 @@ record SpellsTruncate (words : List Word) (x : Action × List Word) : Type 0 whe
 
 truncate-text : (width : Option ℕ) (words : List Word) (x : Action × List Word) → truncate_of width words ≡ Ok x → SpellsTruncate words x
 unfolding truncate_of
-truncate-text None words x e = absurd (err-Ok BadTruncate x e)
+truncate-text None words x e = absurd (Err-Ok BadTruncate x e)
 truncate-text (Some width) words x e =
-    let read = bound (next (bits_within width) words) (λ bits. Ok (Truncate bits.0, bits.1)) x e in
+    let read = bind_Ok (next (bits_within width) words) (λ bits. Ok (Truncate bits.0, bits.1)) x e in
     let word = next-text (bits_within width) words read.0 read.1 in
     let same = same_Ok (Truncate read.0.0, read.0.1) x read.2 in
     let rest : read.0.1 ≡ x.1 = ap (λ (y : Action × List Word). y.1) same in
@@ -212,7 +214,7 @@ SpellsElementAction words x = on_fields x.0 × (words ≡ behind_element x.0 ++ 
 element_action-text : (width : Option ℕ) (words : List Word) (x : Action × List Word) → element_action width words ≡ Ok x → SpellsElementAction words x
 unfolding element_action on_fields
 element_action-text width words x h =
-    let first = bound (next_of words) (λ w. cond (bytes_eq w.0 (codes "keep")) (Ok (Keep, w.1)) (cond (bytes_eq w.0 (codes "remove")) (Ok (Remove, w.1)) (cond (bytes_eq w.0 (codes "truncate")) (truncate_of width w.1) (Err UnknownWord)))) x h in
+    let first = bind_Ok (next_of words) (λ w. cond (bytes_eq w.0 (codes "keep")) (Ok (Keep, w.1)) (cond (bytes_eq w.0 (codes "remove")) (Ok (Remove, w.1)) (cond (bytes_eq w.0 (codes "truncate")) (truncate_of width w.1) (Err UnknownWord)))) x h in
     let w = first.0 in
     let whole = next_of-text words first.0 first.1 in
     let P : Action × List Word → Type 0 = λ y. SpellsElementAction words y in
@@ -228,7 +230,7 @@ element_action-text width words x h =
     let cut = truncate-text width w.1 x (rw t at last) in
     let Q : Action × List Word → Type 0 = λ y. on_fields y.0 × (words ≡ behind_element y.0 ++ x.1) in
     subst Q cut.what_is (tt, whole ∙ ap (λ k. k ∷ w.1) ((bytes_eq-Decides w.0 (codes "truncate")).0 t) ∙ ap (λ ws. codes "truncate" ∷ ws) cut.words_are))
-    (λ (none : bytes_eq w.0 (codes "truncate") ≡ false). absurd (err-Ok UnknownWord x (rw none at last)))
+    (λ (none : bytes_eq w.0 (codes "truncate") ≡ false). absurd (Err-Ok UnknownWord x (rw none at last)))
     (cases_Bool (bytes_eq w.0 (codes "truncate"))))
     (cases_Bool (bytes_eq w.0 (codes "remove"))))
     (cases_Bool (bytes_eq w.0 (codes "keep")))
@@ -248,8 +250,8 @@ SpellsAction aggregates words x = words ≡ action_words aggregates x.0.0 x.0.1 
 on_element-text : (aggregates : List Definition) (words : List Word) (x : (Option Element × Action) × List Word) → on_element words ≡ Ok x → SpellsAction aggregates (codes "element" ∷ words) x
 unfolding on_element
 on_element-text aggregates words x h =
-    let first = bound (next (or_star element) words) (λ e. element_action (width_at e.0) e.1 >>= λ action. Ok ((e.0, action.0), action.1)) x h in
-    let second = bound (element_action (width_at first.0.0) first.0.1) (λ action. Ok ((first.0.0, action.0), action.1)) x first.2 in
+    let first = bind_Ok (next (or_star element) words) (λ e. element_action (width_at e.0) e.1 >>= λ action. Ok ((e.0, action.0), action.1)) x h in
+    let second = bind_Ok (element_action (width_at first.0.0) first.0.1) (λ action. Ok ((first.0.0, action.0), action.1)) x first.2 in
     let word = next-text (or_star element) words first.0 first.1 in
     let named = or_star-text element element_name element-text word.0 first.0.0 word.2 in
     let action = element_action-text (width_at first.0.0) first.0.1 second.0 second.1 in
@@ -261,7 +263,7 @@ on_element-text aggregates words x h =
 aggregate_action-text : (aggregates : List Definition) (words : List Word) (x : (Option Element × Action) × List Word) → aggregate_action aggregates words ≡ Ok x → SpellsAction aggregates (codes "aggregate" ∷ words) x
 unfolding aggregate_action
 aggregate_action-text aggregates words x h =
-    let read = bound (next (aggregate_place aggregates) words) (λ place. Ok ((None, Aggregate place.0), place.1)) x h in
+    let read = bind_Ok (next (aggregate_place aggregates) words) (λ place. Ok ((None, Aggregate place.0), place.1)) x h in
     let word = next-text (aggregate_place aggregates) words read.0 read.1 in
     let P : (Option Element × Action) × List Word → Type 0 = λ y. SpellsAction aggregates (codes "aggregate" ∷ words) y in
     subst P (same_Ok ((None, Aggregate read.0.0), read.0.1) x read.2)
@@ -270,7 +272,7 @@ aggregate_action-text aggregates words x h =
 action_of-text : (aggregates : List Definition) (words : List Word) (x : (Option Element × Action) × List Word) → action_of aggregates words ≡ Ok x → SpellsAction aggregates words x
 unfolding action_of
 action_of-text aggregates words x h =
-    let first = bound (next_of words) (λ w. cond (bytes_eq w.0 (codes "pass")) (Ok ((None, Pass), w.1)) (cond (bytes_eq w.0 (codes "withhold")) (Ok ((None, Withhold), w.1)) (cond (bytes_eq w.0 (codes "aggregate")) (aggregate_action aggregates w.1) (cond (bytes_eq w.0 (codes "element")) (on_element w.1) (Err UnknownWord))))) x h in
+    let first = bind_Ok (next_of words) (λ w. cond (bytes_eq w.0 (codes "pass")) (Ok ((None, Pass), w.1)) (cond (bytes_eq w.0 (codes "withhold")) (Ok ((None, Withhold), w.1)) (cond (bytes_eq w.0 (codes "aggregate")) (aggregate_action aggregates w.1) (cond (bytes_eq w.0 (codes "element")) (on_element w.1) (Err UnknownWord))))) x h in
     let w = first.0 in
     let whole = next_of-text words first.0 first.1 in
     let P : (Option Element × Action) × List Word → Type 0 = λ y. SpellsAction aggregates words y in
@@ -288,7 +290,7 @@ action_of-text aggregates words x h =
     let last = rw i at more in
     ⊎_elim (λ (t : bytes_eq w.0 (codes "element") ≡ true).
     whole ∙ ap (λ k. k ∷ w.1) ((bytes_eq-Decides w.0 (codes "element")).0 t) ∙ on_element-text aggregates w.1 x (rw t at last))
-    (λ (none : bytes_eq w.0 (codes "element") ≡ false). absurd (err-Ok UnknownWord x (rw none at last)))
+    (λ (none : bytes_eq w.0 (codes "element") ≡ false). absurd (Err-Ok UnknownWord x (rw none at last)))
     (cases_Bool (bytes_eq w.0 (codes "element"))))
     (cases_Bool (bytes_eq w.0 (codes "aggregate"))))
     (cases_Bool (bytes_eq w.0 (codes "withhold"))))
@@ -309,16 +311,16 @@ record RuleWords (aggregates : List Definition) (words : List Word) (r : Rule) :
 rule_words-found : (aggregates : List Definition) (words : List Word) (r : Rule) → rule_of aggregates words ≡ Ok r → RuleWords aggregates words r
 unfolding rule_of
 rule_words-found aggregates words r h =
-    let s0 = bound (after (codes "for") words) (λ a. rule_who aggregates a) r h in
-    let who = bound (next (or_star name) s0.0) (λ x. rule_behind_who aggregates x) r s0.2 in
-    let s1 = bound (after (codes "in") who.0.1) (λ b. rule_domain aggregates who.0.0 b) r who.2 in
-    let domain = bound (next (or_star (number 4294967295)) s1.0) (λ x. rule_behind_domain aggregates who.0.0 x) r s1.2 in
-    let s2 = bound (after (codes "from") domain.0.1) (λ c. rule_from aggregates who.0.0 domain.0.0 c) r domain.2 in
-    let from = bound (next (or_star prefix) s2.0) (λ x. rule_behind_from aggregates who.0.0 domain.0.0 x) r s2.2 in
-    let s3 = bound (after (codes "to") from.0.1) (λ d. rule_to aggregates who.0.0 domain.0.0 from.0.0 d) r from.2 in
-    let to = bound (next (or_star prefix) s3.0) (λ x. rule_action aggregates who.0.0 domain.0.0 from.0.0 x) r s3.2 in
-    let done = bound (action_of aggregates to.0.1) (λ x. rule_end who.0.0 domain.0.0 from.0.0 to.0.0 x) r to.2 in
-    let end = bound (ended done.0.1) (λ nothing_more. Ok (record { who = who.0.0; domain = domain.0.0; from = from.0.0; to = to.0.0; element = done.0.0.0; action = done.0.0.1 })) r done.2 in
+    let s0 = bind_Ok (after (codes "for") words) (λ a. rule_who aggregates a) r h in
+    let who = bind_Ok (next (or_star name) s0.0) (λ x. rule_behind_who aggregates x) r s0.2 in
+    let s1 = bind_Ok (after (codes "in") who.0.1) (λ b. rule_domain aggregates who.0.0 b) r who.2 in
+    let domain = bind_Ok (next (or_star (number 4294967295)) s1.0) (λ x. rule_behind_domain aggregates who.0.0 x) r s1.2 in
+    let s2 = bind_Ok (after (codes "from") domain.0.1) (λ c. rule_from aggregates who.0.0 domain.0.0 c) r domain.2 in
+    let from = bind_Ok (next (or_star prefix) s2.0) (λ x. rule_behind_from aggregates who.0.0 domain.0.0 x) r s2.2 in
+    let s3 = bind_Ok (after (codes "to") from.0.1) (λ d. rule_to aggregates who.0.0 domain.0.0 from.0.0 d) r from.2 in
+    let to = bind_Ok (next (or_star prefix) s3.0) (λ x. rule_action aggregates who.0.0 domain.0.0 from.0.0 x) r s3.2 in
+    let done = bind_Ok (action_of aggregates to.0.1) (λ x. rule_end who.0.0 domain.0.0 from.0.0 to.0.0 x) r to.2 in
+    let end = bind_Ok (ended done.0.1) (λ nothing_more. Ok (record { who = who.0.0; domain = domain.0.0; from = from.0.0; to = to.0.0; element = done.0.0.0; action = done.0.0.1 })) r done.2 in
     let who_word = next-text (or_star name) s0.0 who.0 who.1 in
     let domain_word = next-text (or_star (number 4294967295)) s1.0 domain.0 domain.1 in
     let from_word = next-text (or_star prefix) s2.0 from.0 from.1 in
@@ -336,14 +338,14 @@ rule_words-found aggregates words r h =
 aggregate_words-found : (before : List Definition) (words : List Word) (a : Definition) → aggregate_of before words ≡ Ok a → codes "aggregate" ∷ words ≡ aggregate_words a
 unfolding aggregate_of
 aggregate_words-found before words a h =
-    let named = bound (next (new_name before) words) (λ x. aggregate_behind_name x) a h in
-    let s0 = bound (after (codes "key") named.0.1) (λ x. aggregate_key named.0.0 x) a named.2 in
-    let key = bound (next key_of s0.0) (λ x. aggregate_behind_key named.0.0 x) a s0.2 in
-    let s1 = bound (after (codes "interval") key.0.1) (λ x. aggregate_interval named.0.0 key.0.0 x) a key.2 in
-    let seconds = bound (next interval s1.0) (λ x. aggregate_behind_interval named.0.0 key.0.0 x) a s1.2 in
-    let s2 = bound (after (codes "grace") seconds.0.1) (λ x. aggregate_grace named.0.0 key.0.0 seconds.0.0 x) a seconds.2 in
-    let grace = bound (next (number 86400) s2.0) (λ x. aggregate_end named.0.0 key.0.0 seconds.0.0 x) a s2.2 in
-    let end = bound (ended grace.0.1) (λ nothing_more. Ok (record { name = named.0.0; key = key.0.0; interval = seconds.0.0; grace = grace.0.0 })) a grace.2 in
+    let named = bind_Ok (next (new_name before) words) (λ x. aggregate_behind_name x) a h in
+    let s0 = bind_Ok (after (codes "key") named.0.1) (λ x. aggregate_key named.0.0 x) a named.2 in
+    let key = bind_Ok (next key_of s0.0) (λ x. aggregate_behind_key named.0.0 x) a s0.2 in
+    let s1 = bind_Ok (after (codes "interval") key.0.1) (λ x. aggregate_interval named.0.0 key.0.0 x) a key.2 in
+    let seconds = bind_Ok (next interval s1.0) (λ x. aggregate_behind_interval named.0.0 key.0.0 x) a s1.2 in
+    let s2 = bind_Ok (after (codes "grace") seconds.0.1) (λ x. aggregate_grace named.0.0 key.0.0 seconds.0.0 x) a seconds.2 in
+    let grace = bind_Ok (next (number 86400) s2.0) (λ x. aggregate_end named.0.0 key.0.0 seconds.0.0 x) a s2.2 in
+    let end = bind_Ok (ended grace.0.1) (λ nothing_more. Ok (record { name = named.0.0; key = key.0.0; interval = seconds.0.0; grace = grace.0.0 })) a grace.2 in
     let name_word = next-text (new_name before) words named.0 named.1 in
     let key_word = next-text key_of s0.0 key.0 key.1 in
     let seconds_word = next-text interval s1.0 seconds.0 seconds.1 in
@@ -361,9 +363,9 @@ IsLine old words new = AddsRule old words new ⊎ AddsAggregate old words new
 pub rule_line-found : (p q : Meaning) (words tail : List Word) → words ≡ codes "rule" ∷ tail → rule_line p tail ≡ Ok q → AddsRule p words q
 unfolding rule_line
 rule_line-found p q words tail e h =
-    ⊎_elim (λ (full : leb 4096 (length p.rules) ≡ true). absurd (err-Ok TooMany q (rw full at h)))
+    ⊎_elim (λ (full : leb 4096 (length p.rules) ≡ true). absurd (Err-Ok TooMany q (rw full at h)))
     (λ (room : leb 4096 (length p.rules) ≡ false).
-    let read = bound (rule_of p.aggregates tail) (λ r. Ok (with_rule p r)) q (rw room at h) in
+    let read = bind_Ok (rule_of p.aggregates tail) (λ r. Ok (with_rule p r)) q (rw room at h) in
     let found = rule_words-found p.aggregates tail read.0 read.1 in
     let low = leb-false 4096 (length p.rules) room in
     record {
@@ -379,9 +381,9 @@ rule_line-found p q words tail e h =
 aggregate_line-found : (p q : Meaning) (words tail : List Word) → words ≡ codes "aggregate" ∷ tail → aggregate_line p tail ≡ Ok q → AddsAggregate p words q
 unfolding aggregate_line
 aggregate_line-found p q words tail e h =
-    ⊎_elim (λ (full : leb 256 (length p.aggregates) ≡ true). absurd (err-Ok TooMany q (rw full at h)))
+    ⊎_elim (λ (full : leb 256 (length p.aggregates) ≡ true). absurd (Err-Ok TooMany q (rw full at h)))
     (λ (room : leb 256 (length p.aggregates) ≡ false).
-    let read = bound (aggregate_of p.aggregates tail) (λ a. Ok (with_aggregate p a)) q (rw room at h) in
+    let read = bind_Ok (aggregate_of p.aggregates tail) (λ a. Ok (with_aggregate p a)) q (rw room at h) in
     let low = leb-false 256 (length p.aggregates) room in
     record {
       aggregate = read.0;
@@ -395,7 +397,7 @@ aggregate_line-found p q words tail e h =
 pub line_of-found : (p q : Meaning) (words : List Word) → line_of p words ≡ Ok q → IsLine p words q
 unfolding line_of
 line_of-found p q words h =
-    let first = bound (next_of words) (λ w. cond (bytes_eq w.0 (codes "rule")) (rule_line p w.1) (cond (bytes_eq w.0 (codes "aggregate")) (aggregate_line p w.1) (Err UnknownWord))) q h in
+    let first = bind_Ok (next_of words) (λ w. cond (bytes_eq w.0 (codes "rule")) (rule_line p w.1) (cond (bytes_eq w.0 (codes "aggregate")) (aggregate_line p w.1) (Err UnknownWord))) q h in
     let w = first.0 in
     let whole = next_of-text words first.0 first.1 in
     ⊎_elim (λ (t : bytes_eq w.0 (codes "rule") ≡ true).
@@ -404,7 +406,7 @@ line_of-found p q words h =
     let others = rw f at first.2 in
     ⊎_elim (λ (t : bytes_eq w.0 (codes "aggregate") ≡ true).
     inr (aggregate_line-found p q words w.1 (whole ∙ ap (λ k. k ∷ w.1) ((bytes_eq-Decides w.0 (codes "aggregate")).0 t)) (rw t at others)))
-    (λ (none : bytes_eq w.0 (codes "aggregate") ≡ false). absurd (err-Ok UnknownWord q (rw none at others)))
+    (λ (none : bytes_eq w.0 (codes "aggregate") ≡ false). absurd (Err-Ok UnknownWord q (rw none at others)))
     (cases_Bool (bytes_eq w.0 (codes "aggregate"))))
     (cases_Bool (bytes_eq w.0 (codes "rule")))
 
@@ -445,12 +447,9 @@ record Steps (started : Bool) (p : Meaning) (line : List ℕ) (n : ℕ) (others 
   pub stepped : line_step started p line ≡ Ok (next_started, mid)
   pub rest : read_lines next_started mid (n + 1) others ≡ Ok q
 
-fault_ok : (fault : PolicyFault) (q : Meaning) → ◌≡◌ {A = Result Meaning PolicyFault} (Err fault) (Ok q) → ⊥
-fault_ok fault q e = cc
-
 steps_by : (started : Bool) (p : Meaning) (line : List ℕ) (n : ℕ) (others : List (List ℕ)) (q : Meaning) (r : Result (Bool × Meaning) FaultKind) → line_step started p line ≡ r → then_read (at_line n r) (λ x. read_lines x.0 x.1 (n + 1) others) ≡ Ok q → Steps started p line n others q
 steps_by started p line n others q (Ok x) e h = record { next_started = x.0; mid = x.1; stepped = e; rest = h }
-steps_by started p line n others q (Err kind) e h = absurd (fault_ok (record { line = n; kind = kind }) q h)
+steps_by started p line n others q (Err kind) e h = absurd (Err-Ok (record { line = n; kind = kind }) q h)
 
 steps_of : (started : Bool) (p : Meaning) (line : List ℕ) (n : ℕ) (others : List (List ℕ)) (q : Meaning) → read_lines started p n (line ∷ others) ≡ Ok q → Steps started p line n others q
 steps_of started p line n others q h = steps_by started p line n others q (line_step started p line) refl (sym (read_lines-cons started p n line others) ∙ h)
@@ -466,17 +465,14 @@ line_step-found p line x h =
     let same = same_Ok (true, p) x (rw skip at h) in
     record { started_is = ap (λ (y : Bool × Meaning). y.0) same; line_is = inl (skip, ap (λ (y : Bool × Meaning). y.1) same) })
     (λ (kept : is_skipped (words_of line) ≡ false).
-    let read = bound (line_of p (words_of line)) (λ q. Ok (true, q)) x (rw kept at h) in
+    let read = bind_Ok (line_of p (words_of line)) (λ q. Ok (true, q)) x (rw kept at h) in
     let same = same_Ok (true, read.0) x read.2 in
     let P : Meaning → Type 0 = λ m. IsLine p (words_of line) m in
     record { started_is = ap (λ (y : Bool × Meaning). y.0) same; line_is = inr (kept, subst P (ap (λ (y : Bool × Meaning). y.1) same) (line_of-found p read.0 (words_of line) read.1)) })
     (cases_Bool (is_skipped (words_of line)))
 
-meaning_ok : (p q : Meaning) → ◌≡◌ {A = Result Meaning PolicyFault} (Ok p) (Ok q) → p ≡ q
-meaning_ok p q e = cc
-
 lines-found : (p q : Meaning) (n : ℕ) (lines : List (List ℕ)) → read_lines true p n lines ≡ Ok q → AreLines p lines q
-lines-found p q n [] h = meaning_ok p q (sym (read_lines-done p n) ∙ h)
+lines-found p q n [] h = same_Ok p q (sym (read_lines-done p n) ∙ h)
 lines-found p q n (line ∷ lines) h =
     let s = steps_of true p line n lines q h in
     let read = line_step-found p line (s.next_started, s.mid) s.stepped in
@@ -499,13 +495,13 @@ unfolding line_step step
 header-found line x h =
     ⊎_elim (λ (skip : is_skipped (words_of line) ≡ true). record { how = inl (skip, same_Ok (false, nothing) x (rw skip at h)) })
     (λ (kept : is_skipped (words_of line) ≡ false).
-    let read = bound (cond (is_header (words_of line)) (Ok nothing) (Err NoHeader)) (λ q. Ok (true, q)) x (rw kept at h) in
+    let read = bind_Ok (cond (is_header (words_of line)) (Ok nothing) (Err NoHeader)) (λ q. Ok (true, q)) x (rw kept at h) in
     let test = guarded (is_header (words_of line)) NoHeader nothing read.0 read.1 in
     record { how = inr (kept, is_header-is (words_of line) test.0, ap (λ (m : Meaning). (true, m)) test.1 ∙ same_Ok (true, read.0) x read.2) })
     (cases_Bool (is_skipped (words_of line)))
 
 all-found : (q : Meaning) (n : ℕ) (lines : List (List ℕ)) → read_lines false nothing n lines ≡ Ok q → AreAllLines lines q
-all-found q n [] h = fault_ok (record { line = 1; kind = NoHeader }) q (sym (read_lines-empty nothing n) ∙ h)
+all-found q n [] h = Err-Ok (record { line = 1; kind = NoHeader }) q (sym (read_lines-empty nothing n) ∙ h)
 all-found q n (line ∷ lines) h =
     let s = steps_of false nothing line n lines q h in
     let read = header-found line (s.next_started, s.mid) s.stepped in
@@ -561,4 +557,4 @@ pub parses-only : (text : List ℕ) (r : Result Meaning PolicyFault) (p : Meanin
 parses-only text r p h spelled = let P : Result Meaning PolicyFault → Type 0 = λ read. Parses (λ (q : Meaning). q) r read in subst P (policy_of-only text p spelled) h
 
 pub one_policy : OnePolicy
-one_policy text p q a b = meaning_ok p q (sym (policy_of-only text p a) ∙ policy_of-only text q b)
+one_policy text p q a b = same_Ok p q (sym (policy_of-only text p a) ∙ policy_of-only text q b)

@@ -1,7 +1,7 @@
 -- The first word of a line.
-use Rattle.std.proofs.Common.{◌≡◌, ℕ, suc, ◌+◌, ◌-◌, ◌<◌, ◌≤◌, Bool, true, false, not, List, [], ◌∷◌, length, get_or, take, drop, filter, Some, None, refl, sym, ap, ◌∙◌, arith, ⊎_elim, length-drop, length-take-le}
+use Rattle.std.proofs.Common.{◌≡◌, ℕ, suc, ◌+◌, ◌-◌, ◌<◌, ◌≤◌, Bool, true, false, not, List, [], ◌∷◌, length, get_or, take, drop, filter, Some, None, refl, sym, ap, ◌∙◌, arith, ⊎_elim, length-take-le}
 use Rattle.std.specs.List.{slice_split, position_or_len, position}
-use Rattle.std.proofs.lemmas.List.{take_all, drop_all, drop_more}
+use Rattle.std.proofs.lemmas.List.{drop_all, drop_more, take_rest}
 use Rattle.std.proofs.lemmas.List.Sums.{prefix_len_stops, prefix_len_passes}
 use Rattle.std.proofs.lemmas.List.Splits.{slice_split_first, slice_split_none, slice_split-cons_yes}
 use Rattle.std.proofs.lemmas.Option.{same_Some, none-some}
@@ -33,7 +33,7 @@ words_of-skip (c ∷ cs) =
 pub words_of-none : (line : List ℕ) → length line ≤ position_or_len in_word line → words_of line ≡ []
 words_of-none line h = words_of-skip line ∙ ap words_of (drop_all (position_or_len in_word line) line h) ∙ words_of-nil
 
-word_some : (word : List ℕ) (words : List Word) → 0 < length word → filter is_word (word ∷ words) ≡ word ∷ filter is_word words
+pub word_some : (word : List ℕ) (words : List Word) → 0 < length word → filter is_word (word ∷ words) ≡ word ∷ filter is_word words
 word_some [] words h = absurd (omega arith)
 word_some (c ∷ cs) words h = refl
 
@@ -72,9 +72,6 @@ position-none p xs e =
     (λ (h : length xs ≤ position_or_len p xs). h)
     (cases_lt (position_or_len p xs) (length xs))
 
-rest_from : (n : ℕ) (text : List ℕ) → take (length text - n) (drop n text) ≡ drop n text
-rest_from n text = take_all (length text - n) (drop n text) (omega (arith, length-drop n text))
-
 -- the rest of a line from its first word on
 abbrev pub from_place : ℕ → List ℕ → List ℕ
 from_place n text = take (length text - n) (drop n text)
@@ -82,7 +79,7 @@ from_place n text = take (length text - n) (drop n text)
 pub from_word : (line : List ℕ) (start : ℕ) → position in_word line ≡ Some start → words_of line ≡ words_of (from_place start line)
 from_word line start e =
     let place = position-place in_word line start e in
-    words_of-skip line ∙ ap (λ i. words_of (drop i line)) place.0 ∙ ap words_of (sym (rest_from start line))
+    words_of-skip line ∙ ap (λ i. words_of (drop i line)) place.0 ∙ ap words_of (sym (take_rest line start))
 
 -- behind blanks a word begins
 pub begins_word : (line : List ℕ) (start : ℕ) → position in_word line ≡ Some start → (0 < length (from_place start line)) × (0 < position_or_len is_blank (from_place start line))
@@ -92,16 +89,16 @@ begins_word line start e =
     let stops = prefix_len_stops (λ c. not (in_word c)) line 0 inside in
     let word = not-true (is_blank (get_or line (position_or_len in_word line) 0)) (not-false (in_word (get_or line (position_or_len in_word line) 0)) stops) in
     let word_at : is_blank (get_or line start 0) ≡ false = rw place.0 at word in
-    let cells : from_place start line ≡ get_or line start 0 ∷ drop (start + 1) line = rest_from start line ∙ drop_more line start 0 place.1 in
+    let cells : from_place start line ≡ get_or line start 0 ∷ drop (start + 1) line = take_rest line start ∙ drop_more line start 0 place.1 in
     rw cells (rw word_at (omega arith, omega arith))
 
 pub first_until : (line : List ℕ) (end : ℕ) → 0 < position_or_len is_blank line → position is_blank line ≡ Some end → words_of line ≡ take end line ∷ words_of (from_place end line)
 first_until line end some e =
     let place = position-place is_blank line end e in
     let first = words_of-first line (omega (arith, place.0, place.1)) some in
-    rw (rest_from, ← place.0) first
+    rw (take_rest, ← place.0) first
 
 pub last_whole : (line : List ℕ) → 0 < length line → position is_blank line ≡ None → words_of line ≡ line ∷ words_of (from_place (length line) line)
 last_whole line some e =
     let whole = words_of-last line (position-none is_blank line e) some in
-    whole ∙ ap (λ ws. line ∷ ws) (sym (ap words_of (rest_from (length line) line ∙ drop_all (length line) line (omega arith)) ∙ words_of-nil))
+    whole ∙ ap (λ ws. line ∷ ws) (sym (ap words_of (take_rest line (length line) ∙ drop_all (length line) line (omega arith)) ∙ words_of-nil))

@@ -10,13 +10,14 @@ use Rattle.flow_prefix.specs.declared.prefix.Prefix.{Prefix}
 use Rattle.flow_prefix.specs.declared.fault.PrefixFault.{PrefixFault}
 use Rattle.flow_prefix.specs.Numerals.{number_of}
 use Rattle.flow_prefix.specs.Reading.{prefix_of}
+use Rattle.sequences.specs.Results.{◌>>=◌}
 use Rattle.policy_text.specs.declared.fault.FaultKind.{FaultKind}
 use Rattle.policy_text.specs.declared.fault.FaultKind.TheVariants.{BadName, BadNumber, BadPrefix, BadTruncate, UnknownAggregate, DoubleAggregate, BadKey}
 use Rattle.policy_text.specs.Words.{Word}
 use Rattle.policy_text.specs.Naming.{is_name}
 use Rattle.policy_text.specs.Elements.{element_of}
 use Rattle.policy_text.specs.Policies.{Aggregate}
-use Rattle.policy_text.specs.Results.{◌>>=◌, or_fault}
+use Rattle.policy_text.specs.Results.{or_fault}
 
 unfoldable pub name : Word → Result Word FaultKind
 name word = if is_name word then Ok word else Err BadName

@@ -1,5 +1,5 @@
 -- What the type of a policy keeps: each rule and each aggregate is one that a line may spell after those before it.
-use Rattle.std.specs.Prelude.{◌≡◌, ℕ, zero, suc, ◌<◌, ◌≤◌, ◌^◌, true, List, [], ◌∷◌, ◌++◌, length, Option, Some, None}
+use Rattle.std.specs.Prelude.{◌≡◌, ℕ, zero, suc, ◌<◌, ◌≤◌, ◌^◌, true, List, [], ◌∷◌, ◌++◌, length, Option, Some, None, IfSome}
 use Rattle.std.specs.List.{AllByRecursion}
 use Rattle.ipfix_element.specs.Element.{Element, IsElement}
 use Rattle.ipfix_element.specs.Kinds.{kind_of}
@@ -17,10 +17,6 @@ name_at [] place = []
 name_at (a ∷ rest) zero = a.name
 name_at (a ∷ rest) (suc place) = name_at rest place
 
-abbrev pub IfGiven : {A : Type 0} → (A → Type 0) → Option A → Type 0
-IfGiven P None = Unit {0}
-IfGiven P (Some a) = P a
-
 -- what an action needs: a rule on records has no element, an aggregate is defined, and bits are within the width
 abbrev pub IsAction : List Definition → Option Element → Action → Type 0
 IsAction aggregates element Pass = element ≡ None
@@ -33,11 +29,11 @@ IsAction aggregates element (Truncate bits) = (width : ℕ) × (width_at element
 
 -- a rule that a line may spell after these aggregates
 pub record IsRule (aggregates : List Definition) (r : Rule) : Type 0 where
-  pub who : IfGiven (λ w. is_name w ≡ true) r.who
-  pub domain : IfGiven (λ d. d < 2 ^ 32) r.domain
-  pub from : IfGiven IsPrefix r.from
-  pub to : IfGiven IsPrefix r.to
-  pub element : IfGiven IsElement r.element
+  pub who : IfSome r.who (λ w. is_name w ≡ true)
+  pub domain : IfSome r.domain (λ d. d < 2 ^ 32)
+  pub from : IfSome r.from IsPrefix
+  pub to : IfSome r.to IsPrefix
+  pub element : IfSome r.element IsElement
   pub action : IsAction aggregates r.element r.action
 
 -- elements that a key may have: each of a kind for keys, none twice, at most 16

@@ -2,6 +2,7 @@
 use Rattle.std.specs.Prelude.{ℕ, List, [], ◌∷◌, length, Option, Some, None, Result, Ok, Err, nat_le, if◌then◌else◌, codes}
 use Rattle.std.specs.Str.{bytes_eq}
 use Rattle.ipfix_element.specs.Element.{Element}
+use Rattle.sequences.specs.Results.{◌>>=◌}
 use Rattle.policy_text.specs.declared.fault.FaultKind.{FaultKind}
 use Rattle.policy_text.specs.declared.fault.FaultKind.TheVariants.{UnknownWord, BadTruncate, TooMany}
 use Rattle.policy_text.specs.declared.rule.Rule.{Rule}
@@ -9,7 +10,6 @@ use Rattle.policy_text.specs.declared.rule.Action.{Action}
 use Rattle.policy_text.specs.declared.rule.Action.TheVariants.{Pass, Withhold, Aggregate, Keep, Remove, Truncate}
 use Rattle.policy_text.specs.Words.{Word}
 use Rattle.policy_text.specs.Policies.{Meaning, with_aggregate, with_rule, Aggregate as Definition}
-use Rattle.policy_text.specs.Results.{◌>>=◌}
 use Rattle.policy_text.specs.Classes.{name, number, element, prefix, or_star, key_of, width_at, aggregate_place, new_name, interval, bits_within}
 
 -- the next word and those after it; in a line that ends early it is missing

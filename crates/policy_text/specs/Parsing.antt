@@ -2,12 +2,13 @@
 -- that doesn't fit.
 use Rattle.std.specs.Prelude.{ℕ, ◌+◌, Bool, true, false, List, [], ◌∷◌, Result, Ok, Err, ◌&&◌, if◌then◌else◌, codes}
 use Rattle.std.specs.Str.{bytes_eq}
+use Rattle.sequences.specs.Results.{◌>>=◌}
 use Rattle.policy_text.specs.declared.fault.FaultKind.{FaultKind}
 use Rattle.policy_text.specs.declared.fault.FaultKind.TheVariants.{NoHeader}
 use Rattle.policy_text.specs.declared.fault.PolicyFault.{PolicyFault}
 use Rattle.policy_text.specs.Words.{Word, words_of, lines_of, is_skipped}
 use Rattle.policy_text.specs.Policies.{Meaning, nothing}
-use Rattle.policy_text.specs.Results.{◌>>=◌, at_line, then_read}
+use Rattle.policy_text.specs.Results.{at_line, then_read}
 use Rattle.policy_text.specs.Lines.{line_of}
 
 -- the words `policy 1`

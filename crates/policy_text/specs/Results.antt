@@ -4,11 +4,6 @@ use Rattle.policy_text.specs.declared.fault.FaultKind.{FaultKind}
 use Rattle.policy_text.specs.declared.fault.FaultKind.TheVariants.{NoHeader, UnknownWord, BadName, BadNumber, BadPrefix, BadTruncate, UnknownAggregate, DoubleAggregate, BadKey, TooMany, OutOfMemory}
 use Rattle.policy_text.specs.declared.fault.PolicyFault.{PolicyFault}
 
-infixl 10 ◌>>=◌
-abbrev pub ◌>>=◌ : {A B : Type 0} → Result A FaultKind → (A → Result B FaultKind) → Result B FaultKind
-(Ok x) >>= f = f x
-(Err e) >>= f = Err e
-
 -- a value, or this fault
 abbrev pub or_fault : {A : Type 0} → FaultKind → Option A → Result A FaultKind
 or_fault kind None = Err kind

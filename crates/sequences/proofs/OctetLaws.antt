@@ -40,7 +40,7 @@ be_value-append (x ∷ xs) ys =
     let joined : (x * 256 ^ length xs + be_value xs) * 256 ^ length ys ≡ x * 256 ^ length xs * 256 ^ length ys + be_value xs * 256 ^ length ys = add-mul (x * 256 ^ length xs) (be_value xs) (256 ^ length ys) in
     rw (rest, power, first, joined) (omega arith)
 
-AreOctets-rest : (x : ℕ) (xs : List ℕ) → AreOctets (x ∷ xs) → AreOctets xs
+pub AreOctets-rest : (x : ℕ) (xs : List ℕ) → AreOctets (x ∷ xs) → AreOctets xs
 AreOctets-rest x xs h i = h (suc i)
 
 -- a number of so many octets is below 256 to their number

@@ -25,6 +25,15 @@ read_within-enough {A} {E} front some (suc m) (suc n) octets p q =
     same_after front (read_within m front) (read_within n front) octets (front octets) refl
     (λ items rest e. let less = some octets rest items e in read_within-enough front some m n rest (omega arith) (omega arith))
 
+-- what stands at the front is gone before what follows
+abbrev pub Lessens : {A E : Type 0} → ℕ → Front A E → Type 0
+Lessens n End = Unit {0}
+Lessens n (Fault e) = Unit {0}
+Lessens n (Next items rest) = length rest < n
+
+pub takes_some : {A E : Type 0} (front : List ℕ → Front A E) → ((octets : List ℕ) → Lessens (length octets) (front octets)) → TakesSome front
+takes_some front h octets rest items e = rw e at (h octets)
+
 -- what is read is what stands at the front, and what is read after it
 pub read_all-step : {A E : Type 0} (front : List ℕ → Front A E) → TakesSome front → (octets : List ℕ) → read_all front octets ≡ read_on (front octets) (read_all front)
 unfolding read_within read_all

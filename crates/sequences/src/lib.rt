@@ -2,6 +2,7 @@
 //!
 //! - `specs/Octets`: numbers in network byte order.
 //! - `specs/Sequence`: items that stand one after another in octets (`read_all` over a `Front`).
+//! - `specs/Options`, `specs/Results`: steps that may give nothing, or fail, one after another (`>>=`).
 //! - `specs/Before`: what each entry of a history gives, from the entries before it
 //!   (`each_with_before`), and the last value that something had (`last_of`).
 //! - [`laws`]: one entry more gives what it gives after all others (`one_entry_more`), and the last value is that of

@@ -1,22 +1,18 @@
 -- The content of a Data Set is read back into its records.
-use Rattle.std.proofs.Common.{◌≡◌, ℕ, List, [], ◌∷◌, ◌++◌, length, map, Result, Ok, refl, sym, ap, ◌∙◌, arith, length-append}
+use Rattle.std.proofs.Common.{◌≡◌, ℕ, List, [], ◌∷◌, ◌++◌, length, map, refl, sym, ap, ◌∙◌, arith, length-append}
 use Rattle.std.specs.List.{flat_map, AllByRecursion}
 use Rattle.std.proofs.lemmas.Bool.{lt-ltb, le-ltb}
 use Rattle.sequences.specs.Sequence.{Front, End, Next, with_front, read_on, read_all}
 use Rattle.sequences.proofs.SequenceLaws.{read_all-step}
 use Rattle.ipfix_template.specs.declared.template.Template.{Template}
 use Rattle.ipfix_template.specs.Template.{shortest_record, IsAccepted}
-use Rattle.ipfix_template.specs.Values.{record_text, record_front, records_in}
+use Rattle.ipfix_template.specs.Values.{record_front, records_in}
 use Rattle.ipfix_template.specs.DataRecord.{DataRecord, IsSound}
 use Rattle.ipfix_template.proofs.SplitLaws.{values_at-only, Splits-least}
 use Rattle.ipfix_template.proofs.WrittenLaws.{record_text-splits}
 use Rattle.ipfix_session.proofs.Soundness.{shortest_some, record_takes}
-
-abbrev pub Rows : Type 0
-Rows = List (List (List ℕ))
-
-abbrev pub spelled : DataRecord → List ℕ
-spelled r = record_text r.template.fields r.values
+use Rattle.subscriber_stream.proofs.Bodies.{spelled}
+use Rattle.ipfix_session.proofs.SetSteps.{read_rows}
 
 -- a record of this template
 pub record IsOf (t : Template) (r : DataRecord) : Type 0 where
@@ -31,9 +27,6 @@ values_of r = r.values
 
 abbrev next_row : List (List ℕ) → List ℕ → Front (List (List ℕ)) (Unit {0})
 next_row row rest = Next (row ∷ []) rest
-
-abbrev pub read_rows : Rows → Result Rows (Unit {0})
-read_rows rows = Ok rows
 
 -- a record's own template finds it at the front
 own_front : (r : DataRecord) (rest : List ℕ) → IsSound r → record_front r.template (spelled r ++ rest) ≡ next_row r.values rest

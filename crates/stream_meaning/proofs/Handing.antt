@@ -1,18 +1,19 @@
 -- Runs of calls, one behind another.
 use Rattle.std.proofs.Common.{◌≡◌, ℕ, suc, ◌+◌, ◌<◌, ◌≤◌, ◌^◌, List, [], ◌∷◌, ◌++◌, length, take, drop, Option, Some, None, refl, sym, ap, subst, ◌∙◌, append_assoc, append-nil, arith, length-take, length-drop}
 use Rattle.std.specs.List.{AllByRecursion}
-use Rattle.std.proofs.lemmas.List.{take-append-drop, take_at}
+use Rattle.std.proofs.lemmas.List.{take-append-drop, take_at, take_all}
 use Rattle.sequences.specs.Before.{each_after, each_with_before}
 use Rattle.ipfix_template.specs.DataRecord.{DataRecord}
-use Rattle.subscriber_stream.specs.Parts.{Part, parts, records_in}
+use Rattle.subscriber_stream.specs.Parts.{parts, records_in}
 use Rattle.subscriber_stream.specs.Message.{run_length, built, place_after}
 use Rattle.subscriber_stream.specs.declared.limits.Limits.{Limits}
 use Rattle.subscriber_stream.specs.Shapes.{shapes_of}
 use Rattle.subscriber_stream.specs.Standing.{Standing, StandsAt, FitsLimits}
 use Rattle.subscriber_stream.specs.Calls.{Call, Given, Pulled, Pull, pulls_of, octets_from, Serves}
-use Rattle.subscriber_stream.proofs.CallLaws.{served, parts_bring}
+use Rattle.subscriber_stream.proofs.CallLaws.{served, parts_bring, run_some}
 use Rattle.subscriber_stream.proofs.Standings.{records_in-append}
-use Rattle.stream_meaning.specs.Served.{IsStreamable, AreStreamable, AreInRange, records_given, messages_in, messages_got, pull_at, place_from, place_reached, pulls}
+use Rattle.sequences.proofs.ListLaws.{AllByRecursion-append}
+use Rattle.stream_meaning.specs.Served.{IsStreamable, AreStreamable, AreInRange, records_given, messages_in, messages_got, pull_at, place_from, place_reached, pulls, IsInRange}
 use Rattle.stream_meaning.specs.Means.{Means}
 use Rattle.stream_meaning.specs.HandedOut.{AreHandedOut}
 use Rattle.stream_meaning.proofs.Runs.{got, means_so_far, means_all}
@@ -64,10 +65,6 @@ messages_append [] ys = refl
 messages_append (None ∷ xs) ys = messages_append xs ys
 messages_append (Some m ∷ xs) ys = ap (λ (ms : List (List ℕ)). m ∷ ms) (messages_append xs ys)
 
-ranges_append : (calls others : List Call) → AreInRange calls → AreInRange others → AreInRange (calls ++ others)
-ranges_append [] others first second = second
-ranges_append (call ∷ calls) others first second = (first.0, ranges_append calls others first.1 second)
-
 ranges_front : (calls others : List Call) → AreInRange (calls ++ others) → AreInRange calls
 ranges_front [] others all = tt
 ranges_front (call ∷ calls) others all = (all.0, ranges_front calls others all.1)
@@ -92,7 +89,7 @@ handed_given messages records more p are =
     let last = Given more ∷ [] in
     record {
       calls = are.calls ++ last;
-      ranges = ranges_append are.calls last are.ranges (tt, tt);
+      ranges = AllByRecursion-append IsInRange are.calls last are.ranges (tt, tt);
       given = given_append are.calls last ∙ ap (λ (rs : List DataRecord). records_given are.calls ++ rs) (append-nil more) ∙ ap (λ (rs : List DataRecord). rs ++ more) are.given;
       got = got_append are.calls last ∙ append-nil (messages_got are.calls) ∙ are.got;
       reached = reached_append are.calls last ∙ are.reached;
@@ -108,7 +105,7 @@ handed_answer messages answer records p now target time below are is =
     let here : built (records_given are.calls) (place_reached are.calls) now target ≡ answer = ap (λ (rs : List DataRecord). built rs (place_reached are.calls) now target) are.given ∙ ap (λ (q : ℕ). built records q now target) are.reached ∙ sym is in
     record {
       calls = are.calls ++ last;
-      ranges = ranges_append are.calls last are.ranges ((time, below), tt);
+      ranges = AllByRecursion-append IsInRange are.calls last are.ranges ((time, below), tt);
       given = given_append are.calls last ∙ append-nil (records_given are.calls) ∙ are.given;
       got = got_append are.calls last
           ∙ ap (λ (o : Option (List ℕ)). messages_got are.calls ++ messages_in (o ∷ [])) here
@@ -125,12 +122,8 @@ no_shapes = omega arith
 pub none_streamable : AreStreamable []
 none_streamable = record { each = tt; shapes = no_shapes }
 
-each_append : (records more : List DataRecord) → AllByRecursion IsStreamable records → AllByRecursion IsStreamable more → AllByRecursion IsStreamable (records ++ more)
-each_append [] more first second = second
-each_append (r ∷ records) more first second = (first.0, each_append records more first.1 second)
-
 pub streamable_more : (limits : Limits) (records more : List DataRecord) (p : ℕ) → AreStreamable records → AllByRecursion IsStreamable more → FitsLimits limits records p more → limits.shapes ≤ 65280 → AreStreamable (records ++ more)
-streamable_more limits records more p may each fits few = record { each = each_append records more may.each each; shapes = omega (arith, fits.shapes, few) }
+streamable_more limits records more p may each fits few = record { each = AllByRecursion-append IsStreamable records more may.each each; shapes = omega (arith, fits.shapes, few) }
 
 -- ---- what is known of the messages
 
@@ -168,16 +161,12 @@ answers_mean s calls answers at serves may ranges =
 
 -- ---- enough pulls reach the end
 
-one_at_least : (target : ℕ) (ps : List Part) → 1 ≤ run_length target ps
-unfolding run_length
-one_at_least target ps = omega arith
-
 -- a pull goes on, and not past the end
 goes_on : (records : List DataRecord) (p target left : ℕ) → p ≤ length (parts records) → length (parts records) ≤ p + suc left → (place_after records p target ≤ length (parts records)) × (length (parts records) ≤ place_after records p target + left)
 goes_on records p target left le enough =
     let waiting = drop p (parts records) in
     let n = run_length target waiting in
-    let some = one_at_least target waiting in
+    let some = run_some target waiting in
     let len = length-take n waiting in
     let rest = length-drop p (parts records) in
     (omega (arith, len, rest), omega (arith, len, rest, some))
@@ -192,10 +181,6 @@ no_records : (turns : List (ℕ × ℕ)) → records_given (pulls turns) ≡ []
 no_records [] = refl
 no_records (turn ∷ turns) = no_records turns
 
-take_all : (xs : List Part) → take (length xs) xs ≡ xs
-take_all [] = refl
-take_all (x ∷ xs) = ap (λ (t : List Part). x ∷ t) (take_all xs)
-
 pub means_drained : (calls : List Call) (turns : List (ℕ × ℕ)) → AreStreamable (records_given calls) → AreInRange (calls ++ pulls turns) → length (parts (records_given calls)) ≤ length turns → Means (messages_got (calls ++ pulls turns)) (records_given calls)
 means_drained calls turns may ranges enough =
     let records = records_given calls in
@@ -205,5 +190,5 @@ means_drained calls turns may ranges enough =
     let reached : place_reached (calls ++ pulls turns) ≡ length (parts records) = reached_append calls (pulls turns) ∙ reaches_end turns records (place_reached calls) within (omega (arith, enough)) in
     let L : List DataRecord → Type 0 = λ rs. Means (messages_got (calls ++ pulls turns)) rs in
     let all : records_in (take (place_reached (calls ++ pulls turns)) (parts (records_given (calls ++ pulls turns)))) ≡ records = ap (λ (rs : List DataRecord). records_in (take (place_reached (calls ++ pulls turns)) (parts rs))) given
-    ∙ ap (λ (q : ℕ). records_in (take q (parts records))) reached ∙ ap records_in (take_all (parts records)) ∙ parts_bring records in
+    ∙ ap (λ (q : ℕ). records_in (take q (parts records))) reached ∙ ap records_in (take_all (length (parts records)) (parts records) (omega arith)) ∙ parts_bring records in
     subst L all (means_so_far (calls ++ pulls turns) (subst S (sym given) may) ranges)

@@ -1,5 +1,5 @@
 -- What the items of a written message hold, and which templates are in force after them.
-use Rattle.std.proofs.Common.{◌≡◌, ℕ, ◌+◌, cond, eqb, List, [], ◌∷◌, ◌++◌, length, take, drop, map, reverse, Option, Some, Result, Ok, refl, sym, ap, ◌∙◌, append_assoc, arith, length-append}
+use Rattle.std.proofs.Common.{◌≡◌, ℕ, ◌+◌, cond, eqb, List, [], ◌∷◌, ◌++◌, length, take, drop, map, reverse, Option, Some, refl, sym, ap, ◌∙◌, append_assoc, arith, length-append}
 use Rattle.std.specs.List.{flat_map}
 use Rattle.std.proofs.lemmas.List.{take_at, drop_at, reverse-append}
 use Rattle.ipfix_template.specs.declared.template.Template.{Template}
@@ -7,15 +7,13 @@ use Rattle.ipfix_template.specs.DataRecord.{DataRecord}
 use Rattle.ipfix_message.specs.declared.item.Item.{Item}
 use Rattle.ipfix_message.specs.declared.item.Item.TheVariants as items
 use Rattle.ipfix_session.specs.InForce.{template_in_force}
-use Rattle.ipfix_session.specs.Contents.{Contents, nothing, only_records, record_of, rows_of, set_contents, item_contents, contents_after}
-use Rattle.ipfix_session.specs.declared.read_error.ReadError.{ReadError}
+use Rattle.ipfix_session.specs.Contents.{nothing, only_records, record_of, rows_of, set_contents, item_contents, contents_after}
 use Rattle.subscriber_stream.specs.Message.{Set, Announces, Brings, set_head, set_id, set_content, set_text}
-use Rattle.stream_meaning.proofs.DataSets.{spelled, values_of, AreOf, content_read}
+use Rattle.subscriber_stream.proofs.Bodies.{spelled, texts}
+use Rattle.ipfix_session.proofs.WalkSteps.{read_contents}
+use Rattle.stream_meaning.proofs.DataSets.{values_of, AreOf, content_read}
 use Rattle.stream_meaning.proofs.Tables.{Table, defining, AreBrought, AreWritten, after_sets, records_among}
-use Rattle.stream_meaning.proofs.Written.{item_of, items_at, texts}
-
-abbrev pub read_contents : Contents → Result Contents ReadError
-read_contents c = Ok c
+use Rattle.stream_meaning.proofs.Written.{item_of, items_at}
 
 abbrev IsTableOf : Table → List Item → Type 0
 IsTableOf table older = (q : ℕ) → template_in_force q older ≡ table q

@@ -1,10 +1,10 @@
 -- What the messages of a whole run of calls are read as.
 use Rattle.std.proofs.Common.{◌≡◌, ℕ, zero, suc, ◌+◌, ◌<◌, ◌≤◌, ◌^◌, List, [], ◌∷◌, ◌++◌, length, take, drop, map, Option, Some, None, Result, Ok, Err, refl, sym, ap, subst, ◌∙◌, append_assoc, append-nil, arith, length-append}
-use Rattle.std.proofs.lemmas.List.{take_at, take-append-drop, map-append}
+use Rattle.std.proofs.lemmas.List.{take_at, take-append-drop, map-append, take-append-le, length-take-le}
 use Rattle.ipfix_template.specs.DataRecord.{DataRecord}
 use Rattle.ipfix_message.specs.declared.header.Header.{Header}
 use Rattle.ipfix_message.specs.Reading.{header_of}
-use Rattle.ipfix_session.specs.Contents.{Contents, ◌>>=◌}
+use Rattle.ipfix_session.specs.Contents.{Contents}
 use Rattle.ipfix_session.specs.Meaning.{Meaning, domain_of, contents_of, gap_of, meaning_of, with_domain, records_after, joined, records_meant}
 use Rattle.ipfix_session.specs.declared.read_error.ReadError.{ReadError}
 use Rattle.ipfix_session.proofs.MeaningLaws.{records_after-append, records_after-one}
@@ -12,7 +12,8 @@ use Rattle.subscriber_stream.specs.Parts.{Part, parts, records_in}
 use Rattle.subscriber_stream.specs.Message.{message, run_length, next_message, built, place_after}
 use Rattle.subscriber_stream.specs.Calls.{Call, Given, Pulled, pulls_of, octets_from}
 use Rattle.subscriber_stream.proofs.CallLaws.{parts_more, parts_bring}
-use Rattle.subscriber_stream.proofs.Standings.{records_in-append}
+use Rattle.subscriber_stream.proofs.Standings.{records_in-append, next_none}
+use Rattle.sequences.specs.Results.{◌>>=◌}
 use Rattle.stream_meaning.specs.Served.{AreStreamable, AreInRange, records_given, messages_in, messages_got, place_from, place_reached}
 use Rattle.stream_meaning.specs.Means.{plain_meaning, AreRead, Means}
 use Rattle.stream_meaning.proofs.Tables.{empty, AreKnown, after_parts}
@@ -56,16 +57,6 @@ brought (m ∷ messages) handed older records read =
 
 -- ---- places
 
-take-front : (p : ℕ) (xs ys : List Part) → p ≤ length xs → take p (xs ++ ys) ≡ take p xs
-take-front zero xs ys le = refl
-take-front (suc p) [] ys le = absurd (omega arith)
-take-front (suc p) (x ∷ xs) ys le = ap (λ (t : List Part). x ∷ t) (take-front p xs ys (omega arith))
-
-length-take-le : (p : ℕ) (xs : List Part) → p ≤ length xs → length (take p xs) ≡ p
-length-take-le zero xs le = refl
-length-take-le (suc p) [] le = absurd (omega arith)
-length-take-le (suc p) (x ∷ xs) le = ap suc (length-take-le p xs (omega arith))
-
 -- the parts of one message, behind those before it
 record IsRun (xs : List Part) (p n : ℕ) (run rest : List Part) : Type 0 where
   whole : xs ≡ take p xs ++ (run ++ rest)
@@ -108,13 +99,9 @@ known_front records more whole is may =
 given_more : (records more : List DataRecord) (p : ℕ) → p ≤ length (parts records) → (take p (parts (records ++ more)) ≡ take p (parts records)) × (p ≤ length (parts (records ++ more)))
 given_more records more p le =
     let others = parts_more records more in
-    (ap (take p) others.1 ∙ take-front p (parts records) others.0 le, omega (arith, le, ap length others.1, length-append (parts records) others.0))
+    (ap (take p) others.1 ∙ take-append-le p (parts records) others.0 le, omega (arith, le, ap length others.1, length-append (parts records) others.0))
 
-at_end : (now target handed : ℕ) (ws : List Part) → ws ≡ [] → next_message now target handed ws ≡ None
-unfolding next_message
-at_end now target handed ws is = ap (next_message now target handed) is
-
-abbrev some_message : List ℕ → Option (List ℕ)
+abbrev pub some_message : List ℕ → Option (List ℕ)
 some_message m = Some m
 
 in_between : (now target handed : ℕ) (ws : List Part) (part : Part) (ps : List Part) → ws ≡ part ∷ ps → next_message now target handed ws ≡ some_message (message now handed (take (run_length target ws) ws))
@@ -204,7 +191,7 @@ run (Pulled now target ∷ calls) records p older whole may left at =
           let none : take (run_length target (drop p (parts records))) (drop p (parts records)) ≡ [] = ap (λ (ws : List Part). take (run_length target (drop p (parts records))) ws) is ∙ take-none (run_length target (drop p (parts records))) in
           let same : take (place_after records p target) (parts records) ≡ take p (parts records) = one.reached ∙ ap (λ (ps : List Part). take p (parts records) ++ ps) none ∙ append-nil (take p (parts records)) in
           let S : List Part → Type 0 = λ ps. Stands older ps in
-          ended records p now target older calls whole (at_end now target (handed_in (take p (parts records))) (drop p (parts records)) is) same
+          ended records p now target older calls whole (next_none now target (handed_in (take p (parts records))) (drop p (parts records)) is) same
           (others older (record { within = one.within; stands = subst S (sym same) at.stands }))
       by_waiting (part ∷ ps) is others =
           let before = take p (parts records) in

@@ -1,14 +1,11 @@
 -- The parts of a message and its sets: the same records, and the same templates.
-use Rattle.std.proofs.Common.{◌≡◌, ℕ, Bool, true, false, cond, eqb, List, [], ◌∷◌, ◌++◌, Some, refl, sym, ap, ◌∙◌}
+use Rattle.std.proofs.Common.{◌≡◌, ℕ, Bool, true, false, cond, eqb, List, [], ◌∷◌, ◌++◌, refl, sym, ap, ◌∙◌}
 use Rattle.std.proofs.lemmas.Bool.{eqb-true}
-use Rattle.ipfix_template.specs.declared.template.Template.{Template}
 use Rattle.ipfix_template.specs.DataRecord.{DataRecord}
 use Rattle.subscriber_stream.specs.Parts.{Part, Announcement, Entry, records_in}
 use Rattle.subscriber_stream.specs.Message.{Set, Announces, Brings, with_record, sets_of}
+use Rattle.std.proofs.lemmas.Option.{same_Some}
 use Rattle.stream_meaning.proofs.Tables.{Table, defining, IsKnown, AreBrought, AreKnown, AreWritten, after_parts, after_sets, records_among}
-
-some_template : (s t : Template) → Some s ≡ Some t → s ≡ t
-some_template s t e = cc
 
 alone : (table : Table) (id : ℕ) (r : DataRecord) → IsKnown table id r → AreBrought table id (r ∷ [])
 alone table id r is = record {
@@ -22,7 +19,7 @@ alone table id r is = record {
 
 joined : (table : Table) (id other : ℕ) (r : DataRecord) (rs : List DataRecord) → id ≡ other → IsKnown table id r → AreBrought table other rs → AreBrought table id (r ∷ rs)
 joined table id other r rs same is are =
-    let template : r.template ≡ are.template = some_template r.template are.template (sym is.known ∙ ap table same ∙ are.known) in
+    let template : r.template ≡ are.template = same_Some r.template are.template (sym is.known ∙ ap table same ∙ are.known) in
     record {
       low = is.low;
       high = is.high;

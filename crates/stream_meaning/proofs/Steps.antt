@@ -1,7 +1,6 @@
 -- What one message of a stream is read as, and what its readers know then.
-use Rattle.std.proofs.Common.{inl, inr, ◌≡◌, ℕ, zero, suc, ◌+◌, ◌<◌, ◌≤◌, ◌^◌, ◌%◌, Bool, true, false, cond, eqb, List, [], ◌∷◌, ◌++◌, length, take, reverse, Option, Some, None, Result, Ok, refl, sym, ap, ◌∙◌, arith, length-append}
+use Rattle.std.proofs.Common.{inl, inr, ◌≡◌, ℕ, zero, suc, ◌+◌, ◌<◌, ◌≤◌, ◌^◌, ◌%◌, cond, eqb, List, [], ◌∷◌, ◌++◌, length, take, reverse, Option, Some, None, Result, Ok, refl, sym, ap, ◌∙◌, arith, length-append}
 use Rattle.std.proofs.lemmas.Bool.{eq-eqb, cases_lt}
-use Rattle.ipfix_template.specs.declared.template.Template.{Template}
 use Rattle.ipfix_template.specs.Template.{is_options, template_record}
 use Rattle.ipfix_template.specs.Values.{record_text}
 use Rattle.ipfix_template.specs.DataRecord.{DataRecord}
@@ -13,25 +12,22 @@ use Rattle.ipfix_session.specs.InForce.{template_in_force}
 use Rattle.ipfix_session.specs.Contents.{only_records, contents_after}
 use Rattle.ipfix_session.specs.Meaning.{Meaning, domain_of, items_or_none, items_of_domain, read_items, contents_of, next_number, expected_number, gap_between, gap_of, meaning_of}
 use Rattle.ipfix_session.specs.declared.read.Gap.{Gap}
-use Rattle.ipfix_session.specs.declared.read_error.ReadError.{ReadError}
-use Rattle.ipfix_session.proofs.SessionSteps.{header_is, items_then}
+use Rattle.ipfix_session.proofs.SessionSteps.{header_is, items_then, means}
 use Rattle.subscriber_stream.specs.Parts.{Part, Announcement, Entry, records_in}
 use Rattle.subscriber_stream.specs.Message.{sets_of, set_head, body, message, run_length}
 use Rattle.subscriber_stream.proofs.Messages.{length-message}
-use Rattle.subscriber_stream.proofs.CallLaws.{run_within}
+use Rattle.subscriber_stream.proofs.CallLaws.{run_within, run_some}
 use Rattle.subscriber_stream.proofs.Standings.{records_in-append}
+use Rattle.ipfix_template.proofs.Encoding.{length-template_record}
+use Rattle.subscriber_stream.proofs.Bodies.{texts}
+use Rattle.ipfix_session.proofs.WalkSteps.{read_contents}
 use Rattle.stream_meaning.specs.Means.{plain_meaning}
 use Rattle.stream_meaning.proofs.Tables.{Table, empty, AreKnown, after_parts}
-use Rattle.stream_meaning.proofs.Written.{items_at, texts, header_at, head, message_is}
-use Rattle.stream_meaning.proofs.Readings.{read_contents, contents_read, in_force_after}
+use Rattle.stream_meaning.proofs.Written.{items_at, header_at, head, message_is}
+use Rattle.stream_meaning.proofs.Readings.{contents_read, in_force_after}
 use Rattle.stream_meaning.proofs.Sets.{sets_written, sets_bring, sets_after, after_append}
 
 -- ---- a message has at most 65,535 octets
-
-length-template_record : (id : ℕ) (options : Bool) (t : Template) → length (template_record id options t) ≡ length (template_record 256 options t)
-unfolding template_record
-length-template_record id true t = refl
-length-template_record id false t = refl
 
 -- a part alone fits a message
 one_fits : (table : Table) (part : Part) (ps : List Part) → AreKnown table (part ∷ ps) → length (body (part ∷ [])) ≤ 65519
@@ -49,10 +45,6 @@ run_by target now handed table part ps zero is le ge all = absurd (omega arith)
 run_by target now handed table part ps (suc (suc n)) is le ge all = absurd (omega arith)
 run_by target now handed table part ps (suc zero) is le ge all =
     omega (arith, length-message now handed (part ∷ []), one_fits table part ps all)
-
-run_some : (target : ℕ) (ps : List Part) → 1 ≤ run_length target ps
-unfolding run_length
-run_some target ps = omega arith
 
 pub run_fits : (target now handed : ℕ) (table : Table) (part : Part) (ps : List Part) → target < 2 ^ 16 → AreKnown table (part ∷ ps) → length (message now handed (take (run_length target (part ∷ ps)) (part ∷ ps))) < 65536
 run_fits target now handed table part ps below all =
@@ -158,9 +150,6 @@ stands_after older done ps now stands is =
       number = ap (λ (o : Option ℕ). gap_between o (length (records_in (done ++ ps)) % 2 ^ 32)) expected
           ∙ no_gap ((handed % 2 ^ 32 + length (records_in ps)) % 2 ^ 32) (length (records_in (done ++ ps)) % 2 ^ 32) (counted handed (length (records_in ps)) (length (records_in (done ++ ps))) total);
     }
-
-abbrev means : Meaning → Result Meaning ReadError
-means m = Ok m
 
 abbrev meaning : Header → List DataRecord → Option Gap → Meaning
 meaning h records gap = record { header = h; records = records; skips = (only_records []).skips; gap = gap }

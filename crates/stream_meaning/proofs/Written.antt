@@ -9,7 +9,7 @@ use Rattle.sequences.specs.Octets.{be_octets, IsNumber}
 use Rattle.sequences.proofs.OctetLaws.{length-be_octets, be_value-be_octets}
 use Rattle.ipfix_template.specs.declared.field.FieldSpec.{FieldSpec}
 use Rattle.ipfix_template.specs.declared.template.Template.{Template}
-use Rattle.ipfix_template.specs.Template.{least_octets, shortest_record, is_options, IsAccepted, refusal_of, specifier_of, specifier, template_record, IsWritable}
+use Rattle.ipfix_template.specs.Template.{least_octets, is_options, refusal_of, specifier_of, specifier, template_record, IsWritable}
 use Rattle.ipfix_template.specs.Template as template
 use Rattle.ipfix_message.specs.declared.header.Header.{Header}
 use Rattle.ipfix_message.specs.declared.item.Item.{Item}
@@ -21,7 +21,7 @@ use Rattle.subscriber_stream.specs.Parts.{Part}
 use Rattle.subscriber_stream.specs.Message.{Set, Announces, Brings, sets_of, template_set, set_id, set_head, set_content, set_text, body, message}
 use Rattle.subscriber_stream.proofs.Pieces.{accepted_under}
 use Rattle.subscriber_stream.proofs.Messages.{length-message}
-use Rattle.stream_meaning.proofs.DataSets.{spelled}
+use Rattle.subscriber_stream.proofs.Bodies.{spelled, texts}
 use Rattle.stream_meaning.proofs.Tables.{Table, defining, IsAnnounceable, AreBrought, AreWritten}
 
 -- ---- numbers
@@ -120,9 +120,6 @@ item_of place (Brings id rs) = items.DataSet id (place + 4) (length (flat_map sp
 abbrev pub items_at : ℕ → List Set → List Item
 items_at place [] = []
 items_at place (s ∷ sets) = item_of place s ∷ items_at (place + length (set_text s)) sets
-
-abbrev pub texts : List Set → List ℕ
-texts sets = flat_map set_text sets
 
 template_content : (id place : ℕ) (options : Bool) (shape : Template) (item : Item) → IsTemplateRecord options (template_record id options shape) item → IsContent (cond options 3 2) place (template_record id options shape) (item ∷ [])
 template_content id place false shape item is = (template_record id false shape, [], sym (append-nil (template_record id false shape)), is, omega arith)

@@ -7,15 +7,17 @@ use Rattle.ipfix_template.specs.declared.template.Template.{Template}
 use Rattle.ipfix_template.specs.DataRecord.{DataRecord}
 use Rattle.ipfix_template.specs.Template.{is_options, template_record}
 use Rattle.ipfix_template.specs.Values.{record_text}
+use Rattle.ipfix_template.proofs.Encoding.{length-template_record}
 use Rattle.subscriber_stream.specs.declared.waiting.Waiting.{Waiting}
 use Rattle.subscriber_stream.specs.declared.waiting.Waiting.TheVariants.{Announce, Bring}
 use Rattle.subscriber_stream.specs.Message.{Set, Announces, Brings, with_record, sets_of, template_set, set_head, set_text, body}
 use Rattle.subscriber_stream.specs.Waiting.{shape_at, parts_of, AreKept, joins, total, run, pieces}
 
-abbrev spelled : DataRecord → List ℕ
+-- the octets of a record in a Data Set
+abbrev pub spelled : DataRecord → List ℕ
 spelled r = record_text r.template.fields r.values
 
-abbrev texts : List Set → List ℕ
+abbrev pub texts : List Set → List ℕ
 texts sets = flat_map set_text sets
 
 -- what is left to write of the sets where the header of a Data Set of this ID was written
@@ -100,11 +102,6 @@ run_content shapes id (Bring other octets values ∷ ws) kept =
           let moved : content_after id (sets_of (parts_of shapes ws)) ≡ content_after other (sets_of (parts_of shapes ws)) = ap (λ (n : ℕ). content_after n (sets_of (parts_of shapes ws))) (eqb-true id other is) in
           omega (arith, others, here, moved)
       by_test false is others here = refl
-
-length-template_record : (id : ℕ) (options : Bool) (t : Template) → length (template_record id options t) ≡ length (template_record 256 options t)
-unfolding template_record
-length-template_record id true t = refl
-length-template_record id false t = refl
 
 announced_text : (last : Option ℕ) (id : ℕ) (shape : Template) (sets : List Set) → text_after last (Announces id shape ∷ sets) ≡ texts (Announces id shape ∷ sets)
 announced_text None id shape sets = refl

@@ -63,6 +63,10 @@ none_after p (suc n) k over le = by_test (p (suc n)) refl over (none_after p n k
 same_length : (now sequence : ℕ) (ps : List Part) → length (message now sequence ps) ≡ length (message 0 0 ps)
 same_length now sequence ps = omega (arith, length-message now sequence ps, length-message 0 0 ps)
 
+pub run_some : (target : ℕ) (ps : List Part) → 1 ≤ run_length target ps
+unfolding run_length
+run_some target ps = omega arith
+
 pub run_within : (target now sequence : ℕ) (ps : List Part) → 1 < run_length target ps → length (message now sequence (take (run_length target ps) ps)) ≤ target
 unfolding run_length
 run_within target now sequence ps more =

@@ -1,7 +1,8 @@
 -- How the octets of a message are added up, part by part.
-use Rattle.std.proofs.Common.{◌≡◌, ℕ, suc, ◌+◌, ◌<◌, ◌≤◌, List, [], ◌∷◌, ◌++◌, length, take, drop, get_or, Option, None, refl, sym, ap, ◌∙◌, arith, add-one, drop-cons, append_assoc}
+use Rattle.std.proofs.Common.{◌≡◌, ℕ, suc, ◌+◌, ◌<◌, ◌≤◌, List, [], ◌∷◌, ◌++◌, length, take, drop, get_or, Option, None, refl, sym, ap, ◌∙◌, arith, append_assoc}
 use Rattle.std.proofs.lemmas.List.{drop_all, take_more}
 use Rattle.std.proofs.lemmas.Bool.{le-leb, lt-leb}
+use Rattle.sequences.proofs.ListLaws.{drop_read}
 use Rattle.subscriber_stream.specs.declared.waiting.Waiting.{Waiting}
 use Rattle.subscriber_stream.specs.Waiting.{cost, data_set, total, fits}
 
@@ -22,9 +23,6 @@ IsRun-none target ws = record {
   small = omega arith;
 }
 
-at_place : (ws : List Waiting) (parts : ℕ) (w : Waiting) → parts < length ws → w ≡ get_or ws parts w → drop parts ws ≡ w ∷ drop (parts + 1) ws
-at_place ws parts w lt is = rw (add-one, drop-cons ws parts w) (ap (λ (v : Waiting). v ∷ drop (suc parts) ws) (sym is))
-
 -- one that is too much ends the run
 fits-over : (target octets : ℕ) (last : Option ℕ) (w : Waiting) (ws : List Waiting) → target < octets + cost last w → fits target last octets (w ∷ ws) ≡ 0
 fits-over target octets last w ws over = rw (lt-leb (octets + cost last w) target over) refl
@@ -34,7 +32,7 @@ fits-more target octets last w ws within = rw (le-leb (octets + cost last w) tar
 
 pub IsRun-over : (target : ℕ) (ws : List Waiting) (parts octets : ℕ) (last : Option ℕ) (w : Waiting) → IsRun target ws parts octets last → parts < length ws → w ≡ get_or ws parts w → target < octets + cost last w → parts ≡ fits target None 16 ws
 IsRun-over target ws parts octets last w run lt is over =
-    let none : fits target last octets (drop parts ws) ≡ 0 = ap (fits target last octets) (at_place ws parts w lt is) ∙ fits-over target octets last w (drop (parts + 1) ws) over in
+    let none : fits target last octets (drop parts ws) ≡ 0 = ap (fits target last octets) (drop_read ws parts w lt is) ∙ fits-over target octets last w (drop (parts + 1) ws) over in
     omega (arith, run.fit, none)
 
 pub IsRun-all : (target : ℕ) (ws : List Waiting) (parts octets : ℕ) (last : Option ℕ) → IsRun target ws parts octets last → length ws ≤ parts → parts ≡ fits target None 16 ws
@@ -46,7 +44,7 @@ pub IsRun-more : (target : ℕ) (ws : List Waiting) (parts octets : ℕ) (last :
 IsRun-more target ws parts octets last w run lt is within small =
     let front : take (parts + 1) ws ≡ take parts ws ++ w ∷ [] = take_more ws parts w lt ∙ ap (λ (v : Waiting). take parts ws ++ v ∷ []) (sym is) in
     let here : total None (take (parts + 1) ws) ≡ total None (take parts ws) + cost last w = ap (total None) front ∙ run.more w [] ∙ omega arith in
-    let rest : fits target last octets (drop parts ws) ≡ suc (fits target (data_set w) (octets + cost last w) (drop (parts + 1) ws)) = ap (fits target last octets) (at_place ws parts w lt is) ∙ fits-more target octets last w (drop (parts + 1) ws) within in
+    let rest : fits target last octets (drop parts ws) ≡ suc (fits target (data_set w) (octets + cost last w) (drop (parts + 1) ws)) = ap (fits target last octets) (drop_read ws parts w lt is) ∙ fits-more target octets last w (drop (parts + 1) ws) within in
     record {
       within = omega arith;
       counted = omega (arith, run.counted, here);

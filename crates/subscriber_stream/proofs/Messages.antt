@@ -1,6 +1,6 @@
 -- The message of parts that wait: its octets and its length.
 use Rattle.std.proofs.Common.{◌≡◌, ℕ, suc, zero, ◌+◌, ◌%◌, ◌^◌, Bool, true, false, cond, leb, List, [], ◌∷◌, ◌++◌, length, take, Option, None, refl, sym, ap, ◌∙◌, arith, length-append, max}
-use Rattle.std.specs.Prelude.{map, nat_le}
+use Rattle.std.specs.Prelude.{nat_le}
 use Rattle.std.proofs.lemmas.Bool.{le-leb, lt-leb, leb-true, leb-false}
 use Rattle.sequences.specs.Octets.{be_octets}
 use Rattle.ipfix_template.specs.declared.template.Template.{Template}
@@ -10,7 +10,7 @@ use Rattle.subscriber_stream.specs.Message.{body, message, last_passing, is_with
 use Rattle.subscriber_stream.specs.Waiting.{part_of, parts_of, AreKept, data_set, cost, total, fits, pieces}
 use Rattle.subscriber_stream.proofs.Bodies.{body_pieces, length-pieces}
 use Rattle.subscriber_stream.proofs.Pieces.{kept_take}
-use Rattle.std.proofs.lemmas.List.{length-map}
+use Rattle.std.proofs.lemmas.List.{length-map, take-map}
 
 abbrev pub header : ℕ → ℕ → ℕ → List ℕ
 header octets now sequence = be_octets 2 10 ++ be_octets 2 octets ++ be_octets 4 now ++ be_octets 4 sequence ++ be_octets 4 0
@@ -63,11 +63,6 @@ fits-last_passing target last octets (w ∷ ws) =
       by_test false is others =
           let over = leb-false (octets + cost last w) target is in
           sym (last_passing-none (λ n. nat_le (octets + total last (take n (w ∷ ws))) target) (suc (length ws)) (λ k. lt-leb _ target (omega arith)))
-
-pub take-map : {A B : Type 0} (f : A → B) (n : ℕ) (xs : List A) → take n (map f xs) ≡ map f (take n xs)
-take-map f zero xs = refl
-take-map f (suc n) [] = refl
-take-map f (suc n) (x ∷ xs) = ap (λ t. f x ∷ t) (take-map f n xs)
 
 pub run_length-waiting : (shapes : List Template) (target : ℕ) (ws : List Waiting) → AreKept shapes ws → run_length target (parts_of shapes ws) ≡ max 1 (fits target None 16 ws)
 unfolding run_length

@@ -1,6 +1,6 @@
 -- The message that is written is the next one of what waits.
 use Rattle.std.proofs.Common.{◌≡◌, ℕ, ◌<◌, ◌≤◌, List, [], ◌∷◌, length, take, max, Some, None, refl, sym, ap, ◌∙◌, arith}
-use Rattle.std.proofs.lemmas.List.{length-map}
+use Rattle.std.proofs.lemmas.List.{length-map, take-map}
 use Rattle.ipfix_template.specs.declared.template.Template.{Template}
 use Rattle.subscriber_stream.specs.declared.waiting.Waiting.{Waiting}
 use Rattle.subscriber_stream.specs.declared.waiting.Waiting.TheVariants.{Announce, Bring}
@@ -8,7 +8,7 @@ use Rattle.subscriber_stream.specs.Parts.{Part, records_in}
 use Rattle.subscriber_stream.specs.Message.{message, run_length, next_message}
 use Rattle.subscriber_stream.specs.Waiting.{part_of, parts_of, AreKept, AreFollowed, entries, fits}
 use Rattle.subscriber_stream.specs.Standing.{Kept}
-use Rattle.subscriber_stream.proofs.Messages.{run_length-waiting, take-map}
+use Rattle.subscriber_stream.proofs.Messages.{run_length-waiting}
 use Rattle.subscriber_stream.proofs.Standings.{next_some, queued_entries}
 
 -- a stream whose queue this is, the number of records handed out, and how many parts its next message takes

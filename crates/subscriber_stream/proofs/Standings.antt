@@ -1,7 +1,7 @@
 -- What a stream keeps, and how it stands in the parts of a list.
 use Rattle.std.proofs.Common.{◌≡◌, ℕ, zero, suc, ◌+◌, ◌-◌, ◌<◌, ◌≤◌, ◌^◌, Bool, true, false, cond, List, [], ◌∷◌, ◌++◌, length, take, drop, Some, None, refl, sym, ap, subst, ◌∙◌, arith, append_assoc, length-append}
 use Rattle.std.specs.List.{position_or_len}
-use Rattle.std.proofs.lemmas.List.{append-nil, length-take}
+use Rattle.std.proofs.lemmas.List.{append-nil, length-take, take-append-le, drop-append-le}
 use Rattle.sequences.proofs.BeforeLaws.{each_with_before-push}
 use Rattle.ipfix_template.specs.Equality.{same_template}
 use Rattle.ipfix_template.specs.declared.template.Template.{Template}
@@ -102,22 +102,12 @@ parts-push : (records : List DataRecord) (r : DataRecord) → parts (records ++ 
 unfolding parts
 parts-push records r = each_with_before-push parts_at records r
 
-take-front : (p : ℕ) (xs ys : List Part) → p ≤ length xs → take p (xs ++ ys) ≡ take p xs
-take-front zero xs ys le = refl
-take-front (suc p) [] ys le = absurd (omega arith)
-take-front (suc p) (x ∷ xs) ys le = ap (λ (t : List Part). x ∷ t) (take-front p xs ys (omega arith))
-
-drop-front : (p : ℕ) (xs ys : List Part) → p ≤ length xs → drop p (xs ++ ys) ≡ drop p xs ++ ys
-drop-front zero xs ys le = refl
-drop-front (suc p) [] ys le = absurd (omega arith)
-drop-front (suc p) (x ∷ xs) ys le = drop-front p xs ys (omega arith)
-
 stands_given_one : (k : Kept) (records : List DataRecord) (p : ℕ) (r : DataRecord) → StandsAt k.standing records p → StandsAt (given_one k r).standing (records ++ r ∷ []) p
 unfolding given_one
 stands_given_one k records p r at =
     let more = parts-push records r in
-    let front : take p (parts (records ++ r ∷ [])) ≡ take p (parts records) = ap (take p) more ∙ take-front p (parts records) (parts_for (shapes_of records) r) at.within in
-    let back : drop p (parts (records ++ r ∷ [])) ≡ drop p (parts records) ++ parts_for (shapes_of records) r = ap (drop p) more ∙ drop-front p (parts records) (parts_for (shapes_of records) r) at.within in
+    let front : take p (parts (records ++ r ∷ [])) ≡ take p (parts records) = ap (take p) more ∙ take-append-le p (parts records) (parts_for (shapes_of records) r) at.within in
+    let back : drop p (parts (records ++ r ∷ [])) ≡ drop p (parts records) ++ parts_for (shapes_of records) r = ap (drop p) more ∙ drop-append-le p (parts records) (parts_for (shapes_of records) r) at.within in
     record {
       within = omega (arith, at.within, ap length more, length-append (parts records) (parts_for (shapes_of records) r));
       place = at.place;

@@ -1,10 +1,11 @@
 use Rattle.std.proofs.Common.{◌≡◌, ◌+◌, [], ◌∷◌, length, ap, ◌∙◌, arith}
 use Rattle.std.specs.Vec.Iter.{into_iter_items}
 use Rattle.std.proofs.lemmas.Result.{err_from_is_err_and}
+use Rattle.std.proofs.lemmas.List.{nil_from_length}
 use Rattle.ipfix_session.specs.Keeping.{StandIn}
 use Rattle.ipfix_session.specs.Changing.{after}
 use Rattle.ipfix_session.specs.Walking.{contents_in}
-use Rattle.ipfix_session.proofs.WalkSteps.{walks_first, walks_more, walks_fault, walks_read, walks_keeps, no_items}
+use Rattle.ipfix_session.proofs.WalkSteps.{walks_first, walks_more, walks_fault, walks_read, walks_keeps}
 use Rattle.ipfix_session.proofs.walk.walk_items.Goals as goal
 
 pub items-init : goal.items-init
@@ -37,10 +38,10 @@ returns-in_err-read_item-clause-reads c = λ older keeps.
 
 pub returns-clause-reads : goal.returns-clause-reads
 returns-clause-reads c = λ older keeps.
-    let left : into_iter_items c.items.rest ≡ [] = no_items (into_iter_items c.items.rest) (omega (arith, c.in_default.ensures.cases.0)) in
+    let left : into_iter_items c.items.rest ≡ [] = nil_from_length (into_iter_items c.items.rest) (omega (arith, c.in_default.ensures.cases.0)) in
     walks_read c.args.message.now (after c.items.state.changes c.args.base.now) (contents_in c.items.state) older c.args.said.items (rw left at (c.items.invariant.walks older keeps))
 
 pub returns-clause-keeps : goal.returns-clause-keeps
 returns-clause-keeps c = λ older keeps.
-    let left : into_iter_items c.items.rest ≡ [] = no_items (into_iter_items c.items.rest) (omega (arith, c.in_default.ensures.cases.0)) in
+    let left : into_iter_items c.items.rest ≡ [] = nil_from_length (into_iter_items c.items.rest) (omega (arith, c.in_default.ensures.cases.0)) in
     walks_keeps c.args.message.now (after c.items.state.changes c.args.base.now) (contents_in c.items.state) older c.args.said.items (rw left at (c.items.invariant.walks older keeps))
