@@ -3,7 +3,8 @@ use Rattle.std.proofs.Common.{◌≡◌, ℕ, List, [], ◌∷◌, ◌++◌, rev
 use Rattle.std.proofs.lemmas.List.{reverse-append}
 use Rattle.ipfix_message.specs.declared.item.Item.{Item}
 use Rattle.ipfix_session.specs.declared.read_error.ReadError.{ReadError}
-use Rattle.ipfix_session.specs.Contents.{Contents, both, nothing, item_contents, contents_after, both_read, ◌>>=◌}
+use Rattle.ipfix_session.specs.Contents.{Contents, both, nothing, item_contents, contents_after, both_read}
+use Rattle.sequences.specs.Results.{◌>>=◌}
 use Rattle.ipfix_session.proofs.WalkSteps.{both-nothing, nothing-both, both-both}
 
 abbrev Reading : Type 0
