@@ -1,6 +1,6 @@
 -- The records of a Data Set's content, one after another, and padding.
 use Rattle.std.proofs.Common.{◌≡◌, ℕ, zero, suc, ◌<◌, Bool, true, false, cond, ltb, List, [], ◌∷◌, ◌++◌, length, length-append, drop, Option, Some, None, Result, Ok, Err, refl, sym, ap, ◌∙◌, subst, arith}
-use Rattle.std.proofs.lemmas.Bool.{ltb-true, lt-ltb, le-ltb}
+use Rattle.std.proofs.lemmas.Bool.{ltb-true, lt-ltb}
 use Rattle.sequences.specs.Octets.{AreOctets}
 use Rattle.sequences.specs.Sequence.{Front, End, Fault, Next, with_front, read_on, read_all}
 use Rattle.std.proofs.lemmas.List.{drop_at}
@@ -9,7 +9,8 @@ use Rattle.sequences.proofs.SequenceLaws.{read_all-step}
 use Rattle.ipfix_template.specs.declared.template.Template.{Template}
 use Rattle.ipfix_template.specs.Template.{IsAccepted, shortest_record}
 use Rattle.ipfix_template.specs.Values.{Splits, values_at, found_record, record_front, records_in}
-use Rattle.ipfix_template.proofs.SplitLaws.{values_at-found, values_at-only, Splits-least}
+use Rattle.ipfix_template.proofs.SplitLaws.{values_at-found, Splits-least}
+use Rattle.ipfix_template.proofs.SplitClauses.{front_is}
 use Rattle.sequences.proofs.ResultLaws.{same_Ok}
 use Rattle.ipfix_session.specs.DataSetContent.{AreRecords}
 use Rattle.ipfix_session.proofs.Soundness.{record_takes, shortest_some}
@@ -21,19 +22,12 @@ front_end : (t : Template) (octets : List ℕ) → length octets < shortest_reco
 unfolding record_front
 front_end t octets short = rw (lt-ltb _ _ short) refl
 
-front_record : (t : Template) (text rest : List ℕ) (row : List (List ℕ)) → Splits t.fields text row → record_front t (text ++ rest) ≡ Next (row ∷ []) rest
-unfolding record_front
-front_record t text rest row is =
-    let least = Splits-least t.fields text row is in
-    let long : ltb (length (text ++ rest)) (shortest_record t) ≡ false = le-ltb _ _ (omega (arith, least, length-append text rest)) in
-    rw (long, values_at-only t.fields text rest row is) refl
-
 pub only : (t : Template) → IsAccepted t → (octets : List ℕ) (rows : List (List (List ℕ))) → AreRecords t octets rows → records_in t octets ≡ Ok rows
 only t accepted octets [] short = read_all-step (record_front t) (record_takes t accepted) octets ∙ ap (λ f. read_on f (read_all (record_front t))) (front_end t octets short)
 only t accepted octets (row ∷ rows) h =
     ap (records_in t) h.2
     ∙ read_all-step (record_front t) (record_takes t accepted) (h.0 ++ h.1)
-    ∙ ap (λ f. read_on f (read_all (record_front t))) (front_record t h.0 h.1 row h.3)
+    ∙ ap (λ f. read_on f (read_all (record_front t))) (front_is t (h.0 ++ h.1) h.0 h.1 row refl h.3)
     ∙ ap (with_front (row ∷ [])) (only t accepted h.1 rows h.4)
 
 -- what stands at the front, said by what the front is
@@ -50,13 +44,13 @@ front_by t accepted octets fits false is (Some f) e =
     let least = Splits-least t.fields h.0 f.0 h.2 in
     (h.0, f.0, refl, h.1, h.2, omega (arith, least, shortest_some t accepted, ap length h.1, length-append h.0 f.1))
 
-front_is : (t : Template) → IsAccepted t → (octets : List ℕ) → AreOctets octets → IsFrontOf t octets (record_front t octets)
+front_found : (t : Template) → IsAccepted t → (octets : List ℕ) → AreOctets octets → IsFrontOf t octets (record_front t octets)
 unfolding record_front
-front_is t accepted octets fits = front_by t accepted octets fits (ltb (length octets) (shortest_record t)) refl (values_at t.fields octets) refl
+front_found t accepted octets fits = front_by t accepted octets fits (ltb (length octets) (shortest_record t)) refl (values_at t.fields octets) refl
 
 found_in : (t : Template) → IsAccepted t → (n : ℕ) (octets : List ℕ) → length octets < n → AreOctets octets → (rows : List (List (List ℕ))) → records_in t octets ≡ Ok rows → AreRecords t octets rows
 found_in t accepted zero octets few fits rows e = absurd (omega arith)
-found_in t accepted (suc n) octets few fits rows e = by (λ rest less fit more same. found_in t accepted n rest (omega arith) fit more same) (record_front t octets) (front_is t accepted octets fits) (sym (read_all-step (record_front t) (record_takes t accepted) octets) ∙ e) where
+found_in t accepted (suc n) octets few fits rows e = by (λ rest less fit more same. found_in t accepted n rest (omega arith) fit more same) (record_front t octets) (front_found t accepted octets fits) (sym (read_all-step (record_front t) (record_takes t accepted) octets) ∙ e) where
   by : ((rest : List ℕ) → length rest < length octets → AreOctets rest → (more : List (List (List ℕ))) → records_in t rest ≡ Ok more → AreRecords t rest more) → (f : Front (List (List ℕ)) (Unit {0})) → IsFrontOf t octets f → read_on f (read_all (record_front t)) ≡ Ok rows → AreRecords t octets rows
   by rec End short at = subst (λ rs. AreRecords t octets rs) (same_Ok [] rows at) short
   by rec (Fault w) is at = absurd cc

@@ -37,7 +37,7 @@ shows_split t octets fits (Record spans used) h =
     subst (λ (t' : List ℕ). Splits t.fields t' values) front found.2
 
 -- with a record of these values at the front, that is what stands there
-front_is : (t : Template) (octets text rest : List ℕ) (values : List (List ℕ)) → octets ≡ text ++ rest → Splits t.fields text values → record_front t octets ≡ Next (values ∷ []) rest
+pub front_is : (t : Template) (octets text rest : List ℕ) (values : List (List ℕ)) → octets ≡ text ++ rest → Splits t.fields text values → record_front t octets ≡ Next (values ∷ []) rest
 unfolding record_front
 front_is t octets text rest values parts is =
     let found = values_at-only t.fields text rest values is in

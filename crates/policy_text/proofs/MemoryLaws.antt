@@ -1,13 +1,122 @@
 -- Which texts take memory to be read.
-use Rattle.std.proofs.Common.{◌≡◌, inl, inr, ℕ, Bool, true, List, Some, None, Ok, sym, subst}
+use Rattle.std.proofs.Common.{◌≡◌, ◌⊎◌, inl, inr, ⊎_elim, ℕ, Bool, true, false, List, [], ◌∷◌, ◌++◌, Some, None, Result, Ok, Err, sym, subst, ap, refl}
+use Rattle.std.proofs.lemmas.Bool.{cases_Bool, false≢true}
 use Rattle.flow_prefix.specs.Reading.{cut_at}
 use Rattle.flow_prefix.proofs.PartsLaws.{slice_split-cut, slice_split-whole}
-use Rattle.policy_text.specs.Words.{lines_of}
-use Rattle.policy_text.specs.Policies.{Meaning}
+use Rattle.policy_text.specs.Words.{words_of, lines_of, is_skipped}
+use Rattle.policy_text.specs.Policies.{Meaning, nothing}
 use Rattle.policy_text.specs.Parsing.{line_step}
+use Rattle.policy_text.specs.Printing.{header}
+use Rattle.policy_text.specs.Spelling.{AreLines, AreAllLines}
 use Rattle.policy_text.specs.Results.{is_memory}
-use Rattle.policy_text.specs.Memory.{step_takes, Behind, SomeTakes, TakesMemory}
+use Rattle.policy_text.specs.Memory.{line_takes, step_takes, TakesMemory}
+use Rattle.policy_text.specs.declared.fault.FaultKind.{FaultKind}
 use Rattle.policy_text.specs.declared.fault.PolicyFault.{PolicyFault}
+use Rattle.policy_text.proofs.SpellLaws.{line_step-found, header-found}
+
+-- what is so behind a line that could be read
+abbrev pub Behind : Result (Bool × Meaning) FaultKind → (Bool → Meaning → Type 0) → Type 0
+Behind (Ok x) P = P x.0 x.1
+Behind (Err kind) P = ⊥
+
+-- one of these lines takes memory, the first faulty one or one before it
+abbrev pub SomeTakes : Bool → Meaning → List (List ℕ) → Type 0
+SomeTakes started policy [] = ⊥
+SomeTakes started policy (line ∷ others) =
+    (step_takes started policy line ≡ true) ⊎ Behind (line_step started policy line) (λ next policy. SomeTakes next policy others)
+
+-- such a line, where those before it spell what S says
+record TakenIn (S : List (List ℕ) → Meaning → Type 0) (lines : List (List ℕ)) : Type 0 where
+  before : List (List ℕ)
+  line : List ℕ
+  others : List (List ℕ)
+  so_far : Meaning
+  lines_are : lines ≡ before ++ line ∷ others
+  spelled : S before so_far
+  counts : is_skipped (words_of line) ≡ false
+  takes : line_takes so_far (words_of line) ≡ true
+
+later_taken : (S T : List (List ℕ) → Meaning → Type 0) (line : List ℕ) (lines : List (List ℕ)) → ((before : List (List ℕ)) (q : Meaning) → S before q → T (line ∷ before) q) → TakenIn S lines → TakenIn T (line ∷ lines)
+later_taken S T line lines onto t =
+    record {
+      before = line ∷ t.before;
+      line = t.line;
+      others = t.others;
+      so_far = t.so_far;
+      lines_are = ap (λ ls. line ∷ ls) t.lines_are;
+      spelled = onto t.before t.so_far t.spelled;
+      counts = t.counts;
+      takes = t.takes;
+    }
+
+this_taken : (p : Meaning) (line : List ℕ) (lines : List (List ℕ)) → step_takes true p line ≡ true → TakenIn (AreLines p) (line ∷ lines)
+unfolding step_takes
+this_taken p line lines h =
+    ⊎_elim (λ (skip : is_skipped (words_of line) ≡ true). absurd (false≢true (rw skip at h)))
+    (λ (kept : is_skipped (words_of line) ≡ false).
+    record {
+      before = [];
+      line = line;
+      others = lines;
+      so_far = p;
+      lines_are = refl;
+      spelled = refl;
+      counts = kept;
+      takes = rw kept at h;
+    })
+    (cases_Bool (is_skipped (words_of line)))
+
+lines_taken_by : (p : Meaning) (line : List ℕ) (lines : List (List ℕ)) → ((q : Meaning) → SomeTakes true q lines → TakenIn (AreLines q) lines) → (r : Result (Bool × Meaning) FaultKind) → line_step true p line ≡ r → Behind r (λ next q. SomeTakes next q lines) → TakenIn (AreLines p) (line ∷ lines)
+lines_taken_by p line lines later (Ok x) stepped h =
+    let read = line_step-found p line x stepped in
+    let S : Bool → Type 0 = λ b. SomeTakes b x.1 lines in
+    later_taken (AreLines x.1) (AreLines p) line lines (λ before q lead. (x.1, read.line_is, lead)) (later x.1 (subst S (sym read.started_is) h))
+lines_taken_by p line lines later (Err kind) stepped h = absurd h
+
+lines_taken : (p : Meaning) (lines : List (List ℕ)) → SomeTakes true p lines → TakenIn (AreLines p) lines
+lines_taken p [] h = absurd h
+lines_taken p (line ∷ lines) h =
+    ⊎_elim (λ (here : step_takes true p line ≡ true). this_taken p line lines here)
+    (λ (later : Behind (line_step true p line) (λ next q. SomeTakes next q lines)).
+    lines_taken_by p line lines (λ q t. lines_taken q lines t) (line_step true p line) refl later)
+    h
+
+none_before : (line : List ℕ) → step_takes false nothing line ≡ true → ⊥
+unfolding step_takes
+none_before line h = false≢true h
+
+all_taken_by : (line : List ℕ) (lines : List (List ℕ)) → (SomeTakes false nothing lines → TakenIn AreAllLines lines) → (r : Result (Bool × Meaning) FaultKind) → line_step false nothing line ≡ r → Behind r (λ next q. SomeTakes next q lines) → TakenIn AreAllLines (line ∷ lines)
+all_taken_by line lines later (Ok x) stepped h =
+    let read = header-found line x stepped in
+    let S : Bool × Meaning → Type 0 = λ y. SomeTakes y.0 y.1 lines in
+    ⊎_elim (λ (skip : (is_skipped (words_of line) ≡ true) × ((false, nothing) ≡ x)).
+    later_taken AreAllLines AreAllLines line lines (λ before q lead. inl (skip.0, lead)) (later (subst S (sym skip.1) h)))
+    (λ (kept : (is_skipped (words_of line) ≡ false) × (words_of line ≡ header) × ((true, nothing) ≡ x)).
+    later_taken (AreLines nothing) AreAllLines line lines (λ before q lead. inr (kept.0, kept.1, lead)) (lines_taken nothing lines (subst S (sym kept.2) h)))
+    read.how
+all_taken_by line lines later (Err kind) stepped h = absurd h
+
+all_taken : (lines : List (List ℕ)) → SomeTakes false nothing lines → TakenIn AreAllLines lines
+all_taken [] h = absurd h
+all_taken (line ∷ lines) h =
+    ⊎_elim (λ (here : step_takes false nothing line ≡ true). absurd (none_before line here))
+    (λ (later : Behind (line_step false nothing line) (λ next q. SomeTakes next q lines)).
+    all_taken_by line lines (λ t. all_taken lines t) (line_step false nothing line) refl later)
+    h
+
+pub text_taken : (text : List ℕ) → SomeTakes false nothing (lines_of text) → TakesMemory text
+text_taken text h =
+    let t = all_taken (lines_of text) h in
+    record {
+      before = t.before;
+      line = t.line;
+      others = t.others;
+      so_far = t.so_far;
+      lines_are = t.lines_are;
+      spelled = t.spelled;
+      counts = t.counts;
+      takes = t.takes;
+    }
 
 -- a turn of the loop over the lines
 pub takes-turn : (started next : Bool) (p q : Meaning) (text line after : List ℕ) → cut_at 10 text ≡ Some (line, after) → line_step started p line ≡ Ok (next, q)

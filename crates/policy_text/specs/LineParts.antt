@@ -1,6 +1,6 @@
 -- What each word of a line is to be, and the kind of fault where it is not.
 use Rattle.std.specs.Prelude.{◌≡◌, ◌⊎◌, ◌||◌, List, [], ◌∷◌, ◌++◌, map, if◌then◌else◌, is_some, codes, ◌==◌}
-use Rattle.std.specs.List.{slice_split}
+use Rattle.std.specs.List.{slice_split, fold}
 use Rattle.std.specs.Str.{bytes_eq}
 use Rattle.ipfix_element.specs.Element.{Element, IsElement}
 use Rattle.ipfix_element.specs.Names.{element_name}
@@ -51,11 +51,19 @@ parts_after action word parts =
 parts_after treatment word parts = if bytes_eq word (codes "truncate") then bits ∷ [] else []
 parts_after part word parts = parts
 
+-- the parts that are left when the first of them is this word
+abbrev pub parts_left : List Part → Word → List Part
+parts_left [] word = []
+parts_left (part ∷ parts) word = parts_after part word parts
+
+-- the part that comes next
+abbrev pub next_part : List Part → Part
+next_part [] = line_end
+next_part (part ∷ parts) = part
+
 -- the part that stands behind these words
 abbrev pub part_behind : List Part → List Word → Part
-part_behind [] front = line_end
-part_behind (part ∷ parts) [] = part
-part_behind (part ∷ parts) (word ∷ front) = part_behind (parts_after part word parts) front
+part_behind parts front = next_part (fold parts_left parts front)
 
 -- The first piece of a key that doesn't fit: no element has the name, or the element may not stand after those before it.
 pub record IsKeyFault (word : Word) (kind : FaultKind) : Type 0 where

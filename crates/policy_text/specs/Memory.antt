@@ -1,14 +1,14 @@
 -- Which texts take memory to be read: a name in a line is kept before the line's fault is known, and so are the rule
 -- and the aggregate of a line without one.
-use Rattle.std.specs.Prelude.{◌⊎◌, ◌≡◌, ℕ, Bool, true, false, List, [], ◌∷◌, length, Result, Ok, Err, is_ok, is_none, nat_lt, not, ◌&&◌, ◌||◌, if◌then◌else◌, codes}
+use Rattle.std.specs.Prelude.{◌≡◌, ℕ, Bool, true, false, List, ◌∷◌, ◌++◌, length, Result, Ok, Err, is_ok, is_none, nat_lt, not, ◌&&◌, ◌||◌, if◌then◌else◌, codes}
 use Rattle.std.specs.Str.{bytes_eq}
 use Rattle.policy_text.specs.declared.fault.FaultKind.{FaultKind}
 use Rattle.policy_text.specs.Words.{Word, words_of, lines_of, is_skipped}
 use Rattle.policy_text.specs.Naming.{is_name}
-use Rattle.policy_text.specs.Policies.{Meaning, nothing, Aggregate as Definition}
+use Rattle.policy_text.specs.Policies.{Meaning, Aggregate as Definition}
 use Rattle.policy_text.specs.Classes.{place_of}
 use Rattle.policy_text.specs.Lines.{next_of, after, rule_of}
-use Rattle.policy_text.specs.Parsing.{line_step}
+use Rattle.policy_text.specs.Spelling.{AreAllLines}
 
 -- a word was read, and it is such a one
 abbrev pub is_word_read : (Word → Bool) → Result (Word × List Word) FaultKind → Bool
@@ -53,16 +53,14 @@ line_takes policy words = takes_by policy (next_of words)
 unfoldable pub step_takes : Bool → Meaning → List ℕ → Bool
 step_takes started policy line = started && (not (is_skipped (words_of line)) && line_takes policy (words_of line))
 
--- what is so behind a line that could be read
-abbrev pub Behind : Result (Bool × Meaning) FaultKind → (Bool → Meaning → Type 0) → Type 0
-Behind (Ok x) P = P x.0 x.1
-Behind (Err kind) P = ⊥
-
--- one of these lines takes memory, the first faulty one or one before it
-abbrev pub SomeTakes : Bool → Meaning → List (List ℕ) → Type 0
-SomeTakes started policy [] = ⊥
-SomeTakes started policy (line ∷ others) =
-    (step_takes started policy line ≡ true) ⊎ Behind (line_step started policy line) (λ next policy. SomeTakes next policy others)
-
-abbrev pub TakesMemory : List ℕ → Type 0
-TakesMemory text = SomeTakes false nothing (lines_of text)
+-- A line takes memory, and those before it spell a policy so far: neither the header nor a line before it takes any, and no
+-- line behind the first faulty one is read.
+pub record TakesMemory (text : List ℕ) : Type 0 where
+  pub before : List (List ℕ)
+  pub line : List ℕ
+  pub others : List (List ℕ)
+  pub so_far : Meaning
+  pub lines_are : lines_of text ≡ before ++ line ∷ others
+  pub spelled : AreAllLines before so_far
+  pub counts : is_skipped (words_of line) ≡ false
+  pub takes : line_takes so_far (words_of line) ≡ true

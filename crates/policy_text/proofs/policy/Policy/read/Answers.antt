@@ -4,7 +4,7 @@ use Rattle.flow_prefix.proofs.PartsLaws.{cut_at-shorter}
 use Rattle.policy_text.specs.Results.{fault_at}
 use Rattle.policy_text.specs.Parsing.{line_step, policy_of}
 use Rattle.policy_text.proofs.ParsingLaws.{Reports, Reports-same, reports-line, policy_of-start, read_lines-cut, read_lines-whole, read_lines-turn, read_lines-last, read_lines-done, read_lines-empty}
-use Rattle.policy_text.proofs.MemoryLaws.{TakesIfMemory, takes-turn, takes-cut, takes-whole}
+use Rattle.policy_text.proofs.MemoryLaws.{TakesIfMemory, text_taken, takes-turn, takes-cut, takes-whole}
 use Rattle.std.proofs.lemmas.Bool.{false≢true}
 use Rattle.policy_text.proofs.policy.Policy.read.Goals as goal
 
@@ -12,7 +12,7 @@ pub lines-init : goal.lines-init
 lines-init c =
     record {
       reading = rw (c.new.ensures.items, c.new-2.ensures.items, c.as_bytes-rest.ensures.value) (policy_of-start c.args.text.now);
-      taken = rw (c.new.ensures.items, c.new-2.ensures.items, c.as_bytes-rest.ensures.value) (λ taken. taken);
+      taken = rw (c.new.ensures.items, c.new-2.ensures.items, c.as_bytes-rest.ensures.value) (text_taken c.args.text.now);
       count = omega (arith, ap length c.as_bytes-rest.ensures.value);
     }
 

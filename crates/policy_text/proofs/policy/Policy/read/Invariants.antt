@@ -1,7 +1,8 @@
 use Rattle.std.proofs.Common.{◌≡◌, ◌+◌, ◌≤◌, length}
 use Rattle.policy_text.specs.Words.{lines_of}
 use Rattle.policy_text.specs.Parsing.{read_lines, policy_of}
-use Rattle.policy_text.specs.Memory.{SomeTakes, TakesMemory}
+use Rattle.policy_text.specs.Memory.{TakesMemory}
+use Rattle.policy_text.proofs.MemoryLaws.{SomeTakes}
 use Rattle.policy_text.proofs.policy.Policy.read.Given as goal
 
 abbrev pub invariant-lines : goal.invariant-lines
