@@ -36,16 +36,6 @@ fn print(alloc: Global, prefix: &Prefix) -> Result<String, AllocError> {
     }
 }
 
-/// Appends to a text; a call that is refused leaves it as it was, and is made again.
-fn push<R: Abort>(rt: &R, text: &mut String, part: &str) -> Result<(), AllocError> {
-    let before = text.len();
-    if text.push_str(part).is_err() {
-        assert_eq!(rt; text.len(), before);
-        text.push_str(part)?;
-    }
-    Ok(())
-}
-
 #[test]
 fn kept_bits(rt: HostRuntime) -> Result<(), Fail> {
     let address = [192u8, 0, 2, 77];
@@ -205,13 +195,13 @@ fn refused_texts(rt: HostRuntime) {
 fn a_thousand_digits(rt: HostRuntime) -> Result<(), Fail> {
     let mut digits = String::new(rt.alloc());
     for _ in 0..1000 {
-        push(&rt, &mut digits, "9")?;
+        digits.push_str("9")?;
     }
     for (front, back) in [("10.0.0.0/", ""), ("", ".0.0.0/8"), ("", "::/16")] {
         let mut text = String::new(rt.alloc());
-        push(&rt, &mut text, front)?;
-        push(&rt, &mut text, digits.as_str())?;
-        push(&rt, &mut text, back)?;
+        text.push_str(front)?;
+        text.push_str(digits.as_str())?;
+        text.push_str(back)?;
         assert_eq!(rt;
             Prefix::parse(text.as_str()).err(),
             Some(PrefixFault::BadText),

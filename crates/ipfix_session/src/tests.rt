@@ -434,17 +434,9 @@ fn reads_the_changes(rt: &impl Abort, session: &mut Session) -> Result<(), Fail>
     Ok(())
 }
 
-/// Room for a text. Where memory is refused, it is asked for again.
-fn some_text(alloc: Global) -> Result<String, Fail> {
-    match String::with_capacity(alloc, 64) {
-        Ok(text) => Ok(text),
-        Err(_) => Ok(String::with_capacity(alloc, 64)?),
-    }
-}
-
 #[test]
 fn error_texts(rt: HostRuntime) -> Result<(), Fail> {
-    let mut text = some_text(rt.alloc())?;
+    let mut text = String::with_capacity(rt.alloc(), 64)?;
     write!(
         text,
         "{} {} {}",

@@ -255,17 +255,9 @@ fn isolation(rt: HostRuntime) -> Result<(), Fail> {
     Ok(())
 }
 
-/// Room for a text. Where memory is refused, it is asked for again.
-fn some_text(alloc: Global) -> Result<String, Fail> {
-    match String::with_capacity(alloc, 64) {
-        Ok(text) => Ok(text),
-        Err(_) => Ok(String::with_capacity(alloc, 64)?),
-    }
-}
-
 #[test]
 fn fault_texts(rt: HostRuntime) -> Result<(), Fail> {
-    let mut text = some_text(rt.alloc())?;
+    let mut text = String::with_capacity(rt.alloc(), 64)?;
     let policy = PolicyFault {
         line: 1,
         kind: FaultKind::NoHeader,
@@ -284,7 +276,7 @@ fn fault_texts(rt: HostRuntime) -> Result<(), Fail> {
 
 #[test]
 fn offline_texts(rt: HostRuntime) -> Result<(), Fail> {
-    let mut text = some_text(rt.alloc())?;
+    let mut text = String::with_capacity(rt.alloc(), 64)?;
     write!(text, "{} ", OfflineFault::Read)?;
     write!(text, "{} ", OfflineFault::Write { sent: 3 })?;
     write!(text, "{} ", OfflineFault::Framing(FramingFault::CutOff))?;
@@ -301,7 +293,7 @@ fn offline_texts(rt: HostRuntime) -> Result<(), Fail> {
 
 #[test]
 fn framing_texts(rt: HostRuntime) -> Result<(), Fail> {
-    let mut text = some_text(rt.alloc())?;
+    let mut text = String::with_capacity(rt.alloc(), 64)?;
     write!(text, "{} ", FramingFault::BadVersion)?;
     write!(text, "{} ", FramingFault::BadLength)?;
     write!(text, "{}", FramingFault::CutOff)?;

@@ -68,13 +68,6 @@ fn some_room(alloc: Global) -> Result<Vec<u8>, Fail> {
     }
 }
 
-fn some_text(alloc: Global) -> Result<String, Fail> {
-    match String::with_capacity(alloc, 32) {
-        Ok(text) => Ok(text),
-        Err(_) => Ok(String::with_capacity(alloc, 32)?),
-    }
-}
-
 /// A device over a writer that takes at most `most` octets at a call and fails after `until_failure` calls.
 fn narrow_device(alloc: Global, most: usize, until_failure: u32) -> Result<Device<Narrow>, Fail> {
     Ok(Device::new(Narrow {
@@ -186,7 +179,7 @@ fn over_memory(rt: HostRuntime) -> Result<(), Fail> {
 
 #[test]
 fn error_texts(rt: HostRuntime) -> Result<(), Fail> {
-    let mut text = some_text(rt.alloc())?;
+    let mut text = String::with_capacity(rt.alloc(), 32)?;
     write!(text, "{} {}", Failed, WriteStopped { sent: 3 })?;
     assert_eq!(rt; text.as_str(), "Failed WriteStopped");
     Ok(())

@@ -229,16 +229,6 @@ fn print<R: Abort + AllocGlobal>(rt: &R, policy: &Policy) -> Result<String, Allo
     }
 }
 
-/// Appends to a text; a call that is refused leaves it as it was, and is made again.
-fn push<R: Abort>(rt: &R, text: &mut String, part: &str) -> Result<(), AllocError> {
-    let before = text.len();
-    if text.push_str(part).is_err() {
-        assert_eq!(rt; text.len(), before);
-        text.push_str(part)?;
-    }
-    Ok(())
-}
-
 /// The line of an aggregate `aPLACE`.
 fn aggregate_line(alloc: Global, place: u32) -> Result<String, AllocError> {
     match format!(in alloc; "aggregate a{place} key vlanId interval 1 grace 0\n") {
@@ -395,17 +385,13 @@ fn tabs_comments_and_carriage_returns(rt: HostRuntime) -> Result<(), Fail> {
 #[test]
 fn most_rules(rt: HostRuntime) -> Result<(), Fail> {
     let mut text = String::new(rt.alloc());
-    push(
-        &rt,
-        &mut text,
-        "policy 1\naggregate a key vlanId interval 1 grace 0\n",
-    )?;
+    text.push_str("policy 1\naggregate a key vlanId interval 1 grace 0\n")?;
     for _ in 0..4096u32 {
-        push(&rt, &mut text, "rule for * in * from * to * aggregate a\n")?;
+        text.push_str("rule for * in * from * to * aggregate a\n")?;
     }
     let policy = parse(&rt, text.as_str()).ok().ok_or("a policy")?;
     assert_eq!(rt; policy.rules().len(), 4096);
-    push(&rt, &mut text, "rule")?;
+    text.push_str("rule")?;
     expect_fault(&rt, text.as_str(), 4099, FaultKind::TooMany);
     Ok(())
 }
@@ -413,10 +399,10 @@ fn most_rules(rt: HostRuntime) -> Result<(), Fail> {
 #[test]
 fn most_aggregates(rt: HostRuntime) -> Result<(), Fail> {
     let mut text = String::new(rt.alloc());
-    push(&rt, &mut text, "policy 1\n")?;
+    text.push_str("policy 1\n")?;
     for place in 0..256u32 {
         let line = aggregate_line(rt.alloc(), place)?;
-        push(&rt, &mut text, line.as_str())?;
+        text.push_str(line.as_str())?;
     }
     push(
         &rt,
@@ -427,7 +413,7 @@ fn most_aggregates(rt: HostRuntime) -> Result<(), Fail> {
     assert_eq!(rt; policy.aggregates().len(), 256);
     assert_eq!(rt; policy.rules().len(), 1);
     assert_eq!(rt; policy.rules()[0].action, Action::Aggregate(255));
-    push(&rt, &mut text, "aggregate")?;
+    text.push_str("aggregate")?;
     expect_fault(&rt, text.as_str(), 259, FaultKind::TooMany);
     Ok(())
 }

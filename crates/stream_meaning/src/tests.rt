@@ -13,32 +13,16 @@ use super::*;
 use bytes::Bytes;
 use ipfix_element::ElementId;
 use ipfix_session::{Read, ReadError, Session, Skips};
-use ipfix_template::{FieldSpec, Fields, Record, Template, Values};
+use ipfix_template::Record;
 use std::alloc::Global;
 use std::process::Abort;
-use std::sync::Arc;
 use std::test::Fail;
 use subscriber_stream::{Limits, PullError, Stream};
-
-// Elements of the registry, by their numbers.
-const OCTET_COUNT: u16 = 1;
-
-const PROTOCOL: u16 = 4;
-
-const SOURCE_PORT: u16 = 7;
-
-const SOURCE_ADDRESS: u16 = 8;
-
-const INTERFACE: u16 = 10;
-
-const IP_VERSION: u16 = 60;
-
-const INTERFACE_NAME: u16 = 82;
 
 /// The Field Length of values of variable length.
 const VARIABLE: u16 = 65535;
 
-/// The Export Time of the worked cases.
+/// The Export Time of the messages that are pulled.
 const NOW: u32 = 0x6553_f13c;
 
 const LIMITS: Limits = Limits {
@@ -52,69 +36,66 @@ const NO_SKIPS: Skips = Skips {
     refused: 0,
 };
 
-fn field(number: u16, length: u16) -> FieldSpec
-    requires { number < 32768 }
-{
-    FieldSpec {
-        element: ElementId::registered(number),
-        length,
-    }
+/// One protocol.
+const ONE_PROTOCOL: &[u8] = b"\x00\x0a\x00\x21\x65\x53\xf1\x00\x00\x00\x00\x00\x00\x00\x00\x07\
+\x00\x02\x00\x0c\x01\x00\x00\x01\x00\x04\x00\x01\
+\x01\x00\x00\x05\x06";
+
+/// Two flows of source address, source port and octet count.
+const TWO_FLOWS: &[u8] = b"\x00\x0a\x00\x3c\x65\x53\xf1\x00\x00\x00\x00\x00\x00\x00\x00\x07\
+\x00\x02\x00\x14\x01\x00\x00\x03\x00\x08\x00\x04\x00\x07\x00\x02\x00\x01\x00\x04\
+\x01\x00\x00\x18\xc0\x00\x02\x4d\x01\xbb\x00\x00\x05\xdc\xc0\x00\x02\x4d\x00\x50\x00\x00\x05\xdc";
+
+/// A protocol; the template's withdrawal, with a Data Set behind it; and an IP version under the same ID.
+const REDEFINED: &[u8] = b"\x00\x0a\x00\x3f\x65\x53\xf1\x00\x00\x00\x00\x00\x00\x00\x00\x07\
+\x00\x02\x00\x0c\x01\x00\x00\x01\x00\x04\x00\x01\x01\x00\x00\x05\x06\
+\x00\x02\x00\x08\x01\x00\x00\x00\x01\x00\x00\x05\x11\
+\x00\x02\x00\x0c\x01\x00\x00\x01\x00\x3c\x00\x01\x01\x00\x00\x05\x04";
+
+/// Interfaces by options records, with names of variable length, one of them empty; and among them a protocol beside a name
+/// of no octets.
+const OPTIONS: &[u8] = b"\x00\x0a\x00\x5a\x65\x53\xf1\x00\x00\x00\x00\x00\x00\x00\x00\x07\
+\x00\x03\x00\x12\x01\x00\x00\x02\x00\x01\x00\x0a\x00\x04\x00\x52\xff\xff\
+\x00\x02\x00\x10\x01\x01\x00\x02\x00\x52\x00\x00\x00\x04\x00\x01\
+\x01\x00\x00\x12\x00\x00\x00\x07\x04eth7\x00\x00\x00\x08\x00\
+\x01\x01\x00\x05\x06\
+\x01\x00\x00\x11\x00\x00\x00\x09\x08ethernet";
+
+/// A field's element by its number in the registry, its length in the template, and its value.
+type Field = (u16, u16, &'static [u8]);
+
+const TCP: [Field; 1] = [(4, 1, b"\x06")];
+
+const VERSION_4: [Field; 1] = [(60, 1, b"\x04")];
+
+const EMPTY_NAME: [Field; 2] = [(82, 0, b""), (4, 1, b"\x06")];
+
+fn flow(port: &'static [u8]) -> [Field; 3] {
+    [
+        (8, 4, b"\xc0\x00\x02\x4d"),
+        (7, 2, port),
+        (1, 4, b"\x00\x00\x05\xdc"),
+    ]
 }
 
-fn template_of(alloc: Global, fields: &[FieldSpec], scope: u16) -> Result<Arc<Template>, Fail> {
-    let fields = Fields::from_vec(Vec::from_slice(alloc, fields)?)?;
-    Ok(Arc::new(alloc, Template { fields, scope }).map_err(|_| "memory")?)
+fn interface(number: &'static [u8], name: &'static [u8]) -> [Field; 2] {
+    [(10, 4, number), (82, VARIABLE, name)]
 }
 
-/// Source address, source port and octet count.
-fn flow_template(alloc: Global) -> Result<Arc<Template>, Fail> {
-    let fields = [
-        field(SOURCE_ADDRESS, 4),
-        field(SOURCE_PORT, 2),
-        field(OCTET_COUNT, 4),
-    ];
-    template_of(alloc, &fields, 0)
+/// The records of an exporter's message.
+fn received(alloc: Global, message: &[u8]) -> Result<Vec<Record>, Fail> {
+    let mut exporter = Session::new(alloc);
+    Ok(read(&mut exporter, message)?.records)
 }
 
-fn record_of(
-    alloc: Global,
-    template: &Arc<Template>,
-    texts: &[&'static [u8]],
-) -> Result<Record, Fail> {
-    let mut values = Vec::new(alloc);
-    for text in texts {
-        values.push(Bytes::from_static(text))?;
-    }
-    Ok(Record::try_new(template.clone()?, Values::from_vec(values)).map_err(|_| "refused")?)
-}
-
-/// Gives the records to the stream. Where memory is refused, the stream is as it was, and is asked again.
-fn give(rt: &impl Abort, stream: &mut Stream, records: Vec<Record>) -> Result<(), Fail> {
-    let total = stream
-        .handed()
-        .saturating_add(u64::from(stream.queued()))
-        .saturating_add(records.len() as u64);
-    assert!(rt; total < u64::MAX);
-    assert!(rt; stream.room(&records));
+/// A stream that was given these records. Where memory is refused it is as it was, and is asked again.
+fn stream_of(rt: &impl Abort, alloc: Global, records: Vec<Record>) -> Result<Stream, Fail> {
+    let mut stream = Stream::new(alloc, LIMITS);
     if stream.reserve(&records).is_err() {
         stream.reserve(&records)?;
     }
-    stream.push_reserved(records);
-    Ok(())
-}
-
-/// The next message. Where memory is refused, the stream is as it was, and is asked again.
-fn pulled(rt: &impl Abort, stream: &mut Stream, target: u16) -> Result<Option<Bytes>, Fail> {
-    let queued = stream.queued();
-    let handed = stream.handed();
-    match stream.pull(NOW, target) {
-        Ok(message) => Ok(message),
-        Err(PullError::OutOfMemory) => {
-            assert_eq!(rt; stream.queued(), queued);
-            assert_eq!(rt; stream.handed(), handed);
-            Ok(stream.pull(NOW, target)?)
-        }
-    }
+    assert!(rt; give_kept(&mut stream, records));
+    Ok(stream)
 }
 
 /// What a message is read as. Where memory is refused once, the same message is read again.
@@ -136,7 +117,7 @@ fn drain(
 ) -> Result<usize, Fail> {
     let mut messages = 0usize;
     for _ in 0..1_000 {
-        let Some(message) = pulled(rt, stream, target)? else {
+        let Some(message) = pull_kept(stream, NOW, target)? else {
             break;
         };
         let answer = read(session, &message)?;
@@ -154,15 +135,21 @@ fn drain(
     Ok(messages)
 }
 
-/// That a record has these values, under a template equal to this one.
-fn expect(rt: &impl Abort, next: Option<&Record>, template: &Template, wanted: &[&[u8]]) {
+/// That a record has these fields and values, the first `scope` of them scope fields.
+fn expect(rt: &impl Abort, next: Option<&Record>, scope: u16, wanted: &[Field]) {
     let Some(next) = next else {
         assert!(rt; false, "a record");
         return;
     };
-    assert!(rt; next.template() == template, "another template");
+    assert_eq!(rt; next.template().scope, scope);
+    let fields = next.template().fields.as_slice();
+    assert_eq!(rt; fields.len(), wanted.len());
+    for (field, (number, length, _)) in fields.iter().zip(wanted) {
+        assert_eq!(rt; Some(field.element), ElementId::new(None, *number));
+        assert_eq!(rt; field.length, *length);
+    }
     assert_eq!(rt; next.values().len(), wanted.len());
-    for (value, octets) in next.values().as_slice().iter().zip(wanted) {
+    for (value, (_, _, octets)) in next.values().as_slice().iter().zip(wanted) {
         assert_eq!(rt; &value[..], *octets);
     }
 }
@@ -209,20 +196,15 @@ fn laws_are_called() {
 #[test]
 fn a_holder(rt: HostRuntime) -> Result<(), Fail> {
     let alloc = rt.alloc();
-    let template = template_of(alloc, &[field(PROTOCOL, 1)], 0)?;
-    let mut records = Vec::new(alloc);
-    records.push(record_of(alloc, &template, &[b"\x06"])?)?;
-    let mut stream = Stream::new(alloc, LIMITS);
-    if stream.reserve(&records).is_err() {
-        stream.reserve(&records)?;
-    }
-    assert!(rt; give_kept(&mut stream, records));
+    let records = received(alloc, ONE_PROTOCOL)?;
+    assert_eq!(rt; records.len(), 1);
+    let mut stream = stream_of(&rt, alloc, records)?;
     let message = pull_kept(&mut stream, NOW, 1400)?.ok_or("nothing was queued")?;
     assert!(rt; pull_kept(&mut stream, NOW, 1400)?.is_none());
     let mut session = Session::new(alloc);
     let answer = read(&mut session, &message)?;
     assert_eq!(rt; answer.records.len(), 1);
-    expect(&rt, answer.records.first(), &template, &[b"\x06"]);
+    expect(&rt, answer.records.first(), 0, &TCP);
     Ok(())
 }
 
@@ -230,64 +212,39 @@ fn a_holder(rt: HostRuntime) -> Result<(), Fail> {
 #[test]
 fn small_target(rt: HostRuntime) -> Result<(), Fail> {
     let alloc = rt.alloc();
-    let template = flow_template(alloc)?;
-    let mut records = Vec::new(alloc);
-    for port in [b"\x01\xbb".as_slice(), b"\x00\x50"] {
-        let texts: [&'static [u8]; 3] = [b"\xc0\x00\x02\x4d", port, b"\x00\x00\x05\xdc"];
-        records.push(record_of(alloc, &template, &texts)?)?;
-    }
-    let mut stream = Stream::new(alloc, LIMITS);
-    give(&rt, &mut stream, records)?;
+    let mut stream = stream_of(&rt, alloc, received(alloc, TWO_FLOWS)?)?;
     let mut session = Session::new(alloc);
     let mut found = Vec::new(alloc);
     assert_eq!(rt; drain(&rt, &mut stream, &mut session, 16, &mut found)?, 3);
     assert_eq!(rt; found.len(), 2);
-    let mut each = found.iter();
-    expect(
-        &rt,
-        each.next(),
-        &template,
-        &[b"\xc0\x00\x02\x4d", b"\x01\xbb", b"\x00\x00\x05\xdc"],
-    );
-    expect(
-        &rt,
-        each.next(),
-        &template,
-        &[b"\xc0\x00\x02\x4d", b"\x00\x50", b"\x00\x00\x05\xdc"],
-    );
+    expect(&rt, found.first(), 0, &flow(b"\x01\xbb"));
+    expect(&rt, found.last(), 0, &flow(b"\x00\x50"));
     Ok(())
 }
 
 /// The exporter withdraws its template and defines another under the same ID; a Data Set between the two
-/// has no template. The subscriber gets two shapes under IDs of its own.
+/// has no template. The subscriber gets two shapes under IDs of its own, each announced once: of messages of one part,
+/// two are announcements and three records.
 #[test]
 fn withdraw_and_redefine(rt: HostRuntime) -> Result<(), Fail> {
     let alloc = rt.alloc();
-    let first = template_of(alloc, &[field(PROTOCOL, 1)], 0)?;
-    let second = template_of(alloc, &[field(IP_VERSION, 1)], 0)?;
     let mut exporter = Session::new(alloc);
-    let received = read(
-        &mut exporter,
-        b"\x00\x0a\x00\x3f\x65\x53\xf1\x00\x00\x00\x00\x00\x00\x00\x00\x07\
-        \x00\x02\x00\x0c\x01\x00\x00\x01\x00\x04\x00\x01\x01\x00\x00\x05\x06\
-        \x00\x02\x00\x08\x01\x00\x00\x00\x01\x00\x00\x05\x11\
-        \x00\x02\x00\x0c\x01\x00\x00\x01\x00\x3c\x00\x01\x01\x00\x00\x05\x04",
-    )?;
-    assert_eq!(rt; received.skips.unknown, 1);
-    let mut stream = Stream::new(alloc, LIMITS);
-    give(&rt, &mut stream, received.records)?;
+    let redefined = read(&mut exporter, REDEFINED)?;
+    assert_eq!(rt; redefined.skips.unknown, 1);
+    let mut records = redefined.records;
+    for next in received(alloc, ONE_PROTOCOL)? {
+        records.push(next)?;
+    }
+    let mut stream = stream_of(&rt, alloc, records)?;
+    assert_eq!(rt; stream.shapes(), 2);
     let mut session = Session::new(alloc);
     let mut found = Vec::new(alloc);
-    assert_eq!(rt; drain(&rt, &mut stream, &mut session, 1400, &mut found)?, 1);
-    let mut later = Vec::new(alloc);
-    later.push(record_of(alloc, &first, &[b"\x11"])?)?;
-    give(&rt, &mut stream, later)?;
-    assert_eq!(rt; drain(&rt, &mut stream, &mut session, 1400, &mut found)?, 1);
+    assert_eq!(rt; drain(&rt, &mut stream, &mut session, 16, &mut found)?, 5);
     assert_eq!(rt; found.len(), 3);
     let mut each = found.iter();
-    expect(&rt, each.next(), &first, &[b"\x06"]);
-    expect(&rt, each.next(), &second, &[b"\x04"]);
-    expect(&rt, each.next(), &first, &[b"\x11"]);
+    expect(&rt, each.next(), 0, &TCP);
+    expect(&rt, each.next(), 0, &VERSION_4);
+    expect(&rt, each.next(), 0, &TCP);
     Ok(())
 }
 
@@ -295,31 +252,26 @@ fn withdraw_and_redefine(rt: HostRuntime) -> Result<(), Fail> {
 #[test]
 fn options_and_lengths(rt: HostRuntime) -> Result<(), Fail> {
     let alloc = rt.alloc();
-    let fields = [field(INTERFACE, 4), field(INTERFACE_NAME, VARIABLE)];
-    let options = template_of(alloc, &fields, 1)?;
-    let fields = [field(INTERFACE_NAME, 0), field(PROTOCOL, 1)];
-    let empty = template_of(alloc, &fields, 0)?;
     for target in [0, 16, 60, 65535] {
-        let mut records = Vec::new(alloc);
-        records.push(record_of(alloc, &options, &[b"\x00\x00\x00\x07", b"eth7"])?)?;
-        records.push(record_of(alloc, &options, &[b"\x00\x00\x00\x08", b""])?)?;
-        records.push(record_of(alloc, &empty, &[b"", b"\x06"])?)?;
-        records.push(record_of(alloc, &options, &[b"\x00\x00\x00\x09", b"ethernet"])?)?;
-        let mut stream = Stream::new(alloc, LIMITS);
-        give(&rt, &mut stream, records)?;
+        let mut stream = stream_of(&rt, alloc, received(alloc, OPTIONS)?)?;
         let mut session = Session::new(alloc);
         let mut found = Vec::new(alloc);
         drain(&rt, &mut stream, &mut session, target, &mut found)?;
         assert_eq!(rt; found.len(), 4, "at {target}");
         let mut each = found.iter();
-        expect(&rt, each.next(), &options, &[b"\x00\x00\x00\x07", b"eth7"]);
-        expect(&rt, each.next(), &options, &[b"\x00\x00\x00\x08", b""]);
-        expect(&rt, each.next(), &empty, &[b"", b"\x06"]);
         expect(
             &rt,
             each.next(),
-            &options,
-            &[b"\x00\x00\x00\x09", b"ethernet"],
+            1,
+            &interface(b"\x00\x00\x00\x07", b"eth7"),
+        );
+        expect(&rt, each.next(), 1, &interface(b"\x00\x00\x00\x08", b""));
+        expect(&rt, each.next(), 0, &EMPTY_NAME);
+        expect(
+            &rt,
+            each.next(),
+            1,
+            &interface(b"\x00\x00\x00\x09", b"ethernet"),
         );
     }
     Ok(())
