@@ -9,3 +9,4 @@ pub mod Pushing
 pub mod Pulling
 pub mod Rooms
 pub mod CallLaws
+pub mod SetLaws

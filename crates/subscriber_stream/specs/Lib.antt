@@ -11,6 +11,7 @@ pub use Rattle.sequences.specs.Before
 pub mod Shapes
 pub mod Parts
 pub mod Message
+pub mod LongestSets
 pub mod Table
 pub mod Waiting
 pub mod Standing

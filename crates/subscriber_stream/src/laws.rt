@@ -5,7 +5,8 @@ ghost use Rattle.ipfix_template.specs.Equality.{same_template};
 ghost use Rattle.ipfix_template.specs.DataRecord.{DataRecord};
 ghost use Rattle.subscriber_stream.specs.Shapes.{shapes_of, shapes_after};
 ghost use Rattle.subscriber_stream.specs.Parts.{Part, parts, records_in};
-ghost use Rattle.subscriber_stream.specs.Message.{message, run_length};
+ghost use Rattle.subscriber_stream.specs.Message.{Set, sets_of, message, run_length};
+ghost use Rattle.subscriber_stream.specs.LongestSets.{AreSets};
 ghost use Rattle.subscriber_stream.specs.Standing.{Standing, StandsAt};
 ghost use Rattle.subscriber_stream.specs.Calls.{Call, Serves, pulls_of, octets_from};
 ghost use Rattle.std.specs.Prelude.{true, ◌↔◌};
@@ -35,6 +36,12 @@ pub fn one_shape()
 /// The shapes of a longer list are those of its front, and then those of the rest that are not among them.
 pub fn shapes_go_on()
     ensures { (records more : List DataRecord) → shapes_of (records ++ more) ≡ shapes_after (shapes_of records) more }
+{}
+
+/// The sets of parts hold these parts in their order, each Data Set brings a record, and none stands right before another of its
+/// ID, so that none could be longer; and only the sets of the parts are so.
+pub fn sets_are_longest()
+    ensures { (ps : List Part) (sets : List Set) → (sets ≡ sets_of ps) ↔ AreSets ps sets }
 {}
 
 /// A run that has more than one part is at most the target long, and the next longer run is not.

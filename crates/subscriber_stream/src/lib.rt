@@ -5,7 +5,8 @@
 //! - [`stream`]: `Stream`, which queues records and builds the messages.
 //! - [`limits`]: `Limits`, how many records may wait, and how many templates may be announced.
 //! - [`pull_error`]: `PullError`, why no message was built.
-//! - [`laws`]: what a subscriber gets is a function of the records and the pulls.
+//! - [`laws`]: what a subscriber gets is a function of the records and the pulls (`octets_of_pulls`); which sets
+//!   a message has (`sets_are_longest`) and how many parts (`longest_run`).
 #![tactic(auto)]
 
 mod fitting;
@@ -19,7 +20,8 @@ mod waiting;
 mod writing;
 
 pub use laws::{
-    longest_run, octets_of_pulls, one_shape, parts_bring_the_list, parts_go_on, shapes_go_on,
+    longest_run, octets_of_pulls, one_shape, parts_bring_the_list, parts_go_on, sets_are_longest,
+    shapes_go_on,
 };
 pub use limits::Limits;
 pub use pull_error::PullError;

@@ -416,3 +416,14 @@ fn many_records_of_many_shapes(rt: HostRuntime) -> Result<(), Fail> {
     );
     expect_end(&rt, &mut stream)
 }
+
+#[test]
+fn laws_are_called() {
+    octets_of_pulls();
+    parts_bring_the_list();
+    parts_go_on();
+    one_shape();
+    shapes_go_on();
+    sets_are_longest();
+    longest_run();
+}
