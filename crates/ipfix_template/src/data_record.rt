@@ -178,13 +178,6 @@ fn specifier_octets(fields: &[FieldSpec]) -> usize
     octets
 }
 
-fn one_specifier_octets(field: &FieldSpec) -> usize
-    ensures exact { result ≡ length (specifier field.now) }
-    ensures few { result ≤ 8 }
-{
-    if field.element.pen().is_some() { 8 } else { 4 }
-}
-
 /// Whether there is a value for each field, and each fits its own.
 fn values_fit(fields: &[FieldSpec], values: &[Bytes]) -> bool
     ensures { result ≡ fit_fields fields.now values.now }

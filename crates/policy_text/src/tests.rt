@@ -404,11 +404,7 @@ fn most_aggregates(rt: HostRuntime) -> Result<(), Fail> {
         let line = aggregate_line(rt.alloc(), place)?;
         text.push_str(line.as_str())?;
     }
-    push(
-        &rt,
-        &mut text,
-        "rule for * in * from * to * aggregate a255\n",
-    )?;
+    text.push_str("rule for * in * from * to * aggregate a255\n")?;
     let policy = parse(&rt, text.as_str()).ok().ok_or("a policy")?;
     assert_eq!(rt; policy.aggregates().len(), 256);
     assert_eq!(rt; policy.rules().len(), 1);
