@@ -22,6 +22,18 @@ use std::{process, str};
 const PASS: &str =
     "policy 1;rule for * in * from * to * pass;rule for * in * from * to * element * keep";
 
+/// The words of a run for acme, to whom all passes; on octets, and on hexadecimal text.
+const OFFLINE: [&str; 5] = ["offline", "--policy-text", PASS, "--subscriber", "acme"];
+
+const OFFLINE_HEX: [&str; 6] = [
+    "offline",
+    "--policy-text",
+    PASS,
+    "--subscriber",
+    "acme",
+    "--hex",
+];
+
 /// A message with a template of source address, source port and octet count, and one record.
 const FLOW: &str =
     "000a0032 6553f100 00000000 00000007  00020014 01000003 00080004 00070002 00010004  0100000e c000024d 01bb 000005dc";

@@ -286,14 +286,15 @@ with_key-sound key more e h =
     let others = and_parts (not (list_any (λ k. eqb k.number e.number) key)) (ltb (length key) 16) parts.1 in
     record { more_is = passed.1; room = ltb-true (length key) 16 others.1; again = h ∙ ap (λ (l : List Element). Ok l) (sym passed.1) }
 
-record KeyFrom (key out : List Element) : Type 0 where
+-- a key that these pieces made longer
+record KeyFrom (key : List Element) (pieces : List Word) (out : List Element) : Type 0 where
   elements : IsKeyAfter [] out
-  longer : length key ≤ length out
+  longer : length out ≡ length key + length pieces
   few : length out ≤ 16
 
-pieces-sound : (key : List Element) (pieces : List Word) (out : List Element) → IsKeyAfter [] key → length key ≤ 16 → add_pieces key pieces ≡ Ok out → KeyFrom key out
+pieces-sound : (key : List Element) (pieces : List Word) (out : List Element) → IsKeyAfter [] key → length key ≤ 16 → add_pieces key pieces ≡ Ok out → KeyFrom key pieces out
 unfolding add_pieces add_piece
-pieces-sound key [] out h few e = let P : List Element → Type 0 = λ x. KeyFrom key x in subst P (same_Ok key out e) (record { elements = h; longer = omega arith; few = few })
+pieces-sound key [] out h few e = let P : List Element → Type 0 = λ x. KeyFrom key [] x in subst P (same_Ok key out e) (record { elements = h; longer = omega arith; few = few })
 pieces-sound key (piece ∷ pieces) out h few e =
     let first = bind_Ok (element piece >>= λ x. with_key key x) (λ more. add_pieces more pieces) out e in
     let read = bind_Ok (element piece) (λ x. with_key key x) first.0 first.1 in
@@ -306,27 +307,13 @@ pieces-sound key (piece ∷ pieces) out h few e =
     let longer = rest.longer in
     record { elements = rest.elements; longer = omega arith; few = rest.few }
 
-some_piece : (key : List Element) (pieces : List Word) (out : List Element) → 0 < length pieces → IsKeyAfter [] key → length key ≤ 16 → add_pieces key pieces ≡ Ok out → KeyFrom key out × (1 ≤ length out)
-unfolding add_pieces add_piece
-some_piece key [] out some h few e = absurd (omega arith)
-some_piece key (piece ∷ pieces) out some h few e =
-    let first = bind_Ok (element piece >>= λ x. with_key key x) (λ more. add_pieces more pieces) out e in
-    let read = bind_Ok (element piece) (λ x. with_key key x) first.0 first.1 in
-    let added = with_key-sound key first.0 read.0 read.2 in
-    let P : List Element → Type 0 = λ x. IsKeyAfter [] x in
-    let grown = subst P added.more_is (key_push [] key read.0 h (element-sound piece read.0 read.1) added.again) in
-    let count : length first.0 ≡ length key + 1 = omega (arith, ap length added.more_is, length-append key (read.0 ∷ [])) in
-    let room = added.room in
-    let rest = pieces-sound first.0 pieces out grown (omega arith) first.2 in
-    let longer = rest.longer in
-    (record { elements = rest.elements; longer = omega arith; few = rest.few }, omega arith)
-
 key-sound : (w : Word) (key : List Element) → key_of w ≡ Ok key → IsKey key × IsKeyLength (length key)
 unfolding key_of
 key-sound w key e =
     let count = length-slice_split (λ c. eqb c 44) w in
-    let h = some_piece [] (slice_split (λ c. eqb c 44) w) key (omega arith) tt (omega arith) e in
-    (as_key key h.0.elements, (h.1, h.0.few))
+    let h = pieces-sound [] (slice_split (λ c. eqb c 44) w) key tt (omega arith) e in
+    let longer = h.longer in
+    (as_key key h.elements, (omega arith, h.few))
 
 interval-sound : (w : Word) (n : ℕ) → interval w ≡ Ok n → (1 ≤ n) × (n ≤ 86400)
 unfolding interval

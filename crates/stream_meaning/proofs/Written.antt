@@ -165,32 +165,20 @@ brings_is : (table : Table) (id place : ℕ) (rs : List DataRecord) → AreBroug
 brings_is table id place rs are few =
     set_by (Brings id rs) place (item_of place (Brings id rs)) are.high few (data_content id (place + 4) (flat_map spelled rs) are.low)
 
+-- a set, and the others behind it
+set_more : (s : Set) (sets : List Set) (place : ℕ) → IsSet place (set_text s) (item_of place s ∷ []) → AreSets (length sets) (place + length (set_text s)) (texts sets) (items_at (place + length (set_text s)) sets) → AreSets (length (s ∷ sets)) place (texts (s ∷ sets)) (items_at place (s ∷ sets))
+set_more s sets place one others = (set_text s, texts sets, item_of place s ∷ [], items_at (place + length (set_text s)) sets, refl, refl, one, others)
+
 pub sets_are : (sets : List Set) (table : Table) (place : ℕ) → AreWritten table sets → length (texts sets) < 65536 → AreSets (length sets) place (texts sets) (items_at place sets)
 sets_are [] table place all few = (refl, refl)
 sets_are (Announces id shape ∷ sets) table place all few =
     let s = Announces id shape in
-    let len = length-append (set_text s) (texts sets) in (
-      set_text s,
-      texts sets,
-      item_of place s ∷ [],
-      items_at (place + length (set_text s)) sets,
-      refl,
-      refl,
-      announces_is id place shape all.0 (omega (arith, few, len)),
-      sets_are sets (defining id shape table) (place + length (set_text s)) all.1 (omega (arith, few, len)),
-    )
+    let len = length-append (set_text s) (texts sets) in
+    set_more s sets place (announces_is id place shape all.0 (omega (arith, few, len))) (sets_are sets (defining id shape table) (place + length (set_text s)) all.1 (omega (arith, few, len)))
 sets_are (Brings id rs ∷ sets) table place all few =
     let s = Brings id rs in
-    let len = length-append (set_text s) (texts sets) in (
-      set_text s,
-      texts sets,
-      item_of place s ∷ [],
-      items_at (place + length (set_text s)) sets,
-      refl,
-      refl,
-      brings_is table id place rs all.0 (omega (arith, few, len)),
-      sets_are sets table (place + length (set_text s)) all.1 (omega (arith, few, len)),
-    )
+    let len = length-append (set_text s) (texts sets) in
+    set_more s sets place (brings_is table id place rs all.0 (omega (arith, few, len))) (sets_are sets table (place + length (set_text s)) all.1 (omega (arith, few, len)))
 
 -- ---- the message
 

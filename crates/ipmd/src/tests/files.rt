@@ -183,16 +183,8 @@ fn order_of_faults(rt: HostRuntime) -> Result<(), Fail> {
 /// An output that is full is a failed device, in each command.
 #[test]
 fn full_output(rt: HostRuntime) -> Result<(), Fail> {
-    let hexadecimal = [
-        "offline",
-        "--policy-text",
-        PASS,
-        "--subscriber",
-        "acme",
-        "--hex",
-    ];
     let cases = [
-        (hexadecimal.as_slice(), 3, DEVICE),
+        (OFFLINE_HEX.as_slice(), 3, DEVICE),
         (&["check-policy", "--policy-text", PASS], 3, DEVICE),
         (&["--help"], 3, DEVICE),
         (

@@ -3,17 +3,6 @@
 use super::*;
 use std::io::{self, ErrorKind, Write};
 
-const OCTETS: [&str; 5] = ["offline", "--policy-text", PASS, "--subscriber", "acme"];
-
-const HEXADECIMAL: [&str; 6] = [
-    "offline",
-    "--policy-text",
-    PASS,
-    "--subscriber",
-    "acme",
-    "--hex",
-];
-
 const BAD_VERSION: &str = "ipmd: framing BadVersion\n";
 
 /// That the octets of a text in hexadecimal, read as they are, are answered so.
@@ -23,7 +12,7 @@ fn expect_answer<R: Files + AllocGlobal + Abort>(
     answer: &str,
 ) -> Result<(), Fail> {
     let octets = octets_of(rt.alloc(), input)?;
-    let ran = run_on(rt, &OCTETS, octets.as_slice())?;
+    let ran = run_on(rt, &OFFLINE, octets.as_slice())?;
     expect_texts(rt, &ran, 1, "", answer)
 }
 
@@ -48,14 +37,14 @@ fn two_octets(rt: HostRuntime) -> Result<(), Fail> {
 
 #[test]
 fn hexadecimal_read_as_octets(rt: HostRuntime) -> Result<(), Fail> {
-    let ran = run_on(&rt, &OCTETS, FLOW.as_bytes())?;
+    let ran = run_on(&rt, &OFFLINE, FLOW.as_bytes())?;
     expect_texts(&rt, &ran, 1, "", BAD_VERSION)
 }
 
 #[test]
 fn octets_read_as_hexadecimal(rt: HostRuntime) -> Result<(), Fail> {
     let octets = octets_of(rt.alloc(), FLOW)?;
-    let ran = run_on(&rt, &HEXADECIMAL, octets.as_slice())?;
+    let ran = run_on(&rt, &OFFLINE_HEX, octets.as_slice())?;
     expect_texts(&rt, &ran, 1, "", "ipmd: hex\n")
 }
 
@@ -94,7 +83,7 @@ impl Write for ClosedPipe {
 #[test]
 fn closed_pipe(rt: HostRuntime) -> Result<(), Fail> {
     let check = ["check-policy", "--policy-text", PASS];
-    for words in [HEXADECIMAL.as_slice(), check.as_slice()] {
+    for words in [OFFLINE_HEX.as_slice(), check.as_slice()] {
         let mut errors = Vec::with_capacity(rt.alloc(), ROOM)?;
         let status = program(&rt, words, FLOW.as_bytes(), ClosedPipe, &mut errors);
         assert_eq!(rt; str::from_utf8(errors.as_slice())?, "ipmd: device\n");
