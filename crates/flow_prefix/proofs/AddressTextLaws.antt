@@ -19,7 +19,7 @@ use Rattle.flow_prefix.specs.declared.family.Family.TheVariants.{Ipv4, Ipv6}
 use Rattle.flow_prefix.specs.Family.{separator}
 use Rattle.flow_prefix.specs.Text.{IsPart, AreParts}
 use Rattle.flow_prefix.specs.Reading.{part_of, each_part_of, parts_of, groups_of}
-use Rattle.flow_prefix.proofs.NumeralLaws.{number_of-found, number_of-only, digits_number-found, digits_number-only}
+use Rattle.numerals.proofs.NumeralLaws.{number_of-found, number_of-only, digits_number-found, digits_number-only}
 use Rattle.flow_prefix.proofs.PowerLaws.{power_up}
 
 pub part_of-found : (family : Family) (word : List ℕ) (n : ℕ) → part_of family word ≡ Some n → IsPart family word n

@@ -1,6 +1,5 @@
 pub mod PowerLaws
 pub mod BitLaws
-pub mod NumeralLaws
 pub mod ScanLaws
 pub mod PartsLaws
 pub mod AddressLaws

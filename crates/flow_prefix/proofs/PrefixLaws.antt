@@ -11,10 +11,10 @@ use Rattle.flow_prefix.specs.declared.prefix.Prefix.{Prefix}
 use Rattle.flow_prefix.specs.declared.prefix.Prefix.TheVariants.{V4, V6}
 use Rattle.flow_prefix.specs.Family.{width}
 use Rattle.flow_prefix.specs.Bits.{truncated}
-use Rattle.flow_prefix.specs.Numerals.{number_of}
+use Rattle.numerals.specs.Numerals.{number_of}
 use Rattle.flow_prefix.specs.Text.{IsAddress, IsPrefixForm, IsPrefixText, HasNoForm, HasLongLength, HasHostBits}
 use Rattle.flow_prefix.specs.Reading.{cut_at, address_of, prefix_in, judged, by_family, with_bits, of_sides, prefix_of}
-use Rattle.flow_prefix.proofs.NumeralLaws.{number_of-found, number_of-only}
+use Rattle.numerals.proofs.NumeralLaws.{number_of-found, number_of-only}
 use Rattle.flow_prefix.proofs.AddressReadLaws.{address_of-found, address_of-only, address_of-other, address_no_slash, address_below}
 use Rattle.flow_prefix.proofs.CutLaws.{cut_at-middle, cut_at-text}
 

@@ -1,8 +1,8 @@
 pub use Rattle.sequences.specs.Octets
+pub use Rattle.numerals.specs.Numerals
 pub mod Family
 pub mod Bits
 pub mod Net
-pub mod Numerals
 pub mod Text
 pub mod Reading
 pub mod Parts

@@ -12,7 +12,7 @@ use Rattle.flow_prefix.specs.declared.prefix.Prefix.TheVariants.{V4, V6}
 use Rattle.flow_prefix.specs.Bits.{truncated}
 use Rattle.flow_prefix.specs.Family.{width, places, base, separator}
 use Rattle.flow_prefix.specs.Net.{Net}
-use Rattle.flow_prefix.specs.Numerals.{number_of, digits_number}
+use Rattle.numerals.specs.Numerals.{number_of, digits_number}
 
 -- what stands before the first such byte, and behind it
 unfoldable pub cut_at : ℕ → List ℕ → Option (List ℕ × List ℕ)

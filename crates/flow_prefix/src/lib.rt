@@ -6,7 +6,6 @@
 //! - `prefix`: [`Prefix`], read by `parse`, asked by `contains`, written by `print`.
 //! - `net`: [`Prefix4`] and [`Prefix6`], what the two kinds of prefix hold.
 //! - `fault`: [`PrefixFault`], why a text is no prefix.
-//! - `numeral`: [`read_number`], decimal numbers without leading zeros.
 //! - `scan`: [`cut_at`], the two sides of an octet.
 //! - `bits`: [`keep_bits`], truncation of a value to its first bits.
 //! - `laws`: [`print_then_parse`] and [`kept_bits_are_truncated`], proved over the definitions.
@@ -18,7 +17,6 @@ mod family;
 mod fault;
 mod laws;
 mod net;
-mod numeral;
 mod parts;
 mod prefix;
 mod scan;
@@ -30,6 +28,5 @@ pub use family::Family;
 pub use fault::PrefixFault;
 pub use laws::{kept_bits_are_truncated, print_then_parse};
 pub use net::{Prefix4, Prefix6};
-pub use numeral::read_number;
 pub use prefix::Prefix;
 pub use scan::cut_at;

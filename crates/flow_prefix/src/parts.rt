@@ -4,8 +4,8 @@ ghost use Rattle.flow_prefix.specs.Reading.{part_of, parts_of, groups_of, each_p
 ghost use Rattle.flow_prefix.specs.Parts.{IsCounted, continued, counted};
 
 use crate::family::Family;
-use crate::numeral::{read_digits, read_number};
 use crate::scan::cut_at;
+use numerals::{read_digits, read_number};
 
 const GREATEST_OCTET: u32 = 0xff;
 

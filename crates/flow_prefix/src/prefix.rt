@@ -7,8 +7,8 @@ use crate::bits::first_bits;
 use crate::family::Family;
 use crate::fault::PrefixFault;
 use crate::net::{Prefix4, Prefix6};
-use crate::numeral::read_number;
 use crate::scan::cut_at;
+use numerals::read_number;
 use std::alloc::{AllocError, Global};
 
 const GREATEST_LENGTH: u32 = 999;

@@ -1,6 +1,4 @@
-use crate::{
-    Family, Prefix, PrefixFault, keep_bits, kept_bits_are_truncated, print_then_parse, read_number,
-};
+use crate::{Family, Prefix, PrefixFault, keep_bits, kept_bits_are_truncated, print_then_parse};
 use std::alloc::{AllocError, Global};
 use std::process::Abort;
 use std::test::Fail;
@@ -208,7 +206,6 @@ fn a_thousand_digits(rt: HostRuntime) -> Result<(), Fail> {
             "of {front:?} and {back:?}"
         );
     }
-    assert_eq!(rt; read_number(digits.as_bytes(), u32::MAX), None);
     Ok(())
 }
 
@@ -231,19 +228,7 @@ fn values_inside(rt: HostRuntime) -> Result<(), Fail> {
 }
 
 #[test]
-fn numbers_and_widths(rt: HostRuntime) {
-    for (word, want) in [
-        ("0", Some(0u32)),
-        ("4294967295", Some(4_294_967_295)),
-        ("4294967296", None),
-        ("00", None),
-        ("08", None),
-        ("", None),
-        ("1a", None),
-    ] {
-        assert_eq!(rt; read_number(word.as_bytes(), u32::MAX), want, "at {word}");
-    }
-    assert_eq!(rt; read_number(b"33", 32), None);
+fn widths(rt: HostRuntime) {
     assert_eq!(rt; Family::Ipv4.width(), 32);
     assert_eq!(rt; Family::Ipv6.width(), 128);
 }

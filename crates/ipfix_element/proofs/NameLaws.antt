@@ -2,18 +2,33 @@
 use Rattle.std.proofs.Common.{◌≡◌, ◌≢◌, ℕ, suc, ◌^◌, ◌<◌, ◌≤◌, ◌⊎◌, le-leb, true, List, [], ◌∷◌, ◌++◌, length, get_or, Option, Some, None, IfSome, refl, ap, sym, ◌∙◌, subst, inl, inr, length-append, arith}
 use Rattle.std.specs.Fmt.{decimal}
 use Rattle.std.specs.List.{list_all}
-use Rattle.std.specs.Str.Parse.{AllDigits}
+use Rattle.std.specs.Char.{digit_value}
+use Rattle.std.specs.Str.Parse.{AllDigits, digits_value}
 use Rattle.std.proofs.lemmas.List.Folds.{list_all-append}
 use Rattle.std.proofs.Math.Seq.{get_or-append_seam}
 use Rattle.std.proofs.lemmas.List.{get_or_append_left}
 use Rattle.std.proofs.lemmas.Bool.{false≢true}
-use Rattle.std.proofs.lemmas.Fmt.{decimal_injective}
+use Rattle.std.proofs.lemmas.Str.Parse.{IsNumeralModel, numerals_by_value, tells_digits, not_in_digits, digit_at, digit_from_value}
+use Rattle.std.proofs.lemmas.Fmt.{decimal_injective, decimal_nonempty, digits_decimal}
+use Rattle.numerals.specs.Numerals.{IsNumber}
 use Rattle.ipfix_element.specs.Element.{Element, IsElement}
 use Rattle.ipfix_element.specs.Registry.{Registered, line_for}
 use Rattle.ipfix_element.specs.Names.{numbered_name, name_on, element_name, OneName, OneWord, is_name_octet}
 use Rattle.ipfix_element.specs.Lines.{IsLineName}
-use Rattle.ipfix_element.proofs.NumeralLaws.{no_slash-decimal, first_digit, digit_passes, digits_of_decimal}
 use Rattle.ipfix_element.proofs.RegistryLaws.{looks_numbered, line_is, line_word, named_only}
+
+own : IsNumeralModel (AllDigits 10) (digits_value 10)
+own = numerals_by_value _ tells_digits
+
+no_slash-decimal : (n : ℕ) → n < 2 ^ 32 → (i : ℕ) → i < length (decimal n) → get_or (decimal n) i 0 ≢ 47
+no_slash-decimal n small =
+    not_in_digits own (decimal n) 47 (digits_decimal own n (omega arith)) (λ r. omega arith)
+
+first_digit : (n : ℕ) → n < 2 ^ 32 → (0 < length (decimal n)) × (48 ≤ get_or (decimal n) 0 0) × (get_or (decimal n) 0 0 ≤ 57)
+first_digit n small =
+    let some = decimal_nonempty n (omega arith) in
+    let digit = digit_at (decimal n) 0 (digits_decimal own n (omega arith)) some in
+    (some, digit.0, digit.1)
 
 abbrev Lacks : ℕ → List ℕ → Type 0
 Lacks c xs = (i : ℕ) → i < length xs → get_or xs i 0 ≢ c
@@ -59,8 +74,7 @@ no_e text h e is = h (numbers_of e.pen e.number) (is ∙ numbered_name-is e.pen 
 pub record IsPair (pen number : List ℕ) (e : Element) : Type 0 where
   pub enterprise : ℕ
   pub is : e.pen ≡ Some enterprise
-  pub small : enterprise < 2 ^ 32
-  pub pen_text : pen ≡ decimal enterprise
+  pub pen_number : IsNumber 4294967295 pen enterprise
   pub number_text : number ≡ decimal e.number
 
 pair_at : (pen number : List ℕ) (p : Option ℕ) (n : ℕ) → IfSome p (λ v. v < 2 ^ 32) → n < 32768 → Lacks 47 pen → pen ++ (47 ∷ number) ≡ numbers_of p n → IsPair pen number (record { pen = p; number = n })
@@ -69,7 +83,8 @@ pair_at pen number None n fits below lacks e =
     absurd (not_lacking 47 (decimal n) pen number (no_slash-decimal n (omega arith)) (sym e))
 pair_at pen number (Some v) n fits below lacks e =
     let parts = cut_once 47 pen number (decimal v) (decimal n) lacks (no_slash-decimal v fits) e in
-    record { enterprise = v; is = refl; small = fits; pen_text = parts.0; number_text = parts.1 }
+    let small : v < 2 ^ 32 = fits in
+    record { enterprise = v; is = refl; pen_number = record { bound = omega (arith, small); text = parts.0 }; number_text = parts.1 }
 
 behind_e : (text numbers : List ℕ) (e : Element) → text ≡ 101 ∷ numbers → text ≡ numbered_name e.pen e.number → numbers ≡ numbers_of e.pen e.number
 behind_e text numbers e front is =
@@ -90,12 +105,14 @@ single_is text numbers front lacks e is =
     single_at numbers e.pen e.number lacks (behind_e text numbers e front is)
 
 -- what `numbered` owes of an element of an enterprise that it found
-pub pair_found : (text numbers pen number : List ℕ) (p : ℕ) (r : Option Element) → text ≡ 101 ∷ numbers → numbers ≡ pen ++ (47 ∷ number) → (p < 2 ^ 32) × (pen ≡ decimal p) → IfSome r (λ e. (e.pen ≡ Some p) × (e.number < 32768) × (number ≡ decimal e.number)) → IfSome r (λ e. IsElement e × (text ≡ numbered_name e.pen e.number))
+pub pair_found : (text numbers pen number : List ℕ) (p : ℕ) (r : Option Element) → text ≡ 101 ∷ numbers → numbers ≡ pen ++ (47 ∷ number) → IsNumber 4294967295 pen p → IfSome r (λ e. (e.pen ≡ Some p) × (e.number < 32768) × (number ≡ decimal e.number)) → IfSome r (λ e. IsElement e × (text ≡ numbered_name e.pen e.number))
 pair_found text numbers pen number p None front cut read found = tt
 pair_found text numbers pen number p (Some e) front cut read found =
+    let bound = read.bound in
+    let fits_pen : p < 2 ^ 32 = omega (arith, bound) in
     let shown : numbered_name (Some p) e.number ≡ numbered_name e.pen e.number = ap (λ q. numbered_name q e.number) (sym found.0) in
-    let fits = subst (λ (q : Option ℕ). IfSome q (λ v. v < 2 ^ 32)) (sym found.0) read.0 in
-    let whole = front ∙ ap (λ ns. 101 ∷ ns) cut ∙ ap (λ ds. 101 ∷ (ds ++ (47 ∷ number))) read.1 ∙ ap (λ ds. 101 ∷ (decimal p ++ (47 ∷ ds))) found.2 in
+    let fits = subst (λ (q : Option ℕ). IfSome q (λ v. v < 2 ^ 32)) (sym found.0) fits_pen in
+    let whole = front ∙ ap (λ ns. 101 ∷ ns) cut ∙ ap (λ ds. 101 ∷ (ds ++ (47 ∷ number))) read.text ∙ ap (λ ds. 101 ∷ (decimal p ++ (47 ∷ ds))) found.2 in
     (record { pen = fits; number = found.1 }, whole ∙ shown)
 
 -- an element by its parts
@@ -212,12 +229,16 @@ not_both a b line same has lacks =
     cc
 
 -- digits are octets of a name
+digit_passes : (d : ℕ) → digit_value d < 10 → is_name_octet d ≡ true
+digit_passes d h =
+    let range = digit_from_value d h in rw (le-leb 48 d range.0, le-leb d 57 range.1) refl
+
 digits_pass : (ds : List ℕ) → AllDigits 10 ds → list_all is_name_octet ds ≡ true
 digits_pass [] h = refl
 digits_pass (d ∷ ds) h = rw (digit_passes d h.0, digits_pass ds h.1) refl
 
 decimal_pass : (n : ℕ) → n < 2 ^ 32 → list_all is_name_octet (decimal n) ≡ true
-decimal_pass n small = digits_pass (decimal n) (digits_of_decimal n small)
+decimal_pass n small = digits_pass (decimal n) (digits_decimal own n (omega arith))
 
 word_at : (p : Option ℕ) (n : ℕ) → IfSome p (λ v. v < 2 ^ 32) → n < 32768 → list_all is_name_octet (101 ∷ numbers_of p n) ≡ true
 unfolding numbers_of

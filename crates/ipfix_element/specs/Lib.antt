@@ -3,4 +3,3 @@ pub mod Registry
 pub mod Kinds
 pub mod Names
 pub mod Lines
-pub mod Numerals

@@ -7,14 +7,12 @@
 //! - `length`: [`allowed_length`] and [`full_width`], by kind.
 //! - `registry`: [`kind_of`], over the registry's lines.
 //! - `name`: [`name_of`] and [`by_name`], with their laws [`one_name`] and [`one_word`].
-//! - `numeral`: decimal numbers without leading zeros, for names.
 #![tactic(auto)]
 
 mod element_id;
 mod kind;
 mod length;
 mod name;
-mod numeral;
 mod registry;
 #[cfg(test)]
 mod tests;

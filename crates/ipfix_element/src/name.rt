@@ -11,8 +11,8 @@ ghost use Rattle.ipfix_element.specs.Lines.{IsLineName, is_named};
 ghost use Rattle.ipfix_element.specs.Names.{element_name, numbered_name, OneName, OneWord};
 
 use crate::element_id::ElementId;
-use crate::numeral::read_decimal;
 use crate::registry::{NUMBERS, entry_for, entry_of};
+use numerals::read_number;
 use std::alloc::{AllocError, Global};
 
 /// The name of an element. Each [`ElementId`] has one, and what the laws of names ask of it.
@@ -86,7 +86,7 @@ fn numbered(text: &str) -> Option<ElementId>
 {
     let numbers = text.strip_prefix('e')?;
     match numbers.split_once('/') {
-        Some((pen, number)) => element_at(Some(read_decimal(pen)?), number),
+        Some((pen, number)) => element_at(Some(read_number(pen.as_bytes(), u32::MAX)?), number),
         None => element_at(None, numbers),
     }
 }
@@ -98,6 +98,6 @@ fn element_at(pen: Option<u32>, text: &str) -> Option<ElementId>
     ensures only { (number : ℕ) → number < 32768 → text.now ≡ decimal number
         → result ≡ Some (record { pen = pen; number = number }) }
 {
-    let number = u16::try_from(read_decimal(text)?).ok()?;
+    let number = u16::try_from(read_number(text.as_bytes(), u32::MAX)?).ok()?;
     ElementId::new(pen, number)
 }

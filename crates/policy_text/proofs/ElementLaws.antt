@@ -16,9 +16,9 @@ use Rattle.ipfix_element.specs.Lines.{IsLineName}
 use Rattle.ipfix_element.specs.Names.{element_name, numbered_name, name_on, is_name_octet}
 use Rattle.ipfix_element.proofs.RegistryLaws.{find_both}
 use Rattle.ipfix_element.proofs.NameLaws.{named_how, one_name, one_word}
-use Rattle.flow_prefix.specs.Numerals.{number_of}
+use Rattle.numerals.specs.Numerals.{number_of}
 use Rattle.flow_prefix.specs.Reading.{cut_at}
-use Rattle.flow_prefix.proofs.NumeralLaws.{number_of-found, number_of-only}
+use Rattle.numerals.proofs.NumeralLaws.{number_of-found, number_of-only}
 use Rattle.flow_prefix.proofs.AddressTextLaws.{digit_other}
 use Rattle.flow_prefix.proofs.CutLaws.{cut_at-middle}
 use Rattle.sequences.specs.Options.{◌>>=◌}

@@ -6,7 +6,7 @@ use Rattle.std.specs.Fmt.{decimal}
 use Rattle.std.proofs.lemmas.Fmt.{decimal_is_IsNumeral}
 use Rattle.std.proofs.lemmas.List.Splits.{slice_split_at}
 use Rattle.std.proofs.lemmas.Bool.{ne_eqb, false≢true, and_parts, and_from, not-true}
-use Rattle.flow_prefix.proofs.NumeralLaws.{test_from_AllDigits}
+use Rattle.numerals.proofs.NumeralLaws.{test_from_AllDigits}
 use Rattle.sequences.proofs.ListLaws.{AllByRecursion-append, Lacks}
 use Rattle.std.proofs.lemmas.List.Elements.{All-from_recursion}
 use Rattle.sequences.proofs.JoinLaws.{split-joined}

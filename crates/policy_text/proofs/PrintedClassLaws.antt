@@ -17,12 +17,12 @@ use Rattle.flow_prefix.specs.declared.family.Family.TheVariants.{Ipv4, Ipv6}
 use Rattle.flow_prefix.specs.declared.prefix.Prefix.{Prefix}
 use Rattle.flow_prefix.specs.declared.prefix.Prefix.TheVariants.{V4, V6}
 use Rattle.flow_prefix.specs.Family.{separator}
-use Rattle.flow_prefix.specs.Numerals.{number_of, digits_number}
+use Rattle.numerals.specs.Numerals.{number_of, digits_number}
 use Rattle.flow_prefix.specs.Text.{IsPrefixForm}
 use Rattle.flow_prefix.specs.Reading.{prefix_of, cut_at}
 use Rattle.flow_prefix.specs.Prefixes.{IsPrefix}
 use Rattle.flow_prefix.specs.Printing.{prefix_text}
-use Rattle.flow_prefix.proofs.NumeralLaws.{number_of-only}
+use Rattle.numerals.proofs.NumeralLaws.{number_of-only}
 use Rattle.flow_prefix.proofs.AddressTextLaws.{Lacks-digits, AllDigits-wider}
 use Rattle.flow_prefix.proofs.AddressReadLaws.{written_lacks}
 use Rattle.flow_prefix.proofs.PrintLaws.{prefix_text-is, reads_back}

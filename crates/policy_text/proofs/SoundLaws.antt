@@ -10,11 +10,11 @@ use Rattle.ipfix_element.specs.Kinds.{kind_of}
 use Rattle.flow_prefix.specs.declared.prefix.Prefix.{Prefix}
 use Rattle.flow_prefix.specs.declared.prefix.Prefix.TheVariants.{V4, V6}
 use Rattle.flow_prefix.specs.declared.fault.PrefixFault.{PrefixFault}
-use Rattle.flow_prefix.specs.Numerals.{number_of}
+use Rattle.numerals.specs.Numerals.{number_of}
 use Rattle.flow_prefix.specs.Reading.{prefix_of}
 use Rattle.flow_prefix.specs.Text.{IsPrefixText}
 use Rattle.flow_prefix.specs.Prefixes.{IsPrefix}
-use Rattle.flow_prefix.proofs.NumeralLaws.{number_of-found}
+use Rattle.numerals.proofs.NumeralLaws.{number_of-found}
 use Rattle.flow_prefix.proofs.PrefixLaws.{prefix_of-found}
 use Rattle.sequences.proofs.ResultLaws.{same_Ok, Err-Ok, bind_Ok}
 use Rattle.sequences.proofs.OptionLaws.{none_from_is_some}

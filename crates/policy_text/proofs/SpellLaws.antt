@@ -10,10 +10,10 @@ use Rattle.ipfix_element.specs.Element.{Element}
 use Rattle.ipfix_element.specs.Names.{element_name}
 use Rattle.flow_prefix.specs.declared.prefix.Prefix.{Prefix}
 use Rattle.flow_prefix.specs.declared.fault.PrefixFault.{PrefixFault}
-use Rattle.flow_prefix.specs.Numerals.{number_of}
+use Rattle.numerals.specs.Numerals.{number_of}
 use Rattle.flow_prefix.specs.Reading.{prefix_of}
 use Rattle.flow_prefix.specs.Text.{IsPrefixText}
-use Rattle.flow_prefix.proofs.NumeralLaws.{number_of-found}
+use Rattle.numerals.proofs.NumeralLaws.{number_of-found}
 use Rattle.flow_prefix.proofs.PrefixLaws.{prefix_of-found, prefix_of-only}
 use Rattle.sequences.proofs.ResultLaws.{Err-Ok, same_Ok, bind_Ok}
 use Rattle.sequences.specs.Results.{◌>>=◌}

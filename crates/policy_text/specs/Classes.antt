@@ -8,7 +8,7 @@ use Rattle.ipfix_element.specs.declared.kind.Kind.TheVariants.{U8, U16, U32, U64
 use Rattle.ipfix_element.specs.Kinds.{kind_of}
 use Rattle.flow_prefix.specs.declared.prefix.Prefix.{Prefix}
 use Rattle.flow_prefix.specs.declared.fault.PrefixFault.{PrefixFault}
-use Rattle.flow_prefix.specs.Numerals.{number_of}
+use Rattle.numerals.specs.Numerals.{number_of}
 use Rattle.flow_prefix.specs.Reading.{prefix_of}
 use Rattle.sequences.specs.Results.{◌>>=◌}
 use Rattle.policy_text.specs.declared.fault.FaultKind.{FaultKind}

@@ -5,7 +5,7 @@ use Rattle.std.specs.Str.{bytes_eq}
 use Rattle.ipfix_element.specs.Element.{Element}
 use Rattle.ipfix_element.specs.Registry.{Registered, registry}
 use Rattle.ipfix_element.specs.Names.{element_name}
-use Rattle.flow_prefix.specs.Numerals.{number_of}
+use Rattle.numerals.specs.Numerals.{number_of}
 use Rattle.flow_prefix.specs.Reading.{cut_at}
 use Rattle.sequences.specs.Options.{◌>>=◌}
 use Rattle.policy_text.specs.Words.{Word}

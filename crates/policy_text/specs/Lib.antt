@@ -2,7 +2,7 @@ pub use Rattle.ipfix_element.specs.Element
 pub use Rattle.ipfix_element.specs.Kinds
 pub use Rattle.ipfix_element.specs.Registry
 pub use Rattle.ipfix_element.specs.Names
-pub use Rattle.flow_prefix.specs.Numerals
+pub use Rattle.numerals.specs.Numerals
 pub use Rattle.flow_prefix.specs.Reading
 pub use Rattle.flow_prefix.specs.Prefixes
 pub use Rattle.flow_prefix.specs.Printing as PrefixPrinting

@@ -4,7 +4,7 @@ use Rattle.std.specs.List.{slice_split, fold}
 use Rattle.std.specs.Str.{bytes_eq}
 use Rattle.ipfix_element.specs.Element.{Element, IsElement}
 use Rattle.ipfix_element.specs.Names.{element_name}
-use Rattle.flow_prefix.specs.Numerals.{number_of}
+use Rattle.numerals.specs.Numerals.{number_of}
 use Rattle.policy_text.specs.declared.fault.FaultKind.{FaultKind}
 use Rattle.policy_text.specs.declared.fault.FaultKind.TheVariants.{UnknownWord, BadName, BadNumber, BadPrefix, BadTruncate, UnknownAggregate, DoubleAggregate, BadKey, TooMany}
 use Rattle.policy_text.specs.Words.{Word}

@@ -1,4 +1,4 @@
-use Rattle.flow_prefix.proofs.NumeralLaws.{if_bounded}
+use Rattle.numerals.proofs.NumeralLaws.{if_bounded}
 use Rattle.flow_prefix.proofs.parts.read_group.Goals as goal
 
 pub returns-clause-bound : goal.returns-clause-bound

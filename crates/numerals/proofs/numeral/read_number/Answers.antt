@@ -1,6 +1,6 @@
 use Rattle.std.proofs.Common.{◌∙◌, arith}
-use Rattle.flow_prefix.proofs.NumeralLaws.{number_of-only, if_found}
-use Rattle.flow_prefix.proofs.numeral.read_number.Goals as goal
+use Rattle.numerals.proofs.NumeralLaws.{number_of-only, if_found}
+use Rattle.numerals.proofs.numeral.read_number.Goals as goal
 
 pub returns-clause-found : goal.returns-clause-found
 returns-clause-found c = if_found c.args.most c.args.word.now c.number.result (omega arith) c.number.ensures

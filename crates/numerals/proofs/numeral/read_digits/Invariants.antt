@@ -1,6 +1,6 @@
 use Rattle.std.proofs.Common.{◌≡◌, ◌≤◌, drop}
-use Rattle.flow_prefix.proofs.NumeralLaws.{digits_from}
-use Rattle.flow_prefix.proofs.numeral.read_digits.Given as goal
+use Rattle.numerals.proofs.NumeralLaws.{digits_from}
+use Rattle.numerals.proofs.numeral.read_digits.Given as goal
 
 abbrev pub invariant-loop-byte : goal.invariant-loop-byte
 invariant-loop-byte l = record {

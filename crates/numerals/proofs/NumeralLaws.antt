@@ -11,7 +11,7 @@ use Rattle.std.proofs.lemmas.Option.{cond_some, none-some}
 use Rattle.std.proofs.lemmas.Bool.{lt-ltb, le-ltb, le-leb, lt-leb, and_parts, and_from, and_right, and_cases, cases_Bool, ltb-true, ltb-false, leb-true, eqb-false, ne_eqb, cases_eq}
 use Rattle.std.proofs.lemmas.List.{drop_more}
 use Rattle.std.proofs.Math.Nat.{mul-le-mul_left}
-use Rattle.flow_prefix.specs.Numerals.{digits_number, number_of, are_digits, has_leading_zero, IsNumber}
+use Rattle.numerals.specs.Numerals.{digits_number, number_of, are_digits, has_leading_zero, IsNumber}
 
 -- the number that digits write after those of n, from 0 to most
 unfoldable pub digits_from : ℕ → ℕ → ℕ → List ℕ → Option ℕ

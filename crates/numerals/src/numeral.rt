@@ -1,11 +1,11 @@
 ghost use Rattle.std.specs.Prelude.{◌≡◌, ℕ, ◌≤◌, Some, IfSome};
-ghost use Rattle.flow_prefix.specs.Numerals.{digits_number, number_of, IsNumber};
+ghost use Rattle.numerals.specs.Numerals.{digits_number, number_of, IsNumber};
 
 const DECIMAL: u32 = 10;
 
 /// The number that a word of digits writes in this radix. `None` where the word is empty, has another
 /// character, or writes more than `most`; it may be of any length.
-pub(crate) fn read_digits(word: &[u8], radix: u32, most: u32) -> Option<u32>
+pub fn read_digits(word: &[u8], radix: u32, most: u32) -> Option<u32>
     requires low { 2 ≤ radix }
     requires high { radix ≤ 36 }
     ensures { result ≡ digits_number radix most word.now }

@@ -2,8 +2,8 @@ use Rattle.std.proofs.Common.{refl, ◌≡◌, ◌+◌, ◌*◌, ◌<◌, [], le
 use Rattle.std.specs.Char.{digit_value}
 use Rattle.std.proofs.lemmas.Bool.{eqb-true, eqb-false}
 use Rattle.std.proofs.lemmas.List.{drop_all}
-use Rattle.flow_prefix.proofs.NumeralLaws.{digits_from, digits_number-empty, digits_number-from, digits_from-above, digits_from-more, digits_from-stop, digits_from-nil}
-use Rattle.flow_prefix.proofs.numeral.read_digits.Goals as goal
+use Rattle.numerals.proofs.NumeralLaws.{digits_from, digits_number-empty, digits_number-from, digits_from-above, digits_from-more, digits_from-stop, digits_from-nil}
+use Rattle.numerals.proofs.numeral.read_digits.Goals as goal
 
 pub returns-then-is_empty : goal.returns-then-is_empty
 returns-then-is_empty c =
