@@ -236,9 +236,26 @@ rule_behind_who aggregates who = after (codes "in") who.1 >>= λ b. rule_domain 
 abbrev pub rule_who : List Definition → List Word → Result Rule FaultKind
 rule_who aggregates a = next (or_star name) a >>= λ who. rule_behind_who aggregates who
 
-pub rule_of-sound : (aggregates : List Definition) (words : List Word) (r : Rule) → rule_of aggregates words ≡ Ok r → IsRule aggregates r
+abbrev pub the_rule : Option Word → Option ℕ → Option Prefix → Option Prefix → Option Element × Action → Rule
+the_rule who domain from to what = record { who = who; domain = domain; from = from; to = to; element = what.0; action = what.1 }
+
+-- the steps in which a rule is read
+pub record RuleSteps (aggregates : List Definition) (words : List Word) (r : Rule) : Type 0 where
+  pub behind_for : (a : List Word) × (after (codes "for") words ≡ Ok a) × (rule_who aggregates a ≡ Ok r)
+  pub who : (x : Option Word × List Word) × (next (or_star name) behind_for.0 ≡ Ok x) × (rule_behind_who aggregates x ≡ Ok r)
+  pub behind_in : (b : List Word) × (after (codes "in") who.0.1 ≡ Ok b) × (rule_domain aggregates who.0.0 b ≡ Ok r)
+  pub domain : (x : Option ℕ × List Word) × (next (or_star (number 4294967295)) behind_in.0 ≡ Ok x) × (rule_behind_domain aggregates who.0.0 x ≡ Ok r)
+  pub behind_from : (c : List Word) × (after (codes "from") domain.0.1 ≡ Ok c) × (rule_from aggregates who.0.0 domain.0.0 c ≡ Ok r)
+  pub from : (x : Option Prefix × List Word) × (next (or_star prefix) behind_from.0 ≡ Ok x) × (rule_behind_from aggregates who.0.0 domain.0.0 x ≡ Ok r)
+  pub behind_to : (d : List Word) × (after (codes "to") from.0.1 ≡ Ok d) × (rule_to aggregates who.0.0 domain.0.0 from.0.0 d ≡ Ok r)
+  pub to : (x : Option Prefix × List Word) × (next (or_star prefix) behind_to.0 ≡ Ok x) × (rule_action aggregates who.0.0 domain.0.0 from.0.0 x ≡ Ok r)
+  pub action : (x : (Option Element × Action) × List Word) × (action_of aggregates to.0.1 ≡ Ok x) × (rule_end who.0.0 domain.0.0 from.0.0 to.0.0 x ≡ Ok r)
+  pub end : (nothing_more : Unit {0}) × (ended action.0.1 ≡ Ok nothing_more)
+  pub made : the_rule who.0.0 domain.0.0 from.0.0 to.0.0 action.0.0 ≡ r
+
+pub rule_steps : (aggregates : List Definition) (words : List Word) (r : Rule) → rule_of aggregates words ≡ Ok r → RuleSteps aggregates words r
 unfolding rule_of
-rule_of-sound aggregates words r h =
+rule_steps aggregates words r h =
     let s0 = bind_Ok (after (codes "for") words) (λ a. rule_who aggregates a) r h in
     let who = bind_Ok (next (or_star name) s0.0) (λ x. rule_behind_who aggregates x) r s0.2 in
     let s1 = bind_Ok (after (codes "in") who.0.1) (λ b. rule_domain aggregates who.0.0 b) r who.2 in
@@ -249,14 +266,19 @@ rule_of-sound aggregates words r h =
     let to = bind_Ok (next (or_star prefix) s3.0) (λ x. rule_action aggregates who.0.0 domain.0.0 from.0.0 x) r s3.2 in
     let done = bind_Ok (action_of aggregates to.0.1) (λ x. rule_end who.0.0 domain.0.0 from.0.0 to.0.0 x) r to.2 in
     let end = bind_Ok (ended done.0.1) (λ nothing_more. Ok (record { who = who.0.0; domain = domain.0.0; from = from.0.0; to = to.0.0; element = done.0.0.0; action = done.0.0.1 })) r done.2 in
-    let action = action_of-sound aggregates to.0.1 done.0 done.1 in
+    record { behind_for = s0; who = who; behind_in = s1; domain = domain; behind_from = s2; from = from; behind_to = s3; to = to; action = done; end = (end.0, end.1); made = same_Ok (the_rule who.0.0 domain.0.0 from.0.0 to.0.0 done.0.0) r end.2 }
+
+pub rule_of-sound : (aggregates : List Definition) (words : List Word) (r : Rule) → rule_of aggregates words ≡ Ok r → IsRule aggregates r
+rule_of-sound aggregates words r h =
+    let steps = rule_steps aggregates words r h in
+    let action = action_of-sound aggregates steps.to.0.1 steps.action.0 steps.action.1 in
     let P : Rule → Type 0 = λ x. IsRule aggregates x in
-    subst P (same_Ok (record { who = who.0.0; domain = domain.0.0; from = from.0.0; to = to.0.0; element = done.0.0.0; action = done.0.0.1 }) r end.2)
+    subst P steps.made
     (record {
-      who = next_given (λ w. is_name w ≡ true) name name-sound s0.0 who.0 who.1;
-      domain = next_given (λ d. d < 2 ^ 32) (number 4294967295) domain-sound s1.0 domain.0 domain.1;
-      from = next_given IsPrefix prefix prefix-sound s2.0 from.0 from.1;
-      to = next_given IsPrefix prefix prefix-sound s3.0 to.0 to.1;
+      who = next_given (λ w. is_name w ≡ true) name name-sound steps.behind_for.0 steps.who.0 steps.who.1;
+      domain = next_given (λ d. d < 2 ^ 32) (number 4294967295) domain-sound steps.behind_in.0 steps.domain.0 steps.domain.1;
+      from = next_given IsPrefix prefix prefix-sound steps.behind_from.0 steps.from.0 steps.from.1;
+      to = next_given IsPrefix prefix prefix-sound steps.behind_to.0 steps.to.0 steps.to.1;
       element = action.element_is;
       action = action.action_is;
     })
@@ -363,9 +385,24 @@ aggregate_key named a = next key_of a >>= λ key. aggregate_behind_key named key
 abbrev pub aggregate_behind_name : Word × List Word → Result Definition FaultKind
 aggregate_behind_name named = after (codes "key") named.1 >>= λ a. aggregate_key named.0 a
 
-pub aggregate_of-sound : (before : List Definition) (words : List Word) (a : Definition) → aggregate_of before words ≡ Ok a → IsAggregate before a
+abbrev pub the_aggregate : Word → List Element → ℕ → ℕ → Definition
+the_aggregate named key seconds grace = record { name = named; key = key; interval = seconds; grace = grace }
+
+-- the steps in which an aggregate is read
+pub record AggregateSteps (before : List Definition) (words : List Word) (a : Definition) : Type 0 where
+  pub named : (x : Word × List Word) × (next (new_name before) words ≡ Ok x) × (aggregate_behind_name x ≡ Ok a)
+  pub behind_key : (b : List Word) × (after (codes "key") named.0.1 ≡ Ok b) × (aggregate_key named.0.0 b ≡ Ok a)
+  pub key : (x : List Element × List Word) × (next key_of behind_key.0 ≡ Ok x) × (aggregate_behind_key named.0.0 x ≡ Ok a)
+  pub behind_interval : (c : List Word) × (after (codes "interval") key.0.1 ≡ Ok c) × (aggregate_interval named.0.0 key.0.0 c ≡ Ok a)
+  pub seconds : (x : ℕ × List Word) × (next interval behind_interval.0 ≡ Ok x) × (aggregate_behind_interval named.0.0 key.0.0 x ≡ Ok a)
+  pub behind_grace : (d : List Word) × (after (codes "grace") seconds.0.1 ≡ Ok d) × (aggregate_grace named.0.0 key.0.0 seconds.0.0 d ≡ Ok a)
+  pub grace : (x : ℕ × List Word) × (next (number 86400) behind_grace.0 ≡ Ok x) × (aggregate_end named.0.0 key.0.0 seconds.0.0 x ≡ Ok a)
+  pub end : (nothing_more : Unit {0}) × (ended grace.0.1 ≡ Ok nothing_more)
+  pub made : the_aggregate named.0.0 key.0.0 seconds.0.0 grace.0.0 ≡ a
+
+pub aggregate_steps : (before : List Definition) (words : List Word) (a : Definition) → aggregate_of before words ≡ Ok a → AggregateSteps before words a
 unfolding aggregate_of
-aggregate_of-sound before words a h =
+aggregate_steps before words a h =
     let named = bind_Ok (next (new_name before) words) (λ x. aggregate_behind_name x) a h in
     let s0 = bind_Ok (after (codes "key") named.0.1) (λ x. aggregate_key named.0.0 x) a named.2 in
     let key = bind_Ok (next key_of s0.0) (λ x. aggregate_behind_key named.0.0 x) a s0.2 in
@@ -374,16 +411,21 @@ aggregate_of-sound before words a h =
     let s2 = bind_Ok (after (codes "grace") seconds.0.1) (λ x. aggregate_grace named.0.0 key.0.0 seconds.0.0 x) a seconds.2 in
     let grace = bind_Ok (next (number 86400) s2.0) (λ x. aggregate_end named.0.0 key.0.0 seconds.0.0 x) a s2.2 in
     let end = bind_Ok (ended grace.0.1) (λ nothing_more. Ok (record { name = named.0.0; key = key.0.0; interval = seconds.0.0; grace = grace.0.0 })) a grace.2 in
-    let name_word = next_word (new_name before) words named.0 named.1 in
-    let name_is = new_name-sound before name_word.0 named.0.0 name_word.1 in
-    let key_word = next_word key_of s0.0 key.0 key.1 in
-    let key_is = key-sound key_word.0 key.0.0 key_word.1 in
-    let seconds_word = next_word interval s1.0 seconds.0 seconds.1 in
-    let seconds_are = interval-sound seconds_word.0 seconds.0.0 seconds_word.1 in
-    let grace_word = next_word (number 86400) s2.0 grace.0 grace.1 in
-    let grace_is = number-sound 86400 (omega arith) grace_word.0 grace.0.0 grace_word.1 in
+    record { named = named; behind_key = s0; key = key; behind_interval = s1; seconds = seconds; behind_grace = s2; grace = grace; end = (end.0, end.1); made = same_Ok (the_aggregate named.0.0 key.0.0 seconds.0.0 grace.0.0) a end.2 }
+
+pub aggregate_of-sound : (before : List Definition) (words : List Word) (a : Definition) → aggregate_of before words ≡ Ok a → IsAggregate before a
+aggregate_of-sound before words a h =
+    let steps = aggregate_steps before words a h in
+    let name_word = next_word (new_name before) words steps.named.0 steps.named.1 in
+    let name_is = new_name-sound before name_word.0 steps.named.0.0 name_word.1 in
+    let key_word = next_word key_of steps.behind_key.0 steps.key.0 steps.key.1 in
+    let key_is = key-sound key_word.0 steps.key.0.0 key_word.1 in
+    let seconds_word = next_word interval steps.behind_interval.0 steps.seconds.0 steps.seconds.1 in
+    let seconds_are = interval-sound seconds_word.0 steps.seconds.0.0 seconds_word.1 in
+    let grace_word = next_word (number 86400) steps.behind_grace.0 steps.grace.0 steps.grace.1 in
+    let grace_is = number-sound 86400 (omega arith) grace_word.0 steps.grace.0.0 grace_word.1 in
     let P : Definition → Type 0 = λ x. IsAggregate before x in
-    subst P (same_Ok (record { name = named.0.0; key = key.0.0; interval = seconds.0.0; grace = grace.0.0 }) a end.2)
+    subst P steps.made
     (record {
       name = name_is.0;
       other = name_is.1;

@@ -37,7 +37,7 @@ use Rattle.policy_text.specs.Spelling.{IsPrefixWord, rule_tail, SpellsRule, Adds
 use Rattle.policy_text.proofs.ElementLaws.{element_of-found}
 use Rattle.policy_text.proofs.ParsingLaws.{read_lines-cons, read_lines-done, read_lines-empty}
 use Rattle.policy_text.proofs.PrintedClassLaws.{name-printed, or_star-word, or_star-star, or_star-printed, name-star, number-star, prefix-star}
-use Rattle.policy_text.proofs.SoundLaws.{guarded, or_fault-Ok, place_name, with_key-sound, rule_end, rule_action, rule_to, rule_behind_from, rule_from, rule_behind_domain, rule_domain, rule_behind_who, rule_who, aggregate_end, aggregate_grace, aggregate_behind_interval, aggregate_interval, aggregate_behind_key, aggregate_key, aggregate_behind_name, rule_of-sound, aggregate_of-sound}
+use Rattle.policy_text.proofs.SoundLaws.{guarded, or_fault-Ok, place_name, with_key-sound, rule_steps, aggregate_steps, rule_of-sound, aggregate_of-sound}
 use Rattle.policy_text.proofs.RoundLaws.{domain_back, action_back, aggregate_back}
 
 next_of-text : (words : List Word) (x : Word × List Word) → next_of words ≡ Ok x → words ≡ x.0 ∷ x.1
@@ -309,52 +309,34 @@ record RuleWords (aggregates : List Definition) (words : List Word) (r : Rule) :
   pub words_are : words ≡ rule_tail aggregates r from to
 
 rule_words-found : (aggregates : List Definition) (words : List Word) (r : Rule) → rule_of aggregates words ≡ Ok r → RuleWords aggregates words r
-unfolding rule_of
 rule_words-found aggregates words r h =
-    let s0 = bind_Ok (after (codes "for") words) (λ a. rule_who aggregates a) r h in
-    let who = bind_Ok (next (or_star name) s0.0) (λ x. rule_behind_who aggregates x) r s0.2 in
-    let s1 = bind_Ok (after (codes "in") who.0.1) (λ b. rule_domain aggregates who.0.0 b) r who.2 in
-    let domain = bind_Ok (next (or_star (number 4294967295)) s1.0) (λ x. rule_behind_domain aggregates who.0.0 x) r s1.2 in
-    let s2 = bind_Ok (after (codes "from") domain.0.1) (λ c. rule_from aggregates who.0.0 domain.0.0 c) r domain.2 in
-    let from = bind_Ok (next (or_star prefix) s2.0) (λ x. rule_behind_from aggregates who.0.0 domain.0.0 x) r s2.2 in
-    let s3 = bind_Ok (after (codes "to") from.0.1) (λ d. rule_to aggregates who.0.0 domain.0.0 from.0.0 d) r from.2 in
-    let to = bind_Ok (next (or_star prefix) s3.0) (λ x. rule_action aggregates who.0.0 domain.0.0 from.0.0 x) r s3.2 in
-    let done = bind_Ok (action_of aggregates to.0.1) (λ x. rule_end who.0.0 domain.0.0 from.0.0 to.0.0 x) r to.2 in
-    let end = bind_Ok (ended done.0.1) (λ nothing_more. Ok (record { who = who.0.0; domain = domain.0.0; from = from.0.0; to = to.0.0; element = done.0.0.0; action = done.0.0.1 })) r done.2 in
-    let who_word = next-text (or_star name) s0.0 who.0 who.1 in
-    let domain_word = next-text (or_star (number 4294967295)) s1.0 domain.0 domain.1 in
-    let from_word = next-text (or_star prefix) s2.0 from.0 from.1 in
-    let to_word = next-text (or_star prefix) s3.0 to.0 to.1 in
-    let actions = action_words aggregates done.0.0.0 done.0.0.1 in
-    let t5 : to.0.1 ≡ actions = action_of-text aggregates to.0.1 done.0 done.1 ∙ ap (λ ws. actions ++ ws) (ended-text done.0.1 end.0 end.1) ∙ append-nil actions in
-    let t4 = after-text (codes "to") from.0.1 s3.0 s3.1 ∙ ap (λ ws. codes "to" ∷ ws) (onto to_word.0 to_word.0 s3.0 to.0.1 actions to_word.1 refl t5) in
-    let t3 = after-text (codes "from") domain.0.1 s2.0 s2.1 ∙ ap (λ ws. codes "from" ∷ ws) (onto from_word.0 from_word.0 s2.0 from.0.1 (codes "to" ∷ to_word.0 ∷ actions) from_word.1 refl t4) in
-    let t2 = after-text (codes "in") who.0.1 s1.0 s1.1 ∙ ap (λ ws. codes "in" ∷ ws) (onto domain_word.0 (word_or_star decimal domain.0.0) s1.0 domain.0.1 (codes "from" ∷ from_word.0 ∷ codes "to" ∷ to_word.0 ∷ actions) domain_word.1 (or_star-text (number 4294967295) decimal (number-text 4294967295 (omega arith)) domain_word.0 domain.0.0 domain_word.2) t3) in
-    let t1 = after-text (codes "for") words s0.0 s0.1 ∙ ap (λ ws. codes "for" ∷ ws) (onto who_word.0 (word_or_star itself who.0.0) s0.0 who.0.1 (codes "in" ∷ word_or_star decimal domain.0.0 ∷ codes "from" ∷ from_word.0 ∷ codes "to" ∷ to_word.0 ∷ actions) who_word.1 (or_star-text name itself name-text who_word.0 who.0.0 who_word.2) t2) in
+    let steps = rule_steps aggregates words r h in
+    let who_word = next-text (or_star name) steps.behind_for.0 steps.who.0 steps.who.1 in
+    let domain_word = next-text (or_star (number 4294967295)) steps.behind_in.0 steps.domain.0 steps.domain.1 in
+    let from_word = next-text (or_star prefix) steps.behind_from.0 steps.from.0 steps.from.1 in
+    let to_word = next-text (or_star prefix) steps.behind_to.0 steps.to.0 steps.to.1 in
+    let actions = action_words aggregates steps.action.0.0.0 steps.action.0.0.1 in
+    let t5 : steps.to.0.1 ≡ actions = action_of-text aggregates steps.to.0.1 steps.action.0 steps.action.1 ∙ ap (λ ws. actions ++ ws) (ended-text steps.action.0.1 steps.end.0 steps.end.1) ∙ append-nil actions in
+    let t4 = after-text (codes "to") steps.from.0.1 steps.behind_to.0 steps.behind_to.1 ∙ ap (λ ws. codes "to" ∷ ws) (onto to_word.0 to_word.0 steps.behind_to.0 steps.to.0.1 actions to_word.1 refl t5) in
+    let t3 = after-text (codes "from") steps.domain.0.1 steps.behind_from.0 steps.behind_from.1 ∙ ap (λ ws. codes "from" ∷ ws) (onto from_word.0 from_word.0 steps.behind_from.0 steps.from.0.1 (codes "to" ∷ to_word.0 ∷ actions) from_word.1 refl t4) in
+    let t2 = after-text (codes "in") steps.who.0.1 steps.behind_in.0 steps.behind_in.1 ∙ ap (λ ws. codes "in" ∷ ws) (onto domain_word.0 (word_or_star decimal steps.domain.0.0) steps.behind_in.0 steps.domain.0.1 (codes "from" ∷ from_word.0 ∷ codes "to" ∷ to_word.0 ∷ actions) domain_word.1 (or_star-text (number 4294967295) decimal (number-text 4294967295 (omega arith)) domain_word.0 steps.domain.0.0 domain_word.2) t3) in
+    let t1 = after-text (codes "for") words steps.behind_for.0 steps.behind_for.1 ∙ ap (λ ws. codes "for" ∷ ws) (onto who_word.0 (word_or_star itself steps.who.0.0) steps.behind_for.0 steps.who.0.1 (codes "in" ∷ word_or_star decimal steps.domain.0.0 ∷ codes "from" ∷ from_word.0 ∷ codes "to" ∷ to_word.0 ∷ actions) who_word.1 (or_star-text name itself name-text who_word.0 steps.who.0.0 who_word.2) t2) in
     let P : Rule → Type 0 = λ x. RuleWords aggregates words x in
-    subst P (same_Ok (record { who = who.0.0; domain = domain.0.0; from = from.0.0; to = to.0.0; element = done.0.0.0; action = done.0.0.1 }) r end.2)
-    (record { from = from_word.0; to = to_word.0; from_is = prefix_word from_word.0 from.0.0 from_word.2; to_is = prefix_word to_word.0 to.0.0 to_word.2; words_are = t1 })
+    subst P steps.made
+    (record { from = from_word.0; to = to_word.0; from_is = prefix_word from_word.0 steps.from.0.0 from_word.2; to_is = prefix_word to_word.0 steps.to.0.0 to_word.2; words_are = t1 })
 
 aggregate_words-found : (before : List Definition) (words : List Word) (a : Definition) → aggregate_of before words ≡ Ok a → codes "aggregate" ∷ words ≡ aggregate_words a
-unfolding aggregate_of
 aggregate_words-found before words a h =
-    let named = bind_Ok (next (new_name before) words) (λ x. aggregate_behind_name x) a h in
-    let s0 = bind_Ok (after (codes "key") named.0.1) (λ x. aggregate_key named.0.0 x) a named.2 in
-    let key = bind_Ok (next key_of s0.0) (λ x. aggregate_behind_key named.0.0 x) a s0.2 in
-    let s1 = bind_Ok (after (codes "interval") key.0.1) (λ x. aggregate_interval named.0.0 key.0.0 x) a key.2 in
-    let seconds = bind_Ok (next interval s1.0) (λ x. aggregate_behind_interval named.0.0 key.0.0 x) a s1.2 in
-    let s2 = bind_Ok (after (codes "grace") seconds.0.1) (λ x. aggregate_grace named.0.0 key.0.0 seconds.0.0 x) a seconds.2 in
-    let grace = bind_Ok (next (number 86400) s2.0) (λ x. aggregate_end named.0.0 key.0.0 seconds.0.0 x) a s2.2 in
-    let end = bind_Ok (ended grace.0.1) (λ nothing_more. Ok (record { name = named.0.0; key = key.0.0; interval = seconds.0.0; grace = grace.0.0 })) a grace.2 in
-    let name_word = next-text (new_name before) words named.0 named.1 in
-    let key_word = next-text key_of s0.0 key.0 key.1 in
-    let seconds_word = next-text interval s1.0 seconds.0 seconds.1 in
-    let grace_word = next-text (number 86400) s2.0 grace.0 grace.1 in
-    let t3 = after-text (codes "grace") seconds.0.1 s2.0 s2.1 ∙ ap (λ ws. codes "grace" ∷ ws) (onto grace_word.0 (decimal grace.0.0) s2.0 grace.0.1 [] grace_word.1 (number-text 86400 (omega arith) grace_word.0 grace.0.0 grace_word.2) (ended-text grace.0.1 end.0 end.1)) in
-    let t2 = after-text (codes "interval") key.0.1 s1.0 s1.1 ∙ ap (λ ws. codes "interval" ∷ ws) (onto seconds_word.0 (decimal seconds.0.0) s1.0 seconds.0.1 (codes "grace" ∷ decimal grace.0.0 ∷ []) seconds_word.1 (interval-text seconds_word.0 seconds.0.0 seconds_word.2) t3) in
-    let t1 = after-text (codes "key") named.0.1 s0.0 s0.1 ∙ ap (λ ws. codes "key" ∷ ws) (onto key_word.0 (key_text key.0.0) s0.0 key.0.1 (codes "interval" ∷ decimal seconds.0.0 ∷ codes "grace" ∷ decimal grace.0.0 ∷ []) key_word.1 (key-text key_word.0 key.0.0 key_word.2) t2) in
-    let t0 = onto name_word.0 named.0.0 words named.0.1 (codes "key" ∷ key_text key.0.0 ∷ codes "interval" ∷ decimal seconds.0.0 ∷ codes "grace" ∷ decimal grace.0.0 ∷ []) name_word.1 (new_name-text before name_word.0 named.0.0 name_word.2) t1 in
-    ap (λ ws. codes "aggregate" ∷ ws) t0 ∙ ap aggregate_words (same_Ok (record { name = named.0.0; key = key.0.0; interval = seconds.0.0; grace = grace.0.0 }) a end.2)
+    let steps = aggregate_steps before words a h in
+    let name_word = next-text (new_name before) words steps.named.0 steps.named.1 in
+    let key_word = next-text key_of steps.behind_key.0 steps.key.0 steps.key.1 in
+    let seconds_word = next-text interval steps.behind_interval.0 steps.seconds.0 steps.seconds.1 in
+    let grace_word = next-text (number 86400) steps.behind_grace.0 steps.grace.0 steps.grace.1 in
+    let t3 = after-text (codes "grace") steps.seconds.0.1 steps.behind_grace.0 steps.behind_grace.1 ∙ ap (λ ws. codes "grace" ∷ ws) (onto grace_word.0 (decimal steps.grace.0.0) steps.behind_grace.0 steps.grace.0.1 [] grace_word.1 (number-text 86400 (omega arith) grace_word.0 steps.grace.0.0 grace_word.2) (ended-text steps.grace.0.1 steps.end.0 steps.end.1)) in
+    let t2 = after-text (codes "interval") steps.key.0.1 steps.behind_interval.0 steps.behind_interval.1 ∙ ap (λ ws. codes "interval" ∷ ws) (onto seconds_word.0 (decimal steps.seconds.0.0) steps.behind_interval.0 steps.seconds.0.1 (codes "grace" ∷ decimal steps.grace.0.0 ∷ []) seconds_word.1 (interval-text seconds_word.0 steps.seconds.0.0 seconds_word.2) t3) in
+    let t1 = after-text (codes "key") steps.named.0.1 steps.behind_key.0 steps.behind_key.1 ∙ ap (λ ws. codes "key" ∷ ws) (onto key_word.0 (key_text steps.key.0.0) steps.behind_key.0 steps.key.0.1 (codes "interval" ∷ decimal steps.seconds.0.0 ∷ codes "grace" ∷ decimal steps.grace.0.0 ∷ []) key_word.1 (key-text key_word.0 steps.key.0.0 key_word.2) t2) in
+    let t0 = onto name_word.0 steps.named.0.0 words steps.named.0.1 (codes "key" ∷ key_text steps.key.0.0 ∷ codes "interval" ∷ decimal steps.seconds.0.0 ∷ codes "grace" ∷ decimal steps.grace.0.0 ∷ []) name_word.1 (new_name-text before name_word.0 steps.named.0.0 name_word.2) t1 in
+    ap (λ ws. codes "aggregate" ∷ ws) t0 ∙ ap aggregate_words steps.made
 
 -- lines
 abbrev pub IsLine : Meaning → List Word → Meaning → Type 0
