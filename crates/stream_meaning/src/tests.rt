@@ -106,6 +106,14 @@ fn read(session: &mut Session, message: &[u8]) -> Result<Read, Fail> {
     }
 }
 
+/// The next message. Where memory is refused once, the stream is asked again.
+fn next_message(stream: &mut Stream, target: u16) -> Result<Option<Bytes>, Fail> {
+    match pull_kept(stream, NOW, target) {
+        Err(PullError::OutOfMemory) => Ok(pull_kept(stream, NOW, target)?),
+        answer => Ok(answer?),
+    }
+}
+
 /// Pulls messages of this target to the end, and reads each into the records that were read before. Their
 /// number is the number of messages.
 fn drain(
@@ -117,7 +125,7 @@ fn drain(
 ) -> Result<usize, Fail> {
     let mut messages = 0usize;
     for _ in 0..1_000 {
-        let Some(message) = pull_kept(stream, NOW, target)? else {
+        let Some(message) = next_message(stream, target)? else {
             break;
         };
         let answer = read(session, &message)?;
@@ -199,8 +207,8 @@ fn a_holder(rt: HostRuntime) -> Result<(), Fail> {
     let records = received(alloc, ONE_PROTOCOL)?;
     assert_eq!(rt; records.len(), 1);
     let mut stream = stream_of(&rt, alloc, records)?;
-    let message = pull_kept(&mut stream, NOW, 1400)?.ok_or("nothing was queued")?;
-    assert!(rt; pull_kept(&mut stream, NOW, 1400)?.is_none());
+    let message = next_message(&mut stream, 1400)?.ok_or("nothing was queued")?;
+    assert!(rt; next_message(&mut stream, 1400)?.is_none());
     let mut session = Session::new(alloc);
     let answer = read(&mut session, &message)?;
     assert_eq!(rt; answer.records.len(), 1);
