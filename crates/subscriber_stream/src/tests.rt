@@ -37,27 +37,29 @@ const LIMITS: Limits = Limits {
     shapes: 100,
 };
 
-fn field(number: u16, length: u16) -> FieldSpec
-    requires { number < 32768 }
-{
-    FieldSpec {
-        element: ElementId::registered(number),
-        length,
+/// A template of these elements of the registry, each with its length, the first `scope` of them scope fields.
+fn template_of(alloc: Global, fields: &[(u16, u16)], scope: u16) -> Result<Arc<Template>, Fail> {
+    let mut specs = Vec::new(alloc);
+    for (number, length) in fields {
+        let element = ElementId::new(None, *number).ok_or("an element")?;
+        let length = *length;
+        specs.push(FieldSpec { element, length })?;
     }
+    shared_template(alloc, specs, scope)
 }
 
-fn template_of(alloc: Global, fields: &[FieldSpec], scope: u16) -> Result<Arc<Template>, Fail> {
-    let fields = Fields::from_vec(Vec::from_slice(alloc, fields)?)?;
+fn shared_template(
+    alloc: Global,
+    specs: Vec<FieldSpec>,
+    scope: u16,
+) -> Result<Arc<Template>, Fail> {
+    let fields = Fields::from_vec(specs)?;
     Ok(Arc::new(alloc, Template { fields, scope }).map_err(|_| "memory")?)
 }
 
 /// Source address, source port and octet count.
 fn flow_template(alloc: Global) -> Result<Arc<Template>, Fail> {
-    let fields = [
-        field(SOURCE_ADDRESS, 4),
-        field(SOURCE_PORT, 2),
-        field(OCTET_COUNT, 4),
-    ];
+    let fields = [(SOURCE_ADDRESS, 4), (SOURCE_PORT, 2), (OCTET_COUNT, 4)];
     template_of(alloc, &fields, 0)
 }
 
@@ -184,8 +186,8 @@ fn small_target(rt: HostRuntime) -> Result<(), Fail> {
 #[test]
 fn withdraw_and_redefine(rt: HostRuntime) -> Result<(), Fail> {
     let alloc = rt.alloc();
-    let first = template_of(alloc, &[field(PROTOCOL, 1)], 0)?;
-    let second = template_of(alloc, &[field(IP_VERSION, 1)], 0)?;
+    let first = template_of(alloc, &[(PROTOCOL, 1)], 0)?;
+    let second = template_of(alloc, &[(IP_VERSION, 1)], 0)?;
     let mut stream = Stream::new(alloc, LIMITS);
     give_one(
         &rt,
@@ -208,7 +210,7 @@ fn withdraw_and_redefine(rt: HostRuntime) -> Result<(), Fail> {
         \x00\x02\x00\x0c\x01\x01\x00\x01\x00\x3c\x00\x01\x01\x01\x00\x05\x04",
     )?;
     // An equal template is no new shape, whoever made it.
-    let again = template_of(alloc, &[field(PROTOCOL, 1)], 0)?;
+    let again = template_of(alloc, &[(PROTOCOL, 1)], 0)?;
     give_one(
         &rt,
         alloc,
@@ -235,7 +237,7 @@ fn assert_values(rt: &impl Abort, message: &[u8]) {
 #[test]
 fn value_lengths(rt: HostRuntime) -> Result<(), Fail> {
     let alloc = rt.alloc();
-    let template = template_of(alloc, &[field(INTERFACE_NAME, VARIABLE)], 0)?;
+    let template = template_of(alloc, &[(INTERFACE_NAME, VARIABLE)], 0)?;
     let mut stream = Stream::new(alloc, LIMITS);
     for length in [0, 254, 255, 3] {
         let value = Bytes::from_vec(Vec::from_elem(alloc, 0x61u8, length)?)?;
@@ -252,7 +254,7 @@ fn value_lengths(rt: HostRuntime) -> Result<(), Fail> {
 #[test]
 fn options_template(rt: HostRuntime) -> Result<(), Fail> {
     let alloc = rt.alloc();
-    let fields = [field(INTERFACE, 4), field(INTERFACE_NAME, VARIABLE)];
+    let fields = [(INTERFACE, 4), (INTERFACE_NAME, VARIABLE)];
     let template = template_of(alloc, &fields, 1)?;
     let mut stream = Stream::new(alloc, LIMITS);
     give_one(
@@ -296,8 +298,8 @@ fn target_of_the_exact_length(rt: HostRuntime) -> Result<(), Fail> {
 #[test]
 fn room_to_the_limits(rt: HostRuntime) -> Result<(), Fail> {
     let alloc = rt.alloc();
-    let first = template_of(alloc, &[field(PROTOCOL, 1)], 0)?;
-    let second = template_of(alloc, &[field(IP_VERSION, 1)], 0)?;
+    let first = template_of(alloc, &[(PROTOCOL, 1)], 0)?;
+    let second = template_of(alloc, &[(IP_VERSION, 1)], 0)?;
     let limits = Limits {
         queue: 3,
         shapes: 1,
@@ -363,8 +365,8 @@ fn full_queue(rt: HostRuntime) -> Result<(), Fail> {
 #[test]
 fn shapes_limit(rt: HostRuntime) -> Result<(), Fail> {
     let alloc = rt.alloc();
-    let first = template_of(alloc, &[field(PROTOCOL, 1)], 0)?;
-    let second = template_of(alloc, &[field(IP_VERSION, 1)], 0)?;
+    let first = template_of(alloc, &[(PROTOCOL, 1)], 0)?;
+    let second = template_of(alloc, &[(IP_VERSION, 1)], 0)?;
     let limits = Limits {
         queue: 100,
         shapes: 1,
@@ -388,7 +390,8 @@ fn many_records_of_many_shapes(rt: HostRuntime) -> Result<(), Fail> {
     let mut templates = Vec::new(alloc);
     for pen in 0..1_000u32 {
         let element = ElementId::enterprise(pen, 1);
-        templates.push(template_of(alloc, &[FieldSpec { element, length: 1 }], 0)?)?;
+        let specs = Vec::from_slice(alloc, &[FieldSpec { element, length: 1 }])?;
+        templates.push(shared_template(alloc, specs, 0)?)?;
     }
     for _ in 0..100 {
         let mut records = Vec::new(alloc);
