@@ -67,6 +67,18 @@ fn some_room(alloc: Global) -> Result<Vec<u8>, AllocError> {
     }
 }
 
+/// The words of a run for acme, to whom all passes, with these options.
+fn offline<'a>(alloc: Global, options: &[&'a str]) -> Result<Vec<&'a str>, AllocError> {
+    let mut words = Vec::new(alloc);
+    for word in OFFLINE {
+        words.push(word)?;
+    }
+    for option in options {
+        words.push(*option)?;
+    }
+    Ok(words)
+}
+
 /// Runs the program on streams in memory.
 fn run_on<R: Files + AllocGlobal, I: Read + Drop>(
     rt: &R,

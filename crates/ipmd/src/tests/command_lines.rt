@@ -93,28 +93,11 @@ fn refused_numbers(rt: HostRuntime) -> Result<(), Fail> {
         ("--target", "65536"),
         ("--target", "1e3"),
     ] {
-        let words = [
-            "offline",
-            "--policy-text",
-            PASS,
-            "--subscriber",
-            "acme",
-            option,
-            number,
-        ];
+        let words = offline(rt.alloc(), &[option, number])?;
         expect_refused(&rt, &words, option)?;
     }
-    let greatest = [
-        "offline",
-        "--policy-text",
-        PASS,
-        "--subscriber",
-        "acme",
-        "--now",
-        "4294967295",
-        "--target",
-        "65535",
-    ];
+    let options = ["--now", "4294967295", "--target", "65535"];
+    let greatest = offline(rt.alloc(), &options)?;
     let ran = run_on(&rt, &greatest, b"".as_slice())?;
     expect_texts(&rt, &ran, 0, "", "messages 0 records 0 disclosed 0\n")
 }
@@ -140,16 +123,7 @@ fn push_records(text: &mut String, count: u16) -> Result<(), AllocError> {
 /// Of 137 records, 136 fill a message of 1,400 octets; one octet more would not be taken.
 #[test]
 fn default_target(rt: HostRuntime) -> Result<(), Fail> {
-    let words = [
-        "offline",
-        "--policy-text",
-        PASS,
-        "--subscriber",
-        "acme",
-        "--now",
-        NOW,
-        "--hex",
-    ];
+    let words = offline(rt.alloc(), &["--now", NOW, "--hex"])?;
     let template = "0002001401000003000800040007000200010004";
     let mut input = format!(in rt.alloc(); "000a05826553f1000000000000000007{template}0100055e")?;
     push_records(&mut input, 137)?;

@@ -47,15 +47,7 @@ fn all_shapes(alloc: Global) -> Result<Vec<u8>, Fail> {
 #[test]
 fn shapes_limit(rt: HostRuntime) -> Result<(), Fail> {
     let path = scratch_path(&rt, "cut")?;
-    let words = [
-        "offline",
-        "--policy-text",
-        PASS,
-        "--subscriber",
-        "acme",
-        "--audit",
-        path.as_str(),
-    ];
+    let words = offline(rt.alloc(), &["--audit", path.as_str()])?;
     let mut stream = all_shapes(rt.alloc())?;
     let whole = run_on(&rt, &words, stream.as_slice())?;
     assert_eq!(rt;

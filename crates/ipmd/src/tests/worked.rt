@@ -56,18 +56,7 @@ fn expect_case<R: Files + AllocGlobal + Abort>(
 
 #[test]
 fn offline_hex(rt: HostRuntime) -> Result<(), Fail> {
-    let words = [
-        "offline",
-        "--policy-text",
-        PASS,
-        "--subscriber",
-        "acme",
-        "--now",
-        NOW,
-        "--target",
-        "1400",
-        "--hex",
-    ];
+    let words = offline(rt.alloc(), &["--now", NOW, "--target", "1400", "--hex"])?;
     let output = without_blanks(rt.alloc(), FLOW_PASSED)?;
     let ran = run_on(&rt, &words, FLOW.as_bytes())?;
     expect_texts(&rt, &ran, 0, output.as_str(), FLOW_REPORT)?;
