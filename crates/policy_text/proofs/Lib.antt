@@ -5,6 +5,7 @@ pub mod KeyLaws
 pub mod KeyStepLaws
 pub mod ParsingLaws
 pub mod MemoryLaws
+pub mod PartLaws
 pub mod NameLaws
 pub mod PrintLaws
 pub mod PlainLaws

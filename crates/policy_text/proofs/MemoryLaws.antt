@@ -12,7 +12,7 @@ use Rattle.policy_text.specs.Results.{is_memory}
 use Rattle.policy_text.specs.Memory.{line_takes, step_takes, TakesMemory}
 use Rattle.policy_text.specs.declared.fault.FaultKind.{FaultKind}
 use Rattle.policy_text.specs.declared.fault.PolicyFault.{PolicyFault}
-use Rattle.policy_text.proofs.SpellLaws.{line_step-found, header-found}
+use Rattle.policy_text.proofs.SpellLaws.{line_step-found, line_step-only, header-found, header-only, skip-only}
 
 -- what is so behind a line that could be read
 abbrev pub Behind : Result (Bool × Meaning) FaultKind → (Bool → Meaning → Type 0) → Type 0
@@ -117,6 +117,32 @@ text_taken text h =
       counts = t.counts;
       takes = t.takes;
     }
+
+-- the other way round: such a line is one of those that the walk over the lines finds
+step_taken : (p : Meaning) (line : List ℕ) → is_skipped (words_of line) ≡ false → line_takes p (words_of line) ≡ true → step_takes true p line ≡ true
+unfolding step_takes
+step_taken p line counts takes = rw (counts, takes) refl
+
+found_in_lines : (p so_far : Meaning) (before others : List (List ℕ)) (line : List ℕ) → AreLines p before so_far → is_skipped (words_of line) ≡ false → line_takes so_far (words_of line) ≡ true → SomeTakes true p (before ++ line ∷ others)
+found_in_lines p so_far [] others line same counts takes =
+    let P : Meaning → Type 0 = λ q. line_takes q (words_of line) ≡ true in
+    inl (step_taken p line counts (subst P (sym same) takes))
+found_in_lines p so_far (first ∷ before) others line h counts takes =
+    let S : Result (Bool × Meaning) FaultKind → Type 0 = λ r. Behind r (λ next q. SomeTakes next q (before ++ line ∷ others)) in
+    inr (subst S (sym (line_step-only p h.0 first h.1)) (found_in_lines h.0 so_far before others line h.2 counts takes))
+
+found_in_all : (so_far : Meaning) (before others : List (List ℕ)) (line : List ℕ) → AreAllLines before so_far → is_skipped (words_of line) ≡ false → line_takes so_far (words_of line) ≡ true → SomeTakes false nothing (before ++ line ∷ others)
+found_in_all so_far [] others line h counts takes = absurd h
+found_in_all so_far (first ∷ before) others line h counts takes =
+    let S : Result (Bool × Meaning) FaultKind → Type 0 = λ r. Behind r (λ next q. SomeTakes next q (before ++ line ∷ others)) in
+    ⊎_elim (λ (skip : (is_skipped (words_of first) ≡ true) × AreAllLines before so_far).
+    inr (subst S (sym (skip-only first skip.0)) (found_in_all so_far before others line skip.1 counts takes)))
+    (λ (kept : (is_skipped (words_of first) ≡ false) × (words_of first ≡ header) × AreLines nothing before so_far).
+    inr (subst S (sym (header-only first kept.0 kept.1)) (found_in_lines nothing so_far before others line kept.2 counts takes)))
+    h
+
+pub taken_text : (text : List ℕ) → TakesMemory text → SomeTakes false nothing (lines_of text)
+taken_text text t = subst (SomeTakes false nothing) (sym t.lines_are) (found_in_all t.so_far t.before t.others t.line t.spelled t.counts t.takes)
 
 -- a turn of the loop over the lines
 pub takes-turn : (started next : Bool) (p q : Meaning) (text line after : List ℕ) → cut_at 10 text ≡ Some (line, after) → line_step started p line ≡ Ok (next, q)
