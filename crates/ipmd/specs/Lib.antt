@@ -1,2 +1,4 @@
+pub mod CommandLine
 pub mod Status
 pub mod HexText
+pub mod Runs

@@ -1,5 +1,8 @@
 //! `ipmd check-policy`.
 
+ghost use Rattle.std.specs.Prelude.{IfErr, OnOk};
+ghost use Rattle.ipmd.specs.Runs.{CountsPolicy, RefusesToCount};
+
 use crate::fault::ProgramFault;
 use crate::policy_source::PolicySource;
 use policy_text::Policy;
@@ -14,7 +17,10 @@ pub fn check_policy<R: Files + AllocGlobal, O: Write>(
     rt: &R,
     source: PolicySource<'_>,
     output: &mut O,
-) -> Result<(), ProgramFault> {
+) -> Result<(), ProgramFault>
+    ensures ok { OnOk result (CountsPolicy source.entry (O.contents output.old) (O.contents output.new)) }
+    ensures err { IfErr result (RefusesToCount source.entry) }
+{
     let text = source.text(rt)?;
     let policy = Policy::parse(rt.alloc(), text.as_str())?;
     let rules = policy.rules().len();

@@ -1,10 +1,16 @@
 //! What may be asked for, and what a command line asks for.
+ghost use Rattle.std.specs.Prelude.{◌≡◌, false, map, IfErr, IfOk, IfSome, IsSome};
+ghost use Rattle.ipmd.specs.declared.command_line.OfflineOptions.{OfflineOptions};
+ghost use Rattle.ipmd.specs.declared.command_line.Task.{Task};
+ghost use Rattle.ipmd.specs.declared.policy_source.PolicySource.{PolicySource};
+ghost use Rattle.clap.specs.Words.{app_of, found_of, rows_of, rule_of, subcommand_rows_of};
+ghost use Rattle.ipmd.specs.CommandLine.{AreOptions, AsksFor, IsCommandIn, IsSource, RefusesWords, check_policy_command, ipmd_command, offline_command, valued, with_policy};
 
 use crate::fault::ProgramFault;
 use crate::help;
 use crate::policy_source::PolicySource;
 use clap::error::ErrorKind;
-use clap::{Arg, ArgAction, ArgGroup, ArgMatches, Command, value_parser};
+use clap::{Arg, ArgAction, ArgMatches, Command, value_parser};
 use std::alloc::{AllocError, Global};
 use std::convert::AsStr;
 
@@ -60,7 +66,10 @@ pub enum Task<'a> {
 pub fn read_command_line<'a, S: AsStr>(
     alloc: Global,
     words: &'a [S],
-) -> Result<Task<'a>, ProgramFault> {
+) -> Result<Task<'a>, ProgramFault>
+    ensures asked { IfOk result (AsksFor (map S.text words.entry.now)) }
+    ensures refused { IfErr result (RefusesWords (map S.text words.entry.now)) }
+{
     let mut command = whole_command(alloc)?;
     let matches = match command.try_get_matches_from_mut(words) {
         Ok(matches) => matches,
@@ -69,39 +78,57 @@ pub fn read_command_line<'a, S: AsStr>(
     };
     match task_of(&matches) {
         Some(task) => Ok(task),
-        // The parser has seen to it that there is a subcommand with all that it requires.
+        // The parser has seen to all but the two options of which one names the policy.
         None => Err(ProgramFault::from(command.error(
-            ErrorKind::MissingSubcommand,
-            "no command was given",
+            ErrorKind::MissingRequiredArgument,
+            "exactly one of '--policy <FILE>' and '--policy-text <TEXT>' must be given",
         )?)),
     }
 }
 
 /// The task of a command line that the parser has accepted.
-fn task_of<'a>(matches: &ArgMatches<'a>) -> Option<Task<'a>> {
+fn task_of<'a>(matches: &ArgMatches<'a>) -> Option<Task<'a>>
+    ensures found { IfSome result (λ task. IsCommandIn task (subcommand_rows_of matches.now)) }
+    ensures only { (task : Task) → IsCommandIn task (subcommand_rows_of matches.now) → IsSome result }
+{
     match matches.subcommand()? {
-        (OFFLINE, chosen) => Some(Task::Offline(OfflineOptions {
-            policy: policy_source(chosen)?,
-            subscriber: chosen.get_str(SUBSCRIBER)?,
-            now: chosen.get_one::<u32>(NOW)?,
-            target: chosen.get_one::<u16>(TARGET)?,
-            audit: chosen.get_str(AUDIT),
-            hex: chosen.get_flag(HEX),
-        })),
+        (OFFLINE, chosen) => Some(Task::Offline(offline_options(chosen)?)),
         (CHECK_POLICY, chosen) => Some(Task::CheckPolicy(policy_source(chosen)?)),
         _ => None,
     }
 }
 
-fn policy_source<'a>(matches: &ArgMatches<'a>) -> Option<PolicySource<'a>> {
-    match matches.get_str(POLICY) {
-        Some(path) => Some(PolicySource::File(path)),
-        None => matches.get_str(POLICY_TEXT).map(PolicySource::Text),
+/// The options of `ipmd offline`.
+fn offline_options<'a>(chosen: &ArgMatches<'a>) -> Option<OfflineOptions<'a>>
+    ensures found { IfSome result (λ options. AreOptions options (rows_of (found_of chosen.now))) }
+    ensures only { (options : OfflineOptions) → AreOptions options (rows_of (found_of chosen.now)) → IsSome result }
+{
+    Some(OfflineOptions {
+        policy: policy_source(chosen)?,
+        subscriber: chosen.get_str(SUBSCRIBER)?,
+        now: chosen.get_one::<u32>(NOW)?,
+        target: chosen.get_one::<u16>(TARGET)?,
+        audit: chosen.get_str(AUDIT),
+        hex: chosen.get_flag(HEX),
+    })
+}
+
+/// Where the policy comes from, where exactly one option names it.
+fn policy_source<'a>(chosen: &ArgMatches<'a>) -> Option<PolicySource<'a>>
+    ensures found { IfSome result (λ source. IsSource source (rows_of (found_of chosen.now))) }
+    ensures only { (source : PolicySource) → IsSource source (rows_of (found_of chosen.now)) → IsSome result }
+{
+    match (chosen.get_str(POLICY), chosen.get_str(POLICY_TEXT)) {
+        (Some(path), None) => Some(PolicySource::File(path)),
+        (None, Some(text)) => Some(PolicySource::Text(text)),
+        _ => None,
     }
 }
 
 /// The command with its subcommands. The words begin after the program's name.
-fn whole_command<'a>(alloc: Global) -> Result<Command<'a>, AllocError> {
+fn whole_command<'a>(alloc: Global) -> Result<Command<'a>, AllocError>
+    ensures { IfOk result (λ command. app_of command ≡ ipmd_command) }
+{
     Command::new(alloc, "ipmd")
         .bin_name("ipmd")?
         .no_binary_name(true)
@@ -113,8 +140,13 @@ fn whole_command<'a>(alloc: Global) -> Result<Command<'a>, AllocError> {
         .subcommand(check_policy_command(alloc)?)
 }
 
-fn offline_command<'a>(alloc: Global) -> Result<Command<'a>, AllocError> {
+fn offline_command<'a>(alloc: Global) -> Result<Command<'a>, AllocError>
+    ensures { IfOk result (λ command. app_of command ≡ offline_command) }
+{
     with_policy(alloc, Command::new(alloc, OFFLINE))?
+        .override_usage(
+            "ipmd offline (--policy <FILE> | --policy-text <TEXT>) --subscriber <NAME> [OPTIONS]",
+        )
         .about("Filters IPFIX messages from standard input to standard output for one subscriber")
         .after_help(help::OFFLINE)
         .arg(
@@ -145,30 +177,32 @@ fn offline_command<'a>(alloc: Global) -> Result<Command<'a>, AllocError> {
         )
 }
 
-fn check_policy_command<'a>(alloc: Global) -> Result<Command<'a>, AllocError> {
+fn check_policy_command<'a>(alloc: Global) -> Result<Command<'a>, AllocError>
+    ensures { IfOk result (λ command. app_of command ≡ check_policy_command) }
+{
     Ok(
         with_policy(alloc, Command::new(alloc, CHECK_POLICY))?
+            .override_usage("ipmd check-policy (--policy <FILE> | --policy-text <TEXT>)")
             .about("Says whether a text is a policy, and how many rules and aggregates it has")
             .after_help(help::CHECK_POLICY),
     )
 }
 
 /// The command with the two options of which one names the policy.
-fn with_policy<'a>(alloc: Global, command: Command<'a>) -> Result<Command<'a>, AllocError> {
+fn with_policy<'a>(alloc: Global, command: Command<'a>) -> Result<Command<'a>, AllocError>
+    ensures { IfOk result (λ given. app_of given ≡ with_policy (app_of command.entry)) }
+{
     command
         .arg(option(alloc, POLICY, "FILE").help("The file with the policy"))?
         .arg(option(alloc, POLICY_TEXT, "TEXT").help(
             "The policy itself, with `;` for each line end",
-        ))?
-        .group(
-            ArgGroup::new(alloc, "policies")
-                .arg(POLICY)?
-                .arg(POLICY_TEXT)?
-                .required(true),
-        )
+        ))
 }
 
 /// An option with a value, under its long name.
-fn option<'a>(alloc: Global, name: &'a str, value_name: &'a str) -> Arg<'a> {
+fn option<'a>(alloc: Global, name: &'a str, value_name: &'a str) -> Arg<'a>
+    ensures rule { rule_of result ≡ valued name.entry.now }
+    ensures local { result.global ≡ false }
+{
     Arg::new(alloc, name).long(name).value_name(value_name)
 }

@@ -1,5 +1,9 @@
 //! `ipmd offline`.
 
+ghost use Rattle.std.specs.Prelude.{◌≡◌, ◌⊎◌, IfErr, IfOk};
+ghost use Rattle.ipmd.specs.declared.fault.ProgramFault.TheVariants as fault;
+ghost use Rattle.ipmd.specs.Runs.{Filters, FinishesInput, FinishesOn, RefusesToFilter, RefusesInput, StopsOn};
+
 use crate::command_line::OfflineOptions;
 use crate::fault::ProgramFault;
 use crate::hex_input::read_hex;
@@ -23,12 +27,15 @@ const ANY_NUMBER_OF_READS: u64 = u64::MAX;
 /// In this order: the policy's source, the audit file, which is made empty, an input that is not
 /// hexadecimal where it is to be, and what the mediator refuses. What was accepted before a fault is
 /// written.
-pub fn filter<R: Files + AllocGlobal, I: Read + Drop, O: Write + Drop>(
+pub fn filter<R: Files + AllocGlobal, I: Read + Drop, O: Write>(
     rt: &R,
     options: &OfflineOptions<'_>,
     input: I,
-    output: O,
-) -> Result<OfflineReport, ProgramFault> {
+    output: &mut O,
+) -> Result<OfflineReport, ProgramFault>
+    ensures ok { IfOk result (λ report. Filters options.entry.now report (I.remaining input)) }
+    ensures err { IfErr result (λ e. RefusesToFilter options.entry.now e (I.remaining input)) }
+{
     let policy = options.policy.text(rt)?;
     let job = OfflineJob {
         policy: policy.as_str(),
@@ -48,14 +55,18 @@ pub fn filter<R: Files + AllocGlobal, I: Read + Drop, O: Write + Drop>(
 }
 
 /// Filters `input`, as hexadecimal text or as octets.
-fn filter_audited<I: Read + Drop, O: Write + Drop, A: Write + Drop>(
+#[tactic(auto, using(crate::proofs::Inputs::finishes_spelled, crate::proofs::Inputs::stops_spelled))]
+fn filter_audited<I: Read + Drop, O: Write, A: Write + Drop>(
     alloc: Global,
     job: &OfflineJob<'_>,
     hex: bool,
     input: I,
-    output: O,
+    output: &mut O,
     audit: A,
-) -> Result<OfflineReport, ProgramFault> {
+) -> Result<OfflineReport, ProgramFault>
+    ensures ok { IfOk result (λ report. FinishesInput hex job.entry.now report (I.remaining input)) }
+    ensures err { IfErr result (λ e. RefusesInput e hex job.entry.now (I.remaining input)) }
+{
     if !hex {
         return filter_octets(alloc, job, input, output, audit);
     }
@@ -69,15 +80,18 @@ fn filter_audited<I: Read + Drop, O: Write + Drop, A: Write + Drop>(
 }
 
 /// Filters octets, and sees that all that was written has left.
-fn filter_octets<I: Read + Drop, O: Write + Drop, A: Write + Drop>(
+fn filter_octets<I: Read + Drop, O: Write, A: Write + Drop>(
     alloc: Global,
     job: &OfflineJob<'_>,
     input: I,
-    mut output: O,
+    output: &mut O,
     mut audit: A,
-) -> Result<OfflineReport, ProgramFault> {
+) -> Result<OfflineReport, ProgramFault>
+    ensures ok { IfOk result (λ report. FinishesOn job.entry.now report (I.remaining input)) }
+    ensures err { IfErr result (λ e. ((e ≡ fault.OutOfMemory) ⊎ (e ≡ fault.Device)) ⊎ StopsOn e job.entry.now (I.remaining input)) }
+{
     let mut reader = Device::new(input);
-    let mut writer = Device::new(&mut output);
+    let mut writer = Device::new(&mut *output);
     let mut audit_writer = Device::new(&mut audit);
     let report = offline(alloc, job, &mut reader, &mut writer, &mut audit_writer);
     let written = output.flush();

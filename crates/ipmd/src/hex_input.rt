@@ -1,7 +1,7 @@
-ghost use Rattle.std.specs.Prelude.{◌≡◌, IfOk, IfErr, IfSome};
+ghost use Rattle.std.specs.Prelude.{◌≡◌, ◌⊎◌, IfOk, IfErr, IfSome};
 ghost use Rattle.std.specs.List.{filter};
 ghost use Rattle.ipmd.specs.HexText.{is_no_white_space, SpelledBy, SpellsNothing};
-ghost use Rattle.ipmd.specs.declared.fault.ProgramFault.TheVariants.{Hex};
+ghost use Rattle.ipmd.specs.declared.fault.ProgramFault.TheVariants.{Hex, OutOfMemory, Device};
 
 use crate::fault::ProgramFault;
 use hex::FromHexError;
@@ -15,6 +15,7 @@ use std::io::Read;
 pub fn read_hex<I: Read + Drop>(alloc: Global, mut input: I) -> Result<Vec<u8>, ProgramFault>
     ensures ok { IfOk result (λ octets. IfSome (I.remaining input) (λ text. SpelledBy text octets.items)) }
     ensures hex { IfErr result (λ e. e ≡ Hex → IfSome (I.remaining input) SpellsNothing) }
+    ensures kinds { IfErr result (λ e. (e ≡ Hex) ⊎ ((e ≡ OutOfMemory) ⊎ (e ≡ Device))) }
 {
     let mut text = Vec::new(alloc);
     input.read_to_end(&mut text)?;

@@ -10,7 +10,11 @@
 //! - `fault`: why a run ends without having done what was asked, with the texts and exit statuses.
 #![tactic(auto)]
 
-ghost use Rattle.std.specs.Prelude.{◌≤◌};
+ghost use Rattle.std.specs.Prelude.{◌≡◌, ◌≢◌, Option, map, IfErr, IfOk};
+ghost use Rattle.mediator_core.specs.declared.job.OfflineReport.{OfflineReport};
+ghost use Rattle.ipmd.specs.Runs.{Does, FailsFor};
+ghost use Rattle.ipmd.specs.Status.{status_of};
+ghost use Rattle.ipmd.specs.declared.fault.ProgramFault.{ProgramFault};
 
 mod check;
 mod command_line;
@@ -39,7 +43,13 @@ const DONE: u8 = 0;
 
 fn main(rt: HostRuntime) -> ExitCode {
     let status = match words_after_name(&rt) {
-        Ok(words) => program(&rt, words.as_slice(), rt.stdin(), rt.stdout(), rt.stderr()),
+        Ok(words) => program(
+            &rt,
+            words.as_slice(),
+            rt.stdin(),
+            &mut rt.stdout(),
+            rt.stderr(),
+        ),
         Err(fault) => fault.report(&mut rt.stderr()),
     };
     ExitCode::from(status)
@@ -54,14 +64,16 @@ fn words_after_name<R: Env + AllocGlobal>(rt: &R) -> Result<Vec<String>, Program
 /// Does what the words ask for, and answers the exit status: 0 where it is done, 1 where the input is
 /// refused, 2 for a refused command line, 3 where a device fails. `output` gets what was asked for, and
 /// `errors` the report or the fault; what `errors` doesn't take is dropped.
-pub fn program<R: Files + AllocGlobal, S: AsStr, I: Read + Drop, O: Write + Drop, E: Write + Drop>(
+#[tactic(auto, using(crate::proofs::Statuses::no_fault_is_done))]
+pub fn program<R: Files + AllocGlobal, S: AsStr, I: Read + Drop, O: Write, E: Write + Drop>(
     rt: &R,
     words: &[S],
     input: I,
-    output: O,
+    output: &mut O,
     mut errors: E,
 ) -> u8
-    ensures { result ≤ 3 }
+    ensures done { result ≡ 0 → (report : Option OfflineReport) × Does (map S.text words.now) report (I.remaining input) (O.contents output.old) (O.contents output.new) }
+    ensures fails { result ≢ 0 → (e : ProgramFault) × (result ≡ status_of e) × FailsFor (map S.text words.now) e (I.remaining input) }
 {
     match run(rt, words, input, output) {
         Ok(Some(report)) => {
@@ -82,16 +94,19 @@ pub fn program<R: Files + AllocGlobal, S: AsStr, I: Read + Drop, O: Write + Drop
 }
 
 /// Does what the words ask for. The report is that of `ipmd offline`.
-fn run<R: Files + AllocGlobal, S: AsStr, I: Read + Drop, O: Write + Drop>(
+fn run<R: Files + AllocGlobal, S: AsStr, I: Read + Drop, O: Write>(
     rt: &R,
     words: &[S],
     input: I,
-    mut output: O,
-) -> Result<Option<OfflineReport>, ProgramFault> {
+    output: &mut O,
+) -> Result<Option<OfflineReport>, ProgramFault>
+    ensures ok { IfOk result (λ report. Does (map S.text words.now) report (I.remaining input) (O.contents output.old) (O.contents output.new)) }
+    ensures err { IfErr result (λ e. FailsFor (map S.text words.now) e (I.remaining input)) }
+{
     match read_command_line(rt.alloc(), words)? {
         Task::Offline(options) => Ok(Some(filter(rt, &options, input, output)?)),
         Task::CheckPolicy(source) => {
-            check_policy(rt, source, &mut output)?;
+            check_policy(rt, source, output)?;
             Ok(None)
         }
         Task::Show(text) => {

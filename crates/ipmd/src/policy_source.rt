@@ -1,3 +1,7 @@
+ghost use Rattle.std.specs.Prelude.{◌≡◌, ◌⊎◌, IfOk, IfErr, string_bytes};
+ghost use Rattle.ipmd.specs.Runs.{IsTextOf};
+ghost use Rattle.ipmd.specs.declared.fault.ProgramFault.TheVariants.{OutOfMemory, Device};
+
 use crate::fault::ProgramFault;
 use std::fs;
 use std::rt::Files;
@@ -16,7 +20,10 @@ impl PolicySource<'_> {
     ///
     /// # Errors
     /// `Device` where the file can't be opened or read, or isn't UTF-8; `OutOfMemory`.
-    pub fn text<R: Files + AllocGlobal>(&self, rt: &R) -> Result<String, ProgramFault> {
+    pub fn text<R: Files + AllocGlobal>(&self, rt: &R) -> Result<String, ProgramFault>
+        ensures text { IfOk result (λ text. IsTextOf self.now (string_bytes text)) }
+        ensures err { IfErr result (λ e. (e ≡ OutOfMemory) ⊎ (e ≡ Device)) }
+    {
         match *self {
             PolicySource::File(path) => Ok(fs::read_to_string(rt, path)?),
             PolicySource::Text(text) => Ok(

@@ -213,7 +213,13 @@ fn flush_fails(rt: HostRuntime) -> Result<(), Fail> {
     ];
     for words in cases {
         let mut errors = Vec::with_capacity(rt.alloc(), ROOM)?;
-        let status = program(&rt, words, TWO_FLOWS.as_bytes(), Unflushed, &mut errors);
+        let status = program(
+            &rt,
+            words,
+            TWO_FLOWS.as_bytes(),
+            &mut Unflushed,
+            &mut errors,
+        );
         assert_eq!(rt; str::from_utf8(errors.as_slice())?, DEVICE);
         assert_eq!(rt; status, 3);
     }

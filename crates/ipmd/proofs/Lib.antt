@@ -1,0 +1,4 @@
+mod GivenRows
+mod Inputs
+mod Statuses
+mod ToldWords

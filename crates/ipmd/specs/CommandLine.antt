@@ -1,0 +1,115 @@
+-- The command line: what may be asked for, and what the words after the program's name ask for. How words are read where these
+-- are the commands and their options is clap's.
+use Rattle.std.specs.Prelude.{◌≡◌, ◌⊎◌, ◌^◌, ◌<◌, ℕ, Bool, true, false, List, [], ◌∷◌, Option, Some, None, option_map, codes, pos}
+use Rattle.std.specs.Str.Parse.{IsNumeral, digits_value, without_leading_plus}
+use Rattle.clap.specs.Words.{App, Row, Rule, Text, IsAmong, fault_of, first_of, kind_of, new_app, new_rule, one_of, subcommand_of, with_rule, with_subcommand}
+use Rattle.clap.specs.declared.builder.action.ArgAction.TheVariants.{SetTrue}
+use Rattle.clap.specs.declared.builder.value_parser.ValueParser.TheVariants.{Signed}
+use Rattle.clap.specs.declared.error.kind.ErrorKind.{ErrorKind}
+use Rattle.clap.specs.declared.error.kind.ErrorKind.TheVariants.{DisplayHelp, DisplayVersion}
+use Rattle.ipmd.specs.declared.command_line.OfflineOptions.{OfflineOptions}
+use Rattle.ipmd.specs.declared.command_line.Task.{Task}
+use Rattle.ipmd.specs.declared.command_line.Task.TheVariants.{Offline, CheckPolicy, Show}
+use Rattle.ipmd.specs.declared.fault.ProgramFault.{ProgramFault}
+use Rattle.ipmd.specs.declared.fault.ProgramFault.TheVariants.{CommandLine, Policy, Hex, Framing, Core, Cut, OutOfMemory, Device}
+use Rattle.ipmd.specs.declared.policy_source.PolicySource.{PolicySource}
+use Rattle.ipmd.specs.declared.policy_source.PolicySource.TheVariants.{File, Text as PolicyText}
+
+-- ---- the commands
+
+-- an option with a value
+abbrev pub valued : Text → Rule
+valued name = record (new_rule name) { long = Some name; value_names = 1 }
+
+-- an option that must be given
+abbrev pub needed : Text → Rule
+needed name = record (valued name) { required = true }
+
+-- an option whose value is a number of at most so much, and is this where it isn't given
+abbrev pub number : Text → Text → ℕ → Rule
+number name default most = record (valued name) { defaults = default ∷ []; parser = Some (Signed (pos 0) (pos most)) }
+
+-- an option without a value
+abbrev pub flag : Text → Rule
+flag name = record (new_rule name) { long = Some name; action = Some SetTrue }
+
+-- a command with the two options of which one names the policy
+abbrev pub with_policy : App → App
+with_policy app = with_rule (with_rule app (valued (codes "policy"))) (valued (codes "policy-text"))
+
+abbrev pub offline_command : App
+offline_command =
+    with_rule (with_rule (with_rule (with_rule (with_rule (with_policy (new_app (codes "offline")))
+    (needed (codes "subscriber"))) (number (codes "now") (codes "0") 4294967295)) (number (codes "target") (codes "1400") 65535)) (valued (codes "audit"))) (flag (codes "hex"))
+
+abbrev pub check_policy_command : App
+check_policy_command = with_policy (new_app (codes "check-policy"))
+
+-- the words begin after the program's name
+abbrev pub top_command : App
+top_command = record (new_app (codes "ipmd")) { top = record (new_app (codes "ipmd")).top { no_binary_name = true; has_version = true; subcommand_required = true } }
+
+abbrev pub ipmd_command : App
+ipmd_command = with_subcommand (with_subcommand top_command offline_command.top) check_policy_command.top
+
+-- ---- what is asked for
+
+-- exactly one of the two options names the policy
+abbrev pub IsSource : PolicySource → List Row → Type 0
+IsSource (File path) rows = (first_of (codes "policy") rows ≡ Some path.now) × (first_of (codes "policy-text") rows ≡ None)
+IsSource (PolicyText text) rows = (first_of (codes "policy") rows ≡ None) × (first_of (codes "policy-text") rows ≡ Some text.now)
+
+-- an option's value is the decimal numeral of n, which has so many bits
+pub record IsNumber (bits : ℕ) (id : Text) (rows : List Row) (n : ℕ) : Type 0 where
+  pub numeral : Text
+  pub given : one_of id rows ≡ Some numeral
+  pub digits : IsNumeral 10 (without_leading_plus numeral)
+  pub value : digits_value 10 (without_leading_plus numeral) ≡ n
+  pub fits : n < 2 ^ bits
+
+-- the option was given, or it was not
+pub record IsFlag (id : Text) (rows : List Row) (b : Bool) : Type 0 where
+  pub given : one_of id rows ≡ Some (codes "true") → b ≡ true
+  pub absent : one_of id rows ≡ Some (codes "false") → b ≡ false
+
+pub record AreOptions (options : OfflineOptions) (rows : List Row) : Type 0 where
+  pub policy : IsSource options.policy rows
+  pub subscriber : first_of (codes "subscriber") rows ≡ Some options.subscriber.now
+  pub now : IsNumber 32 (codes "now") rows options.now
+  pub target : IsNumber 16 (codes "target") rows options.target
+  pub audit : first_of (codes "audit") rows ≡ option_map (λ path. path.now) options.audit
+  pub hex : IsFlag (codes "hex") rows options.hex
+
+-- the command that was named, and its options
+abbrev pub IsCommand : Task → Text → List Row → Type 0
+IsCommand (Offline options) name rows = (name ≡ codes "offline") × AreOptions options rows
+IsCommand (CheckPolicy source) name rows = (name ≡ codes "check-policy") × IsSource source rows
+IsCommand (Show text) name rows = ⊥
+
+abbrev pub IsCommandIn : Task → Option (Text × List Row) → Type 0
+IsCommandIn task None = ⊥
+IsCommandIn task (Some command) = IsCommand task command.0 command.1
+
+-- help and the version are shown where the words ask for that
+abbrev pub is_shown : ErrorKind → Bool
+is_shown DisplayHelp = true
+is_shown DisplayVersion = true
+is_shown _ = false
+
+-- what the words ask for
+abbrev pub AsksFor : List Text → Task → Type 0
+AsksFor words (Show text) = IsAmong (kind_of text) (fault_of ipmd_command words) × (is_shown (kind_of text) ≡ true)
+AsksFor words (Offline options) = IsCommandIn (Offline options) (subcommand_of ipmd_command words)
+AsksFor words (CheckPolicy source) = IsCommandIn (CheckPolicy source) (subcommand_of ipmd_command words)
+
+-- the words ask for nothing: the parser says so, or no command is what they name with its options
+abbrev pub RefusesWords : List Text → ProgramFault → Type 0
+RefusesWords words (CommandLine error) =
+    (IsAmong (kind_of error) (fault_of ipmd_command words) ⊎ ((task : Task) → IsCommandIn task (subcommand_of ipmd_command words) → ⊥)) × (is_shown (kind_of error) ≡ false)
+RefusesWords words OutOfMemory = Unit {0}
+RefusesWords words (Policy why) = ⊥
+RefusesWords words Hex = ⊥
+RefusesWords words (Framing why) = ⊥
+RefusesWords words (Core why) = ⊥
+RefusesWords words Cut = ⊥
+RefusesWords words Device = ⊥
