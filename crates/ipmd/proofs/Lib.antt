@@ -1,4 +1,5 @@
 mod GivenRows
 mod Inputs
+mod Lines
 mod Statuses
 mod ToldWords

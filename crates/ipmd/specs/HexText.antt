@@ -1,8 +1,11 @@
 -- Octets as hexadecimal text.
-use Rattle.std.specs.Prelude.{◌≡◌, ℕ, List, Bool, true, false, if◌then◌else◌, Ok, IsErr}
-use Rattle.std.specs.List.{filter}
+use Rattle.std.specs.Prelude.{◌≡◌, ℕ, List, [], ◌∷◌, ◌++◌, Bool, true, false, if◌then◌else◌, Option, Ok, IsErr}
+use Rattle.std.specs.List.{filter, flat_map}
 use Rattle.std.specs.Char.{is_ascii_whitespace}
-use Rattle.hex.specs.Hex.{decode_of}
+use Rattle.std.specs.Io.KnownBytes.{Appends}
+use Rattle.hex.specs.Hex.{decode_of, encode_lower}
+use Rattle.ipfix_message.specs.declared.frame_error.FrameError.{FrameError}
+use Rattle.ipfix_message.specs.Framing.{IsFramed}
 
 abbrev pub is_no_white_space : ℕ → Bool
 is_no_white_space octet = (if is_ascii_whitespace octet then false else true)
@@ -14,3 +17,20 @@ SpelledBy text octets = decode_of (filter is_no_white_space text) ≡ Ok octets
 -- the text spells no octets: a digit is missing, or something else stands there
 abbrev pub SpellsNothing : List ℕ → Type 0
 SpellsNothing text = IsErr (decode_of (filter is_no_white_space text))
+
+-- a message as a line: its digits in lower case, and a line feed (10)
+abbrev pub line_of : List ℕ → List ℕ
+line_of message = encode_lower message ++ 10 ∷ []
+
+abbrev pub lines_of : List (List ℕ) → List ℕ
+lines_of messages = flat_map line_of messages
+
+-- the whole messages of a stream, one directly after another (RFC 7011, section 3.1)
+abbrev pub AreMessagesOf : List ℕ → List (List ℕ) → Type 0
+AreMessagesOf stream messages = (fault : Option FrameError) × (pending : List ℕ) × IsFramed stream messages fault pending
+
+-- each message of a stream was written as a line
+pub record WritesLines (stream : List ℕ) (held holds : Option (List ℕ)) : Type 0 where
+  pub messages : List (List ℕ)
+  pub cut : AreMessagesOf stream messages
+  pub written : Appends held holds (lines_of messages)

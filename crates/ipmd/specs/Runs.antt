@@ -1,15 +1,15 @@
 -- What a run of the program does, and what its faults mean.
-use Rattle.std.specs.Prelude.{◌≡◌, ◌⊎◌, ◌^◌, ◌-◌, ◌==◌, ℕ, Bool, true, false, List, [], ◌∷◌, ◌++◌, map, length, codes, Option, Some, None, IfSome, Ok, Err, if◌then◌else◌}
+use Rattle.std.specs.Prelude.{◌≡◌, ◌⊎◌, ◌^◌, ◌-◌, ◌==◌, ℕ, Bool, true, false, List, [], ◌∷◌, ◌++◌, map, length, codes, encode_utf8_all, Option, Some, None, IfSome, Ok, Err, if◌then◌else◌}
 use Rattle.std.specs.Str.{chars}
-use Rattle.std.specs.Prelude.{encode_utf8_all}
 use Rattle.std.specs.Fmt.{decimal}
-use Rattle.std.specs.Io.KnownBytes.{Appends}
+use Rattle.std.specs.Io.KnownBytes.{Appends, Keeps}
 use Rattle.clap.specs.declared.error.Error.{Error}
 use Rattle.policy_text.specs.Policies.{Meaning as PolicyMeaning}
 use Rattle.policy_text.specs.Parsing.{policy_of}
 use Rattle.mediator_core.specs.declared.job.OfflineJob.{OfflineJob}
 use Rattle.mediator_core.specs.declared.job.OfflineReport.{OfflineReport}
 use Rattle.mediator_core.specs.declared.job.OfflineFault.{OfflineFault}
+use Rattle.mediator_core.specs.Offline.{due}
 use Rattle.mediator_core.specs.Reading.{Finishes, Halts}
 use Rattle.ipmd.specs.declared.command_line.OfflineOptions.{OfflineOptions}
 use Rattle.ipmd.specs.declared.command_line.Task.TheVariants.{Offline, CheckPolicy, Show}
@@ -17,7 +17,7 @@ use Rattle.ipmd.specs.declared.policy_source.PolicySource.{PolicySource}
 use Rattle.ipmd.specs.declared.policy_source.PolicySource.TheVariants.{File, Text}
 use Rattle.ipmd.specs.declared.fault.ProgramFault.{ProgramFault}
 use Rattle.ipmd.specs.declared.fault.ProgramFault.TheVariants.{CommandLine, Policy, Hex, Framing, Core, Cut, OutOfMemory, Device}
-use Rattle.ipmd.specs.HexText.{SpelledBy, SpellsNothing}
+use Rattle.ipmd.specs.HexText.{SpelledBy, SpellsNothing, lines_of, WritesLines}
 use Rattle.ipmd.specs.Status.{offline_fault_of}
 use Rattle.ipmd.specs.CommandLine.{AsksFor, RefusesWords}
 
@@ -35,8 +35,8 @@ IsTextOf (Text words) text = text ≡ encode_utf8_all (map as_line_end (chars wo
 -- ---- check-policy
 
 -- what is said of a policy
-abbrev pub count_line : PolicyMeaning → List ℕ
-count_line policy = codes "rules " ++ decimal (length policy.rules) ++ codes " aggregates " ++ decimal (length policy.aggregates) ++ 10 ∷ []
+abbrev pub counted : PolicyMeaning → List ℕ
+counted policy = codes "rules " ++ decimal (length policy.rules) ++ codes " aggregates " ++ decimal (length policy.aggregates) ++ 10 ∷ []
 
 -- the text is a policy, and its counts were written
 pub record CountsPolicy (source : PolicySource) (held holds : Option (List ℕ)) : Type 0 where
@@ -44,7 +44,7 @@ pub record CountsPolicy (source : PolicySource) (held holds : Option (List ℕ))
   pub source_is : IsTextOf source text
   pub policy : PolicyMeaning
   pub spelled : policy_of text ≡ Ok policy
-  pub written : Appends held holds (count_line policy)
+  pub written : Appends held holds (counted policy)
 
 -- why a policy isn't counted: its text has this fault, a device failed, or memory ran out
 abbrev pub RefusesToCount : PolicySource → ProgramFault → Type 0
@@ -74,64 +74,91 @@ pub record Asked (options : OfflineOptions) : Type 0 where
   pub job : OfflineJob
   pub job_is : IsJobOf options text job
 
--- these octets were read to their end and filtered; what a writer behind a reference holds by then isn't told here
-pub record FinishesOn (job : OfflineJob) (report : OfflineReport) (given : Option (List ℕ)) : Type 0 where
+-- these octets were read to their end and filtered; the output and the audit held so much when all was done, and were flushed
+pub record FinishesOn (job : OfflineJob) (report : OfflineReport) (given held holds audit_held audit_holds : Option (List ℕ)) : Type 0 where
   pub left : Option (List ℕ)
-  pub held : Option (List ℕ)
-  pub holds : Option (List ℕ)
-  pub audit_held : Option (List ℕ)
-  pub audit_holds : Option (List ℕ)
-  pub finishes : Finishes job report given left held holds audit_held audit_holds
+  pub written : Option (List ℕ)
+  pub audited : Option (List ℕ)
+  pub finishes : Finishes job report given left held written audit_held audited
+  pub flushed : Keeps written holds
+  pub audit_flushed : Keeps audited audit_holds
+
+-- the same, and each message that is due was written as a line
+pub record FinishesLines (job : OfflineJob) (report : OfflineReport) (octets : List ℕ) (held holds audit_held audit_holds : Option (List ℕ)) : Type 0 where
+  pub stream : List ℕ
+  pub finishes : FinishesOn job report (Some octets) (Some []) (Some stream) audit_held audit_holds
+  pub lines : Appends held holds (lines_of (due job finishes.finishes.messages))
+
+-- the same of the octets that a text spells
+abbrev pub FinishesText : OfflineJob → OfflineReport → List ℕ → Option (List ℕ) → Option (List ℕ) → Option (List ℕ) → Option (List ℕ) → Type 0
+FinishesText job report text held holds audit_held audit_holds =
+    (octets : List ℕ) × SpelledBy text octets × FinishesLines job report octets held holds audit_held audit_holds
 
 -- the input was, as octets or as what its text spells
-abbrev pub FinishesInput : Bool → OfflineJob → OfflineReport → Option (List ℕ) → Type 0
-FinishesInput false job report given = FinishesOn job report given
-FinishesInput true job report given = IfSome given (λ text. (octets : List ℕ) × SpelledBy text octets × FinishesOn job report (Some octets))
+abbrev pub FinishesInput : Bool → OfflineJob → OfflineReport → Option (List ℕ) → Option (List ℕ) → Option (List ℕ) → Option (List ℕ) → Option (List ℕ) → Type 0
+FinishesInput false job report given held holds audit_held audit_holds = FinishesOn job report given held holds audit_held audit_holds
+FinishesInput true job report given held holds audit_held audit_holds = IfSome given (λ text. FinishesText job report text held holds audit_held audit_holds)
 
--- the whole input was filtered for a subscriber by a policy
-abbrev pub Filters : OfflineOptions → OfflineReport → Option (List ℕ) → Type 0
-Filters options report given = (asked : Asked options) × FinishesInput options.hex asked.job report given
+-- the whole input was filtered for a subscriber by a policy; what a file holds isn't told here, and so not what the audit does
+abbrev pub Filters : OfflineOptions → OfflineReport → Option (List ℕ) → Option (List ℕ) → Option (List ℕ) → Type 0
+Filters options report given held holds =
+    (asked : Asked options) × (audit_held audit_holds : Option (List ℕ)) × FinishesInput options.hex asked.job report given held holds audit_held audit_holds
 
--- the mediator stopped so
-pub record StopsOn (e : ProgramFault) (job : OfflineJob) (given : Option (List ℕ)) : Type 0 where
+-- the mediator stopped so, and what was written by then was flushed
+pub record StopsOn (e : ProgramFault) (job : OfflineJob) (given held holds audit_held audit_holds : Option (List ℕ)) : Type 0 where
   pub fault : OfflineFault
   pub is : e ≡ offline_fault_of fault
   pub left : Option (List ℕ)
-  pub held : Option (List ℕ)
-  pub holds : Option (List ℕ)
-  pub audit_held : Option (List ℕ)
-  pub audit_holds : Option (List ℕ)
+  pub written : Option (List ℕ)
+  pub audited : Option (List ℕ)
   pub reader_failed : Bool
   pub writer_failed : Bool
   pub audit_failed : Bool
-  pub halts : Halts fault job given left held holds audit_held audit_holds reader_failed writer_failed audit_failed
+  pub halts : Halts fault job given left held written audit_held audited reader_failed writer_failed audit_failed
+  pub flushed : Keeps written holds
+  pub audit_flushed : Keeps audited audit_holds
 
--- the same of an input, as octets or as what its text spells
-abbrev pub StopsInput : Bool → ProgramFault → OfflineJob → Option (List ℕ) → Type 0
-StopsInput false e job given = StopsOn e job given
-StopsInput true e job given = IfSome given (λ text. (octets : List ℕ) × SpelledBy text octets × StopsOn e job (Some octets))
+-- the same, and each message that was written by then was written as a line
+pub record StopsLines (e : ProgramFault) (job : OfflineJob) (octets : List ℕ) (held holds audit_held audit_holds : Option (List ℕ)) : Type 0 where
+  pub stream : List ℕ
+  pub stops : StopsOn e job (Some octets) (Some []) (Some stream) audit_held audit_holds
+  pub lines : WritesLines stream held holds
+
+-- the same of the octets that a text spells
+abbrev pub StopsText : ProgramFault → OfflineJob → List ℕ → Option (List ℕ) → Option (List ℕ) → Option (List ℕ) → Option (List ℕ) → Type 0
+StopsText e job text held holds audit_held audit_holds =
+    (octets : List ℕ) × SpelledBy text octets × StopsLines e job octets held holds audit_held audit_holds
+
+abbrev pub StopsInput : Bool → ProgramFault → OfflineJob → Option (List ℕ) → Option (List ℕ) → Option (List ℕ) → Option (List ℕ) → Option (List ℕ) → Type 0
+StopsInput false e job given held holds audit_held audit_holds = StopsOn e job given held holds audit_held audit_holds
+StopsInput true e job given held holds audit_held audit_holds = IfSome given (λ text. StopsText e job text held holds audit_held audit_holds)
 
 -- why an input isn't filtered to its end: memory ran out or a device failed, it isn't hexadecimal where it is to be, or the
 -- mediator stopped
-abbrev pub RefusesInput : ProgramFault → Bool → OfflineJob → Option (List ℕ) → Type 0
-RefusesInput e hex job given = ((e ≡ OutOfMemory) ⊎ (e ≡ Device)) ⊎ (((e ≡ Hex) × (hex ≡ true) × IfSome given SpellsNothing) ⊎ StopsInput hex e job given)
+abbrev pub RefusesInput : ProgramFault → Bool → OfflineJob → Option (List ℕ) → Option (List ℕ) → Option (List ℕ) → Option (List ℕ) → Option (List ℕ) → Type 0
+RefusesInput e hex job given held holds audit_held audit_holds =
+    ((e ≡ OutOfMemory) ⊎ (e ≡ Device))
+    ⊎ (((e ≡ Hex) × (hex ≡ true) × IfSome given SpellsNothing)
+    ⊎ StopsInput hex e job given held holds audit_held audit_holds)
 
 -- the same for a subscriber by a policy; the policy's source, or the audit file, may fail before
-abbrev pub RefusesToFilter : OfflineOptions → ProgramFault → Option (List ℕ) → Type 0
-RefusesToFilter options e given = ((e ≡ OutOfMemory) ⊎ (e ≡ Device)) ⊎ ((asked : Asked options) × RefusesInput e options.hex asked.job given)
+abbrev pub RefusesToFilter : OfflineOptions → ProgramFault → Option (List ℕ) → Option (List ℕ) → Option (List ℕ) → Type 0
+RefusesToFilter options e given held holds =
+    ((e ≡ OutOfMemory) ⊎ (e ≡ Device))
+    ⊎ ((asked : Asked options) × (audit_held audit_holds : Option (List ℕ)) × RefusesInput e options.hex asked.job given held holds audit_held audit_holds)
 
 -- ---- the whole program
 
 -- a report comes from filtering
 abbrev pub Does : List (List ℕ) → Option OfflineReport → Option (List ℕ) → Option (List ℕ) → Option (List ℕ) → Type 0
-Does words (Some report) given held holds = (options : OfflineOptions) × AsksFor words (Offline options) × Filters options report given
+Does words (Some report) given held holds = (options : OfflineOptions) × AsksFor words (Offline options) × Filters options report given held holds
 Does words None given held holds =
     ((source : PolicySource) × AsksFor words (CheckPolicy source) × CountsPolicy source held holds) ⊎ ((text : Error) × AsksFor words (Show text))
 
 -- why it isn't done
-abbrev pub FailsFor : List (List ℕ) → ProgramFault → Option (List ℕ) → Type 0
-FailsFor words e given =
+abbrev pub FailsFor : List (List ℕ) → ProgramFault → Option (List ℕ) → Option (List ℕ) → Option (List ℕ) → Type 0
+FailsFor words e given held holds =
     RefusesWords words e
     ⊎ (((source : PolicySource) × AsksFor words (CheckPolicy source) × RefusesToCount source e)
-    ⊎ (((options : OfflineOptions) × AsksFor words (Offline options) × RefusesToFilter options e given)
+    ⊎ (((options : OfflineOptions) × AsksFor words (Offline options) × RefusesToFilter options e given held holds)
     ⊎ (((text : Error) × AsksFor words (Show text)) × ((e ≡ OutOfMemory) ⊎ (e ≡ Device)))))

@@ -1,11 +1,15 @@
 //! `ipmd check-policy`.
 
-ghost use Rattle.std.specs.Prelude.{IfErr, OnOk};
-ghost use Rattle.ipmd.specs.Runs.{CountsPolicy, RefusesToCount};
+ghost use Rattle.std.specs.Prelude.{◌≡◌, IfErr, IfOk, OnOk, string_bytes};
+ghost use Rattle.octet_devices.specs.Device.{device_inner};
+ghost use Rattle.ipmd.specs.Runs.{CountsPolicy, RefusesToCount, counted};
 
 use crate::fault::ProgramFault;
+use crate::output::write_text;
 use crate::policy_source::PolicySource;
+use octet_devices::Device;
 use policy_text::Policy;
+use std::alloc::{AllocError, Global};
 use std::io::Write;
 use std::rt::Files;
 
@@ -16,16 +20,22 @@ use std::rt::Files;
 pub fn check_policy<R: Files + AllocGlobal, O: Write>(
     rt: &R,
     source: PolicySource<'_>,
-    output: &mut O,
+    output: &mut Device<O>,
 ) -> Result<(), ProgramFault>
-    ensures ok { OnOk result (CountsPolicy source.entry (O.contents output.old) (O.contents output.new)) }
+    ensures ok { OnOk result (CountsPolicy source.entry (O.contents (device_inner output.old)) (O.contents (device_inner output.new))) }
     ensures err { IfErr result (RefusesToCount source.entry) }
 {
     let text = source.text(rt)?;
     let policy = Policy::parse(rt.alloc(), text.as_str())?;
+    let counts = count_line(rt.alloc(), &policy)?;
+    write_text(output, counts.as_str())
+}
+
+/// How many rules and aggregates a policy has, as a line.
+fn count_line(alloc: Global, policy: &Policy) -> Result<String, AllocError>
+    ensures { IfOk result (λ line. string_bytes line ≡ counted policy.now) }
+{
     let rules = policy.rules().len();
     let aggregates = policy.aggregates().len();
-    writeln!(output, "rules {rules} aggregates {aggregates}")?;
-    output.flush()?;
-    Ok(())
+    format!(in alloc; "rules {rules} aggregates {aggregates}\n")
 }

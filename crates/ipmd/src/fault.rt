@@ -2,6 +2,7 @@
 ghost use Rattle.std.specs.Prelude.{◌≡◌};
 
 use mediator_core::{Fault, FramingFault, OfflineFault};
+use octet_devices::{Failed, WriteStopped};
 use policy_text::{FaultKind, PolicyFault};
 use std::alloc::{AllocError, AllocFailed};
 use std::io::{self, ErrorKind, Write};
@@ -112,6 +113,28 @@ impl From<io::Error> for ProgramFault {
             ErrorKind::OutOfMemory => ProgramFault::OutOfMemory,
             _ => ProgramFault::Device,
         }
+    }
+}
+
+impl From<Failed> for ProgramFault {
+    ghost use Rattle.std.specs.Prelude.{◌≡◌};
+    ghost use Rattle.ipmd.specs.declared.fault.ProgramFault.TheVariants.{Device};
+
+    ghost from_gives = { λ _ e. e ≡ Device };
+
+    fn from(_e: Failed) -> ProgramFault {
+        ProgramFault::Device
+    }
+}
+
+impl From<WriteStopped> for ProgramFault {
+    ghost use Rattle.std.specs.Prelude.{◌≡◌};
+    ghost use Rattle.ipmd.specs.declared.fault.ProgramFault.TheVariants.{Device};
+
+    ghost from_gives = { λ _ e. e ≡ Device };
+
+    fn from(_e: WriteStopped) -> ProgramFault {
+        ProgramFault::Device
     }
 }
 

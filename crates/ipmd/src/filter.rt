@@ -1,13 +1,14 @@
 //! `ipmd offline`.
 
 ghost use Rattle.std.specs.Prelude.{◌≡◌, ◌⊎◌, IfErr, IfOk};
+ghost use Rattle.octet_devices.specs.Device.{device_inner};
 ghost use Rattle.ipmd.specs.declared.fault.ProgramFault.TheVariants as fault;
-ghost use Rattle.ipmd.specs.Runs.{Filters, FinishesInput, FinishesOn, RefusesToFilter, RefusesInput, StopsOn};
+ghost use Rattle.ipmd.specs.Runs.{Filters, FinishesInput, FinishesLines, FinishesOn, RefusesToFilter, RefusesInput, StopsLines, StopsOn};
 
 use crate::command_line::OfflineOptions;
 use crate::fault::ProgramFault;
 use crate::hex_input::read_hex;
-use crate::hex_lines::HexLines;
+use crate::output::write_lines;
 use mediator_core::{OfflineJob, OfflineReport, offline};
 use octet_devices::Device;
 use std::alloc::Global;
@@ -31,10 +32,10 @@ pub fn filter<R: Files + AllocGlobal, I: Read + Drop, O: Write>(
     rt: &R,
     options: &OfflineOptions<'_>,
     input: I,
-    output: &mut O,
+    output: &mut Device<O>,
 ) -> Result<OfflineReport, ProgramFault>
-    ensures ok { IfOk result (λ report. Filters options.entry.now report (I.remaining input)) }
-    ensures err { IfErr result (λ e. RefusesToFilter options.entry.now e (I.remaining input)) }
+    ensures ok { IfOk result (λ report. Filters options.entry.now report (I.remaining input) (O.contents (device_inner output.old)) (O.contents (device_inner output.new))) }
+    ensures err { IfErr result (λ e. RefusesToFilter options.entry.now e (I.remaining input) (O.contents (device_inner output.old)) (O.contents (device_inner output.new))) }
 {
     let policy = options.policy.text(rt)?;
     let job = OfflineJob {
@@ -48,52 +49,73 @@ pub fn filter<R: Files + AllocGlobal, I: Read + Drop, O: Write>(
         Some(path) => {
             let file = fs::create(rt, path)?;
             let audit = BufWriter::with_capacity(rt.alloc(), AUDIT_BUFFER, file)?;
-            filter_audited(rt.alloc(), &job, options.hex, input, output, audit)
+            let mut audit = Device::new(audit);
+            filter_input(rt.alloc(), &job, options.hex, input, output, &mut audit)
         }
-        None => filter_audited(rt.alloc(), &job, options.hex, input, output, io::sink()),
+        None => {
+            let mut audit = Device::new(io::sink());
+            filter_input(rt.alloc(), &job, options.hex, input, output, &mut audit)
+        }
     }
 }
 
-/// Filters `input`, as hexadecimal text or as octets.
+/// Filters `input`, as octets, or as hexadecimal text to lines of it.
 #[tactic(auto, using(crate::proofs::Inputs::finishes_spelled, crate::proofs::Inputs::stops_spelled))]
-fn filter_audited<I: Read + Drop, O: Write, A: Write + Drop>(
+fn filter_input<I: Read + Drop, O: Write, A: Write>(
     alloc: Global,
     job: &OfflineJob<'_>,
     hex: bool,
     input: I,
-    output: &mut O,
-    audit: A,
+    output: &mut Device<O>,
+    audit: &mut Device<A>,
 ) -> Result<OfflineReport, ProgramFault>
-    ensures ok { IfOk result (λ report. FinishesInput hex job.entry.now report (I.remaining input)) }
-    ensures err { IfErr result (λ e. RefusesInput e hex job.entry.now (I.remaining input)) }
+    ensures ok { IfOk result (λ report. FinishesInput hex job.entry.now report (I.remaining input) (O.contents (device_inner output.old)) (O.contents (device_inner output.new)) (A.contents (device_inner audit.old)) (A.contents (device_inner audit.new))) }
+    ensures err { IfErr result (λ e. RefusesInput e hex job.entry.now (I.remaining input) (O.contents (device_inner output.old)) (O.contents (device_inner output.new)) (A.contents (device_inner audit.old)) (A.contents (device_inner audit.new))) }
 {
     if !hex {
         return filter_octets(alloc, job, input, output, audit);
     }
     let octets = read_hex(alloc, input)?;
-    let mut lines = HexLines::new(alloc, output);
-    let report = filter_octets(alloc, job, octets.as_slice(), &mut lines, audit);
-    if lines.is_out_of_memory() {
+    filter_to_lines(alloc, job, octets.as_slice(), output, audit)
+}
+
+/// Filters octets, and writes each message as a line when all was read.
+fn filter_to_lines<O: Write, A: Write>(
+    alloc: Global,
+    job: &OfflineJob<'_>,
+    octets: &[u8],
+    output: &mut Device<O>,
+    audit: &mut Device<A>,
+) -> Result<OfflineReport, ProgramFault>
+    ensures ok { IfOk result (λ report. FinishesLines job.entry.now report octets.now (O.contents (device_inner output.old)) (O.contents (device_inner output.new)) (A.contents (device_inner audit.old)) (A.contents (device_inner audit.new))) }
+    ensures err { IfErr result (λ e. ((e ≡ fault.OutOfMemory) ⊎ (e ≡ fault.Device)) ⊎ StopsLines e job.entry.now octets.now (O.contents (device_inner output.old)) (O.contents (device_inner output.new)) (A.contents (device_inner audit.old)) (A.contents (device_inner audit.new))) }
+{
+    let mut stream = Device::new(Vec::new(alloc));
+    let report = filter_octets(alloc, job, octets, &mut stream, audit);
+    let out_of_memory = stream.has_failed();
+    write_lines(alloc, stream.into_inner().as_slice(), output)?;
+    if out_of_memory {
         return Err(ProgramFault::OutOfMemory);
     }
     report
 }
 
 /// Filters octets, and sees that all that was written has left.
-fn filter_octets<I: Read + Drop, O: Write, A: Write + Drop>(
+fn filter_octets<I: Read + Drop, O: Write, A: Write>(
     alloc: Global,
     job: &OfflineJob<'_>,
     input: I,
-    output: &mut O,
-    mut audit: A,
+    output: &mut Device<O>,
+    audit: &mut Device<A>,
 ) -> Result<OfflineReport, ProgramFault>
-    ensures ok { IfOk result (λ report. FinishesOn job.entry.now report (I.remaining input)) }
-    ensures err { IfErr result (λ e. ((e ≡ fault.OutOfMemory) ⊎ (e ≡ fault.Device)) ⊎ StopsOn e job.entry.now (I.remaining input)) }
+    ensures ok { IfOk result (λ report. FinishesOn job.entry.now report (I.remaining input) (O.contents (device_inner output.old)) (O.contents (device_inner output.new)) (A.contents (device_inner audit.old)) (A.contents (device_inner audit.new))) }
+    ensures err { IfErr result (λ e. ((e ≡ fault.OutOfMemory) ⊎ (e ≡ fault.Device)) ⊎ StopsOn e job.entry.now (I.remaining input) (O.contents (device_inner output.old)) (O.contents (device_inner output.new)) (A.contents (device_inner audit.old)) (A.contents (device_inner audit.new))) }
 {
+    if output.has_failed() || audit.has_failed() {
+        return Err(ProgramFault::Device);
+    }
     let mut reader = Device::new(input);
-    let mut writer = Device::new(&mut *output);
-    let mut audit_writer = Device::new(&mut audit);
-    let report = offline(alloc, job, &mut reader, &mut writer, &mut audit_writer);
+    let report = offline(alloc, job, &mut reader, output, audit);
     let written = output.flush();
     let audited = audit.flush();
     written?;

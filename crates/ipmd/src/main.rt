@@ -6,12 +6,14 @@
 //! - `policy_source`: where the text of a policy comes from.
 //! - `filter`: `ipmd offline`.
 //! - `check`: `ipmd check-policy`.
-//! - `hex_input`, `hex_lines`: streams as hexadecimal text.
+//! - `hex_input`: a stream as hexadecimal text.
+//! - `output`: what is written, a text or messages as lines of hexadecimal digits.
 //! - `fault`: why a run ends without having done what was asked, with the texts and exit statuses.
 #![tactic(auto)]
 
 ghost use Rattle.std.specs.Prelude.{◌≡◌, ◌≢◌, Option, map, IfErr, IfOk};
 ghost use Rattle.mediator_core.specs.declared.job.OfflineReport.{OfflineReport};
+ghost use Rattle.octet_devices.specs.Device.{device_inner};
 ghost use Rattle.ipmd.specs.Runs.{Does, FailsFor};
 ghost use Rattle.ipmd.specs.Status.{status_of};
 ghost use Rattle.ipmd.specs.declared.fault.ProgramFault.{ProgramFault};
@@ -22,7 +24,7 @@ mod fault;
 mod filter;
 mod help;
 mod hex_input;
-mod hex_lines;
+mod output;
 mod policy_source;
 #[cfg(test)]
 mod tests;
@@ -31,7 +33,9 @@ use crate::check::check_policy;
 use crate::command_line::{Task, read_command_line};
 use crate::fault::ProgramFault;
 use crate::filter::filter;
+use crate::output::write_text;
 use mediator_core::OfflineReport;
+use octet_devices::Device;
 use std::convert::AsStr;
 use std::env;
 use std::io::{Read, Write};
@@ -47,7 +51,7 @@ fn main(rt: HostRuntime) -> ExitCode {
             &rt,
             words.as_slice(),
             rt.stdin(),
-            &mut rt.stdout(),
+            &mut Device::new(rt.stdout()),
             rt.stderr(),
         ),
         Err(fault) => fault.report(&mut rt.stderr()),
@@ -69,11 +73,11 @@ pub fn program<R: Files + AllocGlobal, S: AsStr, I: Read + Drop, O: Write, E: Wr
     rt: &R,
     words: &[S],
     input: I,
-    output: &mut O,
+    output: &mut Device<O>,
     mut errors: E,
 ) -> u8
-    ensures done { result ≡ 0 → (report : Option OfflineReport) × Does (map S.text words.now) report (I.remaining input) (O.contents output.old) (O.contents output.new) }
-    ensures fails { result ≢ 0 → (e : ProgramFault) × (result ≡ status_of e) × FailsFor (map S.text words.now) e (I.remaining input) }
+    ensures done { result ≡ 0 → (report : Option OfflineReport) × Does (map S.text words.now) report (I.remaining input) (O.contents (device_inner output.old)) (O.contents (device_inner output.new)) }
+    ensures fails { result ≢ 0 → (e : ProgramFault) × (result ≡ status_of e) × FailsFor (map S.text words.now) e (I.remaining input) (O.contents (device_inner output.old)) (O.contents (device_inner output.new)) }
 {
     match run(rt, words, input, output) {
         Ok(Some(report)) => {
@@ -98,10 +102,10 @@ fn run<R: Files + AllocGlobal, S: AsStr, I: Read + Drop, O: Write>(
     rt: &R,
     words: &[S],
     input: I,
-    output: &mut O,
+    output: &mut Device<O>,
 ) -> Result<Option<OfflineReport>, ProgramFault>
-    ensures ok { IfOk result (λ report. Does (map S.text words.now) report (I.remaining input) (O.contents output.old) (O.contents output.new)) }
-    ensures err { IfErr result (λ e. FailsFor (map S.text words.now) e (I.remaining input)) }
+    ensures ok { IfOk result (λ report. Does (map S.text words.now) report (I.remaining input) (O.contents (device_inner output.old)) (O.contents (device_inner output.new))) }
+    ensures err { IfErr result (λ e. FailsFor (map S.text words.now) e (I.remaining input) (O.contents (device_inner output.old)) (O.contents (device_inner output.new))) }
 {
     match read_command_line(rt.alloc(), words)? {
         Task::Offline(options) => Ok(Some(filter(rt, &options, input, output)?)),
@@ -110,8 +114,8 @@ fn run<R: Files + AllocGlobal, S: AsStr, I: Read + Drop, O: Write>(
             Ok(None)
         }
         Task::Show(text) => {
-            write!(output, "{text}")?;
-            output.flush()?;
+            let text = format!(in rt.alloc(); "{text}")?;
+            write_text(output, text.as_str())?;
             Ok(None)
         }
     }

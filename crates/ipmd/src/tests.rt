@@ -11,6 +11,7 @@ mod misuse;
 mod worked;
 
 use crate::program;
+use octet_devices::Device;
 use std::alloc::{AllocError, Global};
 use std::io::Read;
 use std::process::Abort;
@@ -87,7 +88,8 @@ fn run_on<R: Files + AllocGlobal, I: Read + Drop>(
 ) -> Result<Ran, AllocError> {
     let mut output = some_room(rt.alloc())?;
     let mut errors = some_room(rt.alloc())?;
-    let status = program(rt, words, input, &mut output, &mut errors);
+    let mut device = Device::new(&mut output);
+    let status = program(rt, words, input, &mut device, &mut errors);
     Ok(Ran {
         status,
         output,

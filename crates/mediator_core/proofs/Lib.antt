@@ -11,3 +11,4 @@ pub mod Streams
 pub mod Ends
 pub mod DueLaws
 pub mod PlainLaws
+pub mod Framed

@@ -1,5 +1,7 @@
 ghost use Rattle.std.specs.Prelude.{◌≡◌, Bool, true, false};
+ghost use Rattle.std.specs.Io.KnownBytes.{Keeps};
 ghost use Rattle.octet_devices.specs.Device.{device_inner, device_failed};
+ghost use Rattle.octet_devices.specs.Failing.{FailsOnErr};
 
 use crate::failed::Failed;
 use crate::sink::Sink;
@@ -50,6 +52,22 @@ impl<T> Device<T> {
     {
         let Device { inner, failed: _ } = self;
         inner
+    }
+}
+
+impl<T: Write> Device<T> {
+    /// Sees that what was written has left.
+    ///
+    /// # Errors
+    /// The writer has failed.
+    pub fn flush(&mut self) -> Result<(), Failed>
+        ensures octets { Keeps (T.contents (device_inner self.old)) (T.contents (device_inner self.new)) }
+        ensures failed { FailsOnErr (device_failed self.old) (device_failed self.new) result }
+    {
+        if self.inner.flush().is_err() {
+            return Err(self.fail());
+        }
+        Ok(())
     }
 }
 

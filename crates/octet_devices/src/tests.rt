@@ -36,6 +36,20 @@ impl Write for Narrow {
     }
 }
 
+/// A writer that takes all, and fails when it is flushed.
+#[derive(Drop)]
+struct Unflushed;
+
+impl Write for Unflushed {
+    fn write(&mut self, octets: &[u8]) -> io::Result<usize> {
+        Ok(octets.len())
+    }
+
+    fn flush(&mut self) -> io::Result<()> {
+        Err(io::Error::from(ErrorKind::Other))
+    }
+}
+
 /// A reader that gives at most `most` octets at a call, and fails at one of its calls.
 #[derive(Drop)]
 struct Sparing {
@@ -167,12 +181,22 @@ fn seven_octets_at_a_time(rt: HostRuntime) {
 }
 
 #[test]
+fn flush_fails(rt: HostRuntime) {
+    let mut device = Device::new(Unflushed);
+    assert_eq!(rt; write_all(&mut device, OCTETS), Ok(()));
+    assert_eq!(rt; device.has_failed(), false);
+    assert_eq!(rt; device.flush(), Err(Failed));
+    assert_eq!(rt; device.has_failed(), true);
+}
+
+#[test]
 fn over_memory(rt: HostRuntime) -> Result<(), Fail> {
     let mut source = Device::new(OCTETS);
     let mut buffer = [0u8; 64];
     assert_eq!(rt; source.read(&mut buffer), Ok(10));
     let mut sink = Device::new(some_room(rt.alloc())?);
     assert_eq!(rt; write_all(&mut sink, &buffer[..10]), Ok(()));
+    assert_eq!(rt; sink.flush(), Ok(()));
     assert_eq!(rt; sink.into_inner().as_slice(), OCTETS);
     Ok(())
 }

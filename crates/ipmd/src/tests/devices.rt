@@ -1,6 +1,7 @@
 //! Streams that do less than they are asked, or fail.
 
 use super::*;
+use octet_devices::{WriteStopped, write_all};
 use std::io::{self, ErrorKind, Write};
 
 /// The words of a run on octets, and of one on hexadecimal text.
@@ -122,7 +123,8 @@ fn expect_front<R: Files + AllocGlobal + Abort>(
 ) -> Result<(), Fail> {
     let mut writer = writer;
     let mut errors = Vec::with_capacity(rt.alloc(), ROOM)?;
-    let status = program(rt, words, input, &mut writer, &mut errors);
+    let mut device = Device::new(&mut writer);
+    let status = program(rt, words, input, &mut device, &mut errors);
     let (text, wanted) = if sent == whole.len() {
         (TWO_FLOWS_REPORT, 0)
     } else {
@@ -217,12 +219,27 @@ fn flush_fails(rt: HostRuntime) -> Result<(), Fail> {
             &rt,
             words,
             TWO_FLOWS.as_bytes(),
-            &mut Unflushed,
+            &mut Device::new(Unflushed),
             &mut errors,
         );
         assert_eq!(rt; str::from_utf8(errors.as_slice())?, DEVICE);
         assert_eq!(rt; status, 3);
     }
+    Ok(())
+}
+
+/// Nothing is written to an output that has failed before.
+#[test]
+fn failed_before(rt: HostRuntime) -> Result<(), Fail> {
+    let input = octets_of(rt.alloc(), TWO_FLOWS)?;
+    // It fails at its first call alone.
+    let mut device = Device::new(narrow_writer(rt.alloc(), ROOM, 0)?);
+    assert_eq!(rt; write_all(&mut device, b"0"), Err(WriteStopped { sent: 0 }));
+    let mut errors = Vec::with_capacity(rt.alloc(), ROOM)?;
+    let status = program(&rt, &OCTETS, input.as_slice(), &mut device, &mut errors);
+    assert_eq!(rt; str::from_utf8(errors.as_slice())?, DEVICE);
+    assert_eq!(rt; status, 3);
+    assert_eq!(rt; device.into_inner().octets.len(), 0);
     Ok(())
 }
 
@@ -279,11 +296,13 @@ fn errors_fail(rt: HostRuntime) -> Result<(), Fail> {
     for calls in 0..3 {
         let mut output = Vec::with_capacity(rt.alloc(), ROOM)?;
         let errors = narrow_writer(rt.alloc(), 4, calls)?;
-        let status = program(&rt, &HEXADECIMAL, TWO_FLOWS.as_bytes(), &mut output, errors);
+        let mut device = Device::new(&mut output);
+        let status = program(&rt, &HEXADECIMAL, TWO_FLOWS.as_bytes(), &mut device, errors);
         assert_eq!(rt; output.as_slice(), whole.as_bytes());
         assert_eq!(rt; status, 0);
         let errors = narrow_writer(rt.alloc(), 4, calls)?;
-        let status = program(&rt, &HEXADECIMAL, b"0g".as_slice(), &mut output, errors);
+        let mut device = Device::new(&mut output);
+        let status = program(&rt, &HEXADECIMAL, b"0g".as_slice(), &mut device, errors);
         assert_eq!(rt; status, 1);
     }
     Ok(())

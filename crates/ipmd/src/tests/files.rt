@@ -195,7 +195,8 @@ fn full_output(rt: HostRuntime) -> Result<(), Fail> {
     ];
     for (words, status, text) in cases {
         let mut errors = Vec::with_capacity(rt.alloc(), ROOM)?;
-        let mut full = OpenOptions::new().write(true).open(&rt, FULL)?;
+        let full = OpenOptions::new().write(true).open(&rt, FULL)?;
+        let mut full = Device::new(full);
         let answer = program(&rt, words, FLOW.as_bytes(), &mut full, &mut errors);
         assert_eq!(rt; str::from_utf8(errors.as_slice())?, text);
         assert_eq!(rt; answer, status);

@@ -85,7 +85,8 @@ fn closed_pipe(rt: HostRuntime) -> Result<(), Fail> {
     let check = ["check-policy", "--policy-text", PASS];
     for words in [OFFLINE_HEX.as_slice(), check.as_slice()] {
         let mut errors = Vec::with_capacity(rt.alloc(), ROOM)?;
-        let status = program(&rt, words, FLOW.as_bytes(), &mut ClosedPipe, &mut errors);
+        let mut output = Device::new(ClosedPipe);
+        let status = program(&rt, words, FLOW.as_bytes(), &mut output, &mut errors);
         assert_eq!(rt; str::from_utf8(errors.as_slice())?, "ipmd: device\n");
         assert_eq!(rt; status, 3);
     }
