@@ -1,18 +1,22 @@
 -- An input that is hexadecimal text: what is known of what it spells is known of it.
-use Rattle.std.proofs.Common.{refl, subst, subst₂, ◌∙◌, ℕ, List, [], true, Option, Some, None, ◌≡◌}
+use Rattle.std.proofs.Common.{refl, inl, inr, subst, subst₂, ◌∙◌, ℕ, List, [], Bool, true, Option, Some, None, ◌≡◌}
 use Rattle.std.specs.List.{concat}
 use Rattle.std.specs.Io.KnownBytes.{Appends, Keeps}
 use Rattle.ipfix_message.specs.Framing.{IsFramed}
 use Rattle.mediator_core.proofs.Framed.{meant_are_cut}
 use Rattle.mediator_core.specs.Offline.{disclosed_by, due}
-use Rattle.std.specs.Prelude.{IfSome}
+use Rattle.mediator_core.specs.Reading.{Finishes, Halts}
+use Rattle.mediator_core.specs.declared.job.OfflineFault.{OfflineFault}
+use Rattle.std.specs.Prelude.{IfErr, IfOk, IfSome, Result, Ok, Err}
 use Rattle.mediator_core.specs.declared.job.OfflineJob.{OfflineJob}
 use Rattle.mediator_core.specs.declared.job.OfflineReport.{OfflineReport}
 use Rattle.std.specs.Borrow.{Bor}
 use Rattle.ipmd.specs.declared.command_line.OfflineOptions.{OfflineOptions}
 use Rattle.ipmd.specs.declared.fault.ProgramFault.{ProgramFault}
-use Rattle.ipmd.specs.HexText.{SpelledBy, lines_of, WritesLines}
-use Rattle.ipmd.specs.Runs.{Asked, FinishesInput, FinishesLines, FinishesOn, IsTextOf, StopsInput, StopsLines, StopsOn}
+use Rattle.ipmd.specs.HexText.{SpelledBy, lines_of, WritesLines, WritesSomeLines}
+use Rattle.ipmd.specs.Status.{offline_fault_of}
+use Rattle.ipmd.proofs.Lines.{all_written, kept}
+use Rattle.ipmd.specs.Runs.{Asked, FinishesInput, FinishesLines, FinishesOn, IsTextOf, EndsOn, EndsOver, FailsLines, FailsOn, RefusesInput, StopsLines, StopsOn}
 
 -- a stream over memory, which was empty, is the messages that are due, and so its lines are theirs
 due_lines : (job : OfflineJob) (report : OfflineReport) (octets stream : List ℕ) (held holds audit_held audit_holds : Option (List ℕ))
@@ -45,10 +49,57 @@ pub finishes_spelled : (given held holds audit_held audit_holds : Option (List �
 finishes_spelled None held holds audit_held audit_holds octets job report spelled done = tt
 finishes_spelled (Some text) held holds audit_held audit_holds octets job report spelled done = (octets, spelled, done)
 
-pub stops_spelled : (given held holds audit_held audit_holds : Option (List ℕ)) (octets : List ℕ) (job : OfflineJob) (e : ProgramFault)
-    → IfSome given (λ text. SpelledBy text octets) → StopsLines e job octets held holds audit_held audit_holds → StopsInput true e job given held holds audit_held audit_holds
-stops_spelled None held holds audit_held audit_holds octets job e spelled stops = tt
-stops_spelled (Some text) held holds audit_held audit_holds octets job e spelled stops = (octets, spelled, stops)
+pub fails_spelled : (given held holds audit_held audit_holds : Option (List ℕ)) (octets : List ℕ) (job : OfflineJob) (e : ProgramFault)
+    → IfSome given (λ text. SpelledBy text octets) → FailsLines e job octets held holds audit_held audit_holds → RefusesInput e true job given held holds audit_held audit_holds
+fails_spelled None held holds audit_held audit_holds octets job e spelled fails = inr tt
+fails_spelled (Some text) held holds audit_held audit_holds octets job e spelled fails = inr (octets, spelled, fails)
+
+-- ---- a run that ended, by the two clauses of its answer
+
+-- and then the output and the audit were flushed
+pub ran : (job : OfflineJob) (r : Result OfflineReport OfflineFault) (given left held written holds audit_held audited audit_holds : Option (List ℕ)) (rfailed failed afailed : Bool)
+    → IfOk r (λ report. Finishes job report given left held written audit_held audited)
+    → IfErr r (λ fault. Halts fault job given left held written audit_held audited rfailed failed afailed)
+    → Keeps written holds → Keeps audited audit_holds → EndsOn job given held holds audit_held audit_holds
+ran job (Ok report) given left held written holds audit_held audited audit_holds rfailed failed afailed finishes halts flushed audit_flushed =
+    inl (report, record { left = left; written = written; audited = audited; finishes = finishes; flushed = flushed; audit_flushed = audit_flushed })
+ran job (Err fault) given left held written holds audit_held audited audit_holds rfailed failed afailed finishes halts flushed audit_flushed =
+    inr (
+      offline_fault_of fault,
+      record {
+        fault = fault;
+        is = refl;
+        left = left;
+        written = written;
+        audited = audited;
+        reader_failed = rfailed;
+        writer_failed = failed;
+        audit_failed = afailed;
+        halts = halts;
+        flushed = flushed;
+        audit_flushed = audit_flushed;
+      },
+    )
+
+-- over memory that was empty
+pub ends_over : (job : OfflineJob) (octets stream : List ℕ) (r : Result OfflineReport ProgramFault) (before after audit_held audit_holds : Option (List ℕ)) → before ≡ Some [] → after ≡ Some stream
+    → IfOk r (λ report. FinishesOn job report (Some octets) before after audit_held audit_holds) → IfErr r (λ e. FailsOn e job (Some octets) before after audit_held audit_holds)
+    → EndsOver job octets stream audit_held audit_holds
+ends_over job octets stream (Ok report) before after audit_held audit_holds empty filled finishes fails =
+    inl (report, subst₂ (λ b a. FinishesOn job report (Some octets) b a audit_held audit_holds) empty filled finishes)
+ends_over job octets stream (Err e) before after audit_held audit_holds empty filled finishes fails =
+    inr (e, subst₂ (λ b a. FailsOn e job (Some octets) b a audit_held audit_holds) empty filled fails)
+
+pub whole_lines : (stream : List ℕ) (held holds : Option (List ℕ)) → WritesLines stream held holds → WritesSomeLines stream held holds
+whole_lines stream held holds lines = inr (record { messages = lines.messages; cut = lines.cut; written = all_written held holds holds (lines_of lines.messages) lines.written (kept holds) })
+
+pub fails_lines : (job : OfflineJob) (e : ProgramFault) (octets stream : List ℕ) (before after held holds audit_held audit_holds : Option (List ℕ)) → before ≡ Some [] → after ≡ Some stream
+    → EndsOver job octets stream audit_held audit_holds → WritesLines stream held holds → FailsOn e job (Some octets) before after audit_held audit_holds
+    → FailsLines e job octets held holds audit_held audit_holds
+fails_lines job e octets stream before after held holds audit_held audit_holds empty filled ends lines (inl stops) =
+    inl (stops_lines job e octets stream before after held holds audit_held audit_holds empty filled stops lines)
+fails_lines job e octets stream before after held holds audit_held audit_holds empty filled ends lines (inr (is, how)) =
+    inr (inr is, record { stream = stream; ends = ends; lines = whole_lines stream held holds lines })
 
 -- the job of these options by this policy
 abbrev pub asked_for : (options : OfflineOptions) (policy : Bor (List ℕ)) (text : List ℕ) → IsTextOf options.policy text → policy.now ≡ text → Asked options

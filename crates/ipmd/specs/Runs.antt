@@ -17,7 +17,7 @@ use Rattle.ipmd.specs.declared.policy_source.PolicySource.{PolicySource}
 use Rattle.ipmd.specs.declared.policy_source.PolicySource.TheVariants.{File, Text}
 use Rattle.ipmd.specs.declared.fault.ProgramFault.{ProgramFault}
 use Rattle.ipmd.specs.declared.fault.ProgramFault.TheVariants.{CommandLine, Policy, Hex, Framing, Core, Cut, OutOfMemory, Device}
-use Rattle.ipmd.specs.HexText.{SpelledBy, SpellsNothing, lines_of, WritesLines}
+use Rattle.ipmd.specs.HexText.{SpelledBy, SpellsNothing, lines_of, WritesLines, WritesSome, WritesSomeLines}
 use Rattle.ipmd.specs.Status.{offline_fault_of}
 use Rattle.ipmd.specs.CommandLine.{AsksFor, RefusesWords}
 
@@ -46,16 +46,24 @@ pub record CountsPolicy (source : PolicySource) (held holds : Option (List ℕ))
   pub spelled : policy_of text ≡ Ok policy
   pub written : Appends held holds (counted policy)
 
--- why a policy isn't counted: its text has this fault, a device failed, or memory ran out
-abbrev pub RefusesToCount : PolicySource → ProgramFault → Type 0
-RefusesToCount source (Policy why) = (text : List ℕ) × IsTextOf source text × (policy_of text ≡ Err why)
-RefusesToCount source OutOfMemory = Unit {0}
-RefusesToCount source Device = Unit {0}
-RefusesToCount source (CommandLine e) = ⊥
-RefusesToCount source Hex = ⊥
-RefusesToCount source (Framing why) = ⊥
-RefusesToCount source (Core why) = ⊥
-RefusesToCount source Cut = ⊥
+-- the text is a policy, and a front of its counts was written, or all of them
+pub record BeginsToCount (source : PolicySource) (held holds : Option (List ℕ)) : Type 0 where
+  pub text : List ℕ
+  pub source_is : IsTextOf source text
+  pub policy : PolicyMeaning
+  pub spelled : policy_of text ≡ Ok policy
+  pub written : WritesSome (counted policy) held holds
+
+-- why a policy isn't counted, and what was written: its text has this fault, a device failed, or memory ran out
+abbrev pub RefusesToCount : PolicySource → ProgramFault → Option (List ℕ) → Option (List ℕ) → Type 0
+RefusesToCount source (Policy why) held holds = (text : List ℕ) × IsTextOf source text × (policy_of text ≡ Err why) × Keeps held holds
+RefusesToCount source OutOfMemory held holds = Keeps held holds
+RefusesToCount source Device held holds = Keeps held holds ⊎ BeginsToCount source held holds
+RefusesToCount source (CommandLine e) held holds = ⊥
+RefusesToCount source Hex held holds = ⊥
+RefusesToCount source (Framing why) held holds = ⊥
+RefusesToCount source (Core why) held holds = ⊥
+RefusesToCount source Cut held holds = ⊥
 
 -- ---- offline
 
@@ -118,33 +126,54 @@ pub record StopsOn (e : ProgramFault) (job : OfflineJob) (given held holds audit
   pub flushed : Keeps written holds
   pub audit_flushed : Keeps audited audit_holds
 
--- the same, and each message that was written by then was written as a line
+-- a run over octets ended, by its report or by a fault, and then the output and the audit were flushed, or one of them failed
+abbrev pub EndsOn : OfflineJob → Option (List ℕ) → Option (List ℕ) → Option (List ℕ) → Option (List ℕ) → Option (List ℕ) → Type 0
+EndsOn job given held holds audit_held audit_holds =
+    ((report : OfflineReport) × FinishesOn job report given held holds audit_held audit_holds)
+    ⊎ ((e : ProgramFault) × StopsOn e job given held holds audit_held audit_holds)
+
+-- why octets aren't filtered to their end: the mediator stopped so; or a device failed, one that had failed before, so that nothing
+-- was written, or one that was flushed when the run had ended
+abbrev pub FailsOn : ProgramFault → OfflineJob → Option (List ℕ) → Option (List ℕ) → Option (List ℕ) → Option (List ℕ) → Option (List ℕ) → Type 0
+FailsOn e job given held holds audit_held audit_holds =
+    StopsOn e job given held holds audit_held audit_holds
+    ⊎ ((e ≡ Device) × ((Keeps held holds × Keeps audit_held audit_holds) ⊎ EndsOn job given held holds audit_held audit_holds))
+
+-- the mediator stopped so, and each message that was written by then was written as a line
 pub record StopsLines (e : ProgramFault) (job : OfflineJob) (octets : List ℕ) (held holds audit_held audit_holds : Option (List ℕ)) : Type 0 where
   pub stream : List ℕ
   pub stops : StopsOn e job (Some octets) (Some []) (Some stream) audit_held audit_holds
   pub lines : WritesLines stream held holds
 
--- the same of the octets that a text spells
-abbrev pub StopsText : ProgramFault → OfflineJob → List ℕ → Option (List ℕ) → Option (List ℕ) → Option (List ℕ) → Option (List ℕ) → Type 0
-StopsText e job text held holds audit_held audit_holds =
-    (octets : List ℕ) × SpelledBy text octets × StopsLines e job octets held holds audit_held audit_holds
+-- a run over these octets ended somehow, and wrote this stream
+abbrev pub EndsOver : OfflineJob → List ℕ → List ℕ → Option (List ℕ) → Option (List ℕ) → Type 0
+EndsOver job octets stream audit_held audit_holds =
+    ((report : OfflineReport) × FinishesOn job report (Some octets) (Some []) (Some stream) audit_held audit_holds)
+    ⊎ ((e : ProgramFault) × FailsOn e job (Some octets) (Some []) (Some stream) audit_held audit_holds)
 
-abbrev pub StopsInput : Bool → ProgramFault → OfflineJob → Option (List ℕ) → Option (List ℕ) → Option (List ℕ) → Option (List ℕ) → Option (List ℕ) → Type 0
-StopsInput false e job given held holds audit_held audit_holds = StopsOn e job given held holds audit_held audit_holds
-StopsInput true e job given held holds audit_held audit_holds = IfSome given (λ text. StopsText e job text held holds audit_held audit_holds)
+-- a run ended somehow, and a front of its lines was written, or all of them
+pub record EndsLines (job : OfflineJob) (octets : List ℕ) (held holds audit_held audit_holds : Option (List ℕ)) : Type 0 where
+  pub stream : List ℕ
+  pub ends : EndsOver job octets stream audit_held audit_holds
+  pub lines : WritesSomeLines stream held holds
 
--- why an input isn't filtered to its end: memory ran out or a device failed, it isn't hexadecimal where it is to be, or the
--- mediator stopped
+abbrev pub FailsLines : ProgramFault → OfflineJob → List ℕ → Option (List ℕ) → Option (List ℕ) → Option (List ℕ) → Option (List ℕ) → Type 0
+FailsLines e job octets held holds audit_held audit_holds =
+    StopsLines e job octets held holds audit_held audit_holds
+    ⊎ (((e ≡ OutOfMemory) ⊎ (e ≡ Device)) × EndsLines job octets held holds audit_held audit_holds)
+
+-- why an input isn't filtered to its end, as octets or as what its text spells; a text that can't be read, or spells nothing, has
+-- nothing written
 abbrev pub RefusesInput : ProgramFault → Bool → OfflineJob → Option (List ℕ) → Option (List ℕ) → Option (List ℕ) → Option (List ℕ) → Option (List ℕ) → Type 0
-RefusesInput e hex job given held holds audit_held audit_holds =
-    ((e ≡ OutOfMemory) ⊎ (e ≡ Device))
-    ⊎ (((e ≡ Hex) × (hex ≡ true) × IfSome given SpellsNothing)
-    ⊎ StopsInput hex e job given held holds audit_held audit_holds)
+RefusesInput e false job given held holds audit_held audit_holds = FailsOn e job given held holds audit_held audit_holds
+RefusesInput e true job given held holds audit_held audit_holds =
+    ((((e ≡ Hex) × IfSome given SpellsNothing) ⊎ ((e ≡ OutOfMemory) ⊎ (e ≡ Device))) × Keeps held holds × Keeps audit_held audit_holds)
+    ⊎ IfSome given (λ text. (octets : List ℕ) × SpelledBy text octets × FailsLines e job octets held holds audit_held audit_holds)
 
 -- the same for a subscriber by a policy; the policy's source, or the audit file, may fail before
 abbrev pub RefusesToFilter : OfflineOptions → ProgramFault → Option (List ℕ) → Option (List ℕ) → Option (List ℕ) → Type 0
 RefusesToFilter options e given held holds =
-    ((e ≡ OutOfMemory) ⊎ (e ≡ Device))
+    (((e ≡ OutOfMemory) ⊎ (e ≡ Device)) × Keeps held holds)
     ⊎ ((asked : Asked options) × (audit_held audit_holds : Option (List ℕ)) × RefusesInput e options.hex asked.job given held holds audit_held audit_holds)
 
 -- ---- the whole program
@@ -155,10 +184,10 @@ Does words (Some report) given held holds = (options : OfflineOptions) × AsksFo
 Does words None given held holds =
     ((source : PolicySource) × AsksFor words (CheckPolicy source) × CountsPolicy source held holds) ⊎ ((text : Error) × AsksFor words (Show text))
 
--- why it isn't done
+-- why it isn't done, and what was written
 abbrev pub FailsFor : List (List ℕ) → ProgramFault → Option (List ℕ) → Option (List ℕ) → Option (List ℕ) → Type 0
 FailsFor words e given held holds =
-    RefusesWords words e
-    ⊎ (((source : PolicySource) × AsksFor words (CheckPolicy source) × RefusesToCount source e)
+    (RefusesWords words e × Keeps held holds)
+    ⊎ (((source : PolicySource) × AsksFor words (CheckPolicy source) × RefusesToCount source e held holds)
     ⊎ (((options : OfflineOptions) × AsksFor words (Offline options) × RefusesToFilter options e given held holds)
     ⊎ (((text : Error) × AsksFor words (Show text)) × ((e ≡ OutOfMemory) ⊎ (e ≡ Device)))))

@@ -17,13 +17,14 @@ use std::rt::Files;
 ///
 /// # Errors
 /// That of the policy's source, `Policy` where its text is none, `Device` where the output fails.
+#[tactic(auto, using(crate::proofs::Lines::kept))]
 pub fn check_policy<R: Files + AllocGlobal, O: Write>(
     rt: &R,
     source: PolicySource<'_>,
     output: &mut Device<O>,
 ) -> Result<(), ProgramFault>
     ensures ok { OnOk result (CountsPolicy source.entry (O.contents (device_inner output.old)) (O.contents (device_inner output.new))) }
-    ensures err { IfErr result (RefusesToCount source.entry) }
+    ensures err { IfErr result (λ e. RefusesToCount source.entry e (O.contents (device_inner output.old)) (O.contents (device_inner output.new))) }
 {
     let text = source.text(rt)?;
     let policy = Policy::parse(rt.alloc(), text.as_str())?;

@@ -1,9 +1,8 @@
 //! `ipmd offline`.
 
-ghost use Rattle.std.specs.Prelude.{◌≡◌, ◌⊎◌, IfErr, IfOk};
+ghost use Rattle.std.specs.Prelude.{IfErr, IfOk};
 ghost use Rattle.octet_devices.specs.Device.{device_inner};
-ghost use Rattle.ipmd.specs.declared.fault.ProgramFault.TheVariants as fault;
-ghost use Rattle.ipmd.specs.Runs.{Filters, FinishesInput, FinishesLines, FinishesOn, RefusesToFilter, RefusesInput, StopsLines, StopsOn};
+ghost use Rattle.ipmd.specs.Runs.{FailsLines, FailsOn, Filters, FinishesInput, FinishesLines, FinishesOn, RefusesInput, RefusesToFilter};
 
 use crate::command_line::OfflineOptions;
 use crate::fault::ProgramFault;
@@ -28,6 +27,7 @@ const ANY_NUMBER_OF_READS: u64 = u64::MAX;
 /// In this order: the policy's source, the audit file, which is made empty, an input that is not
 /// hexadecimal where it is to be, and what the mediator refuses. What was accepted before a fault is
 /// written.
+#[tactic(auto, using(crate::proofs::Lines::kept))]
 pub fn filter<R: Files + AllocGlobal, I: Read + Drop, O: Write>(
     rt: &R,
     options: &OfflineOptions<'_>,
@@ -60,7 +60,7 @@ pub fn filter<R: Files + AllocGlobal, I: Read + Drop, O: Write>(
 }
 
 /// Filters `input`, as octets, or as hexadecimal text to lines of it.
-#[tactic(auto, using(crate::proofs::Inputs::finishes_spelled, crate::proofs::Inputs::stops_spelled))]
+#[tactic(auto, using(crate::proofs::Inputs::finishes_spelled, crate::proofs::Inputs::fails_spelled, crate::proofs::Lines::kept))]
 fn filter_input<I: Read + Drop, O: Write, A: Write>(
     alloc: Global,
     job: &OfflineJob<'_>,
@@ -88,7 +88,7 @@ fn filter_to_lines<O: Write, A: Write>(
     audit: &mut Device<A>,
 ) -> Result<OfflineReport, ProgramFault>
     ensures ok { IfOk result (λ report. FinishesLines job.entry.now report octets.now (O.contents (device_inner output.old)) (O.contents (device_inner output.new)) (A.contents (device_inner audit.old)) (A.contents (device_inner audit.new))) }
-    ensures err { IfErr result (λ e. ((e ≡ fault.OutOfMemory) ⊎ (e ≡ fault.Device)) ⊎ StopsLines e job.entry.now octets.now (O.contents (device_inner output.old)) (O.contents (device_inner output.new)) (A.contents (device_inner audit.old)) (A.contents (device_inner audit.new))) }
+    ensures err { IfErr result (λ e. FailsLines e job.entry.now octets.now (O.contents (device_inner output.old)) (O.contents (device_inner output.new)) (A.contents (device_inner audit.old)) (A.contents (device_inner audit.new))) }
 {
     let mut stream = Device::new(Vec::new(alloc));
     let report = filter_octets(alloc, job, octets, &mut stream, audit);
@@ -101,6 +101,7 @@ fn filter_to_lines<O: Write, A: Write>(
 }
 
 /// Filters octets, and sees that all that was written has left.
+#[tactic(auto, using(crate::proofs::Lines::kept))]
 fn filter_octets<I: Read + Drop, O: Write, A: Write>(
     alloc: Global,
     job: &OfflineJob<'_>,
@@ -109,7 +110,7 @@ fn filter_octets<I: Read + Drop, O: Write, A: Write>(
     audit: &mut Device<A>,
 ) -> Result<OfflineReport, ProgramFault>
     ensures ok { IfOk result (λ report. FinishesOn job.entry.now report (I.remaining input) (O.contents (device_inner output.old)) (O.contents (device_inner output.new)) (A.contents (device_inner audit.old)) (A.contents (device_inner audit.new))) }
-    ensures err { IfErr result (λ e. ((e ≡ fault.OutOfMemory) ⊎ (e ≡ fault.Device)) ⊎ StopsOn e job.entry.now (I.remaining input) (O.contents (device_inner output.old)) (O.contents (device_inner output.new)) (A.contents (device_inner audit.old)) (A.contents (device_inner audit.new))) }
+    ensures err { IfErr result (λ e. FailsOn e job.entry.now (I.remaining input) (O.contents (device_inner output.old)) (O.contents (device_inner output.new)) (A.contents (device_inner audit.old)) (A.contents (device_inner audit.new))) }
 {
     if output.has_failed() || audit.has_failed() {
         return Err(ProgramFault::Device);

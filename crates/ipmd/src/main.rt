@@ -98,6 +98,7 @@ pub fn program<R: Files + AllocGlobal, S: AsStr, I: Read + Drop, O: Write, E: Wr
 }
 
 /// Does what the words ask for. The report is that of `ipmd offline`.
+#[tactic(auto, using(crate::proofs::Lines::kept))]
 fn run<R: Files + AllocGlobal, S: AsStr, I: Read + Drop, O: Write>(
     rt: &R,
     words: &[S],

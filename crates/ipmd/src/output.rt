@@ -3,7 +3,7 @@
 ghost use Rattle.std.specs.Prelude.{◌≡◌, ◌⊎◌, OnOk, IfOk, IfErr, string_bytes};
 ghost use Rattle.std.specs.Io.KnownBytes.{Appends};
 ghost use Rattle.octet_devices.specs.Device.{device_inner};
-ghost use Rattle.ipmd.specs.HexText.{AreMessagesOf, line_of, lines_of, WritesLines};
+ghost use Rattle.ipmd.specs.HexText.{AreMessagesOf, line_of, lines_of, WritesLines, WritesSome, WritesSomeLines};
 ghost use Rattle.ipmd.specs.declared.fault.ProgramFault.TheVariants.{OutOfMemory, Device as DeviceFailed};
 
 use crate::fault::ProgramFault;
@@ -16,10 +16,11 @@ use std::io::Write;
 /// Writes a text, and sees that it has left.
 ///
 /// # Errors
-/// `Device` where the output fails.
+/// `Device` where the output fails; a front of the text may have been written.
+#[tactic(auto, using(crate::proofs::Lines::all_written, crate::proofs::Lines::front_written))]
 pub fn write_text<O: Write>(output: &mut Device<O>, text: &str) -> Result<(), ProgramFault>
     ensures ok { OnOk result (Appends (O.contents (device_inner output.old)) (O.contents (device_inner output.new)) text.now) }
-    ensures err { IfErr result (λ e. e ≡ DeviceFailed) }
+    ensures err { IfErr result (λ e. (e ≡ DeviceFailed) × WritesSome text.now (O.contents (device_inner output.old)) (O.contents (device_inner output.new))) }
 {
     write_all(output, text.as_bytes())?;
     output.flush()?;
@@ -30,14 +31,14 @@ pub fn write_text<O: Write>(output: &mut Device<O>, text: &str) -> Result<(), Pr
 /// says (RFC 7011, section 3.1).
 ///
 /// # Errors
-/// `Device` where the output fails, `OutOfMemory`.
+/// `Device` where the output fails, `OutOfMemory`; a front of the lines may have been written.
 pub fn write_lines<O: Write>(
     alloc: Global,
     stream: &[u8],
     output: &mut Device<O>,
 ) -> Result<(), ProgramFault>
     ensures ok { OnOk result (WritesLines stream.now (O.contents (device_inner output.old)) (O.contents (device_inner output.new))) }
-    ensures err { IfErr result (λ e. (e ≡ OutOfMemory) ⊎ (e ≡ DeviceFailed)) }
+    ensures err { IfErr result (λ e. ((e ≡ OutOfMemory) ⊎ (e ≡ DeviceFailed)) × WritesSomeLines stream.now (O.contents (device_inner output.old)) (O.contents (device_inner output.new))) }
 {
     let messages = messages_of(alloc, stream)?;
     write_each(alloc, &messages, output)?;
@@ -64,7 +65,7 @@ fn write_each<O: Write>(
     output: &mut Device<O>,
 ) -> Result<(), ProgramFault>
     ensures ok { OnOk result (Appends (O.contents (device_inner output.old)) (O.contents (device_inner output.new)) (lines_of messages.now)) }
-    ensures err { IfErr result (λ e. (e ≡ OutOfMemory) ⊎ (e ≡ DeviceFailed)) }
+    ensures err { IfErr result (λ e. ((e ≡ OutOfMemory) ⊎ (e ≡ DeviceFailed)) × WritesSome (lines_of messages.now) (O.contents (device_inner output.old)) (O.contents (device_inner output.new))) }
 {
     'messages: for message in messages {
         let line = hex_line(alloc, message.as_slice())?;
