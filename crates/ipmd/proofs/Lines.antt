@@ -1,5 +1,5 @@
 -- Messages written as lines, one after another.
-use Rattle.std.proofs.Common.{◌≡◌, ℕ, ◌+◌, ◌<◌, ◌≤◌, List, [], ◌∷◌, ◌++◌, length, get_or, take, drop, Bool, Option, None, refl, sym, ap, subst, ◌∙◌, append-nil, append_assoc, arith, inl, inr}
+use Rattle.std.proofs.Common.{◌≡◌, ℕ, ◌+◌, ◌<◌, List, [], ◌∷◌, ◌++◌, length, get_or, take, drop, Bool, Option, None, refl, sym, ap, subst, ◌∙◌, append-nil, append_assoc, arith, inl, inr}
 use Rattle.std.proofs.lemmas.List.{take_more, take_all, take-append-drop, take-append-le}
 use Rattle.std.proofs.Math.Seq.{take-append_seam, take-append-add}
 use Rattle.std.proofs.lemmas.List.Concat.{flat_map-append}
@@ -19,16 +19,6 @@ lines_turn messages i message low is =
     ap lines_of (take_more messages i message low ∙ ap (λ m. take i messages ++ m ∷ []) (sym is))
     ∙ flat_map-append line_of (take i messages) (message ∷ [])
     ∙ ap (λ t. lines_of (take i messages) ++ t) (append-nil (line_of message))
-
--- one line more
-pub one_line_more : (held now after : Option (List ℕ)) (messages : List (List ℕ)) (i : ℕ) (message line : List ℕ) → i < length messages → message ≡ get_or messages i message
-    → line ≡ line_of message → Appends held now (lines_of (take i messages)) → Appends now after line → Appends held after (lines_of (take (i + 1) messages))
-one_line_more held now after messages i message line low is same before more =
-    subst (Appends held after) (ap (λ t. lines_of (take i messages) ++ t) same ∙ sym (lines_turn messages i message low is))
-    (Appends-trans held now after (lines_of (take i messages)) line before more)
-
-pub all_lines : (held holds : Option (List ℕ)) (messages : List (List ℕ)) (i : ℕ) → length messages ≤ i → Appends held holds (lines_of (take i messages)) → Appends held holds (lines_of messages)
-all_lines held holds messages i past lines = subst (λ ms. Appends held holds (lines_of ms)) (take_all i messages past) lines
 
 -- nothing is no message, and no fault
 nothing_is_framed : IsFramed [] [] None []

@@ -117,9 +117,6 @@ fn filter_octets<I: Read + Drop, O: Write, A: Write>(
     }
     let mut reader = Device::new(input);
     let report = offline(alloc, job, &mut reader, output, audit);
-    let written = output.flush();
-    let audited = audit.flush();
-    written?;
-    audited?;
+    output.flush().and(audit.flush())?;
     Ok(report?)
 }

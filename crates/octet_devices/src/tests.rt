@@ -1,78 +1,12 @@
 //! Devices over readers and writers that do less than they are asked, or fail.
-ghost use Rattle.std.specs.Prelude.{Some};
-
 use super::*;
+use faulty_devices::{Narrow, Sparing};
 use std::alloc::Global;
-use std::io::{self, ErrorKind, Read, Write};
+use std::io::{BufWriter, ErrorKind, Write};
 use std::process::Abort;
 use std::test::Fail;
 
 const OCTETS: &[u8] = b"0123456789";
-
-/// A writer that takes at most `most` octets at a call, and fails at one of its calls.
-#[derive(Drop)]
-struct Narrow {
-    octets: Vec<u8>,
-    most: usize,
-    /// How many calls are left before the one that fails.
-    until_failure: u32,
-}
-
-impl Write for Narrow {
-    ghost contents = { λ w. Some w.octets.items };
-
-    fn write(&mut self, octets: &[u8]) -> io::Result<usize> {
-        let fails = self.until_failure == 0;
-        self.until_failure = self.until_failure.wrapping_sub(1);
-        if fails {
-            return Err(io::Error::from(ErrorKind::Interrupted));
-        }
-        let count = octets.len().min(self.most);
-        self.octets.write(&octets[..count])
-    }
-
-    fn flush(&mut self) -> io::Result<()> {
-        Ok(())
-    }
-}
-
-/// A writer that takes all, and fails when it is flushed.
-#[derive(Drop)]
-struct Unflushed;
-
-impl Write for Unflushed {
-    fn write(&mut self, octets: &[u8]) -> io::Result<usize> {
-        Ok(octets.len())
-    }
-
-    fn flush(&mut self) -> io::Result<()> {
-        Err(io::Error::from(ErrorKind::Other))
-    }
-}
-
-/// A reader that gives at most `most` octets at a call, and fails at one of its calls.
-#[derive(Drop)]
-struct Sparing {
-    rest: &'static [u8],
-    most: usize,
-    /// How many calls are left before the one that fails.
-    until_failure: u32,
-}
-
-impl Read for Sparing {
-    fn read(&mut self, buffer: &mut [u8]) -> io::Result<usize> {
-        let fails = self.until_failure == 0;
-        self.until_failure = self.until_failure.wrapping_sub(1);
-        if fails {
-            return Err(io::Error::from(ErrorKind::Interrupted));
-        }
-        if buffer.len() <= self.most {
-            self.rest.read(buffer)
-        } else {
-            self.rest.read(&mut buffer[..self.most])
-        }
-    }
-}
 
 /// Room for what a test writes. Where memory is refused, it is asked for again.
 fn some_room(alloc: Global) -> Result<Vec<u8>, Fail> {
@@ -82,20 +16,26 @@ fn some_room(alloc: Global) -> Result<Vec<u8>, Fail> {
     }
 }
 
-/// A device over a writer that takes at most `most` octets at a call and fails after `until_failure` calls.
-fn narrow_device(alloc: Global, most: usize, until_failure: u32) -> Result<Device<Narrow>, Fail> {
-    Ok(Device::new(Narrow {
+/// A writer whose failure, an interruption, is one that std's own calls try again.
+fn narrow(alloc: Global, most: usize, until_failure: usize) -> Result<Narrow, Fail> {
+    Ok(Narrow {
         octets: some_room(alloc)?,
         most,
         until_failure,
-    }))
+        failure: ErrorKind::Interrupted,
+    })
 }
 
-fn sparing_device(most: usize, until_failure: u32) -> Device<Sparing> {
+fn narrow_device(alloc: Global, most: usize, until_failure: usize) -> Result<Device<Narrow>, Fail> {
+    Ok(Device::new(narrow(alloc, most, until_failure)?))
+}
+
+fn sparing_device(most: usize, until_failure: usize) -> Device<Sparing<'static>> {
     Device::new(Sparing {
         rest: OCTETS,
         most,
         until_failure,
+        failure: ErrorKind::Interrupted,
     })
 }
 
@@ -131,9 +71,8 @@ fn none_taken(rt: HostRuntime) -> Result<(), Fail> {
 
 #[test]
 fn each_write_fails(rt: HostRuntime) -> Result<(), Fail> {
-    for call in 0..10u8 {
-        let mut device = narrow_device(rt.alloc(), 1, u32::from(call))?;
-        let sent = usize::from(call);
+    for sent in 0..10 {
+        let mut device = narrow_device(rt.alloc(), 1, sent)?;
         assert_eq!(rt; write_all(&mut device, OCTETS), Err(WriteStopped { sent }));
         holds(&rt, device, &OCTETS[..sent], true);
     }
@@ -154,8 +93,8 @@ fn write_after_a_failure(rt: HostRuntime) -> Result<(), Fail> {
 
 #[test]
 fn each_read_fails(rt: HostRuntime) {
-    for call in 0..4u8 {
-        let mut device = sparing_device(3, u32::from(call));
+    for call in 0..4 {
+        let mut device = sparing_device(3, call);
         let mut buffer = [0u8; 7];
         for _ in 0..call {
             assert_eq!(rt; device.read(&mut buffer), Ok(3));
@@ -163,7 +102,7 @@ fn each_read_fails(rt: HostRuntime) {
         assert_eq!(rt; device.has_failed(), false);
         assert_eq!(rt; device.read(&mut buffer), Err(Failed));
         assert_eq!(rt; device.has_failed(), true);
-        assert_eq!(rt; device.into_inner().rest, &OCTETS[3 * usize::from(call)..]);
+        assert_eq!(rt; device.into_inner().rest, &OCTETS[3 * call..]);
     }
 }
 
@@ -180,13 +119,19 @@ fn seven_octets_at_a_time(rt: HostRuntime) {
     assert_eq!(rt; device.has_failed(), false);
 }
 
+/// What a buffer holds back is written when it is flushed.
 #[test]
-fn flush_fails(rt: HostRuntime) {
-    let mut device = Device::new(Unflushed);
+fn flush_fails(rt: HostRuntime) -> Result<(), Fail> {
+    let writer = Narrow {
+        failure: ErrorKind::BrokenPipe,
+        ..narrow(rt.alloc(), 10, 0)?
+    };
+    let mut device = Device::new(BufWriter::with_capacity(rt.alloc(), 16, writer)?);
     assert_eq!(rt; write_all(&mut device, OCTETS), Ok(()));
     assert_eq!(rt; device.has_failed(), false);
     assert_eq!(rt; device.flush(), Err(Failed));
     assert_eq!(rt; device.has_failed(), true);
+    Ok(())
 }
 
 #[test]

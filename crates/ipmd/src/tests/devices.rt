@@ -1,10 +1,11 @@
 //! Streams that do less than they are asked, or fail.
 
 use super::*;
+use faulty_devices::{Narrow, Sparing};
 use octet_devices::{WriteStopped, write_all};
-use std::io::{self, ErrorKind, Write};
+use std::io::{BufWriter, ErrorKind, Write};
 
-/// The words of a run on octets, and of one on hexadecimal text.
+/// The words of a run on octets, of one on hexadecimal text, and of a policy's counts.
 const OCTETS: [&str; 9] = [
     "offline",
     "--policy-text",
@@ -30,6 +31,8 @@ const HEXADECIMAL: [&str; 10] = [
     "--hex",
 ];
 
+const CHECK: [&str; 3] = ["check-policy", "--policy-text", PASS];
+
 const DEVICE: &str = "ipmd: device\n";
 
 /// A message with two records, and the three messages of 36, 30 and 30 octets that it becomes.
@@ -49,66 +52,23 @@ const OCTET_ENDS: [usize; 4] = [0, 36, 66, 96];
 
 const LINE_ENDS: [usize; 4] = [0, 73, 134, 195];
 
-/// A writer that takes at most `most` octets at a call, and fails at one of its calls.
-#[derive(Drop)]
-struct Narrow {
-    octets: Vec<u8>,
-    most: usize,
-    /// How many calls are left before the one that fails.
-    until_failure: usize,
+/// A pipe that takes at most `most` octets at a call, and whose reader has gone after `until_failure` calls.
+fn narrow_writer(alloc: Global, most: usize, until_failure: usize) -> Result<Narrow, AllocError> {
+    Ok(Narrow {
+        octets: Vec::with_capacity(alloc, ROOM)?,
+        most,
+        until_failure,
+        failure: ErrorKind::BrokenPipe,
+    })
 }
 
-impl Write for Narrow {
-    fn write(&mut self, octets: &[u8]) -> io::Result<usize> {
-        let fails = self.until_failure == 0;
-        self.until_failure = self.until_failure.wrapping_sub(1);
-        if fails {
-            return Err(io::Error::from(ErrorKind::Other));
-        }
-        let count = octets.len().min(self.most);
-        self.octets.write(&octets[..count])
-    }
-
-    fn flush(&mut self) -> io::Result<()> {
-        Ok(())
-    }
-}
-
-/// A writer that takes all, and fails when it is flushed.
-#[derive(Drop)]
-struct Unflushed;
-
-impl Write for Unflushed {
-    fn write(&mut self, octets: &[u8]) -> io::Result<usize> {
-        Ok(octets.len())
-    }
-
-    fn flush(&mut self) -> io::Result<()> {
-        Err(io::Error::from(ErrorKind::Other))
-    }
-}
-
-/// A reader that gives at most `most` octets at a call, and fails at one of its calls.
-#[derive(Drop)]
-struct Sparing<'a> {
-    rest: &'a [u8],
-    most: usize,
-    /// How many calls are left before the one that fails.
-    until_failure: usize,
-}
-
-impl Read for Sparing<'_> {
-    fn read(&mut self, buffer: &mut [u8]) -> io::Result<usize> {
-        let fails = self.until_failure == 0;
-        self.until_failure = self.until_failure.wrapping_sub(1);
-        if fails {
-            return Err(io::Error::from(ErrorKind::Other));
-        }
-        if buffer.len() <= self.most {
-            self.rest.read(buffer)
-        } else {
-            self.rest.read(&mut buffer[..self.most])
-        }
+/// A reader of `rest` that gives at most `most` octets at a call, and fails after `until_failure` calls.
+fn sparing_reader(rest: &[u8], most: usize, until_failure: usize) -> Sparing<'_> {
+    Sparing {
+        rest,
+        most,
+        until_failure,
+        failure: ErrorKind::ConnectionReset,
     }
 }
 
@@ -134,14 +94,6 @@ fn expect_front<R: Files + AllocGlobal + Abort>(
     assert_eq!(rt; status, wanted);
     assert_eq!(rt; Some(writer.octets.as_slice()), whole.get(..sent));
     Ok(())
-}
-
-fn narrow_writer(alloc: Global, most: usize, until_failure: usize) -> Result<Narrow, AllocError> {
-    Ok(Narrow {
-        octets: Vec::with_capacity(alloc, ROOM)?,
-        most,
-        until_failure,
-    })
 }
 
 /// Each message is one write; one that fails is the end of what is written.
@@ -206,24 +158,28 @@ fn none_taken(rt: HostRuntime) -> Result<(), Fail> {
     expect_front(&rt, &HEXADECIMAL, input, writer, whole.as_slice(), 0)
 }
 
+/// That a command says of its output that it failed.
+fn expect_device_fault<R: Files + AllocGlobal + Abort>(
+    rt: &R,
+    words: &[&str],
+    output: impl Write + Drop,
+) -> Result<(), Fail> {
+    let mut errors = Vec::with_capacity(rt.alloc(), ROOM)?;
+    let mut device = Device::new(output);
+    let status = program(rt, words, TWO_FLOWS.as_bytes(), &mut device, &mut errors);
+    assert_eq!(rt; str::from_utf8(errors.as_slice())?, DEVICE);
+    assert_eq!(rt; status, 3);
+    Ok(())
+}
+
+/// A pipe whose reader has gone, written to at once, and at the flush of a buffer before it.
 #[test]
-fn flush_fails(rt: HostRuntime) -> Result<(), Fail> {
-    let cases = [
-        HEXADECIMAL.as_slice(),
-        &["check-policy", "--policy-text", PASS],
-        &["--version"],
-    ];
-    for words in cases {
-        let mut errors = Vec::with_capacity(rt.alloc(), ROOM)?;
-        let status = program(
-            &rt,
-            words,
-            TWO_FLOWS.as_bytes(),
-            &mut Device::new(Unflushed),
-            &mut errors,
-        );
-        assert_eq!(rt; str::from_utf8(errors.as_slice())?, DEVICE);
-        assert_eq!(rt; status, 3);
+fn closed_pipe(rt: HostRuntime) -> Result<(), Fail> {
+    for words in [HEXADECIMAL.as_slice(), &CHECK, &["--version"]] {
+        expect_device_fault(&rt, words, narrow_writer(rt.alloc(), ROOM, 0)?)?;
+        let pipe = narrow_writer(rt.alloc(), ROOM, 0)?;
+        let buffer = BufWriter::with_capacity(rt.alloc(), ROOM, pipe)?;
+        expect_device_fault(&rt, words, buffer)?;
     }
     Ok(())
 }
@@ -249,11 +205,7 @@ fn octet_by_octet(rt: HostRuntime) -> Result<(), Fail> {
     let input = octets_of(rt.alloc(), TWO_FLOWS)?;
     let whole = octets_of(rt.alloc(), TWO_FLOWS_PASSED)?;
     for most in [1, 7, ROOM] {
-        let reader = Sparing {
-            rest: input.as_slice(),
-            most,
-            until_failure: ROOM,
-        };
+        let reader = sparing_reader(input.as_slice(), most, ROOM);
         let ran = run_on(&rt, &OCTETS, reader)?;
         assert_eq!(rt; ran.output.as_slice(), whole.as_slice());
         assert_eq!(rt; str::from_utf8(ran.errors.as_slice())?, TWO_FLOWS_REPORT);
@@ -269,22 +221,14 @@ fn each_read_fails(rt: HostRuntime) -> Result<(), Fail> {
     let whole = octets_of(rt.alloc(), TWO_FLOWS_PASSED)?;
     // Sixty octets take nine reads of seven, and a tenth meets the end.
     for calls in 0..10 {
-        let reader = Sparing {
-            rest: input.as_slice(),
-            most: 7,
-            until_failure: calls,
-        };
+        let reader = sparing_reader(input.as_slice(), 7, calls);
         let ran = run_on(&rt, &OCTETS, reader)?;
         let sent = if calls < 9 { 0 } else { whole.len() };
         assert_eq!(rt; Some(ran.output.as_slice()), whole.get(..sent));
         assert_eq!(rt; str::from_utf8(ran.errors.as_slice())?, DEVICE);
         assert_eq!(rt; ran.status, 3);
     }
-    let text = Sparing {
-        rest: TWO_FLOWS.as_bytes(),
-        most: 7,
-        until_failure: 3,
-    };
+    let text = sparing_reader(TWO_FLOWS.as_bytes(), 7, 3);
     let ran = run_on(&rt, &HEXADECIMAL, text)?;
     expect_texts(&rt, &ran, 3, "", DEVICE)
 }

@@ -1,7 +1,6 @@
-//! What a newcomer's slips are answered: another protocol, another form of the input, a pipe that closes.
+//! What a newcomer's slips are answered: another protocol or another form of the input.
 
 use super::*;
-use std::io::{self, ErrorKind, Write};
 
 const BAD_VERSION: &str = "ipmd: framing BadVersion\n";
 
@@ -64,31 +63,4 @@ fn byte_order_mark(rt: HostRuntime) -> Result<(), Fail> {
     let words = ["check-policy", "--policy-text", "\u{feff}policy 1\n"];
     let ran = run_on(&rt, &words, b"".as_slice())?;
     expect_texts(&rt, &ran, 1, "", "ipmd: policy line 1: NoHeader\n")
-}
-
-/// A pipe whose reader has gone.
-#[derive(Drop)]
-struct ClosedPipe;
-
-impl Write for ClosedPipe {
-    fn write(&mut self, _octets: &[u8]) -> io::Result<usize> {
-        Err(io::Error::from(ErrorKind::BrokenPipe))
-    }
-
-    fn flush(&mut self) -> io::Result<()> {
-        Ok(())
-    }
-}
-
-#[test]
-fn closed_pipe(rt: HostRuntime) -> Result<(), Fail> {
-    let check = ["check-policy", "--policy-text", PASS];
-    for words in [OFFLINE_HEX.as_slice(), check.as_slice()] {
-        let mut errors = Vec::with_capacity(rt.alloc(), ROOM)?;
-        let mut output = Device::new(ClosedPipe);
-        let status = program(&rt, words, FLOW.as_bytes(), &mut output, &mut errors);
-        assert_eq!(rt; str::from_utf8(errors.as_slice())?, "ipmd: device\n");
-        assert_eq!(rt; status, 3);
-    }
-    Ok(())
 }

@@ -5,12 +5,12 @@ use Rattle.ipmd.specs.Runs.{EndsOn}
 use Rattle.ipmd.proofs.Inputs.{ran}
 use Rattle.ipmd.proofs.filter.filter_octets.Goals as goal
 
-pub returns-in_err-written-clause-err : goal.returns-in_err-written-clause-err
-returns-in_err-written-clause-err g c =
+pub returns-in_err-and-clause-err : goal.returns-in_err-and-clause-err
+returns-in_err-and-clause-err g c =
     let held = g.O.Write.contents (device_inner c.args.output.now) in
-    let holds = g.O.Write.contents (device_inner c.flush-written.new.self) in
+    let holds = g.O.Write.contents (device_inner c.flush.new.self) in
     let audit_held = g.A.Write.contents (device_inner c.args.audit.now) in
-    let audit_holds = g.A.Write.contents (device_inner c.flush-audited.new.self) in
+    let audit_holds = g.A.Write.contents (device_inner c.flush-2.new.self) in
     err_gives c.from_residual.result c.from_residual.ensures
     (λ e is. inr (
       is,
@@ -18,21 +18,5 @@ returns-in_err-written-clause-err g c =
           (ran c.args.job.now c.offline-report.result (g.I.Read.remaining (device_inner c.new-reader.result)) (g.I.Read.remaining (device_inner c.offline-report.new.reader))
           held (g.O.Write.contents (device_inner c.offline-report.new.writer)) holds audit_held (g.A.Write.contents (device_inner c.offline-report.new.audit_writer)) audit_holds
           (device_failed c.offline-report.new.reader) (device_failed c.offline-report.new.writer) (device_failed c.offline-report.new.audit_writer)
-          c.offline-report.ensures.ok c.offline-report.ensures.err c.flush-written.ensures.octets c.flush-audited.ensures.octets)),
-    ))
-
-pub returns-in_err-audited-clause-err : goal.returns-in_err-audited-clause-err
-returns-in_err-audited-clause-err g c =
-    let held = g.O.Write.contents (device_inner c.args.output.now) in
-    let holds = g.O.Write.contents (device_inner c.flush-written.new.self) in
-    let audit_held = g.A.Write.contents (device_inner c.args.audit.now) in
-    let audit_holds = g.A.Write.contents (device_inner c.flush-audited.new.self) in
-    err_gives c.from_residual-in_err-audited.result c.from_residual-in_err-audited.ensures
-    (λ e is. inr (
-      is,
-      inr (subst (λ input. EndsOn c.args.job.now (g.I.Read.remaining input) held holds audit_held audit_holds) c.new-reader.ensures.inner
-          (ran c.args.job.now c.offline-report.result (g.I.Read.remaining (device_inner c.new-reader.result)) (g.I.Read.remaining (device_inner c.offline-report.new.reader))
-          held (g.O.Write.contents (device_inner c.offline-report.new.writer)) holds audit_held (g.A.Write.contents (device_inner c.offline-report.new.audit_writer)) audit_holds
-          (device_failed c.offline-report.new.reader) (device_failed c.offline-report.new.writer) (device_failed c.offline-report.new.audit_writer)
-          c.offline-report.ensures.ok c.offline-report.ensures.err c.flush-written.ensures.octets c.flush-audited.ensures.octets)),
+          c.offline-report.ensures.ok c.offline-report.ensures.err c.flush.ensures.octets c.flush-2.ensures.octets)),
     ))

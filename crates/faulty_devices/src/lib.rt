@@ -1,0 +1,14 @@
+//! Readers and writers that take or give less than they are asked, or fail, for the tests of what stands
+//! on std's `Read` and `Write`.
+//!
+//! - `narrow`: [`Narrow`], a writer.
+//! - `sparing`: [`Sparing`], a reader.
+#![tactic(auto)]
+
+mod narrow;
+mod sparing;
+#[cfg(test)]
+mod tests;
+
+pub use narrow::Narrow;
+pub use sparing::Sparing;
