@@ -1,31 +1,13 @@
 use super::*;
-use std::alloc::Global;
-use std::io::{ErrorKind, Read, Write};
+use std::io::ErrorKind::{BrokenPipe, ConnectionReset};
+use std::io::{Read, Write};
 use std::test::Fail;
 
 const OCTETS: &[u8] = b"0123456789";
 
-fn narrow(alloc: Global, most: usize, until_failure: usize) -> Result<Narrow, Fail> {
-    Ok(Narrow {
-        octets: Vec::with_capacity(alloc, 16)?,
-        most,
-        until_failure,
-        failure: ErrorKind::BrokenPipe,
-    })
-}
-
-fn sparing(most: usize, until_failure: usize) -> Sparing<'static> {
-    Sparing {
-        rest: OCTETS,
-        most,
-        until_failure,
-        failure: ErrorKind::ConnectionReset,
-    }
-}
-
 #[test]
 fn takes_at_most(rt: HostRuntime) -> Result<(), Fail> {
-    let mut writer = narrow(rt.alloc(), 3, 9)?;
+    let mut writer = Narrow::new(rt.alloc(), 16, 3, 9, BrokenPipe)?;
     assert_eq!(rt; writer.write(OCTETS)?, 3);
     assert_eq!(rt; writer.write(b"ab")?, 2);
     assert_eq!(rt; writer.octets.as_slice(), b"012ab".as_slice());
@@ -36,13 +18,13 @@ fn takes_at_most(rt: HostRuntime) -> Result<(), Fail> {
 #[test]
 fn one_write_fails(rt: HostRuntime) -> Result<(), Fail> {
     for before in 0..3 {
-        let mut writer = narrow(rt.alloc(), 1, before)?;
+        let mut writer = Narrow::new(rt.alloc(), 16, 1, before, BrokenPipe)?;
         for call in 0..5 {
             let written = writer.write(b"0");
             writer.flush()?;
             if call == before {
                 let kind = written.map_err(|e| e.kind());
-                assert_eq!(rt; kind, Err(ErrorKind::BrokenPipe));
+                assert_eq!(rt; kind, Err(BrokenPipe));
             } else {
                 assert_eq!(rt; written?, 1);
             }
@@ -54,7 +36,7 @@ fn one_write_fails(rt: HostRuntime) -> Result<(), Fail> {
 
 #[test]
 fn gives_at_most(rt: HostRuntime) -> Result<(), Fail> {
-    let mut reader = sparing(7, 9);
+    let mut reader = Sparing::new(OCTETS, 7, 9, ConnectionReset);
     let mut buffer = [0; 8];
     assert_eq!(rt; reader.read(&mut buffer)?, 7);
     assert_eq!(rt; &buffer[..7], b"0123456".as_slice());
@@ -68,12 +50,12 @@ fn gives_at_most(rt: HostRuntime) -> Result<(), Fail> {
 #[test]
 fn one_read_fails(rt: HostRuntime) -> Result<(), Fail> {
     for before in 0..3 {
-        let mut reader = sparing(1, before);
+        let mut reader = Sparing::new(OCTETS, 1, before, ConnectionReset);
         for call in 0..5 {
             let read = reader.read(&mut [0; 2]);
             if call == before {
                 let kind = read.map_err(|e| e.kind());
-                assert_eq!(rt; kind, Err(ErrorKind::ConnectionReset));
+                assert_eq!(rt; kind, Err(ConnectionReset));
             } else {
                 assert_eq!(rt; read?, 1);
             }

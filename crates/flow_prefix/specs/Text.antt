@@ -1,17 +1,20 @@
 -- The text of a prefix: an address, `/`, and how many of its bits count (RFC 4291, sections 2.2 and 2.3, without its form with a
 -- dotted tail). Decimal numbers without leading zeros, and no bit set past the length, are this project's own rule.
-use Rattle.std.specs.Prelude.{◌≡◌, ◌≢◌, ◌⊎◌, ℕ, ◌<◌, ◌≤◌, List, ◌∷◌, ◌++◌, length, replicate}
+use Rattle.std.specs.Prelude.{◌≡◌, ◌≢◌, ◌⊎◌, ◌↔◌, ℕ, ◌<◌, ◌≤◌, List, ◌∷◌, ◌++◌, length, replicate, Result, Ok, Err, IfOk}
 use Rattle.std.specs.List.{AllZip, join_with_byte}
 use Rattle.std.specs.Fmt.{decimal}
 use Rattle.std.specs.Str.Parse.{IsNumeral, digits_value}
 use Rattle.std.specs.Int.Digits.{number_from_digits}
 use Rattle.flow_prefix.specs.declared.family.Family.{Family}
 use Rattle.flow_prefix.specs.declared.family.Family.TheVariants.{Ipv4, Ipv6}
+use Rattle.flow_prefix.specs.declared.fault.PrefixFault.{PrefixFault}
+use Rattle.flow_prefix.specs.declared.fault.PrefixFault.TheVariants.{BadText, BadLength, HostBits}
 use Rattle.flow_prefix.specs.declared.prefix.Prefix.{Prefix}
 use Rattle.flow_prefix.specs.declared.prefix.Prefix.TheVariants.{V4, V6}
 use Rattle.flow_prefix.specs.Family.{width, places, base, separator}
 use Rattle.flow_prefix.specs.Bits.{truncated}
 use Rattle.flow_prefix.specs.Net.{IsNet}
+use Rattle.flow_prefix.specs.Reading.{prefix_of}
 
 -- IPv4: a number from 0 to 255 without leading zeros. IPv6: 1 to 4 hexadecimal digits of either case
 abbrev pub IsPart : Family → List ℕ → ℕ → Type 0
@@ -73,3 +76,12 @@ HasLongLength text = (family : Family) × (address : ℕ) × (bits : ℕ) × IsP
 abbrev pub HasHostBits : List ℕ → Type 0
 HasHostBits text = (family : Family) × (address : ℕ) × (bits : ℕ)
     × IsPrefixForm text family address bits × (bits ≤ width family) × (truncated (width family) bits address ≢ address)
+
+-- what a text is read as: the prefix that it writes, or the first fault that stands
+pub record IsReadAs (text : List ℕ) (answer : Result Prefix PrefixFault) : Type 0 where
+  pub exact : answer ≡ prefix_of text
+  pub found : IfOk answer (IsPrefixText text)
+  pub only : (prefix : Prefix) → IsPrefixText text prefix → answer ≡ Ok prefix
+  pub bad_text : (answer ≡ Err BadText) ↔ HasNoForm text
+  pub bad_length : (answer ≡ Err BadLength) ↔ HasLongLength text
+  pub host_bits : (answer ≡ Err HostBits) ↔ HasHostBits text

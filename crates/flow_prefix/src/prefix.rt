@@ -21,7 +21,7 @@ pub enum Prefix {
 }
 
 impl Prefix {
-    ghost use Rattle.flow_prefix.specs.Text.{IsPrefixText, HasNoForm, HasLongLength, HasHostBits};
+    ghost use Rattle.flow_prefix.specs.Text.{IsReadAs};
     ghost use Rattle.flow_prefix.specs.Printing.{prefix_text};
     ghost use Rattle.flow_prefix.specs.Prefixes.{contains};
 
@@ -31,26 +31,14 @@ impl Prefix {
     /// then `BadLength` where the length is above the family's width; then `HostBits` where a bit past
     /// the length is set.
     pub fn parse(text: &str) -> Result<Prefix, PrefixFault>
-        ensures exact { result ≡ prefix_of text.now }
-        ensures found { IfOk result (λ prefix. IsPrefixText text.now prefix) }
-        ensures only { (prefix : Prefix) → IsPrefixText text.now prefix → result ≡ Ok prefix }
-
-        ensures bad_text { (result ≡ Err PrefixFault.BadText) ↔ HasNoForm text.now }
-        ensures bad_length { (result ≡ Err PrefixFault.BadLength) ↔ HasLongLength text.now }
-        ensures host_bits { (result ≡ Err PrefixFault.HostBits) ↔ HasHostBits text.now }
+        ensures { IsReadAs text.now result }
     {
         Prefix::parse_ascii(text.as_bytes())
     }
 
     /// The prefix that these octets of a text write, as `parse` reads it.
     pub fn parse_ascii(text: &[u8]) -> Result<Prefix, PrefixFault>
-        ensures exact { result ≡ prefix_of text.now }
-        ensures found { IfOk result (λ prefix. IsPrefixText text.now prefix) }
-        ensures only { (prefix : Prefix) → IsPrefixText text.now prefix → result ≡ Ok prefix }
-
-        ensures bad_text { (result ≡ Err PrefixFault.BadText) ↔ HasNoForm text.now }
-        ensures bad_length { (result ≡ Err PrefixFault.BadLength) ↔ HasLongLength text.now }
-        ensures host_bits { (result ≡ Err PrefixFault.HostBits) ↔ HasHostBits text.now }
+        ensures { IsReadAs text.now result }
     {
         read_prefix(text)
     }

@@ -3,7 +3,10 @@ use Rattle.std.specs.Prelude.{◌≡◌, ◌⊎◌, ◌^◌, ◌-◌, ◌==◌, 
 use Rattle.std.specs.Str.{chars}
 use Rattle.std.specs.Fmt.{decimal}
 use Rattle.std.specs.Io.KnownBytes.{Appends, Keeps}
+use Rattle.clap.specs.Words.{kind_of}
 use Rattle.clap.specs.declared.error.Error.{Error}
+use Rattle.clap.specs.declared.error.kind.ErrorKind.{ErrorKind}
+use Rattle.clap.specs.declared.error.kind.ErrorKind.TheVariants.{DisplayVersion}
 use Rattle.policy_text.specs.Policies.{Meaning as PolicyMeaning}
 use Rattle.policy_text.specs.Parsing.{policy_of}
 use Rattle.mediator_core.specs.declared.job.OfflineJob.{OfflineJob}
@@ -64,6 +67,29 @@ RefusesToCount source Hex held holds = ⊥
 RefusesToCount source (Framing why) held holds = ⊥
 RefusesToCount source (Core why) held holds = ⊥
 RefusesToCount source Cut held holds = ⊥
+
+-- ---- help and the version
+
+-- the version's line; the help's text is the parser's, and isn't told here
+abbrev pub IsTextShown : ErrorKind → List ℕ → Type 0
+IsTextShown DisplayVersion text = text ≡ codes "ipmd 0.1.0" ++ 10 ∷ []
+IsTextShown _ text = Unit {0}
+
+-- the help, or the version, was written
+pub record Shows (kind : ErrorKind) (held holds : Option (List ℕ)) : Type 0 where
+  pub text : List ℕ
+  pub text_is : IsTextShown kind text
+  pub written : Appends held holds text
+
+-- a front of it was written, or all of it
+pub record BeginsToShow (kind : ErrorKind) (held holds : Option (List ℕ)) : Type 0 where
+  pub text : List ℕ
+  pub text_is : IsTextShown kind text
+  pub written : WritesSome text held holds
+
+-- why it isn't shown: memory ran out before, or the output failed
+abbrev pub RefusesToShow : ErrorKind → ProgramFault → Option (List ℕ) → Option (List ℕ) → Type 0
+RefusesToShow kind e held holds = ((e ≡ OutOfMemory) × Keeps held holds) ⊎ ((e ≡ Device) × BeginsToShow kind held holds)
 
 -- ---- offline
 
@@ -182,7 +208,8 @@ RefusesToFilter options e given held holds =
 abbrev pub Does : List (List ℕ) → Option OfflineReport → Option (List ℕ) → Option (List ℕ) → Option (List ℕ) → Type 0
 Does words (Some report) given held holds = (options : OfflineOptions) × AsksFor words (Offline options) × Filters options report given held holds
 Does words None given held holds =
-    ((source : PolicySource) × AsksFor words (CheckPolicy source) × CountsPolicy source held holds) ⊎ ((text : Error) × AsksFor words (Show text))
+    ((source : PolicySource) × AsksFor words (CheckPolicy source) × CountsPolicy source held holds)
+    ⊎ ((shown : Error) × AsksFor words (Show shown) × Shows (kind_of shown) held holds)
 
 -- why it isn't done, and what was written
 abbrev pub FailsFor : List (List ℕ) → ProgramFault → Option (List ℕ) → Option (List ℕ) → Option (List ℕ) → Type 0
@@ -190,4 +217,4 @@ FailsFor words e given held holds =
     (RefusesWords words e × Keeps held holds)
     ⊎ (((source : PolicySource) × AsksFor words (CheckPolicy source) × RefusesToCount source e held holds)
     ⊎ (((options : OfflineOptions) × AsksFor words (Offline options) × RefusesToFilter options e given held holds)
-    ⊎ (((text : Error) × AsksFor words (Show text)) × ((e ≡ OutOfMemory) ⊎ (e ≡ Device)))))
+    ⊎ ((shown : Error) × AsksFor words (Show shown) × RefusesToShow (kind_of shown) e held holds)))

@@ -14,6 +14,9 @@ use clap::{Arg, ArgAction, ArgMatches, Command, value_parser};
 use std::alloc::{AllocError, Global};
 use std::convert::AsStr;
 
+/// The version of this program.
+pub const VERSION: &str = "0.1.0";
+
 const OFFLINE: &str = "offline";
 
 const CHECK_POLICY: &str = "check-policy";
@@ -132,7 +135,7 @@ fn whole_command<'a>(alloc: Global) -> Result<Command<'a>, AllocError>
     Command::new(alloc, "ipmd")
         .bin_name("ipmd")?
         .no_binary_name(true)
-        .version("0.1.0")
+        .version(VERSION)
         .about("Passes on the IPFIX flow records that a written policy discloses")
         .after_help(help::COMMANDS)
         .subcommand_required(true)

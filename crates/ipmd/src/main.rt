@@ -6,6 +6,7 @@
 //! - `policy_source`: where the text of a policy comes from.
 //! - `filter`: `ipmd offline`.
 //! - `check`: `ipmd check-policy`.
+//! - `show`: the help and the version.
 //! - `hex_input`: a stream as hexadecimal text.
 //! - `output`: what is written, a text or messages as lines of hexadecimal digits.
 //! - `fault`: why a run ends without having done what was asked, with the texts and exit statuses.
@@ -26,6 +27,7 @@ mod help;
 mod hex_input;
 mod output;
 mod policy_source;
+mod show;
 #[cfg(test)]
 mod tests;
 
@@ -33,7 +35,7 @@ use crate::check::check_policy;
 use crate::command_line::{Task, read_command_line};
 use crate::fault::ProgramFault;
 use crate::filter::filter;
-use crate::output::write_text;
+use crate::show::show;
 use mediator_core::OfflineReport;
 use octet_devices::Device;
 use std::convert::AsStr;
@@ -114,9 +116,8 @@ fn run<R: Files + AllocGlobal, S: AsStr, I: Read + Drop, O: Write>(
             check_policy(rt, source, output)?;
             Ok(None)
         }
-        Task::Show(text) => {
-            let text = format!(in rt.alloc(); "{text}")?;
-            write_text(output, text.as_str())?;
+        Task::Show(shown) => {
+            show(rt.alloc(), &shown, output)?;
             Ok(None)
         }
     }

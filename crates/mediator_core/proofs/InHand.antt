@@ -66,6 +66,28 @@ pub lines_more : (job : OfflineJob) (messages : List (List ℕ)) (octets : List 
     → audit_due job (messages ++ octets ∷ []) ≡ audit_due job messages ++ lines_of added
 lines_more job messages octets added is = ap lines_of is ∙ flat_map-append _ (audit_list (history_of job messages)) added
 
+-- the lines that it adds were written, which waited
+lines_added : (job : OfflineJob) (messages : List (List ℕ)) (octets : List ℕ) (added waiting : List AuditEntry) (aheld aholds awrites : Option (List ℕ))
+    → audit_list (history_of job (messages ++ octets ∷ [])) ≡ audit_list (history_of job messages) ++ added → waiting ≡ added
+    → Appends aheld aholds (audit_due job messages) → Appends aholds awrites (lines_of waiting) → Appends aheld awrites (audit_due job (messages ++ octets ∷ []))
+lines_added job messages octets added waiting aheld aholds awrites adds waits so lines = subst (Appends aheld awrites) (sym (lines_more job messages octets added adds))
+    (Appends-trans aheld aholds awrites (audit_due job messages) (lines_of added) so (subst (λ l. Appends aholds awrites (lines_of l)) waits lines))
+
+some_after : (a b c : Option (List ℕ)) (xs ys : List ℕ) → Appends a b xs → WritesSome b c ys → WritesOn a c xs (xs ++ ys)
+some_after a b c xs ys so some = record {
+  count = length xs + some.count;
+  least = omega arith;
+  within = omega (arith, length-append xs ys, some.within);
+  written = subst (Appends a c) (sym (take-add-append xs ys some.count)) (Appends-trans a b c xs (take some.count ys) so some.written);
+}
+
+-- a front of them
+lines_begun : (job : OfflineJob) (messages : List (List ℕ)) (octets : List ℕ) (added waiting : List AuditEntry) (aheld aholds awrites : Option (List ℕ))
+    → audit_list (history_of job (messages ++ octets ∷ [])) ≡ audit_list (history_of job messages) ++ added → waiting ≡ added
+    → Appends aheld aholds (audit_due job messages) → WritesSome aholds awrites (lines_of waiting) → WritesOn aheld awrites (audit_due job messages) (audit_due job (messages ++ octets ∷ []))
+lines_begun job messages octets added waiting aheld aholds awrites adds waits so some = subst (WritesOn aheld awrites (audit_due job messages)) (sym (lines_more job messages octets added adds))
+    (some_after aheld aholds awrites (audit_due job messages) (lines_of added) so (subst (λ l. WritesSome aholds awrites (lines_of l)) waits some))
+
 -- ---- messages that were handed out are those that pulls give
 
 pub ended : (records : List DataRecord) (now target : ℕ) → built records (length (parts records)) now target ≡ None
@@ -146,6 +168,28 @@ accepted_more job before [] octets so here = (subst (λ ms. Accepts (history_of 
 accepted_more job before (m ∷ messages) octets so here =
     (so.0, accepted_more job (before ++ m ∷ []) messages octets so.1 (subst (λ ms. Accepts (history_of job ms) octets × (cuts_by (history_of job ms) octets ≡ [])) (sym (append_assoc before (m ∷ []) messages)) here))
 
+-- what is known of a desk that received a message, which cut nobody
+pub record Received (d : Desk) (job : OfflineJob) (messages : List (List ℕ)) (octets : List ℕ) : Type 0 where
+  pub uncut : cuts_by (history_of job messages) octets ≡ []
+  pub stands : Stands d (history_of job (messages ++ octets ∷ [])) (end_of (history_of job messages))
+  pub small : Small (history_of job (messages ++ octets ∷ []))
+
+received : (d1 d2 : Desk) (job : OfflineJob) (messages : List (List ℕ)) (octets : List ℕ) (held holds aheld aholds : Option (List ℕ)) → IsRunning d1 job messages held holds aheld aholds
+    → Receives d1 octets false d2 → Received d2 job messages octets
+received d1 d2 job messages octets held holds aheld aholds r receives =
+    let on = receives.goes_on (history_of job messages) r.stands r.small refl in
+    record {
+      uncut = on.0;
+      stands = subst (λ x. Stands d2 x (end_of (history_of job messages))) (sym (history_more job messages octets)) on.1;
+      small = subst Small (sym (history_more job messages octets)) on.2;
+    }
+
+-- no more messages are handed out for it than there are parts
+few_in_hand : (d : Desk) (job : OfflineJob) (messages : List (List ℕ)) (octets : List ℕ) (q : ℕ) (handed : List (List ℕ)) → Received d job messages octets → job.target < 2 ^ 16
+    → HandsOut (disclosed_by job (messages ++ octets ∷ [])) job.now job.target (end_of (history_of job messages)) handed q → length handed ≤ length (parts (disclosed_by job (messages ++ octets ∷ [])))
+few_in_hand d job messages octets q handed on low hands =
+    omega (arith, handed_few (disclosed_by job (messages ++ octets ∷ [])) job.now job.target (end_of (history_of job messages)) q handed (streamable_of (history_of job (messages ++ octets ∷ [])) on.small) low on.stands.stream.within hands)
+
 -- ---- a message that was accepted, and was delivered
 
 -- what is known after receive and deliver
@@ -176,43 +220,42 @@ pub delivered : (d1 d2 d3 : Desk) (job : OfflineJob) (messages : List (List ℕ)
     → IsRunning d1 job messages held holds aheld aholds → Delivered d1 d3 job messages octets held writes
 delivered d1 d2 d3 job messages octets held holds writes aheld aholds k r = record {
   accepts = k.receives.accepts h r.stands r.small;
-  uncut = on.0;
-  stands = subst (λ x. Stands d3 x (end_of x)) (sym e) del.1;
-  small = subst Small (sym e) on.2;
-  job_is = k.delivers.job ∙ k.job ∙ r.job_is;
+  uncut = on.uncut;
+  stands = del.1;
+  small = on.small;
+  job_is = k.delivers.job ∙ same_job;
   sent = omega (arith, k.delivers.sent, k.sent, r.sent, ap length whole, length-append (concat (due job messages)) (concat k.delivers.messages));
-  few = subst (λ x. d3.sent ≤ 65535 * end_of x) (sym e) (k.delivers.few (end_of h) (omega (arith, k.sent, r.few)) h2 on.1 on.2);
+  few = k.delivers.few (end_of h) (omega (arith, k.sent, r.few)) (history_of job (messages ++ octets ∷ [])) on.stands on.small;
   written = subst (Appends held writes) (sym whole) (Appends-trans held holds writes (concat (due job messages)) (concat k.delivers.messages) r.written k.delivers.written);
   added = more.0;
   adds = more.1;
   waits = waits_added d1 d3 (audit_list h) more.0 r.stands.audit r.quiet (ap (λ a. a.standing.drained) k.delivers.audit ∙ k.receives.drained)
-      (subst (StandsIn d3.audit.standing) (ap audit_list (sym e) ∙ more.1) del.1.audit);
-  handed = subst (λ ms. AreHandedOut ms (disclosed_by job (messages ++ octets ∷ [])) (end_of (history_of job (messages ++ octets ∷ [])))) (sym (due_more job messages octets ∙ ap (λ ms. due job messages ++ ms) by))
-      (subst (λ x. AreHandedOut (due job messages ++ k.delivers.messages) (disclosed 1 x) (end_of x)) (sym e)
-      (handed_run (due job messages) (disclosed 1 h2) job.now job.target (end_of h) (end_of h2) k.delivers.messages now_below below
-      (subst (λ l. AreHandedOut (due job messages) l (end_of h)) (sym listed) (handed_given (due job messages) (disclosed 1 h) (given_at 1 h (next_entry h octets)) (end_of h) r.handed)) hands));
+      (subst (StandsIn d3.audit.standing) more.1 del.1.audit);
+  handed = subst (λ ms. AreHandedOut ms shown last) (sym (due_more job messages octets ∙ ap (λ ms. due job messages ++ ms) by))
+      (handed_run (due job messages) shown job.now job.target (end_of h) last k.delivers.messages now_below below
+      (subst (λ l. AreHandedOut (due job messages) l (end_of h)) (sym listed) (handed_given (due job messages) (disclosed 1 h) (given_at 1 h (next_entry h octets)) (end_of h) r.handed)) hands);
 }
   where
     h : List Entry
     h = history_of job messages
 
-    h2 : List Entry
-    h2 = after_message h octets
+    shown : List DataRecord
+    shown = disclosed_by job (messages ++ octets ∷ [])
 
-    e : history_of job (messages ++ octets ∷ []) ≡ h2
-    e = history_more job messages octets
+    last : ℕ
+    last = end_of (history_of job (messages ++ octets ∷ []))
 
-    on : (cuts_by h octets ≡ []) × Stands d2 h2 (end_of h) × Small h2
-    on = k.receives.goes_on h r.stands r.small refl
+    on : Received d2 job messages octets
+    on = received d1 d2 job messages octets held holds aheld aholds r k.receives
 
-    listed : disclosed 1 h2 ≡ disclosed 1 h ++ given_at 1 h (next_entry h octets)
-    listed = ap (λ c. disclosed 1 (h ++ (c ++ next_entry h octets ∷ []))) on.0 ∙ disclosed-push 1 h (next_entry h octets)
+    listed : shown ≡ disclosed 1 h ++ given_at 1 h (next_entry h octets)
+    listed = ap (disclosed 1) (history_more job messages octets) ∙ ap (λ c. disclosed 1 (h ++ (c ++ next_entry h octets ∷ []))) on.uncut ∙ disclosed-push 1 h (next_entry h octets)
 
-    more : (added : List AuditEntry) × (audit_list (history_of job (messages ++ octets ∷ [])) ≡ audit_list (history_of job messages) ++ added)
+    more : (added : List AuditEntry) × (audit_list (history_of job (messages ++ octets ∷ [])) ≡ audit_list h ++ added)
     more = audit_more job messages octets
 
-    del : HandsOut (disclosed 1 h2) d2.job.now d2.job.target (end_of h) k.delivers.messages (end_of h2) × Stands d3 h2 (end_of h2)
-    del = k.delivers.handed h2 (end_of h) on.1 on.2
+    del : HandsOut shown d2.job.now d2.job.target (end_of h) k.delivers.messages last × Stands d3 (history_of job (messages ++ octets ∷ [])) last
+    del = k.delivers.handed (history_of job (messages ++ octets ∷ [])) (end_of h) on.stands on.small
 
     same_job : d2.job ≡ job
     same_job = k.job ∙ r.job_is
@@ -220,16 +263,14 @@ delivered d1 d2 d3 job messages octets held holds writes aheld aholds k r = reco
     now_below : job.now < 2 ^ 32
     now_below = subst (λ j. j.now < 2 ^ 32) same_job k.now_below
 
-    hands : HandsOut (disclosed 1 h2) job.now job.target (end_of h) k.delivers.messages (end_of h2)
-    hands = subst (λ j. HandsOut (disclosed 1 h2) j.now j.target (end_of h) k.delivers.messages (end_of h2)) same_job del.0
+    hands : HandsOut shown job.now job.target (end_of h) k.delivers.messages last
+    hands = subst (λ j. HandsOut shown j.now j.target (end_of h) k.delivers.messages last) same_job del.0
 
     below : job.target < 2 ^ 16
     below = subst (λ j. j.target < 2 ^ 16) same_job k.below
 
     by : due_by job messages octets ≡ k.delivers.messages
-    by = ap (λ x. pulled_to_end (disclosed 1 x) (end_of h) job.now job.target) e
-        ∙ handed_all (length (parts (disclosed 1 h2))) (disclosed 1 h2) job.now job.target (end_of h) k.delivers.messages hands
-        (omega (arith, handed_few (disclosed 1 h2) job.now job.target (end_of h) (end_of h2) k.delivers.messages (streamable_of h2 on.2) below on.1.stream.within hands))
+    by = handed_all (length (parts shown)) shown job.now job.target (end_of h) k.delivers.messages hands (few_in_hand d2 job messages octets last k.delivers.messages on below hands)
 
     whole : concat (due job (messages ++ octets ∷ [])) ≡ concat (due job messages) ++ concat k.delivers.messages
     whole = ap concat (due_more job messages octets ∙ ap (λ ms. due job messages ++ ms) by) ∙ concat-append (due job messages) k.delivers.messages
@@ -248,8 +289,7 @@ handled d1 d3 d4 job messages octets held holds writes aheld aholds awrites r k 
   sent = same.sent ∙ k.sent;
   few = omega (arith, same.sent, k.few);
   written = k.written;
-  audited = subst (Appends aheld awrites) (sym (lines_more job messages octets k.added k.adds))
-      (Appends-trans aheld aholds awrites (audit_due job messages) (lines_of k.added) r.audited (subst (λ l. Appends aholds awrites (lines_of l)) k.waits lines));
+  audited = lines_added job messages octets k.added d3.audit.standing.entries aheld aholds awrites k.adds k.waits r.audited lines;
   accepted = accepted_more job [] messages octets r.accepted (k.accepts, k.uncut);
   handed = k.handed;
 }
@@ -258,14 +298,6 @@ handled d1 d3 d4 job messages octets held holds writes aheld aholds awrites r k 
 
 none_more : (messages : List (List ℕ)) → concat (messages ++ []) ≡ concat messages
 none_more messages = ap concat (append-nil messages)
-
-some_after : (a b c : Option (List ℕ)) (xs ys : List ℕ) → Appends a b xs → WritesSome b c ys → WritesOn a c xs (xs ++ ys)
-some_after a b c xs ys so some = record {
-  count = length xs + some.count;
-  least = omega arith;
-  within = omega (arith, length-append xs ys, some.within);
-  written = subst (Appends a c) (sym (take-add-append xs ys some.count)) (Appends-trans a b c xs (take some.count ys) so some.written);
-}
 
 -- nothing of the message in hand was written
 pub nothing_in_hand : (d : Desk) (job : OfflineJob) (messages : List (List ℕ)) (octets : List ℕ) (held holds aheld aholds : Option (List ℕ)) → IsRunning d job messages held holds aheld aholds
@@ -297,8 +329,7 @@ pub stops_recording : (f : OfflineFault) (d1 d3 : Desk) (job : OfflineJob) (mess
 stops_recording f d1 d3 job messages octets held holds writes aheld aholds awrites failed afailed r k cause some = by f cause
   where
     lines : WritesOn aheld awrites (audit_due job messages) (audit_due job (messages ++ octets ∷ []))
-    lines = subst (WritesOn aheld awrites (audit_due job messages)) (sym (lines_more job messages octets k.added k.adds))
-        (some_after aheld aholds awrites (audit_due job messages) (lines_of k.added) r.audited (subst (λ l. WritesSome aholds awrites (lines_of l)) k.waits some))
+    lines = lines_begun job messages octets k.added d3.audit.standing.entries aheld aholds awrites k.adds k.waits r.audited some
 
     by : (e : OfflineFault) → StopsLines e afailed → StopsAt e job messages octets held writes aheld awrites failed afailed
     by AuditWrite cause = (k.accepts, k.written, lines, cause)
@@ -326,33 +357,24 @@ pub stops_delivering : (f : OfflineFault) (d1 d2 : Desk) (job : OfflineJob) (mes
     → StopsAt f job messages octets held writes aheld aholds failed afailed
 stops_delivering f d1 d2 job messages octets held holds writes aheld aholds failed afailed r receives same sent_same low fails = by f fails.stops
   where
-    h : List Entry
-    h = history_of job messages
+    begin : ℕ
+    begin = end_of (history_of job messages)
 
-    h2 : List Entry
-    h2 = after_message h octets
+    on : Received d2 job messages octets
+    on = received d1 d2 job messages octets held holds aheld aholds r receives
 
-    e : history_of job (messages ++ octets ∷ []) ≡ h2
-    e = history_more job messages octets
+    del : (q : ℕ) × HandsOut (disclosed_by job (messages ++ octets ∷ [])) d2.job.now d2.job.target begin fails.messages q
+    del = fails.handed (history_of job (messages ++ octets ∷ [])) begin on.stands on.small
 
-    on : (cuts_by h octets ≡ []) × Stands d2 h2 (end_of h) × Small h2
-    on = receives.goes_on h r.stands r.small refl
+    hands : HandsOut (disclosed_by job (messages ++ octets ∷ [])) job.now job.target begin fails.messages del.0
+    hands = subst (λ j. HandsOut (disclosed_by job (messages ++ octets ∷ [])) j.now j.target begin fails.messages del.0) (same ∙ r.job_is) del.1
 
-    del : (q : ℕ) × HandsOut (disclosed 1 h2) d2.job.now d2.job.target (end_of h) fails.messages q
-    del = fails.handed h2 (end_of h) on.1 on.2
-
-    hands : HandsOut (disclosed 1 h2) job.now job.target (end_of h) fails.messages del.0
-    hands = subst (λ j. HandsOut (disclosed 1 h2) j.now j.target (end_of h) fails.messages del.0) (same ∙ r.job_is) del.1
-
-    front : (others : List (List ℕ)) × (pulled_list (length (parts (disclosed 1 h2))) (disclosed 1 h2) (end_of h) job.now job.target ≡ fails.messages ++ others)
-    front = handed_front (length (parts (disclosed 1 h2))) (disclosed 1 h2) job.now job.target (end_of h) del.0 fails.messages hands
-        (omega (arith, handed_few (disclosed 1 h2) job.now job.target (end_of h) del.0 fails.messages (streamable_of h2 on.2) (subst (λ j. j.target < 2 ^ 16) (same ∙ r.job_is) low) on.1.stream.within hands))
-
-    by_due : due_by job messages octets ≡ fails.messages ++ front.0
-    by_due = ap (λ x. pulled_to_end (disclosed 1 x) (end_of h) job.now job.target) e ∙ front.1
+    front : (others : List (List ℕ)) × (due_by job messages octets ≡ fails.messages ++ others)
+    front = handed_front (length (parts (disclosed_by job (messages ++ octets ∷ [])))) (disclosed_by job (messages ++ octets ∷ [])) job.now job.target begin del.0 fails.messages hands
+        (few_in_hand d2 job messages octets del.0 fails.messages on (subst (λ j. j.target < 2 ^ 16) (same ∙ r.job_is) low) hands)
 
     whole : concat (due job (messages ++ octets ∷ [])) ≡ concat (due job messages) ++ (concat fails.messages ++ concat front.0)
-    whole = ap concat (due_more job messages octets ∙ ap (λ ms. due job messages ++ ms) by_due) ∙ concat-append (due job messages) (fails.messages ++ front.0) ∙ ap (λ t. concat (due job messages) ++ t) (concat-append fails.messages front.0)
+    whole = ap concat (due_more job messages octets ∙ ap (λ ms. due job messages ++ ms) front.1) ∙ concat-append (due job messages) (fails.messages ++ front.0) ∙ ap (λ t. concat (due job messages) ++ t) (concat-append fails.messages front.0)
 
     writes_front : (n : ℕ) (sent : ℕ) → sent ≡ d2.sent + n → WritesFront holds writes (concat fails.messages) n failed → WritesFront held writes (concat (due job (messages ++ octets ∷ []))) sent failed
     writes_front n sent is w = record {
@@ -372,13 +394,13 @@ stops_delivering f d1 d2 job messages octets held holds writes aheld aholds fail
         record {
           handed = fails.messages;
           others = front.0;
-          front = by_due;
+          front = front.1;
           written = subst (Appends held writes) (sym (concat-append (due job messages) fails.messages)) (Appends-trans held holds writes (concat (due job messages)) (concat fails.messages) r.written so);
           audited = none.audited;
         }
 
     by : (g : OfflineFault) → StopsDelivery g d2 holds writes failed fails.messages → StopsAt g job messages octets held writes aheld aholds failed afailed
-    by (Write sent) s = (receives.accepts h r.stands r.small, writes_front s.0 sent s.1 s.2, r.audited)
+    by (Write sent) s = (receives.accepts (history_of job messages) r.stands r.small, writes_front s.0 sent s.1 s.2, r.audited)
     by (Core fault.OutOfMemory) s = memory s
     by (Core (fault.Policy why)) s = absurd s
     by (Core fault.BadName) s = absurd s
@@ -449,8 +471,7 @@ stops_cut d1 d2 job messages octets held holds aheld aholds awrites failed afail
   k.accepts,
   k.cut,
   r.written,
-  subst (Appends aheld awrites) (sym (lines_more job messages octets k.added k.adds))
-      (Appends-trans aheld aholds awrites (audit_due job messages) (lines_of k.added) r.audited (subst (λ l. Appends aholds awrites (lines_of l)) k.waits lines)),
+  lines_added job messages octets k.added d2.audit.standing.entries aheld aholds awrites k.adds k.waits r.audited lines,
 )
 
 pub stops_cut_recording : (f : OfflineFault) (d1 d2 : Desk) (job : OfflineJob) (messages : List (List ℕ)) (octets : List ℕ) (held holds aheld aholds awrites : Option (List ℕ)) (failed afailed : Bool)
@@ -459,8 +480,7 @@ pub stops_cut_recording : (f : OfflineFault) (d1 d2 : Desk) (job : OfflineJob) (
 stops_cut_recording f d1 d2 job messages octets held holds aheld aholds awrites failed afailed r k cause some = by f cause
   where
     lines : WritesOn aheld awrites (audit_due job messages) (audit_due job (messages ++ octets ∷ []))
-    lines = subst (WritesOn aheld awrites (audit_due job messages)) (sym (lines_more job messages octets k.added k.adds))
-        (some_after aheld aholds awrites (audit_due job messages) (lines_of k.added) r.audited (subst (λ l. WritesSome aholds awrites (lines_of l)) k.waits some))
+    lines = lines_begun job messages octets k.added d2.audit.standing.entries aheld aholds awrites k.adds k.waits r.audited some
 
     by : (e : OfflineFault) → StopsLines e afailed → StopsAt e job messages octets held holds aheld awrites failed afailed
     by AuditWrite cause = (k.accepts, subst (λ ms. Appends held holds (concat ms)) (sym k.no_more) r.written, lines, cause)

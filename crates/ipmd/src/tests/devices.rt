@@ -3,7 +3,8 @@
 use super::*;
 use faulty_devices::{Narrow, Sparing};
 use octet_devices::{WriteStopped, write_all};
-use std::io::{BufWriter, ErrorKind, Write};
+use std::io::ErrorKind::{BrokenPipe, ConnectionReset};
+use std::io::{BufWriter, Write};
 
 /// The words of a run on octets, of one on hexadecimal text, and of a policy's counts.
 const OCTETS: [&str; 9] = [
@@ -52,26 +53,6 @@ const OCTET_ENDS: [usize; 4] = [0, 36, 66, 96];
 
 const LINE_ENDS: [usize; 4] = [0, 73, 134, 195];
 
-/// A pipe that takes at most `most` octets at a call, and whose reader has gone after `until_failure` calls.
-fn narrow_writer(alloc: Global, most: usize, until_failure: usize) -> Result<Narrow, AllocError> {
-    Ok(Narrow {
-        octets: Vec::with_capacity(alloc, ROOM)?,
-        most,
-        until_failure,
-        failure: ErrorKind::BrokenPipe,
-    })
-}
-
-/// A reader of `rest` that gives at most `most` octets at a call, and fails after `until_failure` calls.
-fn sparing_reader(rest: &[u8], most: usize, until_failure: usize) -> Sparing<'_> {
-    Sparing {
-        rest,
-        most,
-        until_failure,
-        failure: ErrorKind::ConnectionReset,
-    }
-}
-
 /// That a run writes this front of the whole, and fails or is done.
 fn expect_front<R: Files + AllocGlobal + Abort>(
     rt: &R,
@@ -102,7 +83,7 @@ fn each_write_fails(rt: HostRuntime) -> Result<(), Fail> {
     let input = octets_of(rt.alloc(), TWO_FLOWS)?;
     let whole = octets_of(rt.alloc(), TWO_FLOWS_PASSED)?;
     for (calls, sent) in OCTET_ENDS.into_iter().enumerate() {
-        let writer = narrow_writer(rt.alloc(), ROOM, calls)?;
+        let writer = Narrow::new(rt.alloc(), ROOM, ROOM, calls, BrokenPipe)?;
         let input = input.as_slice();
         expect_front(&rt, &OCTETS, input, writer, whole.as_slice(), sent)?;
     }
@@ -114,7 +95,7 @@ fn each_write_fails(rt: HostRuntime) -> Result<(), Fail> {
 fn each_line_fails(rt: HostRuntime) -> Result<(), Fail> {
     let whole = without_blanks(rt.alloc(), TWO_FLOWS_PASSED)?;
     for (calls, sent) in LINE_ENDS.into_iter().enumerate() {
-        let writer = narrow_writer(rt.alloc(), ROOM, calls)?;
+        let writer = Narrow::new(rt.alloc(), ROOM, ROOM, calls, BrokenPipe)?;
         let input = TWO_FLOWS.as_bytes();
         expect_front(&rt, &HEXADECIMAL, input, writer, whole.as_bytes(), sent)?;
     }
@@ -127,7 +108,7 @@ fn one_octet_at_a_time(rt: HostRuntime) -> Result<(), Fail> {
     let input = octets_of(rt.alloc(), TWO_FLOWS)?;
     let whole = octets_of(rt.alloc(), TWO_FLOWS_PASSED)?;
     for sent in 0..97 {
-        let writer = narrow_writer(rt.alloc(), 1, sent)?;
+        let writer = Narrow::new(rt.alloc(), ROOM, 1, sent, BrokenPipe)?;
         expect_front(
             &rt,
             &OCTETS,
@@ -139,7 +120,7 @@ fn one_octet_at_a_time(rt: HostRuntime) -> Result<(), Fail> {
     }
     let lines = without_blanks(rt.alloc(), TWO_FLOWS_PASSED)?;
     for sent in 0..196 {
-        let writer = narrow_writer(rt.alloc(), 1, sent)?;
+        let writer = Narrow::new(rt.alloc(), ROOM, 1, sent, BrokenPipe)?;
         let input = TWO_FLOWS.as_bytes();
         expect_front(&rt, &HEXADECIMAL, input, writer, lines.as_bytes(), sent)?;
     }
@@ -151,9 +132,9 @@ fn one_octet_at_a_time(rt: HostRuntime) -> Result<(), Fail> {
 fn none_taken(rt: HostRuntime) -> Result<(), Fail> {
     let input = octets_of(rt.alloc(), TWO_FLOWS)?;
     let whole = octets_of(rt.alloc(), TWO_FLOWS_PASSED)?;
-    let writer = narrow_writer(rt.alloc(), 0, ROOM)?;
+    let writer = Narrow::new(rt.alloc(), ROOM, 0, ROOM, BrokenPipe)?;
     expect_front(&rt, &OCTETS, input.as_slice(), writer, whole.as_slice(), 0)?;
-    let writer = narrow_writer(rt.alloc(), 0, ROOM)?;
+    let writer = Narrow::new(rt.alloc(), ROOM, 0, ROOM, BrokenPipe)?;
     let input = TWO_FLOWS.as_bytes();
     expect_front(&rt, &HEXADECIMAL, input, writer, whole.as_slice(), 0)
 }
@@ -176,8 +157,12 @@ fn expect_device_fault<R: Files + AllocGlobal + Abort>(
 #[test]
 fn closed_pipe(rt: HostRuntime) -> Result<(), Fail> {
     for words in [HEXADECIMAL.as_slice(), &CHECK, &["--version"]] {
-        expect_device_fault(&rt, words, narrow_writer(rt.alloc(), ROOM, 0)?)?;
-        let pipe = narrow_writer(rt.alloc(), ROOM, 0)?;
+        expect_device_fault(
+            &rt,
+            words,
+            Narrow::new(rt.alloc(), ROOM, ROOM, 0, BrokenPipe)?,
+        )?;
+        let pipe = Narrow::new(rt.alloc(), ROOM, ROOM, 0, BrokenPipe)?;
         let buffer = BufWriter::with_capacity(rt.alloc(), ROOM, pipe)?;
         expect_device_fault(&rt, words, buffer)?;
     }
@@ -189,7 +174,7 @@ fn closed_pipe(rt: HostRuntime) -> Result<(), Fail> {
 fn failed_before(rt: HostRuntime) -> Result<(), Fail> {
     let input = octets_of(rt.alloc(), TWO_FLOWS)?;
     // It fails at its first call alone.
-    let mut device = Device::new(narrow_writer(rt.alloc(), ROOM, 0)?);
+    let mut device = Device::new(Narrow::new(rt.alloc(), ROOM, ROOM, 0, BrokenPipe)?);
     assert_eq!(rt; write_all(&mut device, b"0"), Err(WriteStopped { sent: 0 }));
     let mut errors = Vec::with_capacity(rt.alloc(), ROOM)?;
     let status = program(&rt, &OCTETS, input.as_slice(), &mut device, &mut errors);
@@ -205,7 +190,7 @@ fn octet_by_octet(rt: HostRuntime) -> Result<(), Fail> {
     let input = octets_of(rt.alloc(), TWO_FLOWS)?;
     let whole = octets_of(rt.alloc(), TWO_FLOWS_PASSED)?;
     for most in [1, 7, ROOM] {
-        let reader = sparing_reader(input.as_slice(), most, ROOM);
+        let reader = Sparing::new(input.as_slice(), most, ROOM, ConnectionReset);
         let ran = run_on(&rt, &OCTETS, reader)?;
         assert_eq!(rt; ran.output.as_slice(), whole.as_slice());
         assert_eq!(rt; str::from_utf8(ran.errors.as_slice())?, TWO_FLOWS_REPORT);
@@ -221,14 +206,14 @@ fn each_read_fails(rt: HostRuntime) -> Result<(), Fail> {
     let whole = octets_of(rt.alloc(), TWO_FLOWS_PASSED)?;
     // Sixty octets take nine reads of seven, and a tenth meets the end.
     for calls in 0..10 {
-        let reader = sparing_reader(input.as_slice(), 7, calls);
+        let reader = Sparing::new(input.as_slice(), 7, calls, ConnectionReset);
         let ran = run_on(&rt, &OCTETS, reader)?;
         let sent = if calls < 9 { 0 } else { whole.len() };
         assert_eq!(rt; Some(ran.output.as_slice()), whole.get(..sent));
         assert_eq!(rt; str::from_utf8(ran.errors.as_slice())?, DEVICE);
         assert_eq!(rt; ran.status, 3);
     }
-    let text = sparing_reader(TWO_FLOWS.as_bytes(), 7, 3);
+    let text = Sparing::new(TWO_FLOWS.as_bytes(), 7, 3, ConnectionReset);
     let ran = run_on(&rt, &HEXADECIMAL, text)?;
     expect_texts(&rt, &ran, 3, "", DEVICE)
 }
@@ -239,12 +224,12 @@ fn errors_fail(rt: HostRuntime) -> Result<(), Fail> {
     let whole = without_blanks(rt.alloc(), TWO_FLOWS_PASSED)?;
     for calls in 0..3 {
         let mut output = Vec::with_capacity(rt.alloc(), ROOM)?;
-        let errors = narrow_writer(rt.alloc(), 4, calls)?;
+        let errors = Narrow::new(rt.alloc(), ROOM, 4, calls, BrokenPipe)?;
         let mut device = Device::new(&mut output);
         let status = program(&rt, &HEXADECIMAL, TWO_FLOWS.as_bytes(), &mut device, errors);
         assert_eq!(rt; output.as_slice(), whole.as_bytes());
         assert_eq!(rt; status, 0);
-        let errors = narrow_writer(rt.alloc(), 4, calls)?;
+        let errors = Narrow::new(rt.alloc(), ROOM, 4, calls, BrokenPipe)?;
         let mut device = Device::new(&mut output);
         let status = program(&rt, &HEXADECIMAL, b"0g".as_slice(), &mut device, errors);
         assert_eq!(rt; status, 1);
