@@ -1,24 +1,21 @@
-ghost use Rattle.std.specs.Prelude.{◌≡◌, ◌≢◌, ◌≤◌, ◌+◌, [], Some, Ok, IsOk, IsErr, IfOk, IfErr, length, min, vec_len, vec_capacity};
+ghost use Rattle.std.specs.Prelude.{◌≡◌, ◌≢◌, ◌≤◌, ◌+◌, [], Some, IsOk, IfOk, IfErr, length, min, vec_len, vec_capacity};
 ghost use Rattle.std.specs.Io.{WritesAtMost};
 ghost use Rattle.std.specs.Io.KnownBytes.{Keeps, WriteAppends};
 ghost use Rattle.std.specs.IoError.{error_kind};
-ghost use Rattle.faulty_devices.specs.Calls.{one_call_less};
+ghost use Rattle.faulty_devices.specs.Calls.{FailsWhenDue};
 
+use crate::schedule::Schedule;
 use std::alloc::{AllocError, Global};
 use std::io::{self, ErrorKind, Write};
 
-/// A writer that takes at most `most` octets at a call, and fails at one of its calls. It keeps what it
-/// took. A flush does nothing.
+/// A writer that takes few octets at a call, and fails at one of its calls. It keeps what it took. A
+/// flush does nothing, and is no call.
 #[derive(Drop)]
 pub struct Narrow {
     /// What was written.
     pub octets: Vec<u8>,
-    /// The most octets that one call takes.
-    pub most: usize,
-    /// How many calls come before the one that fails.
-    pub until_failure: usize,
-    /// The error of that call.
-    pub failure: ErrorKind,
+    /// How much a call takes, and which call fails.
+    pub schedule: Schedule,
 }
 
 impl Narrow {
@@ -33,15 +30,15 @@ impl Narrow {
     ) -> Result<Narrow, AllocError>
         ensures empty { IfOk result (λ writer. writer.octets.items ≡ []) }
         ensures room { IfOk result (λ writer. room ≤ vec_capacity writer.octets) }
-        ensures most { IfOk result (λ writer. writer.most ≡ most) }
-        ensures until_failure { IfOk result (λ writer. writer.until_failure ≡ until_failure) }
-        ensures failure { IfOk result (λ writer. writer.failure ≡ failure) }
+        ensures schedule { IfOk result (λ writer. writer.schedule ≡ record { most = most; until_failure = until_failure; failure = failure }) }
     {
         Ok(Narrow {
             octets: Vec::with_capacity(alloc, room)?,
-            most,
-            until_failure,
-            failure,
+            schedule: Schedule {
+                most,
+                until_failure,
+                failure,
+            },
         })
     }
 }
@@ -52,22 +49,13 @@ impl Write for Narrow {
     fn write(&mut self, octets: &[u8]) -> io::Result<usize>
         ensures bound { WritesAtMost result octets.now }
         ensures bytes { WriteAppends (Some self.old.octets.items) (Some self.new.octets.items) result octets.now }
-        ensures takes { IfOk result (λ count. count ≡ min (length octets.now) self.old.most) }
-        ensures fails { self.old.until_failure ≡ 0 → IsErr result }
-        ensures failure { self.old.until_failure ≡ 0 → IfErr result (λ e. error_kind e ≡ self.old.failure) }
+        ensures takes { IfOk result (λ count. count ≡ min (length octets.now) self.old.schedule.most) }
+        ensures due { FailsWhenDue self.old.schedule self.new.schedule result }
         // Each other call fails only for want of memory, and room that is there takes none.
-        ensures memory { self.old.until_failure ≢ 0 → IfErr result (λ e. error_kind e ≡ ErrorKind.OutOfMemory) }
-        ensures there { self.old.until_failure ≢ 0 → vec_len self.old.octets + min (length octets.now) self.old.most ≤ vec_capacity self.old.octets → IsOk result }
-        ensures counts { self.new.until_failure ≡ one_call_less self.old.until_failure }
-        ensures most { self.new.most ≡ self.old.most }
-        ensures kind { self.new.failure ≡ self.old.failure }
+        ensures memory { self.old.schedule.until_failure ≢ 0 → IfErr result (λ e. error_kind e ≡ ErrorKind.OutOfMemory) }
+        ensures there { self.old.schedule.until_failure ≢ 0 → vec_len self.old.octets + min (length octets.now) self.old.schedule.most ≤ vec_capacity self.old.octets → IsOk result }
     {
-        let fails = self.until_failure == 0;
-        self.until_failure = self.until_failure.wrapping_sub(1);
-        if fails {
-            return Err(io::Error::from(self.failure));
-        }
-        let count = octets.len().min(self.most);
+        let count = octets.len().min(self.schedule.next_call()?);
         self.octets.extend_from_slice(&octets[..count])?;
         Ok(count)
     }

@@ -23,17 +23,8 @@ use std::{process, str};
 const PASS: &str =
     "policy 1;rule for * in * from * to * pass;rule for * in * from * to * element * keep";
 
-/// The words of a run for acme, to whom all passes; on octets, and on hexadecimal text.
+/// The words of a run for acme, to whom all passes.
 const OFFLINE: [&str; 5] = ["offline", "--policy-text", PASS, "--subscriber", "acme"];
-
-const OFFLINE_HEX: [&str; 6] = [
-    "offline",
-    "--policy-text",
-    PASS,
-    "--subscriber",
-    "acme",
-    "--hex",
-];
 
 /// A message with a template of source address, source port and octet count, and one record.
 const FLOW: &str =
@@ -68,7 +59,7 @@ fn some_room(alloc: Global) -> Result<Vec<u8>, AllocError> {
     }
 }
 
-/// The words of a run for acme, to whom all passes, with these options.
+/// These words, and these options behind them.
 fn offline<'a>(alloc: Global, options: &[&'a str]) -> Result<Vec<&'a str>, AllocError> {
     let mut words = Vec::new(alloc);
     for word in OFFLINE {

@@ -102,7 +102,8 @@ fn refused_numbers(rt: HostRuntime) -> Result<(), Fail> {
 /// Where no time and no target are given, they are 0 and 1400.
 #[test]
 fn default_numbers(rt: HostRuntime) -> Result<(), Fail> {
-    let ran = run_on(&rt, &OFFLINE_HEX, FLOW.as_bytes())?;
+    let words = offline(rt.alloc(), &["--hex"])?;
+    let ran = run_on(&rt, &words, FLOW.as_bytes())?;
     let output =
         "000a0032 00000000 00000000 00000000  00020014 01000003 00080004 00070002 00010004  0100000e c000024d 01bb 000005dc\n";
     let output = without_blanks(rt.alloc(), output)?;

@@ -6,32 +6,7 @@ use octet_devices::{WriteStopped, write_all};
 use std::io::ErrorKind::{BrokenPipe, ConnectionReset};
 use std::io::{BufWriter, Write};
 
-/// The words of a run on octets, of one on hexadecimal text, and of a policy's counts.
-const OCTETS: [&str; 9] = [
-    "offline",
-    "--policy-text",
-    PASS,
-    "--subscriber",
-    "acme",
-    "--now",
-    NOW,
-    "--target",
-    "16",
-];
-
-const HEXADECIMAL: [&str; 10] = [
-    "offline",
-    "--policy-text",
-    PASS,
-    "--subscriber",
-    "acme",
-    "--now",
-    NOW,
-    "--target",
-    "16",
-    "--hex",
-];
-
+/// The words that ask for a policy's counts.
 const CHECK: [&str; 3] = ["check-policy", "--policy-text", PASS];
 
 const DEVICE: &str = "ipmd: device\n";
@@ -53,90 +28,91 @@ const OCTET_ENDS: [usize; 4] = [0, 36, 66, 96];
 
 const LINE_ENDS: [usize; 4] = [0, 73, 134, 195];
 
+/// A run over the two flows: its words, its input, and all that it writes.
+#[derive(Drop)]
+struct TwoFlows {
+    words: Vec<&'static str>,
+    input: Vec<u8>,
+    whole: Vec<u8>,
+}
+
+impl TwoFlows {
+    fn as_octets(alloc: Global) -> Result<TwoFlows, Fail> {
+        Ok(TwoFlows {
+            words: offline(alloc, &["--now", NOW, "--target", "16"])?,
+            input: octets_of(alloc, TWO_FLOWS)?,
+            whole: octets_of(alloc, TWO_FLOWS_PASSED)?,
+        })
+    }
+
+    fn as_lines(alloc: Global) -> Result<TwoFlows, Fail> {
+        Ok(TwoFlows {
+            words: offline(alloc, &["--now", NOW, "--target", "16", "--hex"])?,
+            input: TWO_FLOWS.as_bytes().to_vec(alloc)?,
+            whole: without_blanks(alloc, TWO_FLOWS_PASSED)?.into_bytes(),
+        })
+    }
+}
+
 /// That a run writes this front of the whole, and fails or is done.
 fn expect_front<R: Files + AllocGlobal + Abort>(
     rt: &R,
-    words: &[&str],
-    input: &[u8],
+    flows: &TwoFlows,
     writer: Narrow,
-    whole: &[u8],
     sent: usize,
 ) -> Result<(), Fail> {
     let mut writer = writer;
     let mut errors = Vec::with_capacity(rt.alloc(), ROOM)?;
     let mut device = Device::new(&mut writer);
-    let status = program(rt, words, input, &mut device, &mut errors);
-    let (text, wanted) = if sent == whole.len() {
+    let input = flows.input.as_slice();
+    let status = program(rt, &flows.words, input, &mut device, &mut errors);
+    let (text, wanted) = if sent == flows.whole.len() {
         (TWO_FLOWS_REPORT, 0)
     } else {
         (DEVICE, 3)
     };
     assert_eq!(rt; str::from_utf8(errors.as_slice())?, text);
     assert_eq!(rt; status, wanted);
-    assert_eq!(rt; Some(writer.octets.as_slice()), whole.get(..sent));
+    assert_eq!(rt; Some(writer.octets.as_slice()), flows.whole.get(..sent));
     Ok(())
 }
 
-/// Each message is one write; one that fails is the end of what is written.
+/// That writes of at most `most` octets stop at each of these ends in turn, one write after another.
+fn expect_fronts<R: Files + AllocGlobal + Abort>(
+    rt: &R,
+    flows: &TwoFlows,
+    most: usize,
+    ends: &[usize],
+) -> Result<(), Fail> {
+    for (calls, sent) in ends.iter().enumerate() {
+        let writer = Narrow::new(rt.alloc(), ROOM, most, calls, BrokenPipe)?;
+        expect_front(rt, flows, writer, *sent)?;
+    }
+    Ok(())
+}
+
+/// Each message is one write, and so is each line; one that fails is the end of what is written.
 #[test]
 fn each_write_fails(rt: HostRuntime) -> Result<(), Fail> {
-    let input = octets_of(rt.alloc(), TWO_FLOWS)?;
-    let whole = octets_of(rt.alloc(), TWO_FLOWS_PASSED)?;
-    for (calls, sent) in OCTET_ENDS.into_iter().enumerate() {
-        let writer = Narrow::new(rt.alloc(), ROOM, ROOM, calls, BrokenPipe)?;
-        let input = input.as_slice();
-        expect_front(&rt, &OCTETS, input, writer, whole.as_slice(), sent)?;
-    }
-    Ok(())
-}
-
-/// Each line is one write.
-#[test]
-fn each_line_fails(rt: HostRuntime) -> Result<(), Fail> {
-    let whole = without_blanks(rt.alloc(), TWO_FLOWS_PASSED)?;
-    for (calls, sent) in LINE_ENDS.into_iter().enumerate() {
-        let writer = Narrow::new(rt.alloc(), ROOM, ROOM, calls, BrokenPipe)?;
-        let input = TWO_FLOWS.as_bytes();
-        expect_front(&rt, &HEXADECIMAL, input, writer, whole.as_bytes(), sent)?;
-    }
-    Ok(())
+    expect_fronts(&rt, &TwoFlows::as_octets(rt.alloc())?, ROOM, &OCTET_ENDS)?;
+    expect_fronts(&rt, &TwoFlows::as_lines(rt.alloc())?, ROOM, &LINE_ENDS)
 }
 
 /// A writer of one octet at a time gets all, and each octet that it took stays.
 #[test]
 fn one_octet_at_a_time(rt: HostRuntime) -> Result<(), Fail> {
-    let input = octets_of(rt.alloc(), TWO_FLOWS)?;
-    let whole = octets_of(rt.alloc(), TWO_FLOWS_PASSED)?;
-    for sent in 0..97 {
-        let writer = Narrow::new(rt.alloc(), ROOM, 1, sent, BrokenPipe)?;
-        expect_front(
-            &rt,
-            &OCTETS,
-            input.as_slice(),
-            writer,
-            whole.as_slice(),
-            sent,
-        )?;
-    }
-    let lines = without_blanks(rt.alloc(), TWO_FLOWS_PASSED)?;
-    for sent in 0..196 {
-        let writer = Narrow::new(rt.alloc(), ROOM, 1, sent, BrokenPipe)?;
-        let input = TWO_FLOWS.as_bytes();
-        expect_front(&rt, &HEXADECIMAL, input, writer, lines.as_bytes(), sent)?;
-    }
-    Ok(())
+    let ends: Vec<usize> = (0..196).collect(rt.alloc())?;
+    expect_fronts(&rt, &TwoFlows::as_octets(rt.alloc())?, 1, &ends[..97])?;
+    expect_fronts(&rt, &TwoFlows::as_lines(rt.alloc())?, 1, &ends)
 }
 
 /// A writer that takes nothing has failed.
 #[test]
 fn none_taken(rt: HostRuntime) -> Result<(), Fail> {
-    let input = octets_of(rt.alloc(), TWO_FLOWS)?;
-    let whole = octets_of(rt.alloc(), TWO_FLOWS_PASSED)?;
     let writer = Narrow::new(rt.alloc(), ROOM, 0, ROOM, BrokenPipe)?;
-    expect_front(&rt, &OCTETS, input.as_slice(), writer, whole.as_slice(), 0)?;
+    expect_front(&rt, &TwoFlows::as_octets(rt.alloc())?, writer, 0)?;
     let writer = Narrow::new(rt.alloc(), ROOM, 0, ROOM, BrokenPipe)?;
-    let input = TWO_FLOWS.as_bytes();
-    expect_front(&rt, &HEXADECIMAL, input, writer, whole.as_slice(), 0)
+    expect_front(&rt, &TwoFlows::as_lines(rt.alloc())?, writer, 0)
 }
 
 /// That a command says of its output that it failed.
@@ -156,12 +132,10 @@ fn expect_device_fault<R: Files + AllocGlobal + Abort>(
 /// A pipe whose reader has gone, written to at once, and at the flush of a buffer before it.
 #[test]
 fn closed_pipe(rt: HostRuntime) -> Result<(), Fail> {
-    for words in [HEXADECIMAL.as_slice(), &CHECK, &["--version"]] {
-        expect_device_fault(
-            &rt,
-            words,
-            Narrow::new(rt.alloc(), ROOM, ROOM, 0, BrokenPipe)?,
-        )?;
+    let flows = TwoFlows::as_lines(rt.alloc())?;
+    for words in [flows.words.as_slice(), &CHECK, &["--version"]] {
+        let pipe = Narrow::new(rt.alloc(), ROOM, ROOM, 0, BrokenPipe)?;
+        expect_device_fault(&rt, words, pipe)?;
         let pipe = Narrow::new(rt.alloc(), ROOM, ROOM, 0, BrokenPipe)?;
         let buffer = BufWriter::with_capacity(rt.alloc(), ROOM, pipe)?;
         expect_device_fault(&rt, words, buffer)?;
@@ -172,12 +146,13 @@ fn closed_pipe(rt: HostRuntime) -> Result<(), Fail> {
 /// Nothing is written to an output that has failed before.
 #[test]
 fn failed_before(rt: HostRuntime) -> Result<(), Fail> {
-    let input = octets_of(rt.alloc(), TWO_FLOWS)?;
+    let flows = TwoFlows::as_octets(rt.alloc())?;
     // It fails at its first call alone.
     let mut device = Device::new(Narrow::new(rt.alloc(), ROOM, ROOM, 0, BrokenPipe)?);
     assert_eq!(rt; write_all(&mut device, b"0"), Err(WriteStopped { sent: 0 }));
     let mut errors = Vec::with_capacity(rt.alloc(), ROOM)?;
-    let status = program(&rt, &OCTETS, input.as_slice(), &mut device, &mut errors);
+    let input = flows.input.as_slice();
+    let status = program(&rt, &flows.words, input, &mut device, &mut errors);
     assert_eq!(rt; str::from_utf8(errors.as_slice())?, DEVICE);
     assert_eq!(rt; status, 3);
     assert_eq!(rt; device.into_inner().octets.len(), 0);
@@ -187,12 +162,11 @@ fn failed_before(rt: HostRuntime) -> Result<(), Fail> {
 /// A reader of one octet, or of seven, gives what one of all gives.
 #[test]
 fn octet_by_octet(rt: HostRuntime) -> Result<(), Fail> {
-    let input = octets_of(rt.alloc(), TWO_FLOWS)?;
-    let whole = octets_of(rt.alloc(), TWO_FLOWS_PASSED)?;
+    let flows = TwoFlows::as_octets(rt.alloc())?;
     for most in [1, 7, ROOM] {
-        let reader = Sparing::new(input.as_slice(), most, ROOM, ConnectionReset);
-        let ran = run_on(&rt, &OCTETS, reader)?;
-        assert_eq!(rt; ran.output.as_slice(), whole.as_slice());
+        let reader = Sparing::new(flows.input.as_slice(), most, ROOM, ConnectionReset);
+        let ran = run_on(&rt, &flows.words, reader)?;
+        assert_eq!(rt; ran.output.as_slice(), flows.whole.as_slice());
         assert_eq!(rt; str::from_utf8(ran.errors.as_slice())?, TWO_FLOWS_REPORT);
         assert_eq!(rt; ran.status, 0);
     }
@@ -202,36 +176,37 @@ fn octet_by_octet(rt: HostRuntime) -> Result<(), Fail> {
 /// A read that fails is the end of the stream; what came before it is written.
 #[test]
 fn each_read_fails(rt: HostRuntime) -> Result<(), Fail> {
-    let input = octets_of(rt.alloc(), TWO_FLOWS)?;
-    let whole = octets_of(rt.alloc(), TWO_FLOWS_PASSED)?;
+    let flows = TwoFlows::as_octets(rt.alloc())?;
     // Sixty octets take nine reads of seven, and a tenth meets the end.
     for calls in 0..10 {
-        let reader = Sparing::new(input.as_slice(), 7, calls, ConnectionReset);
-        let ran = run_on(&rt, &OCTETS, reader)?;
-        let sent = if calls < 9 { 0 } else { whole.len() };
-        assert_eq!(rt; Some(ran.output.as_slice()), whole.get(..sent));
+        let reader = Sparing::new(flows.input.as_slice(), 7, calls, ConnectionReset);
+        let ran = run_on(&rt, &flows.words, reader)?;
+        let sent = if calls < 9 { 0 } else { flows.whole.len() };
+        assert_eq!(rt; Some(ran.output.as_slice()), flows.whole.get(..sent));
         assert_eq!(rt; str::from_utf8(ran.errors.as_slice())?, DEVICE);
         assert_eq!(rt; ran.status, 3);
     }
-    let text = Sparing::new(TWO_FLOWS.as_bytes(), 7, 3, ConnectionReset);
-    let ran = run_on(&rt, &HEXADECIMAL, text)?;
+    let lines = TwoFlows::as_lines(rt.alloc())?;
+    let text = Sparing::new(lines.input.as_slice(), 7, 3, ConnectionReset);
+    let ran = run_on(&rt, &lines.words, text)?;
     expect_texts(&rt, &ran, 3, "", DEVICE)
 }
 
 /// What the errors' stream doesn't take is dropped.
 #[test]
 fn errors_fail(rt: HostRuntime) -> Result<(), Fail> {
-    let whole = without_blanks(rt.alloc(), TWO_FLOWS_PASSED)?;
+    let flows = TwoFlows::as_lines(rt.alloc())?;
+    let input = flows.input.as_slice();
     for calls in 0..3 {
         let mut output = Vec::with_capacity(rt.alloc(), ROOM)?;
         let errors = Narrow::new(rt.alloc(), ROOM, 4, calls, BrokenPipe)?;
         let mut device = Device::new(&mut output);
-        let status = program(&rt, &HEXADECIMAL, TWO_FLOWS.as_bytes(), &mut device, errors);
-        assert_eq!(rt; output.as_slice(), whole.as_bytes());
+        let status = program(&rt, &flows.words, input, &mut device, errors);
+        assert_eq!(rt; output.as_slice(), flows.whole.as_slice());
         assert_eq!(rt; status, 0);
         let errors = Narrow::new(rt.alloc(), ROOM, 4, calls, BrokenPipe)?;
         let mut device = Device::new(&mut output);
-        let status = program(&rt, &HEXADECIMAL, b"0g".as_slice(), &mut device, errors);
+        let status = program(&rt, &flows.words, b"0g".as_slice(), &mut device, errors);
         assert_eq!(rt; status, 1);
     }
     Ok(())

@@ -183,8 +183,9 @@ fn order_of_faults(rt: HostRuntime) -> Result<(), Fail> {
 /// An output that is full is a failed device, in each command.
 #[test]
 fn full_output(rt: HostRuntime) -> Result<(), Fail> {
+    let words = offline(rt.alloc(), &["--hex"])?;
     let cases = [
-        (OFFLINE_HEX.as_slice(), 3, DEVICE),
+        (words.as_slice(), 3, DEVICE),
         (&["check-policy", "--policy-text", PASS], 3, DEVICE),
         (&["--help"], 3, DEVICE),
         (

@@ -43,7 +43,8 @@ fn hexadecimal_read_as_octets(rt: HostRuntime) -> Result<(), Fail> {
 #[test]
 fn octets_read_as_hexadecimal(rt: HostRuntime) -> Result<(), Fail> {
     let octets = octets_of(rt.alloc(), FLOW)?;
-    let ran = run_on(&rt, &OFFLINE_HEX, octets.as_slice())?;
+    let words = offline(rt.alloc(), &["--hex"])?;
+    let ran = run_on(&rt, &words, octets.as_slice())?;
     expect_texts(&rt, &ran, 1, "", "ipmd: hex\n")
 }
 
