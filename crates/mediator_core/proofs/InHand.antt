@@ -322,34 +322,39 @@ stops_refused (fault.AuditFull need room) d job messages octets held holds aheld
 stops_refused (fault.Policy why) d job messages octets held holds aheld aholds failed afailed r refuses names = absurd refuses
 stops_refused fault.BadName d job messages octets held holds aheld aholds failed afailed r refuses names = absurd refuses
 
+-- lines stop where the audit fails, or for want of memory
+by_lines : (P : OfflineFault → Type 0) (failed : Bool) → (failed ≡ true → P AuditWrite) → P (Core fault.OutOfMemory) → (e : OfflineFault) → StopsLines e failed → P e
+by_lines P failed audit memory AuditWrite cause = audit cause
+by_lines P failed audit memory (Core fault.OutOfMemory) cause = memory
+by_lines P failed audit memory (Core (fault.Policy why)) cause = absurd cause
+by_lines P failed audit memory (Core fault.BadName) cause = absurd cause
+by_lines P failed audit memory (Core (fault.Malformed why)) cause = absurd cause
+by_lines P failed audit memory (Core fault.JournalFull) cause = absurd cause
+by_lines P failed audit memory (Core (fault.AuditFull need room)) cause = absurd cause
+by_lines P failed audit memory Read cause = absurd cause
+by_lines P failed audit memory (Write sent) cause = absurd cause
+by_lines P failed audit memory (Framing why) cause = absurd cause
+by_lines P failed audit memory Turns cause = absurd cause
+by_lines P failed audit memory Cut cause = absurd cause
+
 -- the message was delivered, and its lines stop
 pub stops_recording : (f : OfflineFault) (d1 d3 : Desk) (job : OfflineJob) (messages : List (List ℕ)) (octets : List ℕ) (held holds writes aheld aholds awrites : Option (List ℕ)) (failed afailed : Bool)
     → IsRunning d1 job messages held holds aheld aholds → Delivered d1 d3 job messages octets held writes → StopsLines f afailed → WritesSome aholds awrites (lines_of d3.audit.standing.entries)
     → StopsAt f job messages octets held writes aheld awrites failed afailed
-stops_recording f d1 d3 job messages octets held holds writes aheld aholds awrites failed afailed r k cause some = by f cause
+stops_recording f d1 d3 job messages octets held holds writes aheld aholds awrites failed afailed r k cause some =
+    by_lines (λ e. StopsAt e job messages octets held writes aheld awrites failed afailed) afailed (λ cause. (k.accepts, k.written, lines, cause)) memory f cause
   where
     lines : WritesOn aheld awrites (audit_due job messages) (audit_due job (messages ++ octets ∷ []))
     lines = lines_begun job messages octets k.added d3.audit.standing.entries aheld aholds awrites k.adds k.waits r.audited some
 
-    by : (e : OfflineFault) → StopsLines e afailed → StopsAt e job messages octets held writes aheld awrites failed afailed
-    by AuditWrite cause = (k.accepts, k.written, lines, cause)
-    by (Core fault.OutOfMemory) cause = record {
+    memory : WritesInHand job messages octets held writes aheld awrites
+    memory = record {
       handed = due_by job messages octets;
       others = [];
       front = sym (append-nil (due_by job messages octets));
       written = subst (λ ms. Appends held writes (concat ms)) (due_more job messages octets) k.written;
       audited = lines;
     }
-    by (Core (fault.Policy why)) cause = absurd cause
-    by (Core fault.BadName) cause = absurd cause
-    by (Core (fault.Malformed why)) cause = absurd cause
-    by (Core fault.JournalFull) cause = absurd cause
-    by (Core (fault.AuditFull need room)) cause = absurd cause
-    by Read cause = absurd cause
-    by (Write sent) cause = absurd cause
-    by (Framing why) cause = absurd cause
-    by Turns cause = absurd cause
-    by Cut cause = absurd cause
 
 -- the message was accepted, and its delivery stops
 pub stops_delivering : (f : OfflineFault) (d1 d2 : Desk) (job : OfflineJob) (messages : List (List ℕ)) (octets : List ℕ) (held holds writes aheld aholds : Option (List ℕ)) (failed afailed : Bool)
@@ -477,21 +482,12 @@ stops_cut d1 d2 job messages octets held holds aheld aholds awrites failed afail
 pub stops_cut_recording : (f : OfflineFault) (d1 d2 : Desk) (job : OfflineJob) (messages : List (List ℕ)) (octets : List ℕ) (held holds aheld aholds awrites : Option (List ℕ)) (failed afailed : Bool)
     → IsRunning d1 job messages held holds aheld aholds → WasCut d1 d2 job messages octets → StopsLines f afailed → WritesSome aholds awrites (lines_of d2.audit.standing.entries)
     → StopsAt f job messages octets held holds aheld awrites failed afailed
-stops_cut_recording f d1 d2 job messages octets held holds aheld aholds awrites failed afailed r k cause some = by f cause
+stops_cut_recording f d1 d2 job messages octets held holds aheld aholds awrites failed afailed r k cause some =
+    by_lines (λ e. StopsAt e job messages octets held holds aheld awrites failed afailed) afailed
+    (λ cause. (k.accepts, subst (λ ms. Appends held holds (concat ms)) (sym k.no_more) r.written, lines, cause)) memory f cause
   where
     lines : WritesOn aheld awrites (audit_due job messages) (audit_due job (messages ++ octets ∷ []))
     lines = lines_begun job messages octets k.added d2.audit.standing.entries aheld aholds awrites k.adds k.waits r.audited some
 
-    by : (e : OfflineFault) → StopsLines e afailed → StopsAt e job messages octets held holds aheld awrites failed afailed
-    by AuditWrite cause = (k.accepts, subst (λ ms. Appends held holds (concat ms)) (sym k.no_more) r.written, lines, cause)
-    by (Core fault.OutOfMemory) cause = record { handed = []; others = due_by job messages octets; front = refl; written = subst (Appends held holds) (sym (none_more (due job messages))) r.written; audited = lines }
-    by (Core (fault.Policy why)) cause = absurd cause
-    by (Core fault.BadName) cause = absurd cause
-    by (Core (fault.Malformed why)) cause = absurd cause
-    by (Core fault.JournalFull) cause = absurd cause
-    by (Core (fault.AuditFull need room)) cause = absurd cause
-    by Read cause = absurd cause
-    by (Write sent) cause = absurd cause
-    by (Framing why) cause = absurd cause
-    by Turns cause = absurd cause
-    by Cut cause = absurd cause
+    memory : WritesInHand job messages octets held holds aheld awrites
+    memory = record { handed = []; others = due_by job messages octets; front = refl; written = subst (Appends held holds) (sym (none_more (due job messages))) r.written; audited = lines }
