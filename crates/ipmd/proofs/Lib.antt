@@ -2,4 +2,5 @@ mod GivenRows
 mod Inputs
 mod Lines
 mod Statuses
+mod Telling
 mod ToldWords

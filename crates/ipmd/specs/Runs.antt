@@ -21,7 +21,7 @@ use Rattle.ipmd.specs.declared.policy_source.PolicySource.TheVariants.{File, Tex
 use Rattle.ipmd.specs.declared.fault.ProgramFault.{ProgramFault}
 use Rattle.ipmd.specs.declared.fault.ProgramFault.TheVariants.{CommandLine, Policy, Hex, Framing, Core, Cut, OutOfMemory, Device}
 use Rattle.ipmd.specs.HexText.{SpelledBy, SpellsNothing, lines_of, WritesLines, WritesSome, WritesSomeLines}
-use Rattle.ipmd.specs.Status.{offline_fault_of}
+use Rattle.ipmd.specs.Status.{offline_fault_of, Tells}
 use Rattle.ipmd.specs.CommandLine.{AsksFor, RefusesWords}
 
 -- ---- the policy
@@ -210,6 +210,15 @@ Does words (Some report) given held holds = (options : OfflineOptions) × AsksFo
 Does words None given held holds =
     ((source : PolicySource) × AsksFor words (CheckPolicy source) × CountsPolicy source held holds)
     ⊎ ((shown : Error) × AsksFor words (Show shown) × Shows (kind_of shown) held holds)
+
+-- what is said of what was done: of a stream that was filtered the report, else nothing
+abbrev pub line_of_report : OfflineReport → List ℕ
+line_of_report report =
+    codes "messages " ++ decimal report.messages ++ codes " records " ++ decimal report.records ++ codes " disclosed " ++ decimal report.disclosed ++ 10 ∷ []
+
+abbrev pub Reports : Option OfflineReport → Bool → Option (List ℕ) → Option (List ℕ) → Type 0
+Reports (Some report) has_failed held holds = Tells (Some (line_of_report report)) has_failed held holds
+Reports None has_failed held holds = Keeps held holds
 
 -- why it isn't done, and what was written
 abbrev pub FailsFor : List (List ℕ) → ProgramFault → Option (List ℕ) → Option (List ℕ) → Option (List ℕ) → Type 0

@@ -1,5 +1,9 @@
 -- What the program says of a fault, and its exit statuses.
-use Rattle.std.specs.Prelude.{ℕ}
+use Rattle.std.specs.Prelude.{◌≡◌, ℕ, Bool, false, List, ◌++◌, codes, Option, Some, None, IfSome}
+use Rattle.std.specs.Fmt.{decimal, with_newline}
+use Rattle.std.specs.Io.KnownBytes.{Appends}
+use Rattle.policy_text.specs.FaultTexts.{text_of_kind}
+use Rattle.mediator_core.specs.FaultTexts.{text_of_fault, text_of_framing}
 use Rattle.policy_text.specs.declared.fault.FaultKind.{FaultKind}
 use Rattle.policy_text.specs.declared.fault.FaultKind.TheVariants as kind
 use Rattle.policy_text.specs.declared.fault.PolicyFault.{PolicyFault}
@@ -20,6 +24,25 @@ status_of (Core _) = 1
 status_of Cut = 1
 status_of OutOfMemory = 1
 status_of Device = 3
+
+-- what is said of a fault; of a command line that is the parser's text, which isn't told here
+abbrev pub text_of : ProgramFault → Option (List ℕ)
+text_of (CommandLine _) = None
+text_of (Policy why) = Some (codes "ipmd: policy line " ++ decimal why.line ++ codes ": " ++ text_of_kind why.kind)
+text_of Hex = Some (codes "ipmd: hex")
+text_of (Framing why) = Some (codes "ipmd: framing " ++ text_of_framing why)
+text_of (Core why) = Some (codes "ipmd: " ++ text_of_fault why)
+text_of Cut = Some (codes "ipmd: Cut")
+text_of OutOfMemory = Some (codes "ipmd: OutOfMemory")
+text_of Device = Some (codes "ipmd: device")
+
+-- on a line of its own
+abbrev pub line_of_fault : ProgramFault → Option (List ℕ)
+line_of_fault e = with_newline (text_of e)
+
+-- this was written, unless the device failed
+abbrev pub Tells : Option (List ℕ) → Bool → Option (List ℕ) → Option (List ℕ) → Type 0
+Tells line has_failed held holds = has_failed ≡ false → IfSome line (Appends held holds)
 
 -- a policy that is refused for want of memory isn't at fault
 abbrev pub policy_fault_of : PolicyFault → FaultKind → ProgramFault

@@ -2,11 +2,12 @@
 ghost use Rattle.std.specs.Prelude.{◌≡◌};
 
 use mediator_core::{Fault, FramingFault, OfflineFault};
-use octet_devices::{Failed, WriteStopped};
+use octet_devices::{Device, Failed, WriteStopped};
 use policy_text::{FaultKind, PolicyFault};
 use std::alloc::{AllocError, AllocFailed};
+use std::error::Error;
+use std::fmt::{self, Display, Formatter};
 use std::io::{self, ErrorKind, Write};
-use thiserror::Error;
 
 /// The exit status where the input is refused, or memory runs out.
 const REFUSED: u8 = 1;
@@ -18,40 +19,57 @@ const BAD_COMMAND_LINE: u8 = 2;
 const DEVICE_FAILED: u8 = 3;
 
 /// Why a run ends without having done what was asked. Its text is what the program says of it.
-#[derive(Debug, Drop, Error)]
+#[derive(Debug, Drop)]
 pub enum ProgramFault {
     /// The command line asks for nothing that there is; the text is the parser's, with its line feeds.
-    #[error("{0}")]
     CommandLine(clap::Error),
     /// The text is no policy.
-    #[error("ipmd: policy line {line}: {kind}", line = .0.line, kind = .0.kind)]
     Policy(PolicyFault),
     /// The input is not hexadecimal.
-    #[error("ipmd: hex")]
     Hex,
     /// The input is no stream of messages.
-    #[error("ipmd: framing {0}")]
     Framing(FramingFault),
     /// The mediator refused something else.
-    #[error("ipmd: {0}")]
     Core(Fault),
     /// The subscription was cut.
-    #[error("ipmd: Cut")]
     Cut,
     /// Want of memory.
-    #[error("ipmd: OutOfMemory")]
     OutOfMemory,
     /// A file can't be opened, read or written, is not text where text is read, or a stream failed.
-    #[error("ipmd: device")]
     Device,
 }
 
+impl Error for ProgramFault {}
+
+impl Display for ProgramFault {
+    ghost use Rattle.ipmd.specs.Status.{text_of};
+
+    ghost output = { text_of };
+
+    fn fmt<W: fmt::Write>(&self, f: &mut Formatter<W>) -> fmt::Result {
+        match self {
+            ProgramFault::CommandLine(why) => write!(f, "{why}"),
+            ProgramFault::Policy(PolicyFault { line, kind }) => {
+                write!(f, "ipmd: policy line {line}: {kind}")
+            }
+            ProgramFault::Hex => f.write_str("ipmd: hex"),
+            ProgramFault::Framing(why) => write!(f, "ipmd: framing {why}"),
+            ProgramFault::Core(why) => write!(f, "ipmd: {why}"),
+            ProgramFault::Cut => f.write_str("ipmd: Cut"),
+            ProgramFault::OutOfMemory => f.write_str("ipmd: OutOfMemory"),
+            ProgramFault::Device => f.write_str("ipmd: device"),
+        }
+    }
+}
+
 impl ProgramFault {
-    ghost use Rattle.ipmd.specs.Status.{status_of};
+    ghost use Rattle.octet_devices.specs.Device.{device_failed, device_inner};
+    ghost use Rattle.ipmd.specs.Status.{line_of_fault, status_of, Tells};
 
     /// Says the fault on `errors`, and answers its exit status. What can't be written is dropped.
-    pub fn report<E: Write>(self, errors: &mut E) -> u8
-        ensures { result ≡ status_of self }
+    pub fn report<E: Write>(self, errors: &mut Device<E>) -> u8
+        ensures status { result ≡ status_of self }
+        ensures told { Tells (line_of_fault self) (device_failed errors.new) (E.contents (device_inner errors.old)) (E.contents (device_inner errors.new)) }
     {
         let _ = match self {
             ProgramFault::CommandLine(_) => write!(errors, "{self}"),

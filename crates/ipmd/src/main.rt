@@ -12,11 +12,11 @@
 //! - `fault`: why a run ends without having done what was asked, with the texts and exit statuses.
 #![tactic(auto)]
 
-ghost use Rattle.std.specs.Prelude.{◌≡◌, ◌≢◌, Option, map, IfErr, IfOk};
+ghost use Rattle.std.specs.Prelude.{◌≡◌, ◌≢◌, Option, Some, map, IfErr, IfOk};
 ghost use Rattle.mediator_core.specs.declared.job.OfflineReport.{OfflineReport};
-ghost use Rattle.octet_devices.specs.Device.{device_inner};
-ghost use Rattle.ipmd.specs.Runs.{Does, FailsFor};
-ghost use Rattle.ipmd.specs.Status.{status_of};
+ghost use Rattle.octet_devices.specs.Device.{device_failed, device_inner};
+ghost use Rattle.ipmd.specs.Runs.{Does, FailsFor, line_of_report, Reports};
+ghost use Rattle.ipmd.specs.Status.{line_of_fault, status_of, Tells};
 ghost use Rattle.ipmd.specs.declared.fault.ProgramFault.{ProgramFault};
 
 mod check;
@@ -54,9 +54,9 @@ fn main(rt: HostRuntime) -> ExitCode {
             words.as_slice(),
             rt.stdin(),
             &mut Device::new(rt.stdout()),
-            rt.stderr(),
+            &mut Device::new(rt.stderr()),
         ),
-        Err(fault) => fault.report(&mut rt.stderr()),
+        Err(fault) => fault.report(&mut Device::new(rt.stderr())),
     };
     ExitCode::from(status)
 }
@@ -71,32 +71,39 @@ fn words_after_name<R: Env + AllocGlobal>(rt: &R) -> Result<Vec<String>, Program
 /// refused, 2 for a refused command line, 3 where a device fails. `output` gets what was asked for, and
 /// `errors` the report or the fault; what `errors` doesn't take is dropped.
 #[tactic(auto, using(crate::proofs::Statuses::no_fault_is_done))]
-pub fn program<R: Files + AllocGlobal, S: AsStr, I: Read + Drop, O: Write, E: Write + Drop>(
+pub fn program<R: Files + AllocGlobal, S: AsStr, I: Read + Drop, O: Write, E: Write>(
     rt: &R,
     words: &[S],
     input: I,
     output: &mut Device<O>,
-    mut errors: E,
+    errors: &mut Device<E>,
 ) -> u8
-    ensures done { result ≡ 0 → (report : Option OfflineReport) × Does (map S.text words.now) report (I.remaining input) (O.contents (device_inner output.old)) (O.contents (device_inner output.new)) }
-    ensures fails { result ≢ 0 → (e : ProgramFault) × (result ≡ status_of e) × FailsFor (map S.text words.now) e (I.remaining input) (O.contents (device_inner output.old)) (O.contents (device_inner output.new)) }
+    ensures done { result ≡ 0 → (report : Option OfflineReport) × Does (map S.text words.now) report (I.remaining input) (O.contents (device_inner output.old)) (O.contents (device_inner output.new)) × Reports report (device_failed errors.new) (E.contents (device_inner errors.old)) (E.contents (device_inner errors.new)) }
+    ensures fails { result ≢ 0 → (e : ProgramFault) × (result ≡ status_of e) × FailsFor (map S.text words.now) e (I.remaining input) (O.contents (device_inner output.old)) (O.contents (device_inner output.new)) × Tells (line_of_fault e) (device_failed errors.new) (E.contents (device_inner errors.old)) (E.contents (device_inner errors.new)) }
 {
     match run(rt, words, input, output) {
         Ok(Some(report)) => {
-            let OfflineReport {
-                messages,
-                records,
-                disclosed,
-            } = report;
-            let _ = writeln!(
-                errors,
-                "messages {messages} records {records} disclosed {disclosed}"
-            );
+            tell(report, errors);
             DONE
         }
         Ok(None) => DONE,
-        Err(fault) => fault.report(&mut errors),
+        Err(fault) => fault.report(errors),
     }
+}
+
+/// Says what was done with a whole stream. What can't be written is dropped.
+fn tell<E: Write>(report: OfflineReport, errors: &mut Device<E>)
+    ensures { Tells (Some (line_of_report report)) (device_failed errors.new) (E.contents (device_inner errors.old)) (E.contents (device_inner errors.new)) }
+{
+    let OfflineReport {
+        messages,
+        records,
+        disclosed,
+    } = report;
+    let _ = writeln!(
+        errors,
+        "messages {messages} records {records} disclosed {disclosed}"
+    );
 }
 
 /// Does what the words ask for. The report is that of `ipmd offline`.

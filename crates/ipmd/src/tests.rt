@@ -80,7 +80,7 @@ fn run_on<R: Files + AllocGlobal, I: Read + Drop>(
     let mut output = some_room(rt.alloc())?;
     let mut errors = some_room(rt.alloc())?;
     let mut device = Device::new(&mut output);
-    let status = program(rt, words, input, &mut device, &mut errors);
+    let status = program(rt, words, input, &mut device, &mut Device::new(&mut errors));
     Ok(Ran {
         status,
         output,

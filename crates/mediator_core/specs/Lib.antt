@@ -6,6 +6,7 @@ pub use Rattle.mediator_history.specs.Disclosed
 pub use Rattle.mediator_history.specs.Auditing
 pub use Rattle.mediator_history.specs.Cuts
 pub mod Faults
+pub mod FaultTexts
 pub mod Failing
 pub mod Shares
 pub mod Recording

@@ -3,30 +3,45 @@
 use ipfix_session::ReadError;
 use policy_text::PolicyFault;
 use std::alloc::{AllocError, AllocFailed};
-use thiserror::Error;
+use std::error::Error;
+use std::fmt::{self, Display, Formatter, Write};
 
 /// Why the core refuses something: the first reason that stands, in this order but for those that belong to
 /// other calls. Its text is its name.
-#[derive(Clone, Copy, Debug, PartialEq, Eq, Error)]
+#[derive(Clone, Copy, Debug, PartialEq, Eq)]
 pub enum Fault {
     /// The text is no policy that is accepted.
-    #[error("Policy")]
     Policy(PolicyFault),
     /// The text is no name.
-    #[error("BadName")]
     BadName,
     /// The octets are no message of the session.
-    #[error("Malformed")]
     Malformed(ReadError),
     /// The journal has no room for what would be accepted.
-    #[error("JournalFull")]
     JournalFull,
     /// The audit needs room for so many entries, and has this room.
-    #[error("AuditFull")]
     AuditFull { need: u64, room: u32 },
     /// Want of memory.
-    #[error("OutOfMemory")]
     OutOfMemory,
+}
+
+impl Error for Fault {}
+
+impl Display for Fault {
+    ghost use Rattle.std.specs.Prelude.{Option, Some};
+    ghost use Rattle.mediator_core.specs.FaultTexts.{text_of_fault};
+
+    ghost output = { λ fault. Some (text_of_fault fault) };
+
+    fn fmt<W: Write>(&self, f: &mut Formatter<W>) -> fmt::Result {
+        f.write_str(match self {
+            Fault::Policy(_) => "Policy",
+            Fault::BadName => "BadName",
+            Fault::Malformed(_) => "Malformed",
+            Fault::JournalFull => "JournalFull",
+            Fault::AuditFull { .. } => "AuditFull",
+            Fault::OutOfMemory => "OutOfMemory",
+        })
+    }
 }
 
 impl From<AllocError> for Fault {

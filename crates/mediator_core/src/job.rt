@@ -1,7 +1,8 @@
 //! What `offline` is asked for, and what it answers.
 
 use crate::fault::Fault;
-use thiserror::Error;
+use std::error::Error;
+use std::fmt::{self, Display, Formatter, Write};
 
 /// One stream to be filtered for one subscriber.
 #[derive(Clone, Copy, Debug)]
@@ -29,44 +30,72 @@ pub struct OfflineReport {
     pub disclosed: u64,
 }
 
-/// Why octets that were read are no stream of messages (RFC 7011, sections 3.1 and 10.4).
-#[derive(Clone, Copy, Debug, PartialEq, Eq, Error)]
+/// Why octets that were read are no stream of messages (RFC 7011, sections 3.1 and 10.4). Its text is its name.
+#[derive(Clone, Copy, Debug, PartialEq, Eq)]
 pub enum FramingFault {
     /// A header with another version than 10.
-    #[error("BadVersion")]
     BadVersion,
     /// A header with a length under 16.
-    #[error("BadLength")]
     BadLength,
     /// The input ends inside a message.
-    #[error("CutOff")]
     CutOff,
 }
 
-/// Why a stream was not read to its end.
-#[derive(Clone, Copy, Debug, PartialEq, Eq, Error)]
+impl Error for FramingFault {}
+
+impl Display for FramingFault {
+    ghost use Rattle.std.specs.Prelude.{Option, Some};
+    ghost use Rattle.mediator_core.specs.FaultTexts.{text_of_framing};
+
+    ghost output = { λ fault. Some (text_of_framing fault) };
+
+    fn fmt<W: Write>(&self, f: &mut Formatter<W>) -> fmt::Result {
+        f.write_str(match self {
+            FramingFault::BadVersion => "BadVersion",
+            FramingFault::BadLength => "BadLength",
+            FramingFault::CutOff => "CutOff",
+        })
+    }
+}
+
+/// Why a stream was not read to its end. Its text is its name.
+#[derive(Clone, Copy, Debug, PartialEq, Eq)]
 pub enum OfflineFault {
     /// The reader failed.
-    #[error("Read")]
     Read,
     /// The writer failed, after so many octets.
-    #[error("Write")]
     Write { sent: u64 },
     /// What was read is no stream of messages.
-    #[error("Framing")]
     Framing(FramingFault),
     /// So many reads were made as are allowed, and the end was not read.
-    #[error("Turns")]
     Turns,
     /// The core refused the job, or a message.
-    #[error("Core")]
     Core(Fault),
     /// The subscription was cut: a message would have given it records of more shapes than it may use.
-    #[error("Cut")]
     Cut,
     /// The writer of the audit failed.
-    #[error("AuditWrite")]
     AuditWrite,
+}
+
+impl Error for OfflineFault {}
+
+impl Display for OfflineFault {
+    ghost use Rattle.std.specs.Prelude.{Option, Some};
+    ghost use Rattle.mediator_core.specs.FaultTexts.{text_of_offline};
+
+    ghost output = { λ fault. Some (text_of_offline fault) };
+
+    fn fmt<W: Write>(&self, f: &mut Formatter<W>) -> fmt::Result {
+        f.write_str(match self {
+            OfflineFault::Read => "Read",
+            OfflineFault::Write { .. } => "Write",
+            OfflineFault::Framing(_) => "Framing",
+            OfflineFault::Turns => "Turns",
+            OfflineFault::Core(_) => "Core",
+            OfflineFault::Cut => "Cut",
+            OfflineFault::AuditWrite => "AuditWrite",
+        })
+    }
 }
 
 impl From<Fault> for OfflineFault {

@@ -1,17 +1,18 @@
-ghost use Rattle.std.specs.Prelude.{◌≡◌, Bool, true, false};
-ghost use Rattle.std.specs.Io.KnownBytes.{Keeps};
+ghost use Rattle.std.specs.Prelude.{◌≡◌, Bool, true, false, OnOk, IfSome};
+ghost use Rattle.std.specs.Io.KnownBytes.{Appends, Keeps};
 ghost use Rattle.octet_devices.specs.Device.{device_inner, device_failed};
 ghost use Rattle.octet_devices.specs.Failing.{FailsOnErr};
 
 use crate::failed::Failed;
 use crate::sink::Sink;
 use crate::source::Source;
+use std::fmt::Display;
 use std::io::{Read, Write};
 
 /// A reader or a writer of std as a source or a sink. It tells the octets that its reader or writer tells.
 ///
 /// It retries nothing: each error of the reader or writer is a failure, and so is a write that takes none
-/// of a slice that is not empty.
+/// of a slice that is not empty. Within a text alone std tries an interrupted write again.
 #[derive(Drop)]
 pub struct Device<T> {
     inner: T,
@@ -56,6 +57,20 @@ impl<T> Device<T> {
 }
 
 impl<T: Write> Device<T> {
+    /// Writes a text: what `write!` and `writeln!` call.
+    ///
+    /// # Errors
+    /// The writer has failed; how much of the text was written before is not known.
+    pub fn write_fmt<D: Display + Drop>(&mut self, text: D) -> Result<(), Failed>
+        ensures octets { OnOk result (IfSome (D.output text) (Appends (T.contents (device_inner self.old)) (T.contents (device_inner self.new)))) }
+        ensures failed { FailsOnErr (device_failed self.old) (device_failed self.new) result }
+    {
+        if self.inner.write_fmt(text).is_err() {
+            return Err(self.fail());
+        }
+        Ok(())
+    }
+
     /// Sees that what was written has left.
     ///
     /// # Errors

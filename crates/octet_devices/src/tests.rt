@@ -104,6 +104,20 @@ fn flush_fails(rt: HostRuntime) -> Result<(), Fail> {
     Ok(())
 }
 
+/// A text is written piece by piece, here by three writes; one that fails is the end of it.
+#[test]
+fn each_write_of_a_text_fails(rt: HostRuntime) -> Result<(), Fail> {
+    for calls in 0..3 {
+        let mut device = Device::new(Narrow::new(rt.alloc(), ROOM, 4, calls, BrokenPipe)?);
+        assert_eq!(rt; writeln!(device, "{} octets", 10), Err(Failed));
+        assert_eq!(rt; device.has_failed(), true);
+    }
+    let mut device = Device::new(Narrow::new(rt.alloc(), ROOM, 4, 3, BrokenPipe)?);
+    assert_eq!(rt; writeln!(device, "{} octets", 10), Ok(()));
+    holds(&rt, device, b"10 octets\n", false);
+    Ok(())
+}
+
 #[test]
 fn over_memory(rt: HostRuntime) -> Result<(), Fail> {
     let mut source = Device::new(OCTETS);

@@ -12,6 +12,7 @@ pub mod Elements
 pub mod Classes
 pub mod Policies
 pub mod Results
+pub mod FaultTexts
 pub mod Lines
 pub mod Parsing
 pub mod Memory

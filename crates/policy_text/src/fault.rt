@@ -1,42 +1,57 @@
 use std::alloc::{AllocError, AllocFailed};
-use thiserror::Error;
+use std::error::Error;
+use std::fmt::{self, Display, Formatter, Write};
 
-/// What is wrong with the first word that doesn't fit.
-#[derive(Clone, Copy, Debug, PartialEq, Eq, Error)]
+/// What is wrong with the first word that doesn't fit. Its text is its name.
+#[derive(Clone, Copy, Debug, PartialEq, Eq)]
 pub enum FaultKind {
     /// The first line that isn't skipped isn't `policy 1`.
-    #[error("NoHeader")]
     NoHeader,
     /// Another word than the grammar's keyword, a line that ends early, or a word too many.
-    #[error("UnknownWord")]
     UnknownWord,
     /// No name, or no element's name.
-    #[error("BadName")]
     BadName,
     /// No number in the range of its place.
-    #[error("BadNumber")]
     BadNumber,
     /// No prefix.
-    #[error("BadPrefix")]
     BadPrefix,
     /// `truncate` of an element without a width, or to more bits than its width.
-    #[error("BadTruncate")]
     BadTruncate,
     /// A rule's aggregate that no line before defines.
-    #[error("UnknownAggregate")]
     UnknownAggregate,
     /// A second aggregate of one name.
-    #[error("DoubleAggregate")]
     DoubleAggregate,
     /// A key element of another kind, repeated, or the seventeenth.
-    #[error("BadKey")]
     BadKey,
     /// One rule or aggregate too many.
-    #[error("TooMany")]
     TooMany,
     /// Memory ran out.
-    #[error("OutOfMemory")]
     OutOfMemory,
+}
+
+impl Error for FaultKind {}
+
+impl Display for FaultKind {
+    ghost use Rattle.std.specs.Prelude.{Option, Some};
+    ghost use Rattle.policy_text.specs.FaultTexts.{text_of_kind};
+
+    ghost output = { λ kind. Some (text_of_kind kind) };
+
+    fn fmt<W: Write>(&self, f: &mut Formatter<W>) -> fmt::Result {
+        f.write_str(match self {
+            FaultKind::NoHeader => "NoHeader",
+            FaultKind::UnknownWord => "UnknownWord",
+            FaultKind::BadName => "BadName",
+            FaultKind::BadNumber => "BadNumber",
+            FaultKind::BadPrefix => "BadPrefix",
+            FaultKind::BadTruncate => "BadTruncate",
+            FaultKind::UnknownAggregate => "UnknownAggregate",
+            FaultKind::DoubleAggregate => "DoubleAggregate",
+            FaultKind::BadKey => "BadKey",
+            FaultKind::TooMany => "TooMany",
+            FaultKind::OutOfMemory => "OutOfMemory",
+        })
+    }
 }
 
 impl From<AllocError> for FaultKind {
@@ -63,9 +78,21 @@ impl<T: Drop> From<AllocFailed<T>> for FaultKind {
 
 /// Why a text is no policy: the first faulty line, counted from 1, and what is wrong with the first word
 /// in it that doesn't fit. The line is 0 where memory ran out. Its text is the kind's name.
-#[derive(Clone, Copy, Debug, PartialEq, Eq, Error)]
-#[error("{kind}")]
+#[derive(Clone, Copy, Debug, PartialEq, Eq)]
 pub struct PolicyFault {
     pub line: usize,
     pub kind: FaultKind,
+}
+
+impl Error for PolicyFault {}
+
+impl Display for PolicyFault {
+    ghost use Rattle.std.specs.Prelude.{Option, Some};
+    ghost use Rattle.policy_text.specs.FaultTexts.{text_of_kind};
+
+    ghost output = { λ fault. Some (text_of_kind fault.kind) };
+
+    fn fmt<W: Write>(&self, f: &mut Formatter<W>) -> fmt::Result {
+        write!(f, "{}", self.kind)
+    }
 }

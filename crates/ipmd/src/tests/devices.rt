@@ -65,7 +65,13 @@ fn expect_front<R: Files + AllocGlobal + Abort>(
     let mut errors = Vec::with_capacity(rt.alloc(), ROOM)?;
     let mut device = Device::new(&mut writer);
     let input = flows.input.as_slice();
-    let status = program(rt, &flows.words, input, &mut device, &mut errors);
+    let status = program(
+        rt,
+        &flows.words,
+        input,
+        &mut device,
+        &mut Device::new(&mut errors),
+    );
     let (text, wanted) = if sent == flows.whole.len() {
         (TWO_FLOWS_REPORT, 0)
     } else {
@@ -124,7 +130,13 @@ fn expect_device_fault<R: Files + AllocGlobal + Abort>(
 ) -> Result<(), Fail> {
     let mut errors = Vec::with_capacity(rt.alloc(), ROOM)?;
     let mut device = Device::new(output);
-    let status = program(rt, words, TWO_FLOWS.as_bytes(), &mut device, &mut errors);
+    let status = program(
+        rt,
+        words,
+        TWO_FLOWS.as_bytes(),
+        &mut device,
+        &mut Device::new(&mut errors),
+    );
     assert_eq!(rt; str::from_utf8(errors.as_slice())?, DEVICE);
     assert_eq!(rt; status, 3);
     Ok(())
@@ -153,7 +165,13 @@ fn failed_before(rt: HostRuntime) -> Result<(), Fail> {
     assert_eq!(rt; write_all(&mut device, b"0"), Err(WriteStopped { sent: 0 }));
     let mut errors = Vec::with_capacity(rt.alloc(), ROOM)?;
     let input = flows.input.as_slice();
-    let status = program(&rt, &flows.words, input, &mut device, &mut errors);
+    let status = program(
+        &rt,
+        &flows.words,
+        input,
+        &mut device,
+        &mut Device::new(&mut errors),
+    );
     assert_eq!(rt; str::from_utf8(errors.as_slice())?, DEVICE);
     assert_eq!(rt; status, 3);
     assert_eq!(rt; device.into_inner().octets.len(), 0);
@@ -197,18 +215,29 @@ fn each_read_fails(rt: HostRuntime) -> Result<(), Fail> {
 #[test]
 fn errors_fail(rt: HostRuntime) -> Result<(), Fail> {
     let flows = TwoFlows::as_lines(rt.alloc())?;
-    let input = flows.input.as_slice();
-    for calls in 0..3 {
-        let mut output = Vec::with_capacity(rt.alloc(), ROOM)?;
-        let errors = Narrow::new(rt.alloc(), ROOM, 4, calls, BrokenPipe)?;
-        let mut device = Device::new(&mut output);
-        let status = program(&rt, &flows.words, input, &mut device, errors);
-        assert_eq!(rt; output.as_slice(), flows.whole.as_slice());
-        assert_eq!(rt; status, 0);
-        let errors = Narrow::new(rt.alloc(), ROOM, 4, calls, BrokenPipe)?;
-        let mut device = Device::new(&mut output);
-        let status = program(&rt, &flows.words, b"0g".as_slice(), &mut device, errors);
-        assert_eq!(rt; status, 1);
+    let cases = [
+        (
+            flows.input.as_slice(),
+            TWO_FLOWS_REPORT,
+            flows.whole.as_slice(),
+            0,
+        ),
+        (b"0g", "ipmd: hex\n", &[], 1),
+    ];
+    for (input, text, written, wanted) in cases {
+        for calls in 0..3 {
+            let mut output = Device::new(Vec::with_capacity(rt.alloc(), ROOM)?);
+            let mut errors = Device::new(Narrow::new(rt.alloc(), ROOM, 2, calls, BrokenPipe)?);
+            let status = program(&rt, &flows.words, input, &mut output, &mut errors);
+            assert_eq!(rt; status, wanted);
+            assert_eq!(rt; output.into_inner().as_slice(), written);
+            assert_eq!(rt; errors.has_failed(), true);
+            let told = errors.into_inner();
+            assert_eq!(rt;
+                Some(told.octets.as_slice()),
+                text.as_bytes().get(..2 * calls)
+            );
+        }
     }
     Ok(())
 }

@@ -198,7 +198,13 @@ fn full_output(rt: HostRuntime) -> Result<(), Fail> {
         let mut errors = Vec::with_capacity(rt.alloc(), ROOM)?;
         let full = OpenOptions::new().write(true).open(&rt, FULL)?;
         let mut full = Device::new(full);
-        let answer = program(&rt, words, FLOW.as_bytes(), &mut full, &mut errors);
+        let answer = program(
+            &rt,
+            words,
+            FLOW.as_bytes(),
+            &mut full,
+            &mut Device::new(&mut errors),
+        );
         assert_eq!(rt; str::from_utf8(errors.as_slice())?, text);
         assert_eq!(rt; answer, status);
     }
