@@ -211,11 +211,12 @@ Does words None given held holds =
     ((source : PolicySource) × AsksFor words (CheckPolicy source) × CountsPolicy source held holds)
     ⊎ ((shown : Error) × AsksFor words (Show shown) × Shows (kind_of shown) held holds)
 
--- what is said of what was done: of a stream that was filtered the report, else nothing
+-- what is said of a stream that was filtered
 abbrev pub line_of_report : OfflineReport → List ℕ
 line_of_report report =
     codes "messages " ++ decimal report.messages ++ codes " records " ++ decimal report.records ++ codes " disclosed " ++ decimal report.disclosed ++ 10 ∷ []
 
+-- a stream that was filtered is reported, and of anything else nothing is said
 abbrev pub Reports : Option OfflineReport → Bool → Option (List ℕ) → Option (List ℕ) → Type 0
 Reports (Some report) has_failed held holds = Tells (Some (line_of_report report)) has_failed held holds
 Reports None has_failed held holds = Keeps held holds
