@@ -30,6 +30,8 @@ What standard error says, and what to do:
   ipmd: BadName              the subscriber's name is not 1 to 32 of a-z, 0-9, - and _,
                              beginning with a letter
   ipmd: policy line N: KIND  line N of the policy is at fault; see ipmd check-policy --help
+                             (line 1: UnknownWord also where the policy defines an aggregate,
+                             which ipmd offline can't carry out yet)
   ipmd: Cut                  the records for the subscriber have more than 65,280 layouts, so that
                              no template ID is left
   ipmd: device               a file or a stream can't be opened, read or written (a folder, a

@@ -78,7 +78,24 @@ fn refused_command_lines(rt: HostRuntime) -> Result<(), Fail> {
         "unexpected argument 'b' found",
     )?;
     expect_refused(&rt, &["offline", "--policy", "a"], "--subscriber <NAME>")?;
-    expect_refused(&rt, &["offline", "--subscriber", "acme"], one_policy)
+    expect_refused(&rt, &["offline", "--subscriber", "acme"], one_policy)?;
+    let both_policies = offline(rt.alloc(), &["--policy", "a"])?;
+    expect_refused(&rt, &both_policies, one_policy)
+}
+
+/// An option that there is not, one of the other command, and one given twice.
+#[test]
+fn wrong_options(rt: HostRuntime) -> Result<(), Fail> {
+    let misspelt = offline(rt.alloc(), &["--hexx"])?;
+    expect_refused(&rt, &misspelt, "unexpected argument '--hexx' found")?;
+    expect_refused(
+        &rt,
+        &["check-policy", "--policy", "a", "--hex"],
+        "unexpected argument '--hex' found",
+    )?;
+    let twice = offline(rt.alloc(), &["--now", "1", "--now", "2"])?;
+    let part = "'--now <SECONDS>' cannot be used multiple times";
+    expect_refused(&rt, &twice, part)
 }
 
 #[test]
@@ -140,6 +157,7 @@ fn help(rt: HostRuntime) -> Result<(), Fail> {
         (&["help"], "Usage: ipmd <COMMAND>"),
         (&["offline", "--help"], "--audit <FILE>"),
         (&["offline", "-h"], "\n  ipmd offline --policy"),
+        (&["offline", "--help"], "ipmd offline can't carry out yet"),
         (
             &["check-policy", "--help"],
             "\n  ipmd check-policy --policy-text",
