@@ -82,10 +82,21 @@ pub fn read_command_line<'a, S: AsStr>(
     match task_of(&matches) {
         Some(task) => Ok(task),
         // The parser has seen to all but the two options of which one names the policy.
-        None => Err(ProgramFault::from(command.error(
-            ErrorKind::MissingRequiredArgument,
-            "exactly one of '--policy <FILE>' and '--policy-text <TEXT>' must be given",
-        )?)),
+        None => {
+            let mut named = named_command(alloc, &matches)?;
+            Err(ProgramFault::from(named.error(
+                ErrorKind::MissingRequiredArgument,
+                "exactly one of '--policy <FILE>' and '--policy-text <TEXT>' must be given",
+            )?))
+        }
+    }
+}
+
+/// The command that was named, whose usage an error shows.
+fn named_command<'a>(alloc: Global, matches: &ArgMatches<'_>) -> Result<Command<'a>, AllocError> {
+    match matches.subcommand_name() {
+        Some(CHECK_POLICY) => check_policy_command(alloc),
+        _ => offline_command(alloc),
     }
 }
 

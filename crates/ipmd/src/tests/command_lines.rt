@@ -83,6 +83,18 @@ fn refused_command_lines(rt: HostRuntime) -> Result<(), Fail> {
     expect_refused(&rt, &both_policies, one_policy)
 }
 
+/// Where the policy is missing, the usage is that of the command that was named.
+#[test]
+fn usage_of_the_command(rt: HostRuntime) -> Result<(), Fail> {
+    let policy = "(--policy <FILE> | --policy-text <TEXT>)";
+    let check = format!(in rt.alloc(); "\nUsage: ipmd check-policy {policy}\n")?;
+    expect_refused(&rt, &["check-policy"], check.as_str())?;
+    let usage = format!(in rt.alloc();
+        "\nUsage: ipmd offline {policy} --subscriber <NAME> [OPTIONS]\n"
+    )?;
+    expect_refused(&rt, &["offline", "--subscriber", "acme"], usage.as_str())
+}
+
 /// An option that there is not, one of the other command, and one given twice.
 #[test]
 fn wrong_options(rt: HostRuntime) -> Result<(), Fail> {
