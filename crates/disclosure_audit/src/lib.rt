@@ -6,6 +6,12 @@
 //! - `audit`: [`Audit`], the queue.
 //! - `lines`: [`line`], the text of an entry.
 //! - `laws`: [`one_entry`], proved over the definitions.
+//!
+//! Proved: `room` is exact. `reserve` changes nothing but the reserved room, and takes no memory where that is enough
+//! (`there`). `push_reserved` and `extend_reserved` put entries behind those that wait, take no memory and cannot
+//! fail. `drain` hands out the oldest entries, or all (`oldest`), and leaves the others (`left`), so that what was
+//! handed out and what waits are all that was given (`stands`); where it is refused nothing changes (`err`). `line`
+//! is the exact text of an entry. Law: `one_entry` (no line is that of two entries).
 #![tactic(auto)]
 
 mod audit;

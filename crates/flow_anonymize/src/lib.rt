@@ -8,6 +8,14 @@
 //! - `values`: what is shown of their values.
 //! - `laws`: [`only_permitted_passes`], [`passed_is_sound`], [`denied_is_secret`], [`others_never_matter`]
 //!   and [`later_rules_never_matter`], proved over the definitions.
+//!
+//! Proved: `disclose` answers exactly the disclosure that the rules define: the kept fields in their order with
+//! truncated values and the scope count, the places and rules of the removed ones, or why nothing passes, a lost
+//! scope field before an empty rest, with the rule that is named for it (`exact`). For a record whose verdict isn't
+//! pass it takes no memory (`at_once`). Laws: `only_permitted_passes` (no field stands in what passes that its first
+//! rule removes, and no bit that it cuts off), `passed_is_sound`, `denied_is_secret` (two records that differ only in
+//! what is removed or cut off, with addresses inside the same prefixes, look alike in all that is disclosed),
+//! `others_never_matter`, `later_rules_never_matter`.
 #![tactic(auto)]
 
 mod disclosure;

@@ -9,6 +9,12 @@
 //! - `scan`: [`cut_at`], the two sides of an octet.
 //! - `bits`: [`keep_bits`], truncation of a value to its first bits.
 //! - `laws`: [`print_then_parse`] and [`kept_bits_are_truncated`], proved over the definitions.
+//!
+//! Proved: `Prefix::parse` is `Ok` exactly on the texts of prefixes, with their value (`found`, `only`, `exact` of
+//! its one relation, `IsReadAs`), and else names the first fault, each exactly where it stands (`bad_text`,
+//! `bad_length`, `host_bits`). `contains` compares the first bits, and is never so for a value of the other family.
+//! `keep_bits` appends the exact octets (`ok`) or nothing (`err`), and takes no memory where the room is there
+//! (`there`). `print` is the canonical text (`text`), which is read back (`reads_back`). The laws are those above.
 #![tactic(auto)]
 
 mod address;

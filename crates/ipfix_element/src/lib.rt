@@ -7,6 +7,12 @@
 //! - `length`: [`allowed_length`] and [`full_width`], by kind.
 //! - `registry`: [`kind_of`], over the registry's lines.
 //! - `name`: [`name_of`] and [`by_name`], with their laws [`one_name`] and [`one_word`].
+//!
+//! Proved: each element's kind is the registry's, and bare octets for every other element and for every enterprise's,
+//! enterprise 0 included (`kind_of`); which field lengths a kind allows (`allowed_length`); `name_of` writes the one
+//! name of an element (`name`); `by_name` finds an element exactly where the text is its name, over all texts
+//! (`found`, `only`). Laws: `one_name` (no two elements have one name), `one_word` (a name is one word of letters,
+//! digits and `/`).
 #![tactic(auto)]
 
 mod element_id;

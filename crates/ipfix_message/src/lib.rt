@@ -11,6 +11,14 @@
 //! - `framer`: `Framer`, which is fed pieces of a stream and answers the messages that became whole.
 //! - `frame_error`: `FrameError`, what is wrong with a stream, and want of memory.
 //! - `framing_laws`: `one_framing` and `any_pieces`, why the answers don't depend on the pieces.
+//!
+//! Proved: `read_header` is exact. `items` is `Ok` exactly on the messages of the grammar, with what they say
+//! (`found`, `only`), and else names the first fault in reading order (`exact`). OutOfMemory says nothing else; it is
+//! no answer to a fault of the header (`header`) or to a message without sets (`bare`). Whatever the pieces that a
+//! `Framer` is fed: the messages answered so far, its fault and the octets that it holds are those of the pieces
+//! joined, up to the first fault (`ok` and `err` of `feed`); a fault is shown at once and answered for good, no empty
+//! answer hides one (`clear`), and a piece that is refused for memory changes nothing. Laws: `grammar_is_read`,
+//! `one_message`; `one_framing`, `any_pieces`.
 #![tactic(auto)]
 
 pub mod decode_error;

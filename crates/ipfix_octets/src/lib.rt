@@ -1,9 +1,16 @@
 //! The octets of IPFIX: numbers in network byte order, and values of variable length (RFC 7011).
 //!
-//! Everything above reads and writes its octets by these four calls.
+//! The crates above read by `be_number` and `read_varlen`, and write values of variable length by `write_varlen`.
+//! Numbers of 2 and 4 octets are written, and read by the Framer, with std's `to_be_bytes` and `from_be_bytes`; all of
+//! it is proved against the same definitions, those of `sequences`.
 //!
 //! - [`number`]: `be_number`, `write_be`, and the width `WIDEST`.
 //! - [`variable`]: `read_varlen`, `write_varlen`, `LONGEST_VALUE`, and the law `one_value`.
+//!
+//! Proved: `be_number` and `write_be` are exact (`value`, `ok`). `read_varlen` answers `None` exactly where no length
+//! and value stand at the front; else it finds the one value whose text stands there, in either form of a length
+//! (`found`, `only`, `exact`, `within`). `write_varlen` writes the shortest form (`ok`). An append that is refused
+//! leaves the `Vec` as it was (`err`), and none is refused where the `Vec` has room (`full`). Law: `one_value`.
 #![tactic(auto)]
 
 pub mod number;

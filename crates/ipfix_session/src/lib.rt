@@ -10,6 +10,16 @@
 //!   message's items (`items_join`); and, in the standard's words, which template is in force
 //!   (`last_definition_is_in_force`), which Sequence Number is expected (`last_message_sets_the_number`) and
 //!   what a Data Set's content is (`records_are_read`).
+//!
+//! Proved, for every list of earlier messages that a session stands for: `Session::apply` answers exactly the
+//! records, skips and gap of the message after them, or its first fault (`meaning`), and then stands for that list
+//! with the message (`stands`). A refused message changes nothing (`err`), and a header that is refused is named by
+//! its fault alone (`header`). `template` is the template in force; a new session stands for no messages; a copy
+//! stands for the same. The records that are answered are sound, by `Record`'s type. The laws are those above.
+//!
+//! A message is read over what it decides itself and the templates before it, and what it decides is taken over only
+//! at its end, where it is accepted: so no message copies a domain's templates, and a refused one costs no more than
+//! an accepted one.
 #![tactic(auto)]
 
 mod changes;

@@ -10,6 +10,16 @@
 //! - [`data_record`]: `Values`, and `Record`, a template and values that fit it.
 //! - [`encode`]: `encode_template`, `encode_record`, and `encode_values` for values by themselves.
 //! - [`laws`]: what is written is read as what it was, and as nothing else.
+//!
+//! Proved: `Template::check` names the first reason to refuse a template, exactly; `shortest` is the shortest record.
+//! `split` answers `Record` exactly where the front of the octets splits by the fields (`found`, `only`), `Padding`
+//! exactly where fewer octets than the shortest record stand there (`padding`), and else `Overrun` (`exact`), with
+//! each value's place (`laid`); it needs no memory for `Padding` (`no_memory`). `encode_template`, `encode_record`
+//! and `encode_values` append the exact octets (`ok`) or nothing (`err`), and are not refused where the `Vec` has
+//! room (`full`). A `Record`'s type keeps that its template passes the check, that its values fit, and that each of
+//! the two fits one message; `Record::try_new` tests just that, and gives back what it refuses. Laws:
+//! `record_splits_back` (what is written for a record splits into its values and into nothing else), `one_split`,
+//! `one_template` (what is written for a template determines ID and template).
 #![tactic(auto)]
 
 pub mod data_record;

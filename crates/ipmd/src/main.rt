@@ -10,6 +10,26 @@
 //! - `hex_input`: a stream as hexadecimal text.
 //! - `output`: what is written, a text or messages as lines of hexadecimal digits.
 //! - `fault`: why a run ends without having done what was asked, with the texts and exit statuses.
+//!
+//! Proved of `program`: it is safe, and it returns. Its status is 0 only where it did what the words ask for
+//! (`done`): the whole input, as octets or as what its hexadecimal text spells, was filtered with the policy, the
+//! name, the time and the target that the words give, the output got exactly the octets that `mediator_core` says of
+//! these messages, with `--hex` a line of digits for each message that is due, and the report counts them; or the
+//! text is a policy, and its counts were written; or help or the version was written. Every other status is that of a
+//! fault with its cause (`fails`): the words ask for nothing that there is, the text has this fault, the mediator
+//! stopped so, or a device failed or memory ran out. What was written by then is said with it. The stream for errors
+//! grew by exactly the line of the report or of the fault, unless it failed itself (`Tells`); a policy's counts, the
+//! help and the version leave it alone (`Reports`).
+//!
+//! Proved of the others: what words ask for is what clap makes of them by the commands and options of
+//! `specs/CommandLine` (`asked`, `refused` of `read_command_line`); a policy given as words has a line feed for each
+//! semicolon (`text`); what a fault of the engine, of a device, of the command line or of memory becomes is exact
+//! (`from_gives` of each); octets read from hexadecimal text are what the whole text spells, white space skipped, and
+//! a text that is refused as no hexadecimal spells nothing (`ok`, `hex` of `read_hex`); what the audit's writer gets
+//! (`filter_input`, `filter_octets`).
+//!
+//! Shown by tests alone: that the audit's writer is the file of `--audit`, that all is flushed, the order of faults,
+//! and the texts that the parser makes, of the help (the output grew by some text) and of a refused command line.
 #![tactic(auto)]
 
 ghost use Rattle.std.specs.Prelude.{◌≡◌, ◌≢◌, Option, Some, map, IfErr, IfOk};

@@ -8,9 +8,13 @@
 //! - `specs/Disclosed`: what is disclosed to a subscription.
 //! - `specs/Auditing`: what the audit names.
 //! - `specs/Cuts`: whom a message cuts.
-//! - [`laws`]: the policy in force is that of the last edit that has one (`last_edit_is_in_force`), a subscription has
-//!   the name under which it began last (`last_subscription_names`), and is served where after that it neither ended nor
-//!   was cut (`served_since_subscribed`); one entry more adds what it gives after all others (`one_entry_more`).
+//! - [`laws`]: the policy in force is that of the last edit whose text is a policy, or one without rules
+//!   (`last_edit_is_in_force`); a subscription has the name under which it began last (`last_subscription_names`), and
+//!   is served exactly where it began and after that neither ended nor was cut (`served_since_subscribed`); one entry
+//!   more adds records, what is disclosed and what the audit names behind those of the entries before
+//!   (`one_entry_more`).
+//!
+//! Proved: the laws. The definitions are for several sessions and subscriptions; there is no other code.
 #![tactic(auto)]
 
 pub mod laws;

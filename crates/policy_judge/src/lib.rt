@@ -6,6 +6,11 @@
 //! - `rule_match`: whether a rule matches.
 //! - `laws`: [`others_never_matter`] and [`later_rules_never_matter`], proved over the definitions.
 //! - `occurrences`: a record's source and destination addresses.
+//!
+//! Proved: `record_verdict` and `element_verdict` answer the number and the action of the first rule of their kind
+//! that matches, or rule 0, which withholds or removes. A rule that permits needs, for each prefix that it names, an
+//! occurrence and every occurrence inside; one that denies needs some occurrence inside. Laws: `others_never_matter`
+//! (rules that name another subscriber), `later_rules_never_matter`.
 #![tactic(auto)]
 
 mod judge;

@@ -9,6 +9,15 @@
 //! - `fault`: [`PolicyFault`] and [`FaultKind`], why a text is no policy.
 //! - `laws`: [`print_then_parse`], [`one_policy`] and [`first_fault`], proved over the definitions.
 //! - `words`, `classes`, `lines`: how a line is read, word by word.
+//!
+//! Proved: `Policy::parse` is `Ok` exactly on the texts that spell a policy, with that policy (`found`, `only`), and
+//! else answers the text's first fault, its line and kind (`first`, `exact`); want of memory only where the text
+//! takes some up to there (`memory`). `is_name` is exact. A `Policy`'s type keeps that each rule and aggregate is one
+//! that a line may spell after those before it (`sound`). `print` is a text that spells the policy (`spelled`) and is
+//! read as it (`reads_back`). A fault's text is its kind's name (`text_of_kind`). Laws: `print_then_parse`,
+//! `one_policy` (no text spells two), and `first_fault`: a text spells a policy or has exactly one first fault. The
+//! lines before that one spell a policy so far; in its line the words before the faulty one begin a line that may
+//! stand there, and with the faulty one no words do.
 #![tactic(auto)]
 
 mod aggregate;

@@ -5,8 +5,11 @@
 //! - `specs/Options`, `specs/Results`: steps that may give nothing, or fail, one after another (`>>=`).
 //! - `specs/Before`: what each entry of a history gives, from the entries before it
 //!   (`each_with_before`), and the last value that something had (`last_of`).
-//! - [`laws`]: one entry more gives what it gives after all others (`one_entry_more`), and the last value is that of
-//!   the last entry that has one (`last_entry_has_the_last_value`).
+//! - [`laws`]: a list with one entry more gives what the list gives, and then what this entry gives after all of it
+//!   (`one_entry_more`); the last value is that of the last entry that has one (`last_entry_has_the_last_value`).
+//!
+//! Proved: the laws, of any lists and steps; `proofs/` has the lemmas of lists, joined texts, options and results
+//! that several crates need. There is no other code.
 #![tactic(auto)]
 
 pub mod laws;

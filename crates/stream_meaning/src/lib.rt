@@ -5,6 +5,12 @@
 //!   them: messages that calls get from a new stream, taken as all of a session, bring exactly the records
 //!   that were handed out; and what a holder of a stream keeps, so as to say so of its messages.
 //! - [`streamable`]: the laws' premise on records, of any records that a caller has.
+//!
+//! Proved: `messages_mean_the_list`, up to the place reached (`so_far`), where nothing more is to be had (`whole`)
+//! and after enough further pulls (`drained`): each record with its template and values, in order, each message with
+//! the number of records before it, nothing skipped, no gap. Beside it `pulls_see_what_was_given`,
+//! `the_first_are_handed_out`, `answers_mean_the_list`, and `holders_keep`, by which a holder of a `Stream` carries
+//! this through its calls. `see_records` tells of any slice of records that they may be streamed.
 #![tactic(auto)]
 
 pub mod laws;

@@ -7,6 +7,15 @@
 //! - [`pull_error`]: `PullError`, why no message was built.
 //! - [`laws`]: what a subscriber gets is a function of the records and the pulls (`octets_of_pulls`); which sets
 //!   a message has (`sets_are_longest`) and how many parts (`longest_run`).
+//!
+//! Proved, for every list and place that a stream stands at: `Stream::pull` answers exactly the message built there
+//! for its `now` and `target`, the longest run of announcements and records that fits or one part, and then stands
+//! after it (`ok`); it answers `None` exactly where nothing is queued (`end`), which takes no memory (`quiet`), and a
+//! refused pull changes nothing (`err`). `room` is exact (`room`, `exact`). `reserve` changes nothing but the
+//! reserved room, and takes no memory where that is enough (`enough`). `push_reserved` takes no memory, and the list
+//! is then that list followed by the records (`ok`). `queued`, `handed` and `shapes` are exact. Laws:
+//! `octets_of_pulls`, `parts_bring_the_list`, `parts_go_on`, `shapes_go_on`, `one_shape`, `sets_are_longest`,
+//! `longest_run`.
 #![tactic(auto)]
 
 mod fitting;
