@@ -14,15 +14,15 @@ use Rattle.mediator_core.specs.declared.job.OfflineReport.{OfflineReport}
 use Rattle.mediator_core.specs.declared.job.OfflineFault.{OfflineFault}
 use Rattle.mediator_core.specs.Offline.{due}
 use Rattle.mediator_core.specs.Reading.{Finishes, Halts}
-use Rattle.ipmd.specs.declared.command_line.OfflineOptions.{OfflineOptions}
-use Rattle.ipmd.specs.declared.command_line.Task.TheVariants.{Offline, CheckPolicy, Show}
-use Rattle.ipmd.specs.declared.policy_source.PolicySource.{PolicySource}
-use Rattle.ipmd.specs.declared.policy_source.PolicySource.TheVariants.{File, Text}
+use Rattle.ipmd_command_line.specs.declared.task.OfflineOptions.{OfflineOptions}
+use Rattle.ipmd_command_line.specs.declared.task.Task.TheVariants.{Offline, CheckPolicy, Show}
+use Rattle.ipmd_command_line.specs.declared.task.PolicySource.{PolicySource}
+use Rattle.ipmd_command_line.specs.declared.task.PolicySource.TheVariants.{File, Text}
 use Rattle.ipmd.specs.declared.fault.ProgramFault.{ProgramFault}
 use Rattle.ipmd.specs.declared.fault.ProgramFault.TheVariants.{CommandLine, Policy, Hex, Framing, Core, Cut, OutOfMemory, Device}
 use Rattle.ipmd.specs.HexText.{SpelledBy, SpellsNothing, lines_of, WritesLines, WritesSome, WritesSomeLines}
 use Rattle.ipmd.specs.Status.{offline_fault_of, Tells}
-use Rattle.ipmd.specs.CommandLine.{AsksFor, RefusesWords}
+use Rattle.ipmd_command_line.specs.CommandLine.{AsksFor, RefusesWords}
 
 -- ---- the policy
 
