@@ -11,7 +11,7 @@ use Rattle.std.specs.Prelude.{IfErr, IfOk, IfSome, Result, Ok, Err}
 use Rattle.mediator_core.specs.declared.job.OfflineJob.{OfflineJob}
 use Rattle.mediator_core.specs.declared.job.OfflineReport.{OfflineReport}
 use Rattle.std.specs.Borrow.{Bor}
-use Rattle.ipmd.specs.declared.command_line.OfflineOptions.{OfflineOptions}
+use Rattle.ipmd_command_line.specs.declared.task.OfflineOptions.{OfflineOptions}
 use Rattle.ipmd.specs.declared.fault.ProgramFault.{ProgramFault}
 use Rattle.ipmd.specs.HexText.{SpelledBy, lines_of, WritesLines, WritesSomeLines}
 use Rattle.ipmd.specs.Status.{offline_fault_of}

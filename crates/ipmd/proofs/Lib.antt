@@ -1,6 +1,4 @@
-mod GivenRows
 mod Inputs
 mod Lines
 mod Statuses
 mod Telling
-mod ToldWords

@@ -1,4 +1,3 @@
-pub mod CommandLine
 pub mod Status
 pub mod HexText
 pub mod Runs

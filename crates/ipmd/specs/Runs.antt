@@ -14,15 +14,17 @@ use Rattle.mediator_core.specs.declared.job.OfflineReport.{OfflineReport}
 use Rattle.mediator_core.specs.declared.job.OfflineFault.{OfflineFault}
 use Rattle.mediator_core.specs.Offline.{due}
 use Rattle.mediator_core.specs.Reading.{Finishes, Halts}
-use Rattle.ipmd.specs.declared.command_line.OfflineOptions.{OfflineOptions}
-use Rattle.ipmd.specs.declared.command_line.Task.TheVariants.{Offline, CheckPolicy, Show}
-use Rattle.ipmd.specs.declared.policy_source.PolicySource.{PolicySource}
-use Rattle.ipmd.specs.declared.policy_source.PolicySource.TheVariants.{File, Text}
+use Rattle.ipmd_command_line.specs.CommandLine.{AsksFor, RefusesWords}
+use Rattle.ipmd_command_line.specs.declared.command_line.TheConstants.{VERSION}
+use Rattle.ipmd_command_line.specs.declared.fault.CommandLineFault.{CommandLineFault}
+use Rattle.ipmd_command_line.specs.declared.task.OfflineOptions.{OfflineOptions}
+use Rattle.ipmd_command_line.specs.declared.task.Task.TheVariants.{Offline, CheckPolicy, Show}
+use Rattle.ipmd_command_line.specs.declared.task.PolicySource.{PolicySource}
+use Rattle.ipmd_command_line.specs.declared.task.PolicySource.TheVariants.{File, Text}
 use Rattle.ipmd.specs.declared.fault.ProgramFault.{ProgramFault}
 use Rattle.ipmd.specs.declared.fault.ProgramFault.TheVariants.{CommandLine, Policy, Hex, Framing, Core, Cut, OutOfMemory, Device}
 use Rattle.ipmd.specs.HexText.{SpelledBy, SpellsNothing, lines_of, WritesLines, WritesSome, WritesSomeLines}
-use Rattle.ipmd.specs.Status.{offline_fault_of, Tells}
-use Rattle.ipmd.specs.CommandLine.{AsksFor, RefusesWords}
+use Rattle.ipmd.specs.Status.{command_line_fault_of, offline_fault_of, Tells}
 
 -- ---- the policy
 
@@ -72,7 +74,7 @@ RefusesToCount source Cut held holds = ⊥
 
 -- the version's line; the help's text is the parser's, and isn't told here
 abbrev pub IsTextShown : ErrorKind → List ℕ → Type 0
-IsTextShown DisplayVersion text = text ≡ codes "ipmd 0.1.0" ++ 10 ∷ []
+IsTextShown DisplayVersion text = text ≡ codes "ipmd " ++ VERSION.now ++ 10 ∷ []
 IsTextShown _ text = Unit {0}
 
 -- the help, or the version, was written
@@ -221,10 +223,14 @@ abbrev pub Reports : Option OfflineReport → Bool → Option (List ℕ) → Opt
 Reports (Some report) has_failed held holds = Tells (Some (line_of_report report)) has_failed held holds
 Reports None has_failed held holds = Keeps held holds
 
+-- the words ask for nothing, or memory ran out
+abbrev pub RefusesCommandLine : List (List ℕ) → ProgramFault → Type 0
+RefusesCommandLine words e = (fault : CommandLineFault) × (e ≡ command_line_fault_of fault) × RefusesWords words fault
+
 -- why it isn't done, and what was written
 abbrev pub FailsFor : List (List ℕ) → ProgramFault → Option (List ℕ) → Option (List ℕ) → Option (List ℕ) → Type 0
 FailsFor words e given held holds =
-    (RefusesWords words e × Keeps held holds)
+    (RefusesCommandLine words e × Keeps held holds)
     ⊎ (((source : PolicySource) × AsksFor words (CheckPolicy source) × RefusesToCount source e held holds)
     ⊎ (((options : OfflineOptions) × AsksFor words (Offline options) × RefusesToFilter options e given held holds)
     ⊎ ((shown : Error) × AsksFor words (Show shown) × RefusesToShow (kind_of shown) e held holds)))

@@ -2,6 +2,8 @@
 use Rattle.std.specs.Prelude.{◌≡◌, ℕ, Bool, false, List, ◌++◌, codes, Option, Some, None, IfSome}
 use Rattle.std.specs.Fmt.{decimal, with_newline}
 use Rattle.std.specs.Io.KnownBytes.{Appends}
+use Rattle.ipmd_command_line.specs.declared.fault.CommandLineFault.{CommandLineFault}
+use Rattle.ipmd_command_line.specs.declared.fault.CommandLineFault.TheVariants as command
 use Rattle.policy_text.specs.FaultTexts.{text_of_kind}
 use Rattle.mediator_core.specs.FaultTexts.{text_of_fault, text_of_framing}
 use Rattle.policy_text.specs.declared.fault.FaultKind.{FaultKind}
@@ -43,6 +45,11 @@ line_of_fault e = with_newline (text_of e)
 -- this was written, unless the device failed
 abbrev pub Tells : Option (List ℕ) → Bool → Option (List ℕ) → Option (List ℕ) → Type 0
 Tells line has_failed held holds = has_failed ≡ false → IfSome line (Appends held holds)
+
+-- a command line that is refused for want of memory isn't at fault
+abbrev pub command_line_fault_of : CommandLineFault → ProgramFault
+command_line_fault_of (command.Refused why) = CommandLine why
+command_line_fault_of command.OutOfMemory = OutOfMemory
 
 -- a policy that is refused for want of memory isn't at fault
 abbrev pub policy_fault_of : PolicyFault → FaultKind → ProgramFault

@@ -6,7 +6,8 @@ ghost use Rattle.ipmd.specs.Runs.{CountsPolicy, RefusesToCount, counted};
 
 use crate::fault::ProgramFault;
 use crate::output::write_text;
-use crate::policy_source::PolicySource;
+use crate::policy_source::policy_text_of;
+use ipmd_command_line::PolicySource;
 use octet_devices::Device;
 use policy_text::Policy;
 use std::alloc::{AllocError, Global};
@@ -26,7 +27,7 @@ pub fn check_policy<R: Files + AllocGlobal, O: Write>(
     ensures ok { OnOk result (CountsPolicy source.entry (O.contents (device_inner output.old)) (O.contents (device_inner output.new))) }
     ensures err { IfErr result (λ e. RefusesToCount source.entry e (O.contents (device_inner output.old)) (O.contents (device_inner output.new))) }
 {
-    let text = source.text(rt)?;
+    let text = policy_text_of(rt, source)?;
     let policy = Policy::parse(rt.alloc(), text.as_str())?;
     let counts = count_line(rt.alloc(), &policy)?;
     write_text(output, counts.as_str())

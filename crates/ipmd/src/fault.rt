@@ -1,6 +1,7 @@
 //! Why a run ends without having done what was asked.
 ghost use Rattle.std.specs.Prelude.{◌≡◌};
 
+use ipmd_command_line::CommandLineFault;
 use mediator_core::{Fault, FramingFault, OfflineFault};
 use octet_devices::{Device, Failed, WriteStopped};
 use policy_text::{FaultKind, PolicyFault};
@@ -156,19 +157,16 @@ impl From<WriteStopped> for ProgramFault {
     }
 }
 
-impl From<clap::Error> for ProgramFault {
-    ghost use Rattle.std.specs.Prelude.{◌≡◌, ◌≢◌, ◌⊎◌};
-    ghost use Rattle.clap.specs.Values.{kind_of};
-    ghost use Rattle.clap.specs.declared.error.kind.ErrorKind.TheVariants as clap_error;
-    ghost use Rattle.ipmd.specs.declared.fault.ProgramFault.TheVariants.{CommandLine, OutOfMemory};
+impl From<CommandLineFault> for ProgramFault {
+    ghost use Rattle.std.specs.Prelude.{◌≡◌};
+    ghost use Rattle.ipmd.specs.Status.{command_line_fault_of};
 
-    ghost from_gives = { λ x e. ((kind_of x ≡ clap_error.OutOfMemory) × (e ≡ OutOfMemory))
-        ⊎ ((kind_of x ≢ clap_error.OutOfMemory) × (e ≡ CommandLine x)) };
+    ghost from_gives = { λ f e. e ≡ command_line_fault_of f };
 
-    fn from(error: clap::Error) -> ProgramFault {
-        match error.kind() {
-            clap::error::ErrorKind::OutOfMemory => ProgramFault::OutOfMemory,
-            _ => ProgramFault::CommandLine(error),
+    fn from(fault: CommandLineFault) -> ProgramFault {
+        match fault {
+            CommandLineFault::Refused(why) => ProgramFault::CommandLine(why),
+            CommandLineFault::OutOfMemory => ProgramFault::OutOfMemory,
         }
     }
 }

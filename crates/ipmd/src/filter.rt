@@ -4,10 +4,11 @@ ghost use Rattle.std.specs.Prelude.{IfErr, IfOk};
 ghost use Rattle.octet_devices.specs.Device.{device_inner};
 ghost use Rattle.ipmd.specs.Runs.{FailsLines, FailsOn, Filters, FinishesInput, FinishesLines, FinishesOn, RefusesInput, RefusesToFilter};
 
-use crate::command_line::OfflineOptions;
 use crate::fault::ProgramFault;
 use crate::hex_input::read_hex;
 use crate::output::write_lines;
+use crate::policy_source::policy_text_of;
+use ipmd_command_line::OfflineOptions;
 use mediator_core::{OfflineJob, OfflineReport, offline};
 use octet_devices::Device;
 use std::alloc::Global;
@@ -37,7 +38,7 @@ pub fn filter<R: Files + AllocGlobal, I: Read + Drop, O: Write>(
     ensures ok { IfOk result (λ report. Filters options.entry.now report (I.remaining input) (O.contents (device_inner output.old)) (O.contents (device_inner output.new))) }
     ensures err { IfErr result (λ e. RefusesToFilter options.entry.now e (I.remaining input) (O.contents (device_inner output.old)) (O.contents (device_inner output.new))) }
 {
-    let policy = options.policy.text(rt)?;
+    let policy = policy_text_of(rt, options.policy)?;
     let job = OfflineJob {
         policy: policy.as_str(),
         name: options.subscriber,

@@ -2,14 +2,15 @@
 //! subscriber by a written policy, and checks policies.
 //!
 //! - [`program`]: all that the process does, over streams and files that it is handed.
-//! - `command_line`, `help`: what may be asked for, what a command line asks for, and what the help says.
-//! - `policy_source`: where the text of a policy comes from.
+//! - `policy_source`: the text of a policy, from where it comes.
 //! - `filter`: `ipmd offline`.
 //! - `check`: `ipmd check-policy`.
 //! - `show`: the help and the version.
 //! - `hex_input`: a stream as hexadecimal text.
 //! - `output`: what is written, a text or messages as lines of hexadecimal digits.
 //! - `fault`: why a run ends without having done what was asked, with the texts and exit statuses.
+//!
+//! What may be asked for, and what words ask for, is `ipmd_command_line`'s.
 //!
 //! Proved of `program`: it is safe, and it returns. Its status is 0 only where it did what the words ask for
 //! (`done`): the whole input, as octets or as what its hexadecimal text spells, was filtered with the policy, the
@@ -21,12 +22,11 @@
 //! grew by exactly the line of the report or of the fault, unless it failed itself (`Tells`); a policy's counts, the
 //! help and the version leave it alone (`Reports`).
 //!
-//! Proved of the others: what words ask for is what clap makes of them by the commands and options of
-//! `specs/CommandLine` (`asked`, `refused` of `read_command_line`); a policy given as words has a line feed for each
-//! semicolon (`text`); what a fault of the engine, of a device, of the command line or of memory becomes is exact
-//! (`from_gives` of each); octets read from hexadecimal text are what the whole text spells, white space skipped, and
-//! a text that is refused as no hexadecimal spells nothing (`ok`, `hex` of `read_hex`); what the audit's writer gets
-//! (`filter_input`, `filter_octets`).
+//! Proved of the others: a policy given as words has a line feed for each semicolon (`text` of `policy_text_of`); what
+//! a fault of the engine, of a device, of the command line or of memory becomes is exact (`from_gives` of each);
+//! octets read from hexadecimal text are what the whole text spells, white space skipped, and a text that is refused
+//! as no hexadecimal spells nothing (`ok`, `hex` of `read_hex`); what the audit's writer gets (`filter_input`,
+//! `filter_octets`).
 //!
 //! Shown by tests alone: that the audit's writer is the file of `--audit`, that all is flushed, the order of faults,
 //! and the texts that the parser makes, of the help (the output grew by some text) and of a refused command line.
@@ -40,10 +40,8 @@ ghost use Rattle.ipmd.specs.Status.{line_of_fault, status_of, Tells};
 ghost use Rattle.ipmd.specs.declared.fault.ProgramFault.{ProgramFault};
 
 mod check;
-mod command_line;
 mod fault;
 mod filter;
-mod help;
 mod hex_input;
 mod output;
 mod policy_source;
@@ -52,10 +50,10 @@ mod show;
 mod tests;
 
 use crate::check::check_policy;
-use crate::command_line::{Task, read_command_line};
 use crate::fault::ProgramFault;
 use crate::filter::filter;
 use crate::show::show;
+use ipmd_command_line::{Task, read_command_line};
 use mediator_core::OfflineReport;
 use octet_devices::Device;
 use std::convert::AsStr;

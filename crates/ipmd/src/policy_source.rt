@@ -3,34 +3,27 @@ ghost use Rattle.ipmd.specs.Runs.{IsTextOf};
 ghost use Rattle.ipmd.specs.declared.fault.ProgramFault.TheVariants.{OutOfMemory, Device};
 
 use crate::fault::ProgramFault;
+use ipmd_command_line::PolicySource;
 use std::fs;
 use std::rt::Files;
 
-/// Where the text of a policy comes from.
-#[derive(Clone, Copy, Debug)]
-pub enum PolicySource<'a> {
-    /// The file at this path.
-    File(&'a str),
-    /// This text, in which each `;` stands for a line end.
-    Text(&'a str),
-}
-
-impl PolicySource<'_> {
-    /// The text of the policy.
-    ///
-    /// # Errors
-    /// `Device` where the file can't be opened or read, or isn't UTF-8; `OutOfMemory`.
-    pub fn text<R: Files + AllocGlobal>(&self, rt: &R) -> Result<String, ProgramFault>
-        ensures text { IfOk result (λ text. IsTextOf self.now (string_bytes text)) }
-        ensures err { IfErr result (λ e. (e ≡ OutOfMemory) ⊎ (e ≡ Device)) }
-    {
-        match *self {
-            PolicySource::File(path) => Ok(fs::read_to_string(rt, path)?),
-            PolicySource::Text(text) => Ok(
-                text.chars()
-                    .map(|c| if c == ';' { '\n' } else { c })
-                    .collect(rt.alloc())?,
-            ),
-        }
+/// The text of the policy that comes from there.
+///
+/// # Errors
+/// `Device` where the file can't be opened or read, or isn't UTF-8; `OutOfMemory`.
+pub fn policy_text_of<R: Files + AllocGlobal>(
+    rt: &R,
+    source: PolicySource<'_>,
+) -> Result<String, ProgramFault>
+    ensures text { IfOk result (λ text. IsTextOf source.entry (string_bytes text)) }
+    ensures err { IfErr result (λ e. (e ≡ OutOfMemory) ⊎ (e ≡ Device)) }
+{
+    match source {
+        PolicySource::File(path) => Ok(fs::read_to_string(rt, path)?),
+        PolicySource::Text(text) => Ok(
+            text.chars()
+                .map(|c| if c == ';' { '\n' } else { c })
+                .collect(rt.alloc())?,
+        ),
     }
 }

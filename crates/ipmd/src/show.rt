@@ -5,10 +5,10 @@ ghost use Rattle.clap.specs.Values.{kind_of};
 ghost use Rattle.octet_devices.specs.Device.{device_inner};
 ghost use Rattle.ipmd.specs.Runs.{RefusesToShow, Shows};
 
-use crate::command_line::VERSION;
 use crate::fault::ProgramFault;
 use crate::output::write_text;
 use clap::error::ErrorKind;
+use ipmd_command_line::VERSION;
 use octet_devices::Device;
 use std::alloc::Global;
 use std::io::Write;

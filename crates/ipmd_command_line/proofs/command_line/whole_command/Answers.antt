@@ -1,8 +1,8 @@
 use Rattle.std.proofs.Common.{ap, ap₂, refl, Bool, true, false, not, ◌&&◌, ◌≡◌, ◌∙◌}
 use Rattle.std.proofs.lemmas.Result.{IfOk-weaker}
 use Rattle.clap.specs.Words.{App, app_of, with_subcommand}
-use Rattle.ipmd.specs.CommandLine.{top_command}
-use Rattle.ipmd.proofs.command_line.whole_command.Goals as goal
+use Rattle.ipmd_command_line.specs.CommandLine.{top_command}
+use Rattle.ipmd_command_line.proofs.command_line.whole_command.Goals as goal
 
 first_holds : (a b : Bool) → (a && b) ≡ true → a ≡ true
 first_holds true b h = refl

@@ -1,14 +1,14 @@
-//! What may be asked for, and what a command line asks for.
+//! What words ask for.
 ghost use Rattle.std.specs.Prelude.{◌≡◌, false, map, IfErr, IfOk, IfSome, IsSome};
-ghost use Rattle.ipmd.specs.declared.command_line.OfflineOptions.{OfflineOptions};
-ghost use Rattle.ipmd.specs.declared.command_line.Task.{Task};
-ghost use Rattle.ipmd.specs.declared.policy_source.PolicySource.{PolicySource};
+ghost use Rattle.ipmd_command_line.specs.declared.task.OfflineOptions.{OfflineOptions};
+ghost use Rattle.ipmd_command_line.specs.declared.task.Task.{Task};
+ghost use Rattle.ipmd_command_line.specs.declared.task.PolicySource.{PolicySource};
 ghost use Rattle.clap.specs.Words.{app_of, found_of, rows_of, rule_of, subcommand_rows_of};
-ghost use Rattle.ipmd.specs.CommandLine.{AreOptions, AsksFor, IsCommandIn, IsSource, RefusesWords, check_policy_command, ipmd_command, offline_command, valued, with_policy};
+ghost use Rattle.ipmd_command_line.specs.CommandLine.{AreOptions, AsksFor, IsCommandIn, IsSource, RefusesWords, check_policy_command, ipmd_command, offline_command, valued, with_policy};
 
-use crate::fault::ProgramFault;
+use crate::fault::CommandLineFault;
 use crate::help;
-use crate::policy_source::PolicySource;
+use crate::task::{OfflineOptions, PolicySource, Task};
 use clap::error::ErrorKind;
 use clap::{Arg, ArgAction, ArgMatches, Command, value_parser};
 use std::alloc::{AllocError, Global};
@@ -35,48 +35,21 @@ const AUDIT: &str = "audit";
 
 const HEX: &str = "hex";
 
-/// What `ipmd offline` is to do.
-#[derive(Clone, Copy, Debug)]
-pub struct OfflineOptions<'a> {
-    pub policy: PolicySource<'a>,
-    /// The name of the subscriber.
-    pub subscriber: &'a str,
-    /// The Export Time of each written message, in seconds since 1970 (RFC 7011, section 3.1).
-    pub now: u32,
-    /// How long a written message may be, in octets.
-    pub target: u16,
-    /// The file that gets the audit lines; where there is none, they are dropped.
-    pub audit: Option<&'a str>,
-    /// Whether input and output are hexadecimal text.
-    pub hex: bool,
-}
-
-/// What a command line asks for.
-#[derive(Debug, Drop)]
-pub enum Task<'a> {
-    /// To filter the input for one subscriber.
-    Offline(OfflineOptions<'a>),
-    /// To say whether a text is a policy.
-    CheckPolicy(PolicySource<'a>),
-    /// To show the help or the version.
-    Show(clap::Error),
-}
-
 /// What the words after the program's name ask for.
 ///
 /// # Errors
-/// `CommandLine` where they ask for nothing that there is, `OutOfMemory`.
+/// `Refused` where they ask for nothing that there is, `OutOfMemory`.
 pub fn read_command_line<'a, S: AsStr>(
     alloc: Global,
     words: &'a [S],
-) -> Result<Task<'a>, ProgramFault>
+) -> Result<Task<'a>, CommandLineFault>
     ensures asked { IfOk result (AsksFor (map S.text words.entry.now)) }
     ensures refused { IfErr result (RefusesWords (map S.text words.entry.now)) }
 {
     let mut command = whole_command(alloc)?;
     let matches = match command.try_get_matches_from_mut(words) {
         Ok(matches) => matches,
-        Err(error) if error.use_stderr() => return Err(ProgramFault::from(error)),
+        Err(error) if error.use_stderr() => return Err(CommandLineFault::from(error)),
         Err(error) => return Ok(Task::Show(error)),
     };
     match task_of(&matches) {
@@ -84,7 +57,7 @@ pub fn read_command_line<'a, S: AsStr>(
         // The parser has seen to all but the two options of which one names the policy.
         None => {
             let mut named = named_command(alloc, &matches)?;
-            Err(ProgramFault::from(named.error(
+            Err(CommandLineFault::from(named.error(
                 ErrorKind::MissingRequiredArgument,
                 "exactly one of '--policy <FILE>' and '--policy-text <TEXT>' must be given",
             )?))
@@ -135,7 +108,8 @@ fn policy_source<'a>(chosen: &ArgMatches<'a>) -> Option<PolicySource<'a>>
     match (chosen.get_str(POLICY), chosen.get_str(POLICY_TEXT)) {
         (Some(path), None) => Some(PolicySource::File(path)),
         (None, Some(text)) => Some(PolicySource::Text(text)),
-        _ => None,
+        (Some(_), Some(_)) => None,
+        (None, None) => None,
     }
 }
 

@@ -4,9 +4,9 @@ use Rattle.std.specs.Borrow.{Bor}
 use Rattle.clap.specs.Words.{ReadsOne, Row, Text, first_of, first_value, found_of, one_of, one_text, rows_of}
 use Rattle.clap.specs.declared.parser.matches.ArgMatches.{ArgMatches}
 use Rattle.std.specs.Str.Parse.{ParsesUnsigned}
-use Rattle.ipmd.specs.CommandLine.{IsNumber, IsSource}
-use Rattle.ipmd.specs.declared.policy_source.PolicySource.{PolicySource}
-use Rattle.ipmd.specs.declared.policy_source.PolicySource.TheVariants.{File, Text as PolicyText}
+use Rattle.ipmd_command_line.specs.CommandLine.{IsNumber, IsSource}
+use Rattle.ipmd_command_line.specs.declared.task.PolicySource.{PolicySource}
+use Rattle.ipmd_command_line.specs.declared.task.PolicySource.TheVariants.{File, Text as PolicyText}
 use Rattle.clap.proofs.WalkLemmas.{first_value-rows, one_text-rows}
 
 -- a value that was given, or the want of one

@@ -2,7 +2,7 @@ use Rattle.std.proofs.Common.{rules, tests, Ok}
 use Rattle.std.proofs.lemmas.Iterator.{YieldsList-from_chars, YieldsList-from_map, text_from_collect}
 use Rattle.std.specs.declared.alloc.AllocError.{AllocError}
 use Rattle.ipmd.specs.Runs.{as_line_end}
-use Rattle.ipmd.proofs.policy_source.PolicySource.text.Goals as goal
+use Rattle.ipmd.proofs.policy_source.policy_text_of.Goals as goal
 
 pub returns-in_ok-collect-in-Text-clause-text : goal.returns-in_ok-collect-in-Text-clause-text
 returns-in_ok-collect-in-Text-clause-text g c =

@@ -1,8 +1,8 @@
 use Rattle.std.proofs.Common.{rules, ap, ap₂, codes, ◌≡◌, ◌∙◌}
 use Rattle.std.proofs.lemmas.Result.{IfOk-weaker}
 use Rattle.clap.specs.Words.{app_of, rule_of, with_rule}
-use Rattle.ipmd.specs.CommandLine.{valued}
-use Rattle.ipmd.proofs.command_line.with_policy.Goals as goal
+use Rattle.ipmd_command_line.specs.CommandLine.{valued}
+use Rattle.ipmd_command_line.proofs.command_line.with_policy.Goals as goal
 
 pub returns : goal.returns
 returns c =

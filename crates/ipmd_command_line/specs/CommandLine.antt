@@ -7,13 +7,13 @@ use Rattle.clap.specs.declared.builder.action.ArgAction.TheVariants.{SetTrue}
 use Rattle.clap.specs.declared.builder.value_parser.ValueParser.TheVariants.{Signed}
 use Rattle.clap.specs.declared.error.kind.ErrorKind.{ErrorKind}
 use Rattle.clap.specs.declared.error.kind.ErrorKind.TheVariants.{DisplayHelp, DisplayVersion}
-use Rattle.ipmd.specs.declared.command_line.OfflineOptions.{OfflineOptions}
-use Rattle.ipmd.specs.declared.command_line.Task.{Task}
-use Rattle.ipmd.specs.declared.command_line.Task.TheVariants.{Offline, CheckPolicy, Show}
-use Rattle.ipmd.specs.declared.fault.ProgramFault.{ProgramFault}
-use Rattle.ipmd.specs.declared.fault.ProgramFault.TheVariants.{CommandLine, Policy, Hex, Framing, Core, Cut, OutOfMemory, Device}
-use Rattle.ipmd.specs.declared.policy_source.PolicySource.{PolicySource}
-use Rattle.ipmd.specs.declared.policy_source.PolicySource.TheVariants.{File, Text as PolicyText}
+use Rattle.ipmd_command_line.specs.declared.task.OfflineOptions.{OfflineOptions}
+use Rattle.ipmd_command_line.specs.declared.task.Task.{Task}
+use Rattle.ipmd_command_line.specs.declared.task.Task.TheVariants.{Offline, CheckPolicy, Show}
+use Rattle.ipmd_command_line.specs.declared.fault.CommandLineFault.{CommandLineFault}
+use Rattle.ipmd_command_line.specs.declared.fault.CommandLineFault.TheVariants.{Refused, OutOfMemory}
+use Rattle.ipmd_command_line.specs.declared.task.PolicySource.{PolicySource}
+use Rattle.ipmd_command_line.specs.declared.task.PolicySource.TheVariants.{File, Text as PolicyText}
 
 -- ---- the commands
 
@@ -103,13 +103,7 @@ AsksFor words (Offline options) = IsCommandIn (Offline options) (subcommand_of i
 AsksFor words (CheckPolicy source) = IsCommandIn (CheckPolicy source) (subcommand_of ipmd_command words)
 
 -- the words ask for nothing: the parser says so, or no command is what they name with its options
-abbrev pub RefusesWords : List Text → ProgramFault → Type 0
-RefusesWords words (CommandLine error) =
+abbrev pub RefusesWords : List Text → CommandLineFault → Type 0
+RefusesWords words (Refused error) =
     (IsAmong (kind_of error) (fault_of ipmd_command words) ⊎ ((task : Task) → IsCommandIn task (subcommand_of ipmd_command words) → ⊥)) × (is_shown (kind_of error) ≡ false)
 RefusesWords words OutOfMemory = Unit {0}
-RefusesWords words (Policy why) = ⊥
-RefusesWords words Hex = ⊥
-RefusesWords words (Framing why) = ⊥
-RefusesWords words (Core why) = ⊥
-RefusesWords words Cut = ⊥
-RefusesWords words Device = ⊥

@@ -1,9 +1,9 @@
 use Rattle.std.proofs.Common.{ap, sym, subst, inl, inr, map, ◌≡◌, ◌∙◌}
 use Rattle.clap.specs.Words.{app_of, kind_of}
 use Rattle.clap.specs.declared.error.kind.ErrorKind.TheVariants.{OutOfMemory, MissingRequiredArgument}
-use Rattle.ipmd.specs.CommandLine.{IsCommandIn, RefusesWords, is_shown}
-use Rattle.ipmd.proofs.ToldWords.{is_shown_told, not_shown_told, refusal_told, shown_remembers, subcommand_told}
-use Rattle.ipmd.proofs.command_line.read_command_line.Goals as goal
+use Rattle.ipmd_command_line.specs.CommandLine.{IsCommandIn, RefusesWords, is_shown}
+use Rattle.ipmd_command_line.proofs.ToldWords.{is_shown_told, not_shown_told, refusal_told, shown_remembers, subcommand_told}
+use Rattle.ipmd_command_line.proofs.command_line.read_command_line.Goals as goal
 
 pub returns-in-Err-clause-refused : goal.returns-in-Err-clause-refused
 returns-in-Err-clause-refused g c = elim c.from.ensures [

@@ -4,8 +4,8 @@ use Rattle.clap.specs.Words.{Rule, app_of, new_app, rule_of, with_rule}
 use Rattle.clap.specs.declared.builder.action.ArgAction.TheVariants.{SetTrue}
 use Rattle.clap.specs.declared.builder.arg.Arg.{Arg}
 use Rattle.clap.specs.declared.builder.value_parser.ValueParser.{ValueParser}
-use Rattle.ipmd.specs.CommandLine.{flag, needed, number, valued, with_policy}
-use Rattle.ipmd.proofs.command_line.offline_command.Goals as goal
+use Rattle.ipmd_command_line.specs.CommandLine.{flag, needed, number, valued, with_policy}
+use Rattle.ipmd_command_line.proofs.command_line.offline_command.Goals as goal
 
 abbrev is_global : Arg → Bool
 is_global a = a.global

@@ -1,7 +1,7 @@
 use Rattle.std.proofs.Common.{rules, codes, Some, ◌∙◌, refl}
 use Rattle.std.specs.Str.Parse.{ParsesUnsigned, ExplainsUnsignedError, HasUnsignedDigitsIfOk}
-use Rattle.ipmd.proofs.GivenRows.{given_row, given_value, number_read, number_row, one_row}
-use Rattle.ipmd.proofs.command_line.offline_options.Goals as goal
+use Rattle.ipmd_command_line.proofs.GivenRows.{given_row, given_value, number_read, number_row, one_row}
+use Rattle.ipmd_command_line.proofs.command_line.offline_options.Goals as goal
 
 pub returns : goal.returns
 returns c = record {

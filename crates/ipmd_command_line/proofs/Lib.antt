@@ -1,0 +1,2 @@
+mod GivenRows
+mod ToldWords

@@ -1,0 +1,24 @@
+//! The command line of `ipmd`: what may be asked for, and what words ask for. It does nothing of it, and knows
+//! neither messages nor policies.
+//!
+//! - `task`: [`Task`], what is asked for, with [`OfflineOptions`] and [`PolicySource`].
+//! - `command_line`: [`read_command_line`] and [`VERSION`].
+//! - `help`: what the help says below the options.
+//! - `fault`: [`CommandLineFault`].
+//!
+//! Proved: what words ask for is what clap makes of them by the commands and options of `specs/CommandLine`, and each
+//! option of the answer is the one that the words give, or its default (`asked` of `read_command_line`). Words are
+//! refused only where clap refuses them by these commands, where not exactly one option names the policy, or for want
+//! of memory (`refused`). What a fault of the parser or of memory becomes is exact (`from_gives` of each).
+//!
+//! Shown by the tests of `ipmd` alone: the texts that the parser makes, of the help and of a refused command line.
+#![tactic(auto)]
+
+mod command_line;
+mod fault;
+mod help;
+mod task;
+
+pub use command_line::{VERSION, read_command_line};
+pub use fault::CommandLineFault;
+pub use task::{OfflineOptions, PolicySource, Task};
