@@ -29,6 +29,8 @@ mod speed;
 mod table;
 #[cfg(test)]
 mod tests;
+#[cfg(test)]
+mod tests_steps;
 mod walk;
 
 pub use laws::{
