@@ -1,5 +1,7 @@
+pub mod PlaceSteps
 pub mod ShelfSteps
 pub mod TableSteps
+pub mod DomainSteps
 pub mod Soundness
 pub mod ItemsStand
 pub mod SetSteps

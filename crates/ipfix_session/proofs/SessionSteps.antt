@@ -1,8 +1,8 @@
 -- How a session reads its next message.
-use Rattle.std.proofs.Common.{◌≡◌, ℕ, Bool, true, false, cond, eqb, ltb, List, [], ◌∷◌, ◌++◌, length, reverse, Option, Result, Ok, Err, refl, sym, ap, ◌∙◌}
-use Rattle.std.specs.Prelude.{filter}
+use Rattle.std.proofs.Common.{◌≡◌, ℕ, Bool, true, false, cond, eqb, ltb, List, [], ◌∷◌, ◌++◌, length, reverse, Option, Result, Ok, Err, refl, sym, ap, ◌∙◌, subst}
+use Rattle.std.specs.Prelude.{filter, IfOk}
 use Rattle.std.specs.List.{flat_map}
-use Rattle.std.proofs.lemmas.Bool.{eqb-true}
+use Rattle.std.proofs.lemmas.Bool.{eqb-true, eq-eqb}
 use Rattle.sequences.specs.Octets.{number_at}
 use Rattle.ipfix_template.specs.declared.template.Template.{Template}
 use Rattle.ipfix_template.specs.DataRecord.{DataRecord}
@@ -12,20 +12,25 @@ use Rattle.ipfix_message.specs.declared.decode_error.DecodeError.TheVariants as 
 use Rattle.ipfix_message.specs.declared.item.Item.{Item}
 use Rattle.ipfix_message.specs.Reading as reading
 use Rattle.ipfix_message.specs.Reading.{header_of, read_header, after_header, items_of}
+use Rattle.sequences.specs.Results.{◌>>=◌}
 use Rattle.sequences.proofs.ResultLaws.{same_Ok}
 use Rattle.ipfix_message.proofs.ReadingSteps.{read_head}
 use Rattle.ipfix_session.specs.declared.read.Skips.{Skips}
 use Rattle.ipfix_session.specs.declared.read.Gap.{Gap}
 use Rattle.ipfix_session.specs.declared.read_error.ReadError.{ReadError}
 use Rattle.ipfix_session.specs.declared.read_error.ReadError.TheVariants.{Malformed, RecordOverrun, OutOfMemory}
-use Rattle.ipfix_session.specs.declared.domain.Domain.{Domain}
 use Rattle.ipfix_session.specs.InForce.{template_in_force}
 use Rattle.ipfix_session.specs.Contents.{Contents, contents_after}
 use Rattle.ipfix_session.specs.Meaning.{domain_of, items_or_none, items_of_domain, read_items, contents_of, number_after, next_number, expected_number, gap_between, Meaning, gap_of, meaning_of}
 use Rattle.ipfix_session.specs.Keeping.{at_key, Keeps, AreInForce}
-use Rattle.ipfix_session.specs.Standing.{kept_of, StandsFor}
-use Rattle.ipfix_session.specs.Answers.{Fails, read_fault}
-use Rattle.ipfix_session.specs.Settling.{Settles}
+use Rattle.ipfix_session.specs.Standing.{Held, Kept, Stands, kept_of}
+use Rattle.ipfix_session.specs.Change.{changed}
+use Rattle.ipfix_session.specs.ReadAhead.{Ahead, IsReadingOf}
+use Rattle.ipfix_session.specs.declared.domains.Domains.{Domains}
+use Rattle.ipfix_session.specs.Domains.{standing_of, session_of, held_in, Settles}
+use Rattle.ipfix_session.proofs.DomainSteps.{kept-held}
+use Rattle.ipfix_session.specs.Answers.{Fails, Gives, read_fault}
+use Rattle.ipfix_session.specs.Settling.{contents_read, afterwards}
 
 -- ---- octets that are no message
 
@@ -74,16 +79,20 @@ header_is message h e = header_by (ltb (length message) 16) (eqb (number_at 0 2 
 -- ---- a message
 
 -- what was read of a message, over what is kept of its domain
-pub record Found (held : List (ℕ × Domain)) (older : List (List ℕ)) (message : List ℕ) (h : Header) (said : List Item) : Type 0 where
+pub record Found (held : List (ℕ × Held)) (older : List (List ℕ)) (message : List ℕ) (h : Header) (said : List Item) : Type 0 where
   pub header : h ≡ header_of message
   pub items : items_of message ≡ Ok said
-  pub stands : StandsFor held older
+  pub stands : Stands held older
+
+-- the same, where the octets were lent as a slice
+pub found_in : (held : List (ℕ × Held)) (older : List (List ℕ)) (octets message : List ℕ) (h : Header) (said : List Item) → octets ≡ message → Ok h ≡ read_header octets → items_of octets ≡ Ok said → Stands held older → Found held older message h said
+found_in held older octets message h said same header items stands = subst (λ (m : List ℕ). Found held older m h said) same (record { header = header_is octets h header; items = items; stands = stands })
 
 -- the items before a message of its domain
 abbrev before : List (List ℕ) → List ℕ → List Item
 before older message = items_of_domain (domain_of message) older
 
-keeps_before : (held : List (ℕ × Domain)) (older : List (List ℕ)) (message : List ℕ) (h : Header) (said : List Item) → Found held older message h said → Keeps (kept_of h.domain held).templates (before older message)
+keeps_before : (held : List (ℕ × Held)) (older : List (List ℕ)) (message : List ℕ) (h : Header) (said : List Item) → Found held older message h said → Keeps (kept_of h.domain held).templates (before older message)
 keeps_before held older message h said found id = found.stands.templates h.domain id ∙ ap (λ (g : Header). template_in_force id (items_of_domain g.domain older)) found.header
 
 contents_are : (older : List (List ℕ)) (message : List ℕ) (said : List Item) → items_of message ≡ Ok said → contents_of older message ≡ contents_after (before older message) message said
@@ -94,7 +103,7 @@ means_overrun : (older : List (List ℕ)) (message : List ℕ) (said : List Item
 unfolding meaning_of
 means_overrun older message said e is fails = rw (contents_are older message said is, fails) refl
 
-pub found_fault : (held : List (ℕ × Domain)) (older : List (List ℕ)) (message : List ℕ) (h : Header) (said : List Item) (e : ReadError) → Found held older message h said → ((done : List Item) → Keeps (kept_of h.domain held).templates done → Fails e (contents_after done message said)) → Fails e (meaning_of older message)
+pub found_fault : (held : List (ℕ × Held)) (older : List (List ℕ)) (message : List ℕ) (h : Header) (said : List Item) (e : ReadError) → Found held older message h said → ((done : List Item) → Keeps (kept_of h.domain held).templates done → Fails e (contents_after done message said)) → Fails e (meaning_of older message)
 found_fault held older message h said OutOfMemory found fails = tt
 found_fault held older message h said RecordOverrun found fails = means_overrun older message said RecordOverrun found.items (fails (before older message) (keeps_before held older message h said found))
 found_fault held older message h said (Malformed d) found fails = means_overrun older message said (Malformed d) found.items (fails (before older message) (keeps_before held older message h said found))
@@ -106,14 +115,14 @@ abbrev pub means : Meaning → Result Meaning ReadError
 means m = Ok m
 
 -- the contents of the message
-contents_found : (held : List (ℕ × Domain)) (older : List (List ℕ)) (message : List ℕ) (h : Header) (said : List Item) (c : Contents) → Found held older message h said → ((done : List Item) → Keeps (kept_of h.domain held).templates done → contents_after done message said ≡ Ok c) → contents_of older message ≡ Ok c
+contents_found : (held : List (ℕ × Held)) (older : List (List ℕ)) (message : List ℕ) (h : Header) (said : List Item) (c : Contents) → Found held older message h said → ((done : List Item) → Keeps (kept_of h.domain held).templates done → contents_after done message said ≡ Ok c) → contents_of older message ≡ Ok c
 contents_found held older message h said c found reads = contents_are older message said found.items ∙ reads (before older message) (keeps_before held older message h said found)
 
 means_contents : (older : List (List ℕ)) (message : List ℕ) (c : Contents) → contents_of older message ≡ Ok c → meaning_of older message ≡ Ok (meaning (header_of message) c.records c.skips (gap_of older message))
 unfolding meaning_of
 means_contents older message c is = rw is refl
 
-pub found_meaning : (held : List (ℕ × Domain)) (older : List (List ℕ)) (message : List ℕ) (h g : Header) (said : List Item) (c : Contents) (gap : Option Gap) → Found held older message h said → ((done : List Item) → Keeps (kept_of h.domain held).templates done → contents_after done message said ≡ Ok c) → g ≡ h → gap ≡ gap_between (kept_of h.domain held).expected h.sequence → meaning_of older message ≡ Ok (meaning g c.records c.skips gap)
+pub found_meaning : (held : List (ℕ × Held)) (older : List (List ℕ)) (message : List ℕ) (h g : Header) (said : List Item) (c : Contents) (gap : Option Gap) → Found held older message h said → ((done : List Item) → Keeps (kept_of h.domain held).templates done → contents_after done message said ≡ Ok c) → g ≡ h → gap ≡ gap_between (kept_of h.domain held).expected h.sequence → meaning_of older message ≡ Ok (meaning g c.records c.skips gap)
 found_meaning held older message h g said c gap found reads same gap_is =
     let number : (kept_of h.domain held).expected ≡ expected_number (domain_of message) older = found.stands.expected h.domain ∙ ap (λ (x : Header). expected_number x.domain older) found.header in
     let gap_means : gap ≡ gap_of older message = gap_is ∙ ap (λ (o : Option ℕ). gap_between o h.sequence) number ∙ ap (λ (x : Header). gap_between (expected_number (domain_of message) older) x.sequence) found.header in
@@ -140,31 +149,98 @@ items_then q message older = by_domain (eqb q (domain_of message)) where
   by_domain true = refl
   by_domain false = refl
 
-templates_by : (b : Bool) (id q d : ℕ) (here there : Option Template) (said : List Item) (older : List (List ℕ)) → (b ≡ true → q ≡ d) → here ≡ template_in_force id (reverse said ++ items_of_domain d older) → there ≡ template_in_force id (items_of_domain q older)
-    → cond b here there ≡ template_in_force id (cond b (reverse said) [] ++ items_of_domain q older)
-templates_by true id q d here there said older same h t = h ∙ ap (λ (n : ℕ). template_in_force id (reverse said ++ items_of_domain n older)) (sym (same refl))
-templates_by false id q d here there said older same h t = t
-
-both_by : (b : Bool) (here here' there there' : Option ℕ) → here ≡ here' → there ≡ there' → cond b here there ≡ cond b here' there'
-both_by b here here' there there' h t = λ i. cond b (h i) (t i)
-
-pub found_stands : (held new : List (ℕ × Domain)) (older : List (List ℕ)) (message : List ℕ) (h : Header) (said : List Item) (c : Contents) (found_then : ℕ → Option Template) (next : Option ℕ) → Found held older message h said
-    → ((done : List Item) → Keeps (kept_of h.domain held).templates done → contents_after done message said ≡ Ok c)
-    → ((done : List Item) → Keeps (kept_of h.domain held).templates done → AreInForce found_then (reverse said ++ done))
-    → next ≡ number_after h c → Settles held new h.domain found_then next → StandsFor new (message ∷ older)
-found_stands held new older message h said c found_then next found reads keeps next_is settles =
+-- the items of the message's own domain, and those of another
+own_items : (message : List ℕ) (older : List (List ℕ)) → items_of_domain (domain_of message) (message ∷ older) ≡ reverse (items_or_none (items_of message)) ++ items_of_domain (domain_of message) older
+own_items message older =
     let d = domain_of message in
-    let own : h.domain ≡ d = ap (λ (x : Header). x.domain) found.header in
-    let number : next ≡ next_number (header_of message) (contents_of older message) = next_is ∙ ap (λ (x : Header). number_after x c) found.header ∙ ap (next_number (header_of message)) (sym (contents_found held older message h said c found reads)) in
+    items_then d message older ∙ ap (λ (b : Bool). cond b (reverse (items_or_none (items_of message))) [] ++ items_of_domain d older) (eq-eqb d d refl)
+
+other_items : (q : ℕ) (message : List ℕ) (older : List (List ℕ)) → eqb q (domain_of message) ≡ false → items_of_domain q (message ∷ older) ≡ items_of_domain q older
+other_items q message older other = items_then q message older ∙ ap (λ (b : Bool). cond b (reverse (items_or_none (items_of message))) [] ++ items_of_domain q older) other
+
+own_number : (message : List ℕ) (older : List (List ℕ)) → expected_number (domain_of message) (message ∷ older) ≡ next_number (header_of message) (contents_of older message)
+own_number message older =
+    let d = domain_of message in
+    expected_then d message older ∙ ap (λ (b : Bool). cond b (next_number (header_of message) (contents_of older message)) (expected_number d older)) (eq-eqb d d refl)
+
+other_number : (q : ℕ) (message : List ℕ) (older : List (List ℕ)) → eqb q (domain_of message) ≡ false → expected_number q (message ∷ older) ≡ expected_number q older
+other_number q message older other = expected_then q message older ∙ ap (λ (b : Bool). cond b (next_number (header_of message) (contents_of older message)) (expected_number q older)) other
+
+-- ---- what was read, after those messages
+
+pub found_reading : (held : List (ℕ × Held)) (older : List (List ℕ)) (message : List ℕ) (h : Header) (said : List Item) (r : Ahead) → Found held older message h said
+    → ((done : List Item) → Keeps (kept_of h.domain held).templates done → contents_after done message said ≡ Ok (contents_read r))
+    → ((done : List Item) → Keeps (kept_of h.domain held).templates done → AreInForce (afterwards r (kept_of h.domain held).templates) (reverse said ++ done))
+    → r.meaning.header ≡ h → r.meaning.gap ≡ gap_between (kept_of h.domain held).expected h.sequence → r.next ≡ number_after h (contents_read r) → IsReadingOf older message r
+found_reading held older message h said r found reads keeps same gap_is next_is =
+    let kept = keeps_before held older message h said found in
     let items : items_or_none (items_of message) ≡ said = ap items_or_none found.items in
     record {
-      templates = λ q id. settles.templates q id
-          ∙ ap (λ (n : ℕ). cond (eqb q n) (found_then id) (at_key id (kept_of q held).templates)) own
-          ∙ templates_by (eqb q d) id q d (found_then id) (at_key id (kept_of q held).templates) said older (eqb-true q d) (keeps (before older message) (keeps_before held older message h said found) id) (found.stands.templates q id)
-          ∙ ap (λ (xs : List Item). template_in_force id (cond (eqb q d) (reverse xs) [] ++ items_of_domain q older)) (sym items)
-          ∙ ap (template_in_force id) (sym (items_then q message older));
-      expected = λ q. settles.expected q
-          ∙ ap (λ (n : ℕ). cond (eqb q n) next (kept_of q held).expected) own
-          ∙ both_by (eqb q d) next (next_number (header_of message) (contents_of older message)) (kept_of q held).expected (expected_number q older) number (found.stands.expected q)
-          ∙ sym (expected_then q message older);
+      means = found_meaning held older message h r.meaning.header said (contents_read r) r.meaning.gap found reads same gap_is;
+      templates = λ id. ap (changed r.change id) (sym (kept id))
+          ∙ keeps (before older message) kept id
+          ∙ ap (λ (xs : List Item). template_in_force id (reverse xs ++ before older message)) (sym items)
+          ∙ ap (template_in_force id) (sym (own_items message older));
+      next = next_is
+          ∙ ap (λ (x : Header). number_after x (contents_read r)) found.header
+          ∙ ap (next_number (header_of message)) (sym (contents_found held older message h said (contents_read r) found reads))
+          ∙ sym (own_number message older);
     }
+
+-- the answer is the meaning, or the first fault
+pub read_means : (held : List (ℕ × Held)) (older : List (List ℕ)) (message : List ℕ) (h : Header) (said : List Item) (r : Result Ahead ReadError) → Found held older message h said
+    → ((done : List Item) → Keeps (kept_of h.domain held).templates done → Gives contents_read r (contents_after done message said))
+    → IfOk r (λ x. x.meaning.header ≡ h) → IfOk r (λ x. x.meaning.gap ≡ gap_between (kept_of h.domain held).expected h.sequence) → Gives (λ x. x.meaning) r (meaning_of older message)
+read_means held older message h said (Ok x) found reads same gap_is = found_meaning held older message h x.meaning.header said (contents_read x) x.meaning.gap found reads same gap_is
+read_means held older message h said (Err e) found reads same gap_is = found_fault held older message h said e found reads
+
+pub read_follows : (held : List (ℕ × Held)) (older : List (List ℕ)) (message : List ℕ) (h : Header) (said : List Item) (r : Result Ahead ReadError) → Found held older message h said
+    → ((done : List Item) → Keeps (kept_of h.domain held).templates done → Gives contents_read r (contents_after done message said))
+    → ((done : List Item) → Keeps (kept_of h.domain held).templates done → IfOk r (λ x. AreInForce (afterwards x (kept_of h.domain held).templates) (reverse said ++ done)))
+    → IfOk r (λ x. x.meaning.header ≡ h) → IfOk r (λ x. x.meaning.gap ≡ gap_between (kept_of h.domain held).expected h.sequence) → IfOk r (λ x. x.next ≡ number_after h (contents_read x)) → IfOk r (IsReadingOf older message)
+read_follows held older message h said (Ok x) found reads keeps same gap_is next_is = found_reading held older message h said x found reads keeps same gap_is next_is
+read_follows held older message h said (Err e) found reads keeps same gap_is next_is = tt
+
+-- ---- what the session stands for, once it is kept
+
+-- the header of what is meant is that of the message
+pub header_meant : (older : List (List ℕ)) (message : List ℕ) (m : Meaning) → meaning_of older message ≡ Ok m → m.header ≡ header_of message
+unfolding meaning_of
+header_meant older message m is = by_contents (contents_of older message) is where
+  by_contents : (c : Result Contents ReadError) → (c >>= λ c. means (meaning (header_of message) c.records c.skips (gap_of older message))) ≡ Ok m → m.header ≡ header_of message
+  by_contents (Ok c) e = ap (λ (x : Meaning). x.header) (sym (same_Ok (meaning (header_of message) c.records c.skips (gap_of older message)) m e))
+  by_contents (Err w) e = absurd cc
+
+settled_by : {Y : Type 0} (b : Bool) (q d : ℕ) (here there : Y) (target : ℕ → Y) → (b ≡ true → q ≡ d) → here ≡ target d → (b ≡ false → there ≡ target q) → cond b here there ≡ target q
+settled_by true q d here there target same h t = h ∙ ap target (sym (same refl))
+settled_by false q d here there target same h t = t refl
+
+pub kept_stands : (old new : Domains) (older : List (List ℕ)) (message : List ℕ) (r : Ahead) → Settles old new r.meaning.header.domain (afterwards r (held_in old r.meaning.header.domain).templates) r.next
+    → Stands (standing_of old) older → IsReadingOf older message r → Stands (standing_of new) (message ∷ older)
+kept_stands old new older message r settles stands reading =
+    let d = r.meaning.header.domain in
+    let own : d ≡ domain_of message = ap (λ (h : Header). h.domain) (header_meant older message r.meaning reading.means) in
+    let before_it : (q id : ℕ) → at_key id (held_in old q).templates ≡ template_in_force id (items_of_domain q older) = λ q id. ap (λ (k : Held). at_key id k.templates) (sym (kept-held old q)) ∙ stands.templates q id in
+    record {
+      templates = λ q id. ap (λ (k : Held). at_key id k.templates) (kept-held new q)
+          ∙ settles.templates q id
+          ∙ settled_by (eqb q d) q d (changed r.change id (at_key id (held_in old d).templates)) (at_key id (held_in old q).templates) (λ (n : ℕ). template_in_force id (items_of_domain n (message ∷ older))) (eqb-true q d)
+          (ap (changed r.change id) (before_it d id)
+          ∙ ap (λ (n : ℕ). changed r.change id (template_in_force id (items_of_domain n older))) own
+          ∙ reading.templates id
+          ∙ ap (λ (n : ℕ). template_in_force id (items_of_domain n (message ∷ older))) (sym own))
+          (λ other. before_it q id ∙ ap (template_in_force id) (sym (other_items q message older (ap (eqb q) (sym own) ∙ other))));
+      expected = λ q. ap (λ (k : Held). k.expected) (kept-held new q)
+          ∙ settles.expected q
+          ∙ settled_by (eqb q d) q d r.next (held_in old q).expected (λ (n : ℕ). expected_number n (message ∷ older)) (eqb-true q d)
+          (reading.next ∙ ap (λ (n : ℕ). expected_number n (message ∷ older)) (sym own))
+          (λ other. ap (λ (k : Held). k.expected) (sym (kept-held old q)) ∙ stands.expected q ∙ sym (other_number q message older (ap (eqb q) (sym own) ∙ other)));
+    }
+
+-- ---- what a session keeps, as it was seen
+
+pub held_now : (d : Domains) (now : Kept) → session_of d ≡ now → (domain : ℕ) → held_in d domain ≡ kept_of domain now.standing
+held_now d now is domain = sym (kept-held d domain) ∙ ap (λ (s : Kept). kept_of domain s.standing) is
+
+pub template_is : (d : Domains) (now : Kept) → session_of d ≡ now → (domain id : ℕ) (messages : List (List ℕ)) → Stands now.standing messages → at_key id (held_in d domain).templates ≡ template_in_force id (items_of_domain domain messages)
+template_is d now is domain id messages stands = ap (λ (k : Held). at_key id k.templates) (held_now d now is domain) ∙ stands.templates domain id

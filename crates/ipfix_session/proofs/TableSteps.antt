@@ -1,5 +1,5 @@
 -- What a table has under each ID, by what its two kinds have there.
-use Rattle.std.proofs.Common.{◌≡◌, ℕ, Bool, true, false, cond, not, List, [], ◌∷◌, ◌++◌, Option, Some, None, refl, sym, ap, ◌∙◌}
+use Rattle.std.proofs.Common.{◌≡◌, ℕ, Bool, true, false, cond, not, List, [], ◌∷◌, ◌++◌, Option, Some, None, refl, sym, ap, ◌∙◌, subst}
 use Rattle.std.specs.Prelude.{IfSome}
 use Rattle.std.specs.Ordering.{nat_cmp}
 use Rattle.std.specs.Option.{option_or}
@@ -9,9 +9,10 @@ use Rattle.ipfix_template.specs.Template.{is_options}
 use Rattle.ipfix_session.specs.declared.shelf.Shelf.{Shelf}
 use Rattle.ipfix_session.specs.InForce.{same_kind, unless_of_kind}
 use Rattle.ipfix_session.specs.Keeping.{at_key, IsKeepable}
-use Rattle.ipfix_session.specs.Shelves.{shown_on, on_shelf}
+use Rattle.ipfix_session.specs.Places.{Tabled, HasPlaces}
+use Rattle.ipfix_session.specs.Shelves.{shown_on, on_shelf, has_place, places_on}
 use Rattle.ipfix_session.specs.Tables.{IsOfKind, IsOneOfKind, unless_withdrawn, template_after}
-use Rattle.ipfix_session.proofs.ShelfSteps.{shown-at}
+use Rattle.ipfix_session.proofs.ShelfSteps.{shelf-at, places_are, places_there}
 
 -- ---- the plain template of an ID, or else its options template
 
@@ -24,17 +25,40 @@ at_append q [] ys = refl
 at_append q (x ∷ xs) ys = ap (cond (is_at (nat_cmp q) x.0) (Some x.1)) (at_append q xs ys) ∙ sym (or-plain (is_at (nat_cmp q) x.0) x.1 (at_key q xs) (at_key q ys))
 
 pub table-at : (plain options : Shelf) (q : ℕ) → at_key q (shown_on plain ++ shown_on options) ≡ option_or (on_shelf plain q) (on_shelf options q)
-table-at plain options q = at_append q (shown_on plain) (shown_on options) ∙ (λ i. option_or (shown-at plain q i) (shown-at options q i))
+table-at plain options q = at_append q (shown_on plain) (shown_on options) ∙ (λ i. option_or (shelf-at plain q i) (shelf-at options q i))
 
 -- the same by what a table was seen as
-pub table-now : (plain options : Shelf) (now : List (ℕ × Template)) → shown_on plain ++ shown_on options ≡ now → (q : ℕ) → option_or (on_shelf plain q) (on_shelf options q) ≡ at_key q now
-table-now plain options now is q = sym (table-at plain options q) ∙ ap (at_key q) is
+abbrev pub tabled : Shelf → Shelf → Tabled
+tabled plain options = record { templates = shown_on plain ++ shown_on options; places = record { plain = places_on plain; options = places_on options } }
+
+pub table-now : (plain options : Shelf) (now : Tabled) → tabled plain options ≡ now → (q : ℕ) → option_or (on_shelf plain q) (on_shelf options q) ≡ at_key q now.templates
+table-now plain options now is q = sym (table-at plain options q) ∙ ap (λ (t : Tabled). at_key q t.templates) is
 
 pub keepable_of : (plain options : Option Template) → IsOneOfKind plain options → IfSome (option_or plain options) IsKeepable
 keepable_of None None one = tt
 keepable_of (Some t) None one = one.keepable
 keepable_of None (Some t) one = one.keepable
 keepable_of (Some t) (Some u) one = absurd one
+
+-- ---- room that is made
+
+abbrev pub HavePlaces : Shelf → Shelf → Type 0
+HavePlaces there need = (q : ℕ) → has_place need q ≡ true → has_place there q ≡ true
+
+pub room_made : (plain options need_plain need_options : Shelf) (need : Tabled) → tabled need_plain need_options ≡ need → HavePlaces plain need_plain → HavePlaces options need_options → HasPlaces (tabled plain options).places need.places
+room_made plain options need_plain need_options need is p o =
+    subst (λ (t : Tabled). HasPlaces (tabled plain options).places t.places) is (record { plain = places_are need_plain plain p; options = places_are need_options options o })
+
+-- room of a table, by its shelves
+pub record HasShelves (plain options need_plain need_options : Shelf) : Type 0 where
+  pub plains : HavePlaces plain need_plain
+  pub optional : HavePlaces options need_options
+
+pub room_there : (plain options need_plain need_options : Shelf) (now need : Tabled) → tabled plain options ≡ now → tabled need_plain need_options ≡ need → HasPlaces now.places need.places → HasShelves plain options need_plain need_options
+room_there plain options need_plain need_options now need now_is need_is room =
+    let there : HasPlaces (tabled plain options).places (tabled need_plain need_options).places =
+    subst (λ (t : Tabled). HasPlaces (tabled plain options).places t.places) (sym need_is) (subst (λ (t : Tabled). HasPlaces t.places need.places) (sym now_is) room) in
+    record { plains = places_there need_plain plain there.plain; optional = places_there need_options options there.options }
 
 -- ---- a template less, or one more
 

@@ -15,10 +15,14 @@ pub mod Contents
 pub mod Meaning
 pub mod LastMessage
 pub mod Keeping
+pub mod Places
 pub mod Shelves
 pub mod Tables
+pub mod Change
 pub mod Changing
 pub mod Standing
+pub mod ReadAhead
+pub mod Domains
 pub mod DataSets
 pub mod Answers
 pub mod Walking

@@ -1,17 +1,15 @@
--- What the functions that end a message's reading answer.
-use Rattle.std.specs.Prelude.{◌≡◌, ℕ, List, Option, if◌then◌else◌, ◌==◌}
+-- What the function that ends a message's reading answers.
+use Rattle.std.specs.Prelude.{ℕ, List, Option}
 use Rattle.ipfix_template.specs.declared.template.Template.{Template}
-use Rattle.ipfix_session.specs.declared.domain.Domain.{Domain}
-use Rattle.ipfix_session.specs.declared.session.Outcome.{Outcome}
 use Rattle.ipfix_session.specs.Contents.{Contents}
 use Rattle.ipfix_session.specs.Keeping.{at_key}
-use Rattle.ipfix_session.specs.Standing.{kept_of}
+use Rattle.ipfix_session.specs.Change.{changed}
+use Rattle.ipfix_session.specs.ReadAhead.{Ahead}
 
 -- what was read
-abbrev pub contents_read : Outcome → Contents
-contents_read o = record { records = o.read.records.items; skips = o.read.skips }
+abbrev pub contents_read : Ahead → Contents
+contents_read r = record { records = r.meaning.records; skips = r.meaning.skips }
 
--- one domain has these templates and this number then, and each other what it had
-pub record Settles (old new : List (ℕ × Domain)) (domain : ℕ) (found : ℕ → Option Template) (next : Option ℕ) : Type 0 where
-  pub templates : (q id : ℕ) → at_key id (kept_of q new).templates ≡ (if q == domain then found id else at_key id (kept_of q old).templates)
-  pub expected : (q : ℕ) → (kept_of q new).expected ≡ (if q == domain then next else (kept_of q old).expected)
+-- the template of an ID after the message, by the templates before it
+abbrev pub afterwards : Ahead → List (ℕ × Template) → ℕ → Option Template
+afterwards r before id = changed r.change id (at_key id before)

@@ -1,5 +1,5 @@
 -- What the functions that walk over a message's items answer.
-use Rattle.std.specs.Prelude.{◌≡◌, ◌≤◌, ℕ, List, Option, Result, Ok, Err, IfSome}
+use Rattle.std.specs.Prelude.{◌≡◌, ◌≤◌, ℕ, List, Result, Ok, Err}
 use Rattle.ipfix_session.specs.declared.read.Skips.{Skips}
 use Rattle.ipfix_session.specs.declared.read_error.ReadError.{ReadError}
 use Rattle.ipfix_session.specs.declared.walk.Walk.{Walk}
@@ -14,10 +14,6 @@ contents_in w = record { records = w.records.items; skips = w.skips }
 abbrev pub Adds : Contents → Contents → Result Contents ReadError → Result (Unit {0}) ReadError → Type 0
 Adds old new read (Ok _) = (first : Contents) × (read ≡ Ok first) × (new ≡ both old first)
 Adds old new read (Err e) = Fails e read
-
--- a copy of the message, if there is one
-abbrev pub IsCopy : List ℕ → Option (List ℕ) → Type 0
-IsCopy message block = IfSome block (λ b. b ≡ message)
 
 -- after so many items no count is above their number
 pub record IsCounted (s : Skips) (n : ℕ) : Type 0 where

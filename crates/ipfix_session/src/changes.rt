@@ -8,6 +8,7 @@ ghost use Rattle.ipfix_template.specs.declared.template.Template.{Template};
 ghost use Rattle.ipfix_template.specs.Template.{is_options};
 ghost use Rattle.ipfix_session.specs.InForce.{unless_of_kind};
 ghost use Rattle.ipfix_session.specs.Keeping.{at_key, IsKeepable};
+ghost use Rattle.ipfix_session.specs.Places.{HasPlaces};
 
 use crate::table::Table;
 use ipfix_template::Template;
@@ -28,7 +29,7 @@ pub(crate) struct Changes {
     plain_withdrawn: bool,
     /// Whether the message withdraws all options templates before it.
     options_withdrawn: bool,
-    ghost only_decided: { (q : ℕ) → contains nat_cmp decided q ≡ false → at_key q defined ≡ None },
+    ghost only_decided: { (q : ℕ) → contains nat_cmp decided q ≡ false → at_key q defined.templates ≡ None },
 }
 
 impl Changes {
@@ -49,7 +50,7 @@ impl Changes {
 
     /// The template that an ID has after the changes.
     pub(crate) fn get<'a>(&'a self, before: &'a Table, id: u16) -> Option<&'a Arc<Template>>
-        ensures value { option_map (λ t. arc_value t.now) result ≡ after self.now before.now id }
+        ensures value { option_map (λ t. arc_value t.now) result ≡ after self.now before.now.templates id }
         ensures keepable { IfSome result (λ t. IsKeepable (arc_value t.now)) }
     {
         if let Some(template) = self.defined.get(id) {
@@ -87,7 +88,7 @@ impl Changes {
         template: Template,
     ) -> Result<(), AllocError>
         requires { IsKeepable template }
-        ensures { OnOk result ((q : ℕ) → after self.new before.now q ≡ (if q == id then Some template else after self.old before.now q)) }
+        ensures { OnOk result ((q : ℕ) → after self.new before.now.templates q ≡ (if q == id then Some template else after self.old before.now.templates q)) }
     {
         if self.repeats(before, id, &template) {
             return Ok(());
@@ -98,7 +99,7 @@ impl Changes {
 
     /// Whether the ID has this template already.
     fn repeats(&self, before: &Table, id: u16, template: &Template) -> bool
-        ensures { IsTrue result → after self.now before.now id ≡ Some template.now }
+        ensures { IsTrue result → after self.now before.now.templates id ≡ Some template.now }
     {
         match self.get(before, id) {
             Some(kept) => {
@@ -114,7 +115,7 @@ impl Changes {
     /// # Errors
     /// Want of memory.
     pub(crate) fn withdraw(&mut self, before: &Table, id: u16) -> Result<(), AllocError>
-        ensures { OnOk result ((q : ℕ) → after self.new before.now q ≡ (if q == id then None else after self.old before.now q)) }
+        ensures { OnOk result ((q : ℕ) → after self.new before.now.templates q ≡ (if q == id then None else after self.old before.now.templates q)) }
     {
         if self.get(before, id).is_none() {
             return Ok(());
@@ -136,19 +137,27 @@ impl Changes {
         }
     }
 
-    /// Makes the changes.
+    /// Makes a place for each template that the message defines.
     ///
     /// # Errors
-    /// Want of memory, and then the templates are as they were.
-    pub(crate) fn make(self, templates: &mut Table) -> Result<(), AllocError>
-        ensures ok { OnOk result ((q : ℕ) → at_key q templates.new ≡ after self templates.old q) }
-        ensures err { OnErr result (templates.new ≡ templates.old) }
+    /// Want of memory. No template is changed, whatever the answer.
+    pub(crate) fn make_room(&self, templates: &mut Table) -> Result<(), AllocError>
+        ensures same { templates.new.templates ≡ templates.old.templates }
+        ensures room { OnOk result (HasPlaces templates.new.places self.now.defined.places) }
+    {
+        templates.make_room(&self.defined)
+    }
+
+    /// Makes the changes, in room that was made for them.
+    pub(crate) fn make(self, templates: &mut Table)
+        requires { HasPlaces templates.old.places self.defined.places }
+        ensures { (q : ℕ) → at_key q templates.new.templates ≡ after self templates.old.templates q }
     {
         templates.take_over(
             self.defined,
             &self.decided,
             self.plain_withdrawn,
             self.options_withdrawn,
-        )
+        );
     }
 }

@@ -3,7 +3,9 @@
 //! It keeps, of each Observation Domain, the templates in force and the sequence number that comes next;
 //! where messages begin and end in a stream is known before.
 //!
-//! - [`session`]: `Session`, which reads message after message.
+//! - [`session`]: `Session`, which reads message after message: `apply`, or in three steps `read`, `make_room` and
+//!   `keep`.
+//! - [`reading`]: `Reading`, what was read of a message and is not yet kept.
 //! - [`read`]: `Read`, what a message brings, with `Skips` and `Gap`.
 //! - [`read_error`]: `ReadError`, why a message is refused.
 //! - [`laws`]: messages mean what the first of them mean, and then the others (`messages_join`), and so do a
@@ -25,9 +27,11 @@
 mod changes;
 mod data_set;
 mod domain;
+mod domains;
 pub mod laws;
 pub mod read;
 pub mod read_error;
+pub mod reading;
 pub mod session;
 mod shelf;
 #[cfg(test)]
@@ -35,6 +39,8 @@ mod speed;
 mod table;
 #[cfg(test)]
 mod tests;
+#[cfg(test)]
+mod tests_steps;
 mod walk;
 
 pub use laws::{
@@ -43,4 +49,5 @@ pub use laws::{
 };
 pub use read::{Gap, Read, Skips};
 pub use read_error::ReadError;
+pub use reading::Reading;
 pub use session::Session;

@@ -7,21 +7,22 @@ ghost use Rattle.ipfix_session.specs.Contents.{contents_after};
 ghost use Rattle.ipfix_session.specs.Meaning.{items_of_domain, number_after, gap_between, meaning_of};
 ghost use Rattle.ipfix_session.specs.Keeping.{at_key, Keeps, AreInForce, StandIn};
 ghost use Rattle.ipfix_session.specs.Standing.{kept_of, StandsFor};
-ghost use Rattle.ipfix_message.specs.Reading as reading;
+ghost use Rattle.ipfix_session.specs.ReadAhead.{IsReadingOf, HasRoomFor};
+ghost use Rattle.ipfix_message.specs.Reading as decoding;
 ghost use Rattle.ipfix_session.specs.Answers.{Gives, NamesFault, shown};
 ghost use Rattle.ipfix_session.specs.Walking.{contents_in};
-ghost use Rattle.ipfix_session.specs.Changing.{after};
+ghost use Rattle.ipfix_session.specs.Settling.{contents_read, afterwards};
 
-use crate::changes::Changes;
-use crate::domain::Domain;
+use crate::domains::Domains;
 use crate::read::{Gap, Read};
 use crate::read_error::ReadError;
+use crate::reading::Reading;
 use crate::table::Table;
 use crate::walk::{Walk, walk_items};
+use bytes::Bytes;
 use ipfix_message::{Header, Item, items, read_header};
 use ipfix_template::Template;
 use std::alloc::{AllocError, Global};
-use std::collections::BTreeMap;
 use std::marker::Model;
 
 /// Sequence numbers are counted modulo 2^32 (RFC 7011, section 3.1).
@@ -29,46 +30,37 @@ const SEQUENCE_NUMBERS: u64 = 1 << 32;
 
 /// The messages of one exporter over one connection: of each Observation Domain the templates in force
 /// and the sequence number that its next message is to have (RFC 7011, sections 3.1 and 8). Contracts see
-/// the list of domains with what is kept of each, and say by `StandsFor` for which messages it stands.
+/// as `standing` the list of domains with what is kept of each, beside it the room that is made, and say by
+/// `StandsFor` for which messages it stands.
 #[derive(Drop)]
 pub struct Session {
     alloc: Global,
-    domains: BTreeMap<u32, Domain>,
+    domains: Domains,
 }
 
 impl Model for Session {
-    ghost use Rattle.std.specs.Prelude.{List, ℕ};
-    ghost use Rattle.ipfix_session.specs.declared.domain.Domain.{Domain};
+    ghost use Rattle.ipfix_session.specs.Standing.{Kept};
 
-    ghost Value = { List (ℕ × Domain) };
+    ghost Value = { Kept };
 
-    ghost view = { λ s. s.domains.entries };
-}
+    ghost use Rattle.ipfix_session.specs.Domains.{session_of};
 
-/// What a message brings and changes.
-#[derive(Drop)]
-struct Outcome {
-    /// What it changes of its domain's templates.
-    changes: Changes,
-    /// The sequence number that the domain's next message is to have, where it is known.
-    next: Option<u32>,
-    read: Read,
+    ghost view = { λ s. session_of s.domains };
 }
 
 impl Session {
-    ghost use Rattle.ipfix_session.specs.Settling.{contents_read, Settles};
-
     /// A session without a message.
     pub fn new(alloc: Global) -> Session
         ensures { StandsFor result [] }
     {
         Session {
             alloc,
-            domains: BTreeMap::new(alloc),
+            domains: Domains::new(alloc),
         }
     }
 
-    /// Reads the next message.
+    /// Reads the next message: [`read`](Session::read), [`make_room`](Session::make_room) and
+    /// [`keep`](Session::keep) of a copy of it.
     ///
     /// # Errors
     /// The first fault: Malformed with its cause, RecordOverrun, or want of memory. A refused message
@@ -80,15 +72,65 @@ impl Session {
         // After it the session stands for those messages and this one.
         ensures stands { (older : List (List ℕ)) → StandsFor self.old older
             → OnOk result (StandsFor self.new (message.now ∷ older)) }
-        ensures err { OnErr result (self.new ≡ self.old) }
+        ensures err { OnErr result (self.new.standing ≡ self.old.standing) }
         // No memory is taken for a header, so that one that is refused is named by its fault alone.
-        ensures header { NamesFault (reading.read_header message.now) result }
+        ensures header { NamesFault (decoding.read_header message.now) result }
     {
-        let header = read_header(message)?;
-        let said = items(self.alloc, message)?;
-        let found = self.read_message(header, message, said)?;
-        self.keep(header.domain, found.changes, found.next)?;
-        Ok(found.read)
+        read_header(message)?;
+        let whole = Bytes::copy_from_slice(self.alloc, message)?;
+        let reading = self.read(&whole)?;
+        self.make_room(&reading)?;
+        Ok(self.keep(reading))
+    }
+
+    /// Reads the next message and keeps nothing of it. The values of its records are cut from the message, and
+    /// not copied.
+    ///
+    /// # Errors
+    /// The first fault: Malformed with its cause, RecordOverrun, or want of memory.
+    pub fn read(&self, message: &Bytes) -> Result<Reading, ReadError>
+        // The answer is what the message means after those before it, or its first fault.
+        ensures meaning { (older : List (List ℕ)) → StandsFor self.now older
+            → Gives (λ r. r.meaning) result (meaning_of older message.now) }
+        ensures reading { (older : List (List ℕ)) → StandsFor self.now older
+            → IfOk result (IsReadingOf older message.now) }
+        // No memory is taken for a header, so that one that is refused is named by its fault alone.
+        ensures header { NamesFault (decoding.read_header message.now) result }
+    {
+        let octets: &[u8] = message;
+        let header = read_header(octets)?;
+        let said = items(self.alloc, octets)?;
+        self.read_message(header, message, said)
+    }
+
+    /// Makes room for what a message changes, so that to keep it takes no memory.
+    ///
+    /// # Errors
+    /// Want of memory. The session stands for the same messages, whatever the answer.
+    pub fn make_room(&mut self, reading: &Reading) -> Result<(), AllocError>
+        ensures standing { self.new.standing ≡ self.old.standing }
+        ensures room { OnOk result (HasRoomFor self.new reading.now) }
+    {
+        self.domains
+            .make_room(self.alloc, reading.read.header.domain, &reading.changes)
+    }
+
+    /// Keeps what was read of the next message, in room that was made for it. It takes no memory.
+    pub fn keep(&mut self, reading: Reading) -> Read
+        requires room { HasRoomFor self.old reading }
+        ensures read { shown result ≡ reading.meaning }
+        // Where it was read after those messages that the session stands for, the session then stands for them and
+        // this one.
+        ensures stands { (older : List (List ℕ)) (message : List ℕ) → StandsFor self.old older
+            → IsReadingOf older message reading → StandsFor self.new (message ∷ older) }
+    {
+        let Reading {
+            read,
+            changes,
+            next,
+        } = reading;
+        self.domains.settle(read.header.domain, changes, next);
+        read
     }
 
     /// The template in force for a domain and an ID.
@@ -96,7 +138,7 @@ impl Session {
         ensures { (messages : List (List ℕ)) → StandsFor self.now messages
             → option_copied result ≡ template_in_force id (items_of_domain domain messages) }
     {
-        match self.domains.get(&domain) {
+        match self.domains.get(domain) {
             Some(kept) => kept.templates.template(id),
             None => None,
         }
@@ -115,30 +157,27 @@ impl Session {
         })
     }
 
-    /// Reads a message over what is kept of its domain, and changes nothing.
+    /// Reads a message over what is kept of its domain.
     fn read_message(
         &self,
         header: Header,
-        message: &[u8],
+        message: &Bytes,
         said: Vec<Item>,
-    ) -> Result<Outcome, ReadError>
+    ) -> Result<Reading, ReadError>
         requires few { length message.now ≤ 65535 }
         requires stand { StandIn (length message.now) said.items }
-        ensures reads { (older : List Item) → Keeps (kept_of header.domain self.now).templates older
+        ensures reads { (older : List Item) → Keeps (kept_of header.domain self.now.standing).templates older
             → Gives contents_read result (contents_after older message.now said.items) }
-        ensures keeps { (older : List Item) → Keeps (kept_of header.domain self.now).templates older
-            → IfOk result (λ o. AreInForce (after o.changes (kept_of header.domain self.now).templates) (reverse said.items ++ older)) }
-        ensures header { IfOk result (λ o. o.read.header ≡ header) }
-        ensures gap { IfOk result (λ o. o.read.gap ≡ gap_between (kept_of header.domain self.now).expected header.sequence) }
-        ensures next { IfOk result (λ o. o.next ≡ number_after header (contents_read o)) }
+        ensures keeps { (older : List Item) → Keeps (kept_of header.domain self.now.standing).templates older
+            → IfOk result (λ r. AreInForce (afterwards r (kept_of header.domain self.now.standing).templates) (reverse said.items ++ older)) }
+        ensures header { IfOk result (λ r. r.meaning.header ≡ header) }
+        ensures gap { IfOk result (λ r. r.meaning.gap ≡ gap_between (kept_of header.domain self.now.standing).expected header.sequence) }
+        ensures next { IfOk result (λ r. r.next ≡ number_after header (contents_read r)) }
     {
         let empty = Table::new(self.alloc);
-        let (base, expected) = match self.domains.get(&header.domain) {
-            Some(kept) => (&kept.templates, kept.expected),
-            None => (&empty, None),
-        };
+        let (base, expected) = self.domains.held(header.domain, &empty);
         let walk = walk_items(self.alloc, base, message, said)?;
-        Ok(Outcome {
+        Ok(Reading {
             next: number_after(header, &walk),
             changes: walk.changes,
             read: Read {
@@ -148,31 +187,6 @@ impl Session {
                 gap: gap_between(expected, header.sequence),
             },
         })
-    }
-
-    /// Keeps what a message of a domain changes.
-    fn keep(
-        &mut self,
-        domain: u32,
-        changes: Changes,
-        expected: Option<u32>,
-    ) -> Result<(), AllocError>
-        ensures ok { OnOk result (Settles self.old self.new domain (after changes (kept_of domain self.old).templates) expected) }
-        ensures err { OnErr result (self.new ≡ self.old) }
-    {
-        if let Some(kept) = self.domains.get_mut(&domain) {
-            changes.make(&mut kept.templates)?;
-            kept.expected = expected;
-            return Ok(());
-        }
-        let mut templates = Table::new(self.alloc);
-        changes.make(&mut templates)?;
-        let kept = Domain {
-            templates,
-            expected,
-        };
-        self.domains.insert(domain, kept)?;
-        Ok(())
     }
 }
 

@@ -21,7 +21,8 @@ pub(crate) struct Shelf {
 }
 
 impl Shelf {
-    ghost use Rattle.ipfix_session.specs.Shelves.{template_of, on_shelf, shown_on, has_place};
+    ghost use Rattle.ipfix_session.specs.Shelves.{on_shelf, shown_on, has_place};
+    ghost use Rattle.ipfix_session.specs.Places.{shown_of};
 
     /// A shelf without a template.
     pub(crate) fn new(alloc: Global) -> Shelf
@@ -56,7 +57,7 @@ impl Shelf {
 
     /// Takes away the place of an ID, with what stands in it.
     fn take(&mut self, id: u16) -> Option<Option<Arc<Template>>>
-        ensures taken { template_of arc_value result ≡ on_shelf self.old id }
+        ensures taken { shown_of (option_map arc_value) result ≡ on_shelf self.old id }
         ensures place { is_some result ≡ has_place self.old id }
         ensures others { (q : ℕ) → on_shelf self.new q ≡ (if q == id then None else on_shelf self.old q) }
         ensures places { (q : ℕ) → has_place self.new q ≡ (if q == id then false else has_place self.old q) }
@@ -139,9 +140,9 @@ impl Shelf {
 
 impl Clone for Shelf {
     ghost use Rattle.std.specs.Prelude.{◌≡◌};
-    ghost use Rattle.ipfix_session.specs.Shelves.{shown_on};
+    ghost use Rattle.ipfix_session.specs.Shelves.{IsSameShelf};
 
-    ghost is_clone = { λ s copy. shown_on copy ≡ shown_on s };
+    ghost is_clone = { λ s copy. IsSameShelf copy s };
 
     fn clone(&self) -> Result<Shelf, AllocError> {
         Ok(Shelf {

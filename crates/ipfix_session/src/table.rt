@@ -7,6 +7,7 @@ ghost use Rattle.std.specs.BTreeSet.{contains};
 ghost use Rattle.ipfix_session.specs.InForce.{unless_of_kind};
 ghost use Rattle.ipfix_session.specs.Keeping.{at_key, IsKeepable};
 ghost use Rattle.ipfix_session.specs.Tables.{template_after};
+ghost use Rattle.ipfix_session.specs.Places.{HasPlaces};
 
 use crate::shelf::Shelf;
 use ipfix_template::Template;
@@ -17,7 +18,7 @@ use std::sync::Arc;
 
 /// The templates of one domain by their IDs, each of which is accepted and fits one message. The two kinds stand apart,
 /// so that a withdrawal of all of a kind lets go of that kind alone, and each template is let go once. Contracts see the
-/// list of IDs and templates.
+/// list of IDs and templates, and the IDs that have a place.
 #[derive(Drop)]
 pub(crate) struct Table {
     plain: Shelf,
@@ -25,16 +26,16 @@ pub(crate) struct Table {
 }
 
 impl Model for Table {
-    ghost use Rattle.std.specs.Prelude.{List, ℕ};
-    ghost use Rattle.ipfix_template.specs.declared.template.Template.{Template};
+    ghost use Rattle.ipfix_session.specs.Places.{Tabled};
 
-    ghost Value = { List (ℕ × Template) };
+    ghost Value = { Tabled };
 
     ghost use Rattle.std.specs.Prelude.{◌++◌};
-    ghost use Rattle.ipfix_session.specs.Shelves.{shown_on, on_shelf};
+    ghost use Rattle.std.specs.Prelude.{ℕ};
+    ghost use Rattle.ipfix_session.specs.Shelves.{shown_on, on_shelf, places_on};
     ghost use Rattle.ipfix_session.specs.Tables.{IsOneOfKind};
 
-    ghost view = { λ t. shown_on t.plain ++ shown_on t.options };
+    ghost view = { λ t. record { templates = shown_on t.plain ++ shown_on t.options; places = record { plain = places_on t.plain; options = places_on t.options } } };
 
     ghost invariant = { λ t. (id : ℕ) → IsOneOfKind (on_shelf t.plain id) (on_shelf t.options id) };
 }
@@ -55,7 +56,7 @@ impl Clone for Table {
 impl Table {
     /// A table without a template.
     pub(crate) fn new(alloc: Global) -> Table
-        ensures { result ≡ [] }
+        ensures { result.templates ≡ [] }
     {
         Table {
             plain: Shelf::new(alloc),
@@ -65,7 +66,7 @@ impl Table {
 
     /// The template of an ID.
     pub(crate) fn get(&self, id: u16) -> Option<&Arc<Template>>
-        ensures value { option_map (λ t. arc_value t.now) result ≡ at_key id self.now }
+        ensures value { option_map (λ t. arc_value t.now) result ≡ at_key id self.now.templates }
         ensures keepable { IfSome result (λ t. IsKeepable (arc_value t.now)) }
     {
         match self.plain.get(id) {
@@ -76,7 +77,7 @@ impl Table {
 
     /// The template of an ID, without the share in it.
     pub(crate) fn template(&self, id: u16) -> Option<&Template>
-        ensures { option_copied result ≡ at_key id self.now }
+        ensures { option_copied result ≡ at_key id self.now.templates }
     {
         match self.get(id) {
             Some(shared) => Some(shared),
@@ -87,7 +88,7 @@ impl Table {
     /// Sets the template of an ID.
     ///
     /// # Errors
-    /// Want of memory, and then the table is as it was.
+    /// Want of memory, and then no template is changed.
     pub(crate) fn define(
         &mut self,
         alloc: Global,
@@ -95,8 +96,8 @@ impl Table {
         template: Template,
     ) -> Result<(), AllocError>
         requires { IsKeepable template }
-        ensures ok { OnOk result ((q : ℕ) → at_key q self.new ≡ (if q == id then Some template else at_key q self.old)) }
-        ensures err { OnErr result (self.new ≡ self.old) }
+        ensures ok { OnOk result ((q : ℕ) → at_key q self.new.templates ≡ (if q == id then Some template else at_key q self.old.templates)) }
+        ensures err { OnErr result (self.new.templates ≡ self.old.templates) }
     {
         let is_options = template.is_options();
         let shared = Arc::new(alloc, template)?;
@@ -112,7 +113,7 @@ impl Table {
 
     /// Takes out the template of an ID.
     pub(crate) fn withdraw(&mut self, id: u16)
-        ensures { (q : ℕ) → at_key q self.new ≡ (if q == id then None else at_key q self.old) }
+        ensures { (q : ℕ) → at_key q self.new.templates ≡ (if q == id then None else at_key q self.old.templates) }
     {
         self.plain.remove(id);
         self.options.remove(id);
@@ -120,7 +121,7 @@ impl Table {
 
     /// Takes out all options templates, or all plain ones.
     pub(crate) fn withdraw_all(&mut self, alloc: Global, options: bool)
-        ensures { (q : ℕ) → at_key q self.new ≡ unless_of_kind options (at_key q self.old) }
+        ensures { (q : ℕ) → at_key q self.new.templates ≡ unless_of_kind options (at_key q self.old.templates) }
     {
         if options {
             self.options = Shelf::new(alloc);
@@ -129,28 +130,35 @@ impl Table {
         }
     }
 
-    /// Takes over what a message decides: the templates that it defines, the IDs that it decided, and whether it
-    /// withdraws all plain templates, or all options templates, that stood before it.
+    /// Makes a place for each template of another table.
     ///
     /// # Errors
-    /// Want of memory, and then the table is as it was.
+    /// Want of memory. No template is changed, whatever the answer.
+    pub(crate) fn make_room(&mut self, others: &Table) -> Result<(), AllocError>
+        ensures same { self.new.templates ≡ self.old.templates }
+        ensures room { OnOk result (HasPlaces self.new.places others.now.places) }
+    {
+        self.plain.make_room(&others.plain)?;
+        self.options.make_room(&others.options)?;
+        Ok(())
+    }
+
+    /// Takes over what a message decides: the templates that it defines, the IDs that it decided, and whether it
+    /// withdraws all plain templates, or all options templates, that stood before it. It takes no memory.
     pub(crate) fn take_over(
         &mut self,
         defined: Table,
         decided: &BTreeSet<u16>,
         plain_withdrawn: bool,
         options_withdrawn: bool,
-    ) -> Result<(), AllocError>
-        requires { (q : ℕ) → contains nat_cmp decided.now q ≡ false → at_key q defined ≡ None }
-        ensures ok { OnOk result ((q : ℕ) → at_key q self.new
-            ≡ template_after (at_key q defined) (contains nat_cmp decided.now q) plain_withdrawn options_withdrawn (at_key q self.old)) }
-        ensures err { OnErr result (self.new ≡ self.old) }
+    )
+        requires decided { (q : ℕ) → contains nat_cmp decided.now q ≡ false → at_key q defined.templates ≡ None }
+        requires room { HasPlaces self.old.places defined.places }
+        ensures { (q : ℕ) → at_key q self.new.templates
+            ≡ template_after (at_key q defined.templates) (contains nat_cmp decided.now q) plain_withdrawn options_withdrawn (at_key q self.old.templates) }
     {
-        self.plain.make_room(&defined.plain)?;
-        self.options.make_room(&defined.options)?;
         let Table { plain, options } = defined;
         self.plain.take_over(plain_withdrawn, decided, plain);
         self.options.take_over(options_withdrawn, decided, options);
-        Ok(())
     }
 }

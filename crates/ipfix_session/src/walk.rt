@@ -4,7 +4,7 @@ ghost use Rattle.ipfix_message.specs.declared.item.Item.{Item};
 ghost use Rattle.ipfix_session.specs.Contents.{set_contents, item_contents, contents_after};
 ghost use Rattle.ipfix_session.specs.Keeping.{Keeps, AreInForce, StandsIn, StandIn};
 ghost use Rattle.ipfix_session.specs.Answers.{Gives};
-ghost use Rattle.ipfix_session.specs.Walking.{contents_in, Adds, IsCopy, IsCounted};
+ghost use Rattle.ipfix_session.specs.Walking.{contents_in, Adds, IsCounted};
 ghost use Rattle.ipfix_session.specs.Changing.{after};
 
 use crate::changes::Changes;
@@ -24,26 +24,25 @@ pub(crate) struct Walk {
     pub(crate) changes: Changes,
     pub(crate) records: Vec<Record>,
     pub(crate) skips: Skips,
-    /// The message's octets, of which values are cut: made for its first Data Set with a template.
-    pub(crate) block: Option<Bytes>,
 }
 
-/// Reads the items of a message over the templates of its domain, which stay as they are.
+/// Reads the items of a message over the templates of its domain, which stay as they are. The values of its records are
+/// cut from the message, and not copied.
 ///
 /// # Errors
 /// RecordOverrun where a data record goes past its set, or want of memory.
 pub(crate) fn walk_items(
     alloc: Global,
     base: &Table,
-    message: &[u8],
+    message: &Bytes,
     said: Vec<Item>,
 ) -> Result<Walk, ReadError>
     requires few { length message.now ≤ 65535 }
     requires stand { StandIn (length message.now) said.items }
-    ensures reads { (older : List Item) → Keeps base.now older
+    ensures reads { (older : List Item) → Keeps base.now.templates older
         → Gives contents_in result (contents_after older message.now said.items) }
-    ensures keeps { (older : List Item) → Keeps base.now older
-        → IfOk result (λ w. AreInForce (after w.changes base.now) (reverse said.items ++ older)) }
+    ensures keeps { (older : List Item) → Keeps base.now.templates older
+        → IfOk result (λ w. AreInForce (after w.changes base.now.templates) (reverse said.items ++ older)) }
 {
     let total = said.len();
     let mut state = Walk {
@@ -54,7 +53,6 @@ pub(crate) fn walk_items(
             reserved: 0,
             refused: 0,
         },
-        block: None,
     };
     let mut rest = said.into_iter();
     'items: while let Some(item) = rest.next() {
@@ -67,19 +65,17 @@ pub(crate) fn walk_items(
 fn read_item(
     alloc: Global,
     base: &Table,
-    message: &[u8],
+    message: &Bytes,
     item: Item,
     state: &mut Walk,
 ) -> Result<(), ReadError>
     requires few { length message.now ≤ 65535 }
     requires stands { StandsIn (length message.now) item }
-    requires copy { IsCopy message.now state.old.block }
     requires room { IsCounted state.old.skips (2 ^ 64 - 2) }
-    ensures reads { (done : List Item) → AreInForce (after state.old.changes base.now) done
+    ensures reads { (done : List Item) → AreInForce (after state.old.changes base.now.templates) done
         → Adds (contents_in state.old) (contents_in state.new) (item_contents done message.now item) result }
-    ensures keeps { (done : List Item) → AreInForce (after state.old.changes base.now) done
-        → OnOk result (AreInForce (after state.new.changes base.now) (item ∷ done)) }
-    ensures copy { OnOk result (IsCopy message.now state.new.block) }
+    ensures keeps { (done : List Item) → AreInForce (after state.old.changes base.now.templates) done
+        → OnOk result (AreInForce (after state.new.changes base.now.templates) (item ∷ done)) }
     ensures counts { (n : ℕ) → IsCounted state.old.skips n → OnOk result (IsCounted state.new.skips (n + 1)) }
 {
     match item {
@@ -115,7 +111,7 @@ fn read_item(
 fn read_data_set(
     alloc: Global,
     base: &Table,
-    message: &[u8],
+    message: &Bytes,
     id: u16,
     start: usize,
     len: usize,
@@ -123,41 +119,25 @@ fn read_data_set(
 ) -> Result<(), ReadError>
     requires few { length message.now ≤ 65535 }
     requires stands { (20 ≤ start) × (start + len ≤ length message.now) }
-    requires copy { IsCopy message.now state.old.block }
     requires room { IsCounted state.old.skips (2 ^ 64 - 2) }
     ensures reads { Adds (contents_in state.old) (contents_in state.new)
-        (set_contents (after state.old.changes base.now id) (take len (drop start message.now))) result }
+        (set_contents (after state.old.changes base.now.templates id) (take len (drop start message.now))) result }
     ensures changes { state.new.changes ≡ state.old.changes }
-    ensures copy { OnOk result (IsCopy message.now state.new.block) }
     ensures counts { (n : ℕ) → IsCounted state.old.skips n → OnOk result (IsCounted state.new.skips (n + 1)) }
 {
     let Some(template) = state.changes.get(base, id) else {
         state.skips.unknown += 1;
         return Ok(());
     };
-    let content = content_of(alloc, message, start, len, &mut state.block)?;
+    let content = content_of(message, start, len)?;
     read_set(alloc, template, content, &mut state.records)
 }
 
-/// So many octets at this place of the message, cut from its copy, which is made where there is none.
-fn content_of(
-    alloc: Global,
-    message: &[u8],
-    start: usize,
-    len: usize,
-    block: &mut Option<Bytes>,
-) -> Result<Bytes, AllocError>
+/// So many octets at this place of the message, cut from it.
+fn content_of(message: &Bytes, start: usize, len: usize) -> Result<Bytes, AllocError>
     requires within { start + len ≤ length message.now }
     requires few { length message.now ≤ 65535 }
-    requires copy { IsCopy message.now block.old }
-    ensures content { IfOk result (λ content. content ≡ take len (drop start message.now)) }
-    ensures copy { OnOk result (IsCopy message.now block.new) }
+    ensures { IfOk result (λ content. content ≡ take len (drop start message.now)) }
 {
-    let whole = match block.take() {
-        Some(copy) => copy,
-        None => Bytes::copy_from_slice(alloc, message)?,
-    };
-    let content = whole.slice(start..start + len)?;
-    *block = Some(whole);
-    Ok(content)
+    message.slice(start..start + len)
 }

@@ -4,9 +4,8 @@ use Rattle.std.specs.Prelude.{◌↔◌, nat_le, ◌&&◌}
 use Rattle.std.specs.Bool.{IsTrue}
 use Rattle.std.specs.List.{AllByRecursion}
 use Rattle.ipfix_template.specs.DataRecord.{DataRecord}
-use Rattle.ipfix_session.specs.declared.domain.Domain.{Domain}
 use Rattle.ipfix_session.specs.Meaning.{Meaning, meaning_of}
-use Rattle.ipfix_session.specs.Standing.{StandsFor}
+use Rattle.ipfix_session.specs.Standing.{Kept, StandsFor}
 use Rattle.subscriber_stream.specs.Standing.{StandsAt, FitsLimits}
 use Rattle.stream_meaning.specs.Served.{IsStreamable}
 use Rattle.disclosure_audit.specs.declared.entry.AuditEntry.{AuditEntry}
@@ -26,14 +25,14 @@ use Rattle.mediator_core.specs.Steps.{end_of, Receives, Refuses, Counts, HandsOv
 use Rattle.mediator_core.proofs.Receiving.{fits_same, fits_back, overflown, fitting, room_taken, room_cut, fits_journal, refused_taken, refused_cut, names_room, taken, was_cut}
 
 -- what was read of a message, and what it gives
-pub record IsJudged (old : Desk) (octets : List ℕ) (session : List (ℕ × Domain)) (m : Meaning) (gives : List DataRecord) (notes : List AuditEntry) : Type 0 where
+pub record IsJudged (old : Desk) (octets : List ℕ) (session : Kept) (m : Meaning) (gives : List DataRecord) (notes : List AuditEntry) : Type 0 where
   pub means : (older : List (List ℕ)) → StandsFor old.session older → meaning_of older octets ≡ Ok m
   pub stands : (older : List (List ℕ)) → StandsFor old.session older → StandsFor session (octets ∷ older)
   pub giving : gives ≡ given old.job.name.now m.header.domain old.policy.rules m.records
   pub noting : notes ≡ notes_from old.entries 0 old.job.name.now m.header.domain old.policy.rules m.records
 
 -- the same, where the records were lent as a slice
-pub judged : (old : Desk) (octets : List ℕ) (session : List (ℕ × Domain)) (m : Meaning) (gives records : List DataRecord) (notes : List AuditEntry)
+pub judged : (old : Desk) (octets : List ℕ) (session : Kept) (m : Meaning) (gives records : List DataRecord) (notes : List AuditEntry)
     → ((older : List (List ℕ)) → StandsFor old.session older → meaning_of older octets ≡ Ok m)
     → ((older : List (List ℕ)) → StandsFor old.session older → StandsFor session (octets ∷ older))
     → records ≡ m.records
@@ -60,7 +59,7 @@ over_of old gives says h so fits = not_true ((says (disclosed 1 h) (end_of h) so
     not_true : IsTrue false → ⊥
     not_true e = absurd cc
 
-pub received_taken : (old new : Desk) (octets : List ℕ) (session : List (ℕ × Domain)) (m : Meaning) (gives : List DataRecord) (notes : List AuditEntry) → IsJudged old octets session m gives notes
+pub received_taken : (old new : Desk) (octets : List ℕ) (session : Kept) (m : Meaning) (gives : List DataRecord) (notes : List AuditEntry) → IsJudged old octets session m gives notes
     → AllByRecursion IsStreamable gives → SaysRoom old true gives → new.session ≡ session → new.job ≡ old.job → new.policy ≡ old.policy → HandsOver old new gives notes
     → Counts old new 1 (21 + length octets) (length m.records) → Receives old octets false new
 received_taken old new octets session m gives notes j streamable says same job policy hands counts = record {
@@ -86,7 +85,7 @@ received_taken old new octets session m gives notes j streamable says same job p
   });
 }
 
-pub received_cut : (old new : Desk) (octets : List ℕ) (session : List (ℕ × Domain)) (m : Meaning) (gives : List DataRecord) (notes : List AuditEntry) → IsJudged old octets session m gives notes
+pub received_cut : (old new : Desk) (octets : List ℕ) (session : Kept) (m : Meaning) (gives : List DataRecord) (notes : List AuditEntry) → IsJudged old octets session m gives notes
     → SaysRoom old false gives → Takes old.audit.standing (audit_entry old.entries 0 1 CutOff ∷ []) new.audit.standing → new.audit.standing.drained ≡ old.audit.standing.drained
     → Counts old new 2 (30 + length octets) (length m.records) → Receives old octets true new
 received_cut old new octets session m gives notes j says audit drained counts = record {
@@ -101,7 +100,7 @@ received_cut old new octets session m gives notes j says audit drained counts = 
   goes_on = λ h so small is. absurd cc;
 }
 
-pub refuses_taken : (e : Fault) (old : Desk) (octets : List ℕ) (session : List (ℕ × Domain)) (m : Meaning) (gives : List DataRecord) (notes : List AuditEntry) → IsJudged old octets session m gives notes
+pub refuses_taken : (e : Fault) (old : Desk) (octets : List ℕ) (session : Kept) (m : Meaning) (gives : List DataRecord) (notes : List AuditEntry) → IsJudged old octets session m gives notes
     → SaysRoom old true gives → LacksRoom e old 1 (21 + length octets) (length notes) → Refuses e old octets
 refuses_taken e old octets session m gives notes j says lacks = record {
   after = λ h so small.
@@ -109,7 +108,7 @@ refuses_taken e old octets session m gives notes j says lacks = record {
   room = names_room e old 1 (21 + length octets) (length notes) lacks;
 }
 
-pub refuses_cut : (e : Fault) (old : Desk) (octets : List ℕ) (session : List (ℕ × Domain)) (m : Meaning) (gives : List DataRecord) (notes : List AuditEntry) → IsJudged old octets session m gives notes
+pub refuses_cut : (e : Fault) (old : Desk) (octets : List ℕ) (session : Kept) (m : Meaning) (gives : List DataRecord) (notes : List AuditEntry) → IsJudged old octets session m gives notes
     → SaysRoom old false gives → LacksRoom e old 2 (30 + length octets) 1 → Refuses e old octets
 refuses_cut e old octets session m gives notes j says lacks = record {
   after = λ h so small.

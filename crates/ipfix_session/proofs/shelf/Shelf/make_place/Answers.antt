@@ -1,11 +1,12 @@
-use Rattle.std.proofs.Common.{◌≡◌, ap, ◌∙◌, false, is_some, rules}
+use Rattle.std.proofs.Common.{◌≡◌, ap, ◌∙◌, false, None, refl, is_some, rules}
+use Rattle.std.specs.Option.{option_map}
 use Rattle.std.specs.Arc.{arc_value}
 use Rattle.ipfix_session.specs.Keeping.{at_key}
-use Rattle.ipfix_session.specs.Shelves.{templates_in}
-use Rattle.ipfix_session.proofs.ShelfSteps.{shown-room}
+use Rattle.ipfix_session.specs.Places.{shown_in}
+use Rattle.ipfix_session.proofs.PlaceSteps.{shown-room}
 use Rattle.ipfix_session.proofs.shelf.Shelf.make_place.Goals as goal
 
 pub returns-in_ok-insert-clause-same : goal.returns-in_ok-insert-clause-same
 returns-in_ok-insert-clause-same c =
     let none : is_some (at_key c.args.id c.args.self.now.places.entries) ≡ false = search rules in
-    ap (templates_in arc_value) c.in_ok-insert.ensures.entries ∙ shown-room arc_value c.args.id c.args.self.now.places.entries none
+    ap (shown_in (option_map arc_value)) c.in_ok-insert.ensures.entries ∙ shown-room (option_map arc_value) c.args.id None c.args.self.now.places.entries refl none

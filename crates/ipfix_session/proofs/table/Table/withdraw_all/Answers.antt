@@ -15,7 +15,7 @@ returns-then-options c = λ q.
     ∙ ap (option_or (on_shelf s.plain q)) (on_shelf-none c.new.result c.new.ensures q)
     ∙ left-plain (on_shelf s.plain q) (on_shelf s.options q) (c.self.invariant q)
     ∙ ap (unless_of_kind true) (table-now s.plain s.options c.args.self.now c.self.view_is q)
-    ∙ ap (λ (b : Bool). unless_of_kind b (at_key q c.args.self.now)) (sym c.if-options.true)
+    ∙ ap (λ (b : Bool). unless_of_kind b (at_key q c.args.self.now.templates)) (sym c.if-options.true)
 
 pub returns-else-options : goal.returns-else-options
 returns-else-options c = λ q.
@@ -24,4 +24,4 @@ returns-else-options c = λ q.
     ∙ ap (λ (o : Option Template). option_or o (on_shelf s.options q)) (on_shelf-none c.new-else-options.result c.new-else-options.ensures q)
     ∙ left-options (on_shelf s.plain q) (on_shelf s.options q) (c.self.invariant q)
     ∙ ap (unless_of_kind false) (table-now s.plain s.options c.args.self.now c.self.view_is q)
-    ∙ ap (λ (b : Bool). unless_of_kind b (at_key q c.args.self.now)) (sym c.if-options.false)
+    ∙ ap (λ (b : Bool). unless_of_kind b (at_key q c.args.self.now.templates)) (sym c.if-options.false)

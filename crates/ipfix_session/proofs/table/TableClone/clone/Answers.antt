@@ -8,5 +8,5 @@ use Rattle.ipfix_session.proofs.table.TableClone.clone.Goals as goal
 pub invariant_of-result : goal.invariant_of-result
 invariant_of-result c = λ q.
     let s = c.self.inside in
-    subst (λ (p : Option Template). IsOneOfKind p (on_shelf c.in_ok-clone-2.field-0 q)) (sym (same_shown c.in_ok-clone.field-0 s.plain c.in_ok-clone.ensures.cases q))
-    (subst (λ (o : Option Template). IsOneOfKind (on_shelf s.plain q) o) (sym (same_shown c.in_ok-clone-2.field-0 s.options c.in_ok-clone-2.ensures.cases q)) (c.self.invariant q))
+    subst (λ (p : Option Template). IsOneOfKind p (on_shelf c.in_ok-clone-2.field-0 q)) (sym (same_shown c.in_ok-clone.field-0 s.plain c.in_ok-clone.ensures.cases.shown q))
+    (subst (λ (o : Option Template). IsOneOfKind (on_shelf s.plain q) o) (sym (same_shown c.in_ok-clone-2.field-0 s.options c.in_ok-clone-2.ensures.cases.shown q)) (c.self.invariant q))
