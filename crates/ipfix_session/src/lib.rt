@@ -20,8 +20,6 @@ pub mod read;
 pub mod read_error;
 pub mod session;
 mod shelf;
-#[cfg(test)]
-mod speed;
 mod table;
 #[cfg(test)]
 mod tests;
