@@ -5,16 +5,138 @@ use std::alloc::{AllocError, Global};
 use std::process::Abort;
 use std::test::Fail;
 
-/// A message with row-by-row octets: a template 256 of sourceIPv4Address, sourceTransportPort and
-/// octetDeltaCount of 4 octets, and one record of it.
-const ONE_RECORD: [u8; 50] = [
-    0x00, 0x0a, 0x00, 0x32, 0x65, 0x53, 0xf1, 0x00, 0x00, 0x00, 0x00, 0x00, 0x00, 0x00, 0x00, 0x07,
-    0x00, 0x02, 0x00, 0x14, 0x01, 0x00, 0x00, 0x03, 0x00, 0x08, 0x00, 0x04, 0x00, 0x07, 0x00, 0x02,
-    0x00, 0x01, 0x00, 0x04, 0x01, 0x00, 0x00, 0x0e, 0xc0, 0x00, 0x02, 0x4d, 0x01, 0xbb, 0x00, 0x00,
-    0x05, 0xdc,
+/// A template 256 of sourceIPv4Address, sourceTransportPort and octetDeltaCount of 4 octets, and one record of it,
+/// with Export Time 1700000000, sequence 0 and domain 7.
+const ONE_RECORD: &[u8] = b"\x00\x0a\x00\x32\x65\x53\xf1\x00\x00\x00\x00\x00\x00\x00\x00\x07\
+\x00\x02\x00\x14\x01\x00\x00\x03\x00\x08\x00\x04\x00\x07\x00\x02\x00\x01\x00\x04\
+\x01\x00\x00\x0e\xc0\x00\x02\x4d\x01\xbb\x00\x00\x05\xdc";
+
+/// Messages, and what they say in words, or the names of their faults.
+static MESSAGES: [(&str, &[u8], &str); 5] = [
+    (
+        "one_record",
+        ONE_RECORD,
+        "define 256 of 3 scope 0;data 256 40 10;",
+    ),
+    (
+        "empty_message",
+        b"\x00\x0a\x00\x10\x65\x53\xf1\x00\x00\x00\x00\x00\x00\x00\x00\x07",
+        "",
+    ),
+    (
+        "malformed_messages",
+        b"\x00\x0a\x00\x10\x65\x53\xf1\x00\x00\x00\x00\x00\x00\x00\x00",
+        "ShortHeader",
+    ),
+    (
+        "malformed_messages",
+        b"\x00\x0a\x00\x0f\x65\x53\xf1\x00\x00\x00\x00\x00\x00\x00\x00\x07",
+        "BadLength",
+    ),
+    (
+        "malformed_messages",
+        b"\x00\x09\x00\x10\x65\x53\xf1\x00\x00\x00\x00\x00\x00\x00\x00\x07",
+        "BadVersion",
+    ),
 ];
 
-/// A message of these sets, with Export Time 1700000000, sequence 0 and domain 7.
+/// Sets, and what a message of them says.
+static SETS: [(&str, &[u8], &str); 21] = [
+    ("malformed_messages", &[1, 0, 0, 3], "BadSetLength"),
+    ("malformed_messages", &[1, 0, 0], "BadSetLength"),
+    ("malformed_messages", &[1, 0, 0, 5], "BadSetLength"),
+    ("empty_data_set", &[1, 0, 0, 4], "data 256 20 0;"),
+    (
+        "malformed_messages",
+        &[0, 2, 0, 8, 1, 0, 0, 1],
+        "TemplateOverrun",
+    ),
+    (
+        "malformed_messages",
+        &[0, 2, 0, 8, 1, 0, 0xff, 0xff],
+        "TemplateOverrun",
+    ),
+    (
+        "malformed_messages",
+        &[0, 3, 0, 8, 1, 0, 0, 1],
+        "TemplateOverrun",
+    ),
+    (
+        "malformed_messages",
+        &[0, 2, 0, 12, 1, 0, 0, 1, 0x80, 1, 0, 4],
+        "TemplateOverrun",
+    ),
+    // The first faulty place decides: the overrun stands before the short set.
+    (
+        "malformed_messages",
+        &[0, 2, 0, 8, 1, 0, 0, 1, 1, 0, 0, 3],
+        "TemplateOverrun",
+    ),
+    (
+        "malformed_messages",
+        &[1, 0, 0, 3, 0, 2, 0, 8, 1, 0, 0, 1],
+        "BadSetLength",
+    ),
+    (
+        "reserved_sets",
+        &[0, 0, 0, 4, 0, 1, 0, 4, 0, 4, 0, 4, 0, 255, 0, 5, 9],
+        "skipped 0;skipped 1;skipped 4;skipped 255;",
+    ),
+    ("padding", &[0, 2, 0, 7, 1, 2, 3], ""),
+    (
+        "withdrawals",
+        &[0, 2, 0, 8, 0, 2, 0, 0],
+        "withdraw all false;",
+    ),
+    (
+        "withdrawals",
+        &[0, 3, 0, 8, 0, 3, 0, 0],
+        "withdraw all true;",
+    ),
+    (
+        "refused_template",
+        &[0, 3, 0, 8, 0, 2, 0, 0],
+        "refused 2 BadId;",
+    ),
+    (
+        "refused_template",
+        &[0, 2, 0, 8, 0, 3, 0, 0],
+        "refused 3 BadId;",
+    ),
+    (
+        "withdrawals",
+        &[0, 2, 0, 12, 1, 0, 0, 0, 0, 255, 0, 0],
+        "withdraw 256;refused 255 BadId;",
+    ),
+    // A sourceIPv4Address of 3 octets.
+    (
+        "refused_template",
+        &[0, 2, 0, 12, 1, 0, 0, 1, 0, 8, 0, 3],
+        "refused 256 BadLength;",
+    ),
+    // ingressInterface in scope, interfaceName of variable length; padding of 2.
+    (
+        "options_template",
+        &[
+            0, 3, 0, 20, 1, 1, 0, 2, 0, 1, 0, 10, 0, 4, 0, 82, 0xff, 0xff, 0, 0,
+        ],
+        "define 257 of 2 scope 1;",
+    ),
+    // The scope count is above the field count.
+    (
+        "refused_template",
+        &[0, 3, 0, 14, 1, 1, 0, 1, 0, 2, 0, 10, 0, 4],
+        "refused 257 BadScope;",
+    ),
+    // Number 1 of enterprise 29305.
+    (
+        "enterprise_element",
+        &[0, 2, 0, 16, 1, 0, 0, 1, 0x80, 1, 0, 8, 0, 0, 0x72, 0x79],
+        "define 256 of 1 scope 0;",
+    ),
+];
+
+/// A message of these sets, with the header of the message of one record.
 fn message(alloc: Global, sets: &[u8]) -> Result<Vec<u8>, AllocError> {
     let mut octets = Vec::new(alloc);
     octets.extend_from_slice(&[0x00, 0x0a])?;
@@ -25,32 +147,40 @@ fn message(alloc: Global, sets: &[u8]) -> Result<Vec<u8>, AllocError> {
     Ok(octets)
 }
 
-/// The items, each in a few words.
-fn words(alloc: Global, items: &[Item]) -> Result<String, AllocError> {
-    let mut text = String::new(alloc);
-    for item in items {
-        match item {
-            Item::Define { id, template } => {
-                let fields = template.fields.len();
-                let scope = template.scope;
-                write!(text, "define {id} of {fields} scope {scope};")?;
-            }
-            Item::Withdraw { id } => write!(text, "withdraw {id};")?,
-            Item::WithdrawAll { options } => write!(text, "withdraw all {options};")?,
-            Item::Refused { id, why } => write!(text, "refused {id} {why};")?,
-            Item::DataSet { id, start, len } => write!(text, "data {id} {start} {len};")?,
-            Item::Skipped { set } => write!(text, "skipped {set};")?,
+/// Adds an item in a few words.
+fn add_words(text: &mut String, item: &Item) -> Result<(), AllocError> {
+    match item {
+        Item::Define { id, template } => {
+            let fields = template.fields.len();
+            let scope = template.scope;
+            write!(text, "define {id} of {fields} scope {scope};")
         }
+        Item::Withdraw { id } => write!(text, "withdraw {id};"),
+        Item::WithdrawAll { options } => write!(text, "withdraw all {options};"),
+        Item::Refused { id, why } => write!(text, "refused {id} {why};"),
+        Item::DataSet { id, start, len } => write!(text, "data {id} {start} {len};"),
+        Item::Skipped { set } => write!(text, "skipped {set};"),
+    }
+}
+
+/// The items, each in a few words.
+fn words(alloc: Global, found: &[Item]) -> Result<String, AllocError> {
+    let mut text = String::new(alloc);
+    for item in found {
+        add_words(&mut text, item)?;
     }
     Ok(text)
 }
 
-/// What a message of these sets says, in words, or the name of its fault. Where memory is refused, the
-/// same call with memory answers as if nothing had happened.
+fn items_of(alloc: Global, octets: &[u8]) -> Result<Vec<Item>, DecodeError> {
+    items(alloc, octets)
+}
+
+/// What a message says, in words, or the name of its fault. Where memory is refused, the same call with
+/// memory answers as if nothing had happened.
 fn said(rt: &impl Abort, alloc: Global, octets: &[u8]) -> Result<String, AllocError> {
-    let first = items(alloc, octets);
-    let answer = match first {
-        Err(DecodeError::OutOfMemory) => items(alloc, octets),
+    let answer = match items_of(alloc, octets) {
+        Err(DecodeError::OutOfMemory) => items_of(alloc, octets),
         other => other,
     };
     match answer {
@@ -62,169 +192,91 @@ fn said(rt: &impl Abort, alloc: Global, octets: &[u8]) -> Result<String, AllocEr
     }
 }
 
-#[test]
-fn one_record(rt: HostRuntime) -> Result<(), Fail> {
-    let text = said(&rt, rt.alloc(), &ONE_RECORD)?;
-    assert_eq!(rt; text.as_str(), "define 256 of 3 scope 0;data 256 40 10;");
-    let header = read_header(&ONE_RECORD);
-    assert_eq!(rt;
-        header,
-        Ok(Header {
-            export_time: 1_700_000_000,
-            sequence: 0,
-            domain: 7
-        })
-    );
+fn expect_said(
+    rt: &impl Abort,
+    alloc: Global,
+    name: &str,
+    octets: &[u8],
+    want: &str,
+) -> Result<(), AllocError> {
+    let text = said(rt, alloc, octets)?;
+    assert_eq!(rt; text.as_str(), want, "{name}");
     Ok(())
 }
 
 #[test]
-fn empty_message(rt: HostRuntime) -> Result<(), Fail> {
-    let octets = message(rt.alloc(), &[])?;
-    let text = said(&rt, rt.alloc(), &octets)?;
-    assert_eq!(rt; text.as_str(), "");
-    Ok(())
-}
-
-#[test]
-fn malformed_messages(rt: HostRuntime) -> Result<(), Fail> {
+fn messages(rt: HostRuntime) -> Result<(), Fail> {
     let alloc = rt.alloc();
-    let mut octets = message(alloc, &[])?;
-    assert_eq!(rt; octets.len(), 16);
-    assert_eq!(rt; said(&rt, alloc, &octets[..15])?.as_str(), "ShortHeader");
-    octets[3] = 15;
-    assert_eq!(rt; said(&rt, alloc, &octets)?.as_str(), "BadLength");
-    octets[3] = 16;
-    octets[1] = 9;
-    assert_eq!(rt; said(&rt, alloc, &octets)?.as_str(), "BadVersion");
-    let cases: [(&[u8], &str); 12] = [
-        (&[1, 0, 0, 3], "BadSetLength"),
-        (&[1, 0, 0], "BadSetLength"),
-        (&[1, 0, 0, 5], "BadSetLength"),
-        (&[1, 0, 0, 4], "data 256 20 0;"),
-        (&[0, 2, 0, 8, 1, 0, 0, 1], "TemplateOverrun"),
-        (&[0, 2, 0, 8, 1, 0, 0xff, 0xff], "TemplateOverrun"),
-        (&[0, 3, 0, 8, 1, 0, 0, 1], "TemplateOverrun"),
-        (&[0, 2, 0, 12, 1, 0, 0, 1, 0x80, 1, 0, 4], "TemplateOverrun"),
-        // The first faulty place decides: the overrun stands before the short set.
-        (&[0, 2, 0, 8, 1, 0, 0, 1, 1, 0, 0, 3], "TemplateOverrun"),
-        (&[1, 0, 0, 3, 0, 2, 0, 8, 1, 0, 0, 1], "BadSetLength"),
-        (
-            &[0, 0, 0, 4, 0, 1, 0, 4, 0, 4, 0, 4, 0, 255, 0, 5, 9],
-            "skipped 0;skipped 1;skipped 4;skipped 255;",
-        ),
-        (&[0, 2, 0, 7, 1, 2, 3], ""),
-    ];
-    for (sets, want) in cases {
-        let octets = message(alloc, sets)?;
-        assert_eq!(rt; said(&rt, alloc, &octets)?.as_str(), want);
+    for (name, octets, want) in &MESSAGES {
+        expect_said(&rt, alloc, name, octets, want)?;
+    }
+    for (name, sets, want) in &SETS {
+        expect_said(&rt, alloc, name, &message(alloc, sets)?, want)?;
     }
     Ok(())
 }
 
 #[test]
-fn template_records(rt: HostRuntime) -> Result<(), Fail> {
-    let alloc = rt.alloc();
-    let cases: [(&[u8], &str); 9] = [
-        (&[0, 2, 0, 8, 0, 2, 0, 0], "withdraw all false;"),
-        (&[0, 3, 0, 8, 0, 3, 0, 0], "withdraw all true;"),
-        (&[0, 3, 0, 8, 0, 2, 0, 0], "refused 2 BadId;"),
-        (&[0, 2, 0, 8, 0, 3, 0, 0], "refused 3 BadId;"),
-        (
-            &[0, 2, 0, 12, 1, 0, 0, 0, 0, 255, 0, 0],
-            "withdraw 256;refused 255 BadId;",
-        ),
-        // A refused definition: sourceIPv4Address of 3 octets.
-        (
-            &[0, 2, 0, 12, 1, 0, 0, 1, 0, 8, 0, 3],
-            "refused 256 BadLength;",
-        ),
-        // An options template: ingressInterface in scope, interfaceName of variable length; padding of 2.
-        (
-            &[
-                0, 3, 0, 20, 1, 1, 0, 2, 0, 1, 0, 10, 0, 4, 0, 82, 0xff, 0xff, 0, 0,
-            ],
-            "define 257 of 2 scope 1;",
-        ),
-        // The scope count is above the field count.
-        (
-            &[0, 3, 0, 14, 1, 1, 0, 1, 0, 2, 0, 10, 0, 4],
-            "refused 257 BadScope;",
-        ),
-        // An enterprise element: number 1 of enterprise 29305.
-        (
-            &[0, 2, 0, 16, 1, 0, 0, 1, 0x80, 1, 0, 8, 0, 0, 0x72, 0x79],
-            "define 256 of 1 scope 0;",
-        ),
-    ];
-    for (sets, want) in cases {
-        let octets = message(alloc, sets)?;
-        assert_eq!(rt; said(&rt, alloc, &octets)?.as_str(), want);
-    }
-    Ok(())
+fn header_of_one_record(rt: HostRuntime) {
+    let header = Header {
+        export_time: 1_700_000_000,
+        sequence: 0,
+        domain: 7,
+    };
+    assert_eq!(rt; read_header(ONE_RECORD), Ok(header));
 }
 
+/// The first octets of the message of one record, with their number as the message's length.
+fn cut_to(alloc: Global, k: u8) -> Result<Vec<u8>, AllocError> {
+    let mut octets = Vec::new(alloc);
+    for (place, octet) in ONE_RECORD.iter().take(usize::from(k)).enumerate() {
+        octets.push(if place == 3 { k } else { *octet })?;
+    }
+    Ok(octets)
+}
+
+/// Each front of the message of one record, as it stands there and with its own length.
 #[test]
 fn every_prefix_of_one_record(rt: HostRuntime) -> Result<(), Fail> {
     let alloc = rt.alloc();
-    for k in 0..50usize {
+    for k in 0..50u8 {
+        let front = ONE_RECORD.split_at(usize::from(k)).0;
         let want = if k < 16 { "ShortHeader" } else { "BadLength" };
-        assert_eq!(rt; said(&rt, alloc, &ONE_RECORD[..k])?.as_str(), want);
-    }
-    for k in 16..50usize {
-        let mut octets = Vec::from_slice(alloc, &ONE_RECORD[..k])?;
-        assert!(rt; octets.len() > 3);
-        octets[3] = k as u8;
+        expect_said(&rt, alloc, "as it stands", front, want)?;
         let want = match k {
+            0..16 => "ShortHeader",
             16 => "",
             36 => "define 256 of 3 scope 0;",
             _ => "BadSetLength",
         };
-        assert_eq!(rt; said(&rt, alloc, &octets)?.as_str(), want);
+        expect_said(&rt, alloc, "with its length", &cut_to(alloc, k)?, want)?;
     }
     Ok(())
+}
+
+/// The message of one record, and behind it one of a set of 3 octets.
+fn good_and_malformed(alloc: Global) -> Result<Vec<u8>, AllocError> {
+    let mut octets = message(alloc, &[1, 0, 0, 3])?;
+    let mut stream = Vec::from_slice(alloc, ONE_RECORD)?;
+    stream.append(&mut octets)?;
+    Ok(stream)
 }
 
 #[test]
 fn cut_off_and_malformed(rt: HostRuntime) -> Result<(), Fail> {
     let alloc = rt.alloc();
-    let mut framer = Framer::new(alloc);
-    let mut stream = Vec::from_slice(alloc, &ONE_RECORD)?;
-    let malformed = message(alloc, &[1, 0, 0, 3])?;
-    stream.extend_from_slice(malformed.as_slice())?;
-    let messages = framer.feed(stream.as_slice())?;
-    assert_eq!(rt; messages.len(), 2);
-    let first = said(&rt, alloc, &messages[0])?;
-    assert_eq!(rt; first.as_str(), "define 256 of 3 scope 0;data 256 40 10;");
-    let second = said(&rt, alloc, &messages[1])?;
-    assert_eq!(rt; second.as_str(), "BadSetLength");
-    assert_eq!(rt; framer.fault(), None);
-    assert_eq!(rt; framer.pending(), 0);
+    let stream = good_and_malformed(alloc)?;
+    let found = Framer::new(alloc).feed(&stream)?;
+    assert_eq!(rt; found.len(), 2);
+    let wanted = ["define 256 of 3 scope 0;data 256 40 10;", "BadSetLength"];
+    for (message, want) in found.iter().zip(wanted) {
+        expect_said(
+            &rt,
+            alloc,
+            "cut_off_and_malformed",
+            message.as_slice(),
+            want,
+        )?;
+    }
     Ok(())
-}
-
-/// Every request for memory of `items` may be refused: then the same call with memory answers in full.
-#[test]
-fn refused_memory_says_nothing(rt: HostRuntime) {
-    let alloc = rt.alloc();
-    let mut answer = items(alloc, &ONE_RECORD);
-    if let Err(fault) = answer {
-        assert_eq!(rt; fault, DecodeError::OutOfMemory);
-        answer = items(alloc, &ONE_RECORD);
-    }
-    match answer {
-        Ok(found) => {
-            assert_eq!(rt; found.len(), 2);
-            let Item::Define { id, template } = &found[0] else {
-                panic!(rt; "no definition")
-            };
-            assert_eq!(rt; *id, 256);
-            assert_eq!(rt; template.fields.len(), 3);
-            let Item::DataSet { id, start, len } = &found[1] else {
-                panic!(rt; "no data")
-            };
-            assert_eq!(rt; (*id, *start, *len), (256, 40, 10));
-        }
-        Err(fault) => panic!(rt; "{fault}"),
-    }
 }

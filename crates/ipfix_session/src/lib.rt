@@ -34,8 +34,6 @@ pub mod read_error;
 pub mod reading;
 pub mod session;
 mod shelf;
-#[cfg(test)]
-mod speed;
 mod table;
 #[cfg(test)]
 mod tests;

@@ -1,10 +1,8 @@
 //! Worked cases, and what no clause says: that each call succeeds while there is memory, and that one
 //! that was refused memory answers as ever when it is called again.
-ghost use Rattle.std.specs.Prelude.{◌≡◌, ◌<◌, ◌∷◌, [], IfOk};
-
 use super::*;
-use crate::data_record::RECORD_ROOM;
-use crate::field::{MOST_FIELDS, VARIABLE};
+use crate::data_record::{RECORD_ROOM, RefusedRecord};
+use crate::field::VARIABLE;
 use bytes::Bytes;
 use ipfix_element::ElementId;
 use std::alloc::{AllocError, Global};
@@ -12,48 +10,52 @@ use std::process::Abort;
 use std::sync::Arc;
 use std::test::Fail;
 
-// Elements of the registry, by their numbers.
-const PROTOCOL: u16 = 4;
-
-const SOURCE_PORT: u16 = 7;
-
-const SOURCE_ADDRESS: u16 = 8;
-
-const INTERFACE: u16 = 10;
-
-const OCTET_COUNT: u16 = 1;
-
-const INTERFACE_NAME: u16 = 82;
-
 /// What stands already where something is appended.
 const BEFORE: &[u8] = b"before";
 
-fn field(number: u16, length: u16) -> FieldSpec
-    requires { number < 32768 }
-{
-    FieldSpec {
-        element: ElementId::registered(number),
-        length,
+/// A field by its element's enterprise and number, and its length.
+type Field = (Option<u32>, u16, u16);
+
+/// A template's fields, and how many of them are scope fields.
+type Layout = (&'static [Field], u16);
+
+const ADDRESS: Field = (None, 8, 4);
+
+const PORT: Field = (None, 7, 2);
+
+const PROTOCOL: Field = (None, 4, 1);
+
+const INTERFACE: Field = (None, 10, 4);
+
+const OCTET_COUNT: Field = (None, 1, 4);
+
+/// An interface name that brings its own length, and one of no octets.
+const NAME: Field = (None, 82, VARIABLE);
+
+const EMPTY_NAME: Field = (None, 82, 0);
+
+const FLOW: Layout = (&[ADDRESS, PORT, OCTET_COUNT], 0);
+
+const NAMES: Layout = (&[NAME], 0);
+
+const NAMED_INTERFACE: Layout = (&[INTERFACE, NAME], 1);
+
+const NAMED_PORT: Layout = (&[PORT, NAME], 0);
+
+fn fields_of(alloc: Global, fields: &[Field]) -> Result<Vec<FieldSpec>, Fail> {
+    let mut specs = Vec::new(alloc);
+    for (pen, number, length) in fields {
+        let element = ElementId::new(*pen, *number).ok_or("an element")?;
+        let length = *length;
+        specs.push(FieldSpec { element, length })?;
     }
+    Ok(specs)
 }
 
-fn template_of(alloc: Global, fields: &[FieldSpec], scope: u16) -> Result<Template, Fail> {
-    let fields = Fields::from_vec(Vec::from_slice(alloc, fields)?)?;
+fn template_of(alloc: Global, layout: &Layout) -> Result<Template, Fail> {
+    let (fields, scope) = *layout;
+    let fields = Fields::from_vec(fields_of(alloc, fields)?)?;
     Ok(Template { fields, scope })
-}
-
-/// A template of interface names alone, each of which brings its own length.
-fn names_template(alloc: Global) -> Result<Template, Fail> {
-    template_of(alloc, &[field(INTERFACE_NAME, VARIABLE)], 0)
-}
-
-fn addresses_template(alloc: Global) -> Result<Template, Fail> {
-    let fields = [
-        field(SOURCE_ADDRESS, 4),
-        field(SOURCE_PORT, 2),
-        field(OCTET_COUNT, 4),
-    ];
-    template_of(alloc, &fields, 0)
 }
 
 fn values_of(alloc: Global, texts: &[&'static [u8]]) -> Result<Values, Fail> {
@@ -64,14 +66,6 @@ fn values_of(alloc: Global, texts: &[&'static [u8]]) -> Result<Values, Fail> {
     Ok(Values::from_vec(values))
 }
 
-/// One value of so many octets.
-fn long_value(alloc: Global, len: usize) -> Result<Values, Fail> {
-    let value = Bytes::from_vec(Vec::from_elem(alloc, 0x61, len)?)?;
-    let mut values = Vec::new(alloc);
-    values.push(value)?;
-    Ok(Values::from_vec(values))
-}
-
 /// The octets after those that stood already.
 fn appended<'a>(rt: &impl Abort, out: &'a [u8]) -> &'a [u8] {
     let rest = out.strip_prefix(BEFORE);
@@ -79,19 +73,402 @@ fn appended<'a>(rt: &impl Abort, out: &'a [u8]) -> &'a [u8] {
     rest.unwrap_or(&[])
 }
 
-/// What is written for the template under the ID 256. A refused call appends nothing.
-fn template_written(rt: &impl Abort, alloc: Global, template: &Template) -> Result<Vec<u8>, Fail> {
-    assert!(rt; template.check(256, template.is_options()).is_ok());
+type Verdict = Result<(), Refused>;
+
+const ACCEPTED: Verdict = Ok(());
+
+const BAD_ID: Verdict = Err(Refused::BadId);
+
+const BAD_LENGTH: Verdict = Err(Refused::BadLength);
+
+const BAD_SCOPE: Verdict = Err(Refused::BadScope);
+
+const EMPTY_RECORD: Verdict = Err(Refused::EmptyRecord);
+
+const TWO: &[Field] = &[ADDRESS, PROTOCOL];
+
+const LONG_PORT: &[Field] = &[(None, 7, 3)];
+
+const EMPTY: &[Field] = &[EMPTY_NAME];
+
+/// Fields, how many are scope fields, an ID, whether it is an options template's, what the check says, and the octets of the
+/// shortest record.
+type Checked = (&'static str, &'static [Field], u16, u16, bool, Verdict, u32);
+
+static CHECKED: [Checked; 23] = [
+    ("refused_template", TWO, 0, 255, false, BAD_ID, 5),
+    ("accepted", TWO, 0, 256, false, ACCEPTED, 5),
+    ("accepted", TWO, 0, 65535, false, ACCEPTED, 5),
+    ("accepted", &[PORT], 0, 256, false, ACCEPTED, 2),
+    (
+        "accepted, reduced length",
+        &[(None, 7, 1)],
+        0,
+        256,
+        false,
+        ACCEPTED,
+        1,
+    ),
+    ("refused_template", LONG_PORT, 0, 256, false, BAD_LENGTH, 3),
+    (
+        "refused_template",
+        &[(None, 7, 0)],
+        0,
+        256,
+        false,
+        BAD_LENGTH,
+        0,
+    ),
+    (
+        "refused_template",
+        &[(None, 7, VARIABLE)],
+        0,
+        256,
+        false,
+        BAD_LENGTH,
+        1,
+    ),
+    (
+        "accepted, an enterprise's own",
+        &[(Some(29305), 7, 3)],
+        0,
+        256,
+        false,
+        ACCEPTED,
+        3,
+    ),
+    ("refused_template", TWO, 0, 256, true, BAD_SCOPE, 5),
+    ("accepted", TWO, 1, 256, true, ACCEPTED, 5),
+    ("accepted", TWO, 2, 256, true, ACCEPTED, 5),
+    ("refused_template", TWO, 3, 256, true, BAD_SCOPE, 5),
+    ("refused_template", TWO, 1, 256, false, BAD_SCOPE, 5),
+    ("refused_template", EMPTY, 0, 256, false, EMPTY_RECORD, 0),
+    ("refused_template", &[], 0, 256, false, EMPTY_RECORD, 0),
+    // Where several reasons stand, the first is named.
+    ("refused_template", LONG_PORT, 1, 255, false, BAD_ID, 3),
+    ("refused_template", LONG_PORT, 1, 256, false, BAD_LENGTH, 3),
+    ("refused_template", EMPTY, 1, 256, false, BAD_SCOPE, 0),
+    ("refused_template", EMPTY, 1, 256, true, EMPTY_RECORD, 0),
+    (
+        "shortest_record",
+        &[NAME, ADDRESS, NAME],
+        0,
+        256,
+        false,
+        ACCEPTED,
+        6,
+    ),
+    ("shortest_record", &[NAME], 0, 256, false, ACCEPTED, 1),
+    (
+        "shortest_record",
+        &[(None, 82, 65534), (None, 82, 65534)],
+        0,
+        256,
+        false,
+        ACCEPTED,
+        131068,
+    ),
+];
+
+/// What is found at the front of octets.
+enum Wanted {
+    /// A record: where each value begins, with its length, and the octets that it takes.
+    Record(&'static [(usize, usize)], usize),
+    Padding,
+    Overrun,
+}
+
+static SPLITS: [(&str, Layout, &[u8], Wanted); 11] = [
+    (
+        "one_record",
+        FLOW,
+        b"\xc0\x00\x02\x4d\x01\xbb\x00\x00\x05\xdc\xff\xff",
+        Wanted::Record(&[(0, 4), (4, 2), (6, 4)], 10),
+    ),
+    ("padding_and_overrun", FLOW, &[0; 9], Wanted::Padding),
+    (
+        "padding_and_overrun",
+        FLOW,
+        &[0; 10],
+        Wanted::Record(&[(0, 4), (4, 2), (6, 4)], 10),
+    ),
+    ("padding_and_overrun", NAMES, b"", Wanted::Padding),
+    ("padding_and_overrun", NAMES, b"a", Wanted::Overrun),
+    (
+        "padding_and_overrun",
+        NAMES,
+        b"\xff\xff\xffa",
+        Wanted::Overrun,
+    ),
+    ("padding_and_overrun", NAMES, b"\xff", Wanted::Overrun),
+    ("padding_and_overrun", NAMES, b"\xff\x00", Wanted::Overrun),
+    ("padding_and_overrun", NAMES, b"\x03bc", Wanted::Overrun),
+    (
+        "record_overrun",
+        NAMES,
+        b"\x01\x61\x03\x62\x63",
+        Wanted::Record(&[(1, 1)], 2),
+    ),
+    ("record_overrun", NAMES, b"\x03\x62\x63", Wanted::Overrun),
+];
+
+/// Octets that are a record, its values, and what is written for it.
+type Found = (
+    &'static str,
+    Layout,
+    &'static [u8],
+    &'static [&'static [u8]],
+    &'static [u8],
+);
+
+static RECORDS: [Found; 9] = [
+    ("value_lengths", NAMES, b"\x00", &[b""], b"\x00"),
+    ("value_lengths", NAMES, b"\xff\x00\x00", &[b""], b"\x00"),
+    (
+        "value_lengths",
+        NAMES,
+        b"\xfe\
+aaaaaaaaaaaaaaaaaaaaaaaaaaaaaaaaaaaaaaaaaaaaaaaaaaaaaaaaaaaaaaaa\
+aaaaaaaaaaaaaaaaaaaaaaaaaaaaaaaaaaaaaaaaaaaaaaaaaaaaaaaaaaaaaaaa\
+aaaaaaaaaaaaaaaaaaaaaaaaaaaaaaaaaaaaaaaaaaaaaaaaaaaaaaaaaaaaaaaa\
+aaaaaaaaaaaaaaaaaaaaaaaaaaaaaaaaaaaaaaaaaaaaaaaaaaaaaaaaaaaaaa",
+        &[
+            b"aaaaaaaaaaaaaaaaaaaaaaaaaaaaaaaaaaaaaaaaaaaaaaaaaaaaaaaaaaaaaaaa\
+aaaaaaaaaaaaaaaaaaaaaaaaaaaaaaaaaaaaaaaaaaaaaaaaaaaaaaaaaaaaaaaa\
+aaaaaaaaaaaaaaaaaaaaaaaaaaaaaaaaaaaaaaaaaaaaaaaaaaaaaaaaaaaaaaaa\
+aaaaaaaaaaaaaaaaaaaaaaaaaaaaaaaaaaaaaaaaaaaaaaaaaaaaaaaaaaaaaa",
+        ],
+        b"\xfe\
+aaaaaaaaaaaaaaaaaaaaaaaaaaaaaaaaaaaaaaaaaaaaaaaaaaaaaaaaaaaaaaaa\
+aaaaaaaaaaaaaaaaaaaaaaaaaaaaaaaaaaaaaaaaaaaaaaaaaaaaaaaaaaaaaaaa\
+aaaaaaaaaaaaaaaaaaaaaaaaaaaaaaaaaaaaaaaaaaaaaaaaaaaaaaaaaaaaaaaa\
+aaaaaaaaaaaaaaaaaaaaaaaaaaaaaaaaaaaaaaaaaaaaaaaaaaaaaaaaaaaaaa",
+    ),
+    (
+        "value_lengths",
+        NAMES,
+        b"\xff\x00\xfe\
+aaaaaaaaaaaaaaaaaaaaaaaaaaaaaaaaaaaaaaaaaaaaaaaaaaaaaaaaaaaaaaaa\
+aaaaaaaaaaaaaaaaaaaaaaaaaaaaaaaaaaaaaaaaaaaaaaaaaaaaaaaaaaaaaaaa\
+aaaaaaaaaaaaaaaaaaaaaaaaaaaaaaaaaaaaaaaaaaaaaaaaaaaaaaaaaaaaaaaa\
+aaaaaaaaaaaaaaaaaaaaaaaaaaaaaaaaaaaaaaaaaaaaaaaaaaaaaaaaaaaaaa",
+        &[
+            b"aaaaaaaaaaaaaaaaaaaaaaaaaaaaaaaaaaaaaaaaaaaaaaaaaaaaaaaaaaaaaaaa\
+aaaaaaaaaaaaaaaaaaaaaaaaaaaaaaaaaaaaaaaaaaaaaaaaaaaaaaaaaaaaaaaa\
+aaaaaaaaaaaaaaaaaaaaaaaaaaaaaaaaaaaaaaaaaaaaaaaaaaaaaaaaaaaaaaaa\
+aaaaaaaaaaaaaaaaaaaaaaaaaaaaaaaaaaaaaaaaaaaaaaaaaaaaaaaaaaaaaa",
+        ],
+        b"\xfe\
+aaaaaaaaaaaaaaaaaaaaaaaaaaaaaaaaaaaaaaaaaaaaaaaaaaaaaaaaaaaaaaaa\
+aaaaaaaaaaaaaaaaaaaaaaaaaaaaaaaaaaaaaaaaaaaaaaaaaaaaaaaaaaaaaaaa\
+aaaaaaaaaaaaaaaaaaaaaaaaaaaaaaaaaaaaaaaaaaaaaaaaaaaaaaaaaaaaaaaa\
+aaaaaaaaaaaaaaaaaaaaaaaaaaaaaaaaaaaaaaaaaaaaaaaaaaaaaaaaaaaaaa",
+    ),
+    (
+        "value_lengths",
+        NAMES,
+        b"\xff\x00\xff\
+aaaaaaaaaaaaaaaaaaaaaaaaaaaaaaaaaaaaaaaaaaaaaaaaaaaaaaaaaaaaaaaa\
+aaaaaaaaaaaaaaaaaaaaaaaaaaaaaaaaaaaaaaaaaaaaaaaaaaaaaaaaaaaaaaaa\
+aaaaaaaaaaaaaaaaaaaaaaaaaaaaaaaaaaaaaaaaaaaaaaaaaaaaaaaaaaaaaaaa\
+aaaaaaaaaaaaaaaaaaaaaaaaaaaaaaaaaaaaaaaaaaaaaaaaaaaaaaaaaaaaaaa",
+        &[
+            b"aaaaaaaaaaaaaaaaaaaaaaaaaaaaaaaaaaaaaaaaaaaaaaaaaaaaaaaaaaaaaaaa\
+aaaaaaaaaaaaaaaaaaaaaaaaaaaaaaaaaaaaaaaaaaaaaaaaaaaaaaaaaaaaaaaa\
+aaaaaaaaaaaaaaaaaaaaaaaaaaaaaaaaaaaaaaaaaaaaaaaaaaaaaaaaaaaaaaaa\
+aaaaaaaaaaaaaaaaaaaaaaaaaaaaaaaaaaaaaaaaaaaaaaaaaaaaaaaaaaaaaaa",
+        ],
+        b"\xff\x00\xff\
+aaaaaaaaaaaaaaaaaaaaaaaaaaaaaaaaaaaaaaaaaaaaaaaaaaaaaaaaaaaaaaaa\
+aaaaaaaaaaaaaaaaaaaaaaaaaaaaaaaaaaaaaaaaaaaaaaaaaaaaaaaaaaaaaaaa\
+aaaaaaaaaaaaaaaaaaaaaaaaaaaaaaaaaaaaaaaaaaaaaaaaaaaaaaaaaaaaaaaa\
+aaaaaaaaaaaaaaaaaaaaaaaaaaaaaaaaaaaaaaaaaaaaaaaaaaaaaaaaaaaaaaa",
+    ),
+    ("value_lengths", NAMES, b"\x03abc", &[b"abc"], b"\x03abc"),
+    (
+        "value_lengths",
+        NAMES,
+        b"\xff\x00\x03abc",
+        &[b"abc"],
+        b"\x03abc",
+    ),
+    (
+        "one_record",
+        FLOW,
+        b"\xc0\x00\x02\x4d\x01\xbb\x00\x00\x05\xdc",
+        &[b"\xc0\x00\x02\x4d", b"\x01\xbb", b"\x00\x00\x05\xdc"],
+        b"\xc0\x00\x02\x4d\x01\xbb\x00\x00\x05\xdc",
+    ),
+    (
+        "scope_and_enterprise_fields",
+        NAMED_INTERFACE,
+        b"\x00\x00\x00\x07\x03eth",
+        &[b"\x00\x00\x00\x07", b"eth"],
+        b"\x00\x00\x00\x07\x03eth",
+    ),
+];
+
+/// Values, and whether they are a record of the template.
+static TRIED: [(Layout, &[&[u8]], bool); 7] = [
+    (NAMED_PORT, &[b"\x01\xbb", b"eth0"], true),
+    ((&[EMPTY_NAME], 0), &[b""], false),
+    ((&[PORT, NAME], 3), &[b"\x01\xbb", b"eth0"], false),
+    (NAMED_PORT, &[b"\x01\xbb"], false),
+    (NAMED_PORT, &[b"\x01\xbb", b"eth0", b""], false),
+    (NAMED_PORT, &[b"\x01", b"eth0"], false),
+    (NAMED_PORT, &[b"\x01\xbb\x00", b"eth0"], false),
+];
+
+/// What is written for a template under the ID 256.
+static TEMPLATES: [(&str, Layout, &[u8]); 3] = [
+    (
+        "one_record",
+        FLOW,
+        b"\x01\x00\x00\x03\x00\x08\x00\x04\x00\x07\x00\x02\x00\x01\x00\x04",
+    ),
+    (
+        "scope_and_enterprise_fields",
+        NAMED_INTERFACE,
+        b"\x01\x00\x00\x02\x00\x01\x00\x0a\x00\x04\x00\x52\xff\xff",
+    ),
+    (
+        "scope_and_enterprise_fields",
+        (&[(Some(29305), 1, 8)], 0),
+        b"\x01\x00\x00\x01\x80\x01\x00\x08\x00\x00\x72\x79",
+    ),
+];
+
+fn expect_check(rt: &impl Abort, alloc: Global, row: &Checked) -> Result<(), Fail> {
+    let (name, fields, scope, id, options, answer, shortest) = row;
+    let template = template_of(alloc, &(fields, *scope))?;
+    assert_eq!(rt; template.check(*id, *options), *answer, "{name}");
+    assert_eq!(rt; template.shortest(), *shortest, "{name}");
+    Ok(())
+}
+
+#[test]
+fn templates(rt: HostRuntime) -> Result<(), Fail> {
+    for row in &CHECKED {
+        expect_check(&rt, rt.alloc(), row)?;
+    }
+    Ok(())
+}
+
+/// Writes a template under the ID 256, if it passes its check.
+fn write_template(template: &Template, out: &mut Vec<u8>) -> Result<(), AllocError> {
+    match template.check(256, template.is_options()) {
+        Ok(()) => encode_template(256, template, out),
+        Err(_) => Ok(()),
+    }
+}
+
+/// What is written for the template. A refused call appends nothing.
+fn template_written(
+    rt: &impl Abort,
+    alloc: Global,
+    template: &Template,
+) -> Result<Vec<u8>, AllocError> {
     let mut out = Vec::from_slice(alloc, BEFORE)?;
-    if encode_template(256, template, &mut out).is_err() {
+    if write_template(template, &mut out).is_err() {
         assert_eq!(rt; out.as_slice(), BEFORE);
-        encode_template(256, template, &mut out)?;
+        write_template(template, &mut out)?;
     }
     Ok(out)
 }
 
+fn expect_template(
+    rt: &impl Abort,
+    alloc: Global,
+    name: &str,
+    layout: &Layout,
+    want: &[u8],
+) -> Result<(), Fail> {
+    let template = template_of(alloc, layout)?;
+    let out = template_written(rt, alloc, &template)?;
+    assert_eq!(rt; appended(rt, &out), want, "{name}");
+    Ok(())
+}
+
+#[test]
+fn written_templates(rt: HostRuntime) -> Result<(), Fail> {
+    for (name, layout, want) in &TEMPLATES {
+        expect_template(&rt, rt.alloc(), name, layout, want)?;
+    }
+    Ok(())
+}
+
+fn split_of(alloc: Global, template: &Template, octets: &[u8]) -> Result<Split, AllocError> {
+    split(alloc, template, octets)
+}
+
+/// What is found at the front of octets, at the second call where the first was refused memory.
+fn found(alloc: Global, template: &Template, octets: &[u8]) -> Result<Split, AllocError> {
+    match split_of(alloc, template, octets) {
+        Ok(found) => Ok(found),
+        Err(_) => split_of(alloc, template, octets),
+    }
+}
+
+fn expect_spans(rt: &impl Abort, name: &str, spans: &[Span], wanted: &[(usize, usize)]) {
+    assert_eq!(rt; spans.len(), wanted.len(), "{name}");
+    for (span, place) in spans.iter().zip(wanted) {
+        assert_eq!(rt; (span.start, span.length), *place, "{name}");
+    }
+}
+
+fn expect_split(rt: &impl Abort, name: &str, split: &Split, wanted: &Wanted) {
+    match (split, wanted) {
+        (Split::Record { spans, used }, Wanted::Record(places, octets)) => {
+            assert_eq!(rt; used, octets, "{name}");
+            expect_spans(rt, name, spans, places);
+        }
+        (Split::Padding, Wanted::Padding) | (Split::Overrun, Wanted::Overrun) => (),
+        _ => panic!(rt; "{split:?} in {name}"),
+    }
+}
+
+#[test]
+fn splits(rt: HostRuntime) -> Result<(), Fail> {
+    let alloc = rt.alloc();
+    for (name, layout, octets, wanted) in &SPLITS {
+        let template = template_of(alloc, layout)?;
+        expect_split(&rt, name, &found(alloc, &template, octets)?, wanted);
+    }
+    Ok(())
+}
+
+fn tried(
+    alloc: Global,
+    template: Template,
+    values: Values,
+) -> Result<Result<Record, RefusedRecord>, Fail> {
+    Ok(Record::try_new(Arc::new(alloc, template)?, values))
+}
+
+/// The value of a span.
+fn value_at(alloc: Global, octets: &[u8], span: Span) -> Result<Bytes, Fail> {
+    let rest = octets.get(span.start..).ok_or("a start past the end")?;
+    let value = rest.get(..span.length).ok_or("a span past the end")?;
+    Ok(Bytes::copy_from_slice(alloc, value)?)
+}
+
+/// The values of the record that takes all the octets.
+fn values_in(alloc: Global, template: &Template, octets: &[u8]) -> Result<Values, Fail> {
+    let Split::Record { spans, used } = found(alloc, template, octets)? else {
+        return Err(Fail::new("no record"));
+    };
+    if used != octets.len() {
+        return Err(Fail::new("octets behind the record"));
+    }
+    let mut values = Vec::new(alloc);
+    for span in &spans {
+        values.push(value_at(alloc, octets, *span)?)?;
+    }
+    Ok(Values::from_vec(values))
+}
+
 /// What is written for the record. A refused call appends nothing.
-fn record_written(rt: &impl Abort, alloc: Global, whole: &Record) -> Result<Vec<u8>, Fail> {
+fn record_written(rt: &impl Abort, alloc: Global, whole: &Record) -> Result<Vec<u8>, AllocError> {
     let mut out = Vec::from_slice(alloc, BEFORE)?;
     if encode_record(whole, &mut out).is_err() {
         assert_eq!(rt; out.as_slice(), BEFORE);
@@ -100,388 +477,116 @@ fn record_written(rt: &impl Abort, alloc: Global, whole: &Record) -> Result<Vec<
     Ok(out)
 }
 
-/// What is found at the front of octets, at the second call where the first was refused memory.
-fn found(alloc: Global, template: &Template, octets: &[u8]) -> Result<Split, Fail> {
-    match split(alloc, template, octets) {
-        Ok(found) => Ok(found),
-        Err(_) => Ok(split(alloc, template, octets)?),
+fn expect_values(rt: &impl Abort, name: &str, values: &Values, wanted: &[&[u8]]) {
+    assert_eq!(rt; values.len(), wanted.len(), "{name}");
+    for (value, octets) in values.as_slice().iter().zip(wanted) {
+        assert_eq!(rt; value.as_slice(), *octets, "{name}");
     }
 }
 
-/// The spans of the record at the front of octets, and the octets that it takes.
-fn spans_of(alloc: Global, template: &Template, octets: &[u8]) -> Result<(Vec<Span>, usize), Fail> {
-    match found(alloc, template, octets)? {
-        Split::Record { spans, used } => Ok((spans, used)),
-        Split::Padding => Err(Fail::new("padding")),
-        Split::Overrun => Err(Fail::new("overrun")),
-    }
-}
-
-fn tried(template: Arc<Template>, values: Values) -> Result<Record, Fail> {
-    match Record::try_new(template, values) {
-        Ok(whole) => Ok(whole),
-        Err(_) => Err(Fail::new("no record")),
-    }
-}
-
-/// The record that takes all the octets, of the values that `split` finds there.
-fn record_of(
-    rt: &impl Abort,
-    alloc: Global,
-    template: Template,
-    octets: &[u8],
-) -> Result<Record, Fail> {
-    let (spans, used) = spans_of(alloc, &template, octets)?;
-    assert_eq!(rt; used, octets.len());
-    let mut values = Vec::new(alloc);
-    for span in &spans {
-        let rest = octets.get(span.start..).ok_or("a start past the end")?;
-        let value = rest.get(..span.length).ok_or("a span past the end")?;
-        values.push(Bytes::copy_from_slice(alloc, value)?)?;
-    }
-    tried(Arc::new(alloc, template)?, Values::from_vec(values))
-}
-
-/// The octets of a length and of a value.
-fn joined(alloc: Global, length: &[u8], value: &[u8]) -> Result<Vec<u8>, Fail> {
-    let mut octets = Vec::from_slice(alloc, length)?;
-    octets.extend_from_slice(value)?;
-    Ok(octets)
-}
-
-#[test]
-fn value_lengths(rt: HostRuntime) -> Result<(), Fail> {
-    let alloc = rt.alloc();
-    let letters = [0x61u8; 255];
-    let empty = b"".as_slice();
-    // What stands before a value in the octets that are read, the value, and what is written before it.
-    let cases = [
-        (b"\x00".as_slice(), empty, b"\x00".as_slice()),
-        (b"\xff\x00\x00", empty, b"\x00"),
-        (b"\xfe", &letters[..254], b"\xfe"),
-        (b"\xff\x00\xfe", &letters[..254], b"\xfe"),
-        (b"\xff\x00\xff", &letters, b"\xff\x00\xff"),
-        (b"\x03", b"abc", b"\x03"),
-        (b"\xff\x00\x03", b"abc", b"\x03"),
-    ];
-    for (read, value, written) in cases {
-        let octets = joined(alloc, read, value)?;
-        let whole = record_of(&rt, alloc, names_template(alloc)?, &octets)?;
-        assert_eq!(rt; whole.values().len(), 1);
-        assert!(rt;
-            whole
-                .values()
-                .as_slice()
-                .iter()
-                .all(|held| held.as_slice() == value)
-        );
-        let out = record_written(&rt, alloc, &whole)?;
-        let want = joined(alloc, written, value)?;
-        assert_eq!(rt; appended(&rt, &out), want.as_slice());
-    }
+fn expect_record(rt: &impl Abort, alloc: Global, row: &Found) -> Result<(), Fail> {
+    let (name, layout, octets, wanted, written) = row;
+    let template = template_of(alloc, layout)?;
+    let values = values_in(alloc, &template, octets)?;
+    expect_values(rt, name, &values, wanted);
+    let whole = tried(alloc, template, values)?.map_err(|_| "no record")?;
+    let out = record_written(rt, alloc, &whole)?;
+    assert_eq!(rt; appended(rt, &out), *written, "{name}");
     Ok(())
 }
 
 #[test]
-fn one_record(rt: HostRuntime) -> Result<(), Fail> {
-    let alloc = rt.alloc();
-    let template = addresses_template(alloc)?;
-    assert_eq!(rt; template.shortest(), 10);
-    assert!(rt; !template.is_options());
-    let written = template_written(&rt, alloc, &template)?;
-    let want = b"\x01\x00\x00\x03\x00\x08\x00\x04\x00\x07\x00\x02\x00\x01\x00\x04";
-    assert_eq!(rt; appended(&rt, &written), want.as_slice());
-
-    let text = b"\xc0\x00\x02\x4d\x01\xbb\x00\x00\x05\xdc";
-    let followed = joined(alloc, text, b"\xff\xff")?;
-    let (spans, used) = spans_of(alloc, &template, &followed)?;
-    let places = [(0, 4), (4, 2), (6, 4)].map(|(start, length)| Span { start, length });
-    assert_eq!(rt; spans.as_slice(), places.as_slice());
-    assert_eq!(rt; used, 10);
-
-    let whole = record_of(&rt, alloc, template, text)?;
-    assert_eq!(rt; whole.template().fields.len(), 3);
-    assert_eq!(rt; whole.values().len(), 3);
-    assert!(rt; !whole.values().is_empty());
-    let back = record_written(&rt, alloc, &whole)?;
-    assert_eq!(rt; appended(&rt, &back), text.as_slice());
-    Ok(())
-}
-
-#[test]
-fn scope_and_enterprise_fields(rt: HostRuntime) -> Result<(), Fail> {
-    let alloc = rt.alloc();
-    let fields = [field(INTERFACE, 4), field(INTERFACE_NAME, VARIABLE)];
-    let options = template_of(alloc, &fields, 1)?;
-    assert!(rt; options.is_options());
-    assert_eq!(rt; options.shortest(), 5);
-    let written = template_written(&rt, alloc, &options)?;
-    let want = b"\x01\x00\x00\x02\x00\x01\x00\x0a\x00\x04\x00\x52\xff\xff";
-    assert_eq!(rt; appended(&rt, &written), want.as_slice());
-    let text = b"\x00\x00\x00\x07\x03eth";
-    let whole = record_of(&rt, alloc, options, text)?;
-    let back = record_written(&rt, alloc, &whole)?;
-    assert_eq!(rt; appended(&rt, &back), text.as_slice());
-
-    let enterprise = FieldSpec {
-        element: ElementId::enterprise(29305, 1),
-        length: 8,
-    };
-    let template = template_of(alloc, &[enterprise], 0)?;
-    let written = template_written(&rt, alloc, &template)?;
-    let want = b"\x01\x00\x00\x01\x80\x01\x00\x08\x00\x00\x72\x79";
-    assert_eq!(rt; appended(&rt, &written), want.as_slice());
-    Ok(())
-}
-
-#[test]
-fn refused_template(rt: HostRuntime) -> Result<(), Fail> {
-    let good = [field(SOURCE_ADDRESS, 4), field(PROTOCOL, 1)];
-    let port = [field(SOURCE_PORT, 2)];
-    let short_port = [field(SOURCE_PORT, 1)];
-    let long_port = [field(SOURCE_PORT, 3)];
-    let no_port = [field(SOURCE_PORT, 0)];
-    let variable_port = [field(SOURCE_PORT, VARIABLE)];
-    let empty = [field(INTERFACE_NAME, 0)];
-    let foreign = [FieldSpec {
-        element: ElementId::enterprise(29305, SOURCE_PORT),
-        length: 3,
-    }];
-    // Fields and scope, the ID, whether it is an options template, and what the check says.
-    let cases = [
-        (good.as_slice(), 0, 255, false, Err(Refused::BadId)),
-        (&good, 0, 256, false, Ok(())),
-        (&good, 0, 65535, false, Ok(())),
-        (&port, 0, 256, false, Ok(())),
-        (&short_port, 0, 256, false, Ok(())),
-        (&long_port, 0, 256, false, Err(Refused::BadLength)),
-        (&no_port, 0, 256, false, Err(Refused::BadLength)),
-        (&variable_port, 0, 256, false, Err(Refused::BadLength)),
-        (&foreign, 0, 256, false, Ok(())),
-        (&good, 0, 256, true, Err(Refused::BadScope)),
-        (&good, 1, 256, true, Ok(())),
-        (&good, 2, 256, true, Ok(())),
-        (&good, 3, 256, true, Err(Refused::BadScope)),
-        (&good, 1, 256, false, Err(Refused::BadScope)),
-        (&empty, 0, 256, false, Err(Refused::EmptyRecord)),
-        (&[], 0, 256, false, Err(Refused::EmptyRecord)),
-        // Where several reasons stand, the first is named.
-        (&long_port, 1, 255, false, Err(Refused::BadId)),
-        (&long_port, 1, 256, false, Err(Refused::BadLength)),
-        (&empty, 1, 256, false, Err(Refused::BadScope)),
-        (&empty, 1, 256, true, Err(Refused::EmptyRecord)),
-    ];
-    for (fields, scope, id, options, want) in cases {
-        let template = template_of(rt.alloc(), fields, scope)?;
-        assert_eq!(rt;
-            template.check(id, options),
-            want,
-            "{fields:?} {scope} {id} {options}"
-        );
+fn records(rt: HostRuntime) -> Result<(), Fail> {
+    for row in &RECORDS {
+        expect_record(&rt, rt.alloc(), row)?;
     }
     Ok(())
-}
-
-#[test]
-fn shortest_record(rt: HostRuntime) -> Result<(), Fail> {
-    let name = field(INTERFACE_NAME, VARIABLE);
-    let address = field(SOURCE_ADDRESS, 4);
-    let fixed_name = field(INTERFACE_NAME, 65534);
-    for (fields, want) in [
-        ([name, address, name].as_slice(), 6),
-        (&[name], 1),
-        (&[fixed_name, fixed_name], 131068),
-        (&[], 0),
-    ] {
-        assert_eq!(rt; template_of(rt.alloc(), fields, 0)?.shortest(), want);
-    }
-    assert!(rt; name.is_variable());
-    assert!(rt; !fixed_name.is_variable());
-    assert_eq!(rt;
-        (name.least_octets(), fixed_name.least_octets()),
-        (1, 65534)
-    );
-    assert!(rt; name.has_allowed_length());
-    assert!(rt; !field(SOURCE_PORT, 3).has_allowed_length());
-    Ok(())
-}
-
-#[test]
-fn padding_and_overrun(rt: HostRuntime) -> Result<(), Fail> {
-    let alloc = rt.alloc();
-    let fixed = addresses_template(alloc)?;
-    let names = names_template(alloc)?;
-    assert!(rt; matches!(&found(alloc, &fixed, &[0; 9])?, Split::Padding));
-    assert!(rt; matches!(&found(alloc, &fixed, &[0; 10])?, Split::Record { .. }));
-    assert!(rt; matches!(&found(alloc, &names, b"")?, Split::Padding));
-    for octets in [
-        b"a".as_slice(),
-        b"\xff\xff\xffa",
-        b"\xff",
-        b"\xff\x00",
-        b"\x03bc",
-    ] {
-        assert!(rt;
-            matches!(&found(alloc, &names, octets)?, Split::Overrun),
-            "{octets:?}"
-        );
-    }
-    Ok(())
-}
-
-#[test]
-fn record_overrun(rt: HostRuntime) -> Result<(), Fail> {
-    let alloc = rt.alloc();
-    let names = names_template(alloc)?;
-    let content = b"\x01\x61\x03\x62\x63";
-    let (spans, used) = spans_of(alloc, &names, content)?;
-    let place = Span {
-        start: 1,
-        length: 1,
-    };
-    assert_eq!(rt; spans.as_slice(), [place].as_slice());
-    assert_eq!(rt; used, 2);
-    assert!(rt; matches!(&found(alloc, &names, &content[2..])?, Split::Overrun));
-    Ok(())
-}
-
-/// Asserts that template and values are refused, and come back as they were.
-fn assert_refused(
-    rt: &impl Abort,
-    alloc: Global,
-    fields: &[FieldSpec],
-    scope: u16,
-    texts: &[&'static [u8]],
-) -> Result<(), Fail> {
-    let template = Arc::new(alloc, template_of(alloc, fields, scope)?)?;
-    match Record::try_new(template, values_of(alloc, texts)?) {
-        Ok(_) => Err(Fail::new("a record")),
-        Err(refused) => {
-            assert_eq!(rt; refused.template.fields.as_slice(), fields);
-            assert_eq!(rt; refused.template.scope, scope);
-            assert_eq!(rt; refused.values.len(), texts.len());
-            for (value, text) in refused.values.as_slice().iter().zip(texts) {
-                assert_eq!(rt; value.as_slice(), *text);
-            }
-            Ok(())
-        }
-    }
 }
 
 #[test]
 fn refused_records(rt: HostRuntime) -> Result<(), Fail> {
     let alloc = rt.alloc();
-    let both = [field(SOURCE_PORT, 2), field(INTERFACE_NAME, VARIABLE)];
-    let empty = [field(INTERFACE_NAME, 0)];
-    tried(
-        Arc::new(alloc, template_of(alloc, &both, 0)?)?,
-        values_of(alloc, &[b"\x01\xbb", b"eth0"])?,
-    )?;
-    assert_refused(&rt, alloc, &empty, 0, &[b""])?;
-    assert_refused(&rt, alloc, &both, 3, &[b"\x01\xbb", b"eth0"])?;
-    assert_refused(&rt, alloc, &both, 0, &[b"\x01\xbb"])?;
-    assert_refused(&rt, alloc, &both, 0, &[b"\x01\xbb", b"eth0", b""])?;
-    assert_refused(&rt, alloc, &both, 0, &[b"\x01", b"eth0"])?;
-    assert_refused(&rt, alloc, &both, 0, &[b"\x01\xbb\x00", b"eth0"])?;
-    Ok(())
-}
-
-#[test]
-fn one_message_holds_a_record(rt: HostRuntime) -> Result<(), Fail> {
-    let alloc = rt.alloc();
-    // The length of a long value takes 3 octets.
-    let names = Arc::new(alloc, names_template(alloc)?)?;
-    let whole = tried(names.clone()?, long_value(alloc, RECORD_ROOM - 3)?)?;
-    assert_eq!(rt;
-        appended(&rt, &record_written(&rt, alloc, &whole)?).len(),
-        65515
-    );
-    match Record::try_new(names, long_value(alloc, RECORD_ROOM - 2)?) {
-        Ok(_) => Err(Fail::new("a record that no message holds")),
-        Err(refused) => {
-            assert_eq!(rt; refused.values.into_vec().len(), 1);
-            Ok(())
-        }
-    }
-}
-
-#[test]
-fn one_message_holds_a_template(rt: HostRuntime) -> Result<(), Fail> {
-    let alloc = rt.alloc();
-    let name = field(INTERFACE_NAME, VARIABLE);
-    // 4 octets for the head and for each field: 65,512 of 65,515 octets, and 65,516 with a field more.
-    for (fields, fits) in [(16377, true), (16378, false)] {
-        let list = Fields::from_vec(Vec::from_elem(alloc, name, fields)?)?;
-        let template = Template {
-            fields: list,
-            scope: 0,
-        };
-        let values = Values::from_vec(Vec::from_elem(alloc, Bytes::new(), fields)?);
-        let tried = Record::try_new(Arc::new(alloc, template)?, values);
-        assert_eq!(rt; tried.is_ok(), fits);
+    for (layout, texts, accepted) in &TRIED {
+        let answer = tried(alloc, template_of(alloc, layout)?, values_of(alloc, texts)?)?;
+        assert_eq!(rt; answer.is_ok(), *accepted, "{texts:?}");
     }
     Ok(())
 }
 
-#[test]
-fn fields_of_a_list(rt: HostRuntime) -> Result<(), Fail> {
-    let alloc = rt.alloc();
-    let name = field(INTERFACE_NAME, VARIABLE);
-    let most = Fields::from_vec(Vec::from_elem(alloc, name, MOST_FIELDS)?)?;
-    assert_eq!(rt; most.len(), 65535);
-    assert!(rt; !most.is_empty());
-    assert_eq!(rt; most.into_vec().len(), 65535);
-    let more = Vec::from_elem(alloc, name, MOST_FIELDS + 1)?;
-    match Fields::from_vec(more) {
-        Ok(_) => Err(Fail::new("more fields than are counted in two octets")),
-        Err(refused) => {
-            assert_eq!(rt; refused.len(), 65536);
-            Ok(())
-        }
-    }
+/// So many interface names.
+fn many_names(alloc: Global, count: usize) -> Result<Vec<FieldSpec>, AllocError> {
+    let element = ElementId::registered(82);
+    Vec::from_elem(
+        alloc,
+        FieldSpec {
+            element,
+            length: VARIABLE,
+        },
+        count,
+    )
 }
 
-/// A list of this one value.
-fn one_value(alloc: Global, octets: &'static [u8]) -> Result<Values, AllocError>
-    ensures { IfOk result (λ values. values ≡ octets.now ∷ []) }
-{
+/// A template of so many interface names.
+fn long_template(alloc: Global, count: usize) -> Result<Template, Fail> {
+    let fields = Fields::from_vec(many_names(alloc, count)?)?;
+    Ok(Template { fields, scope: 0 })
+}
+
+/// Whether one interface name of so many octets is a record.
+fn holds_value(alloc: Global, len: usize) -> Result<bool, Fail> {
+    let value = Bytes::from_vec(Vec::from_elem(alloc, 0x61, len)?)?;
     let mut values = Vec::new(alloc);
-    values.push(Bytes::from_static(octets))?;
-    Ok(Values::from_vec(values))
+    values.push(value)?;
+    Ok(tried(alloc, long_template(alloc, 1)?, Values::from_vec(values))?.is_ok())
 }
 
-#[test]
-fn known_to_be_a_record(rt: HostRuntime) -> Result<(), Fail> {
-    let alloc = rt.alloc();
-    let protocol = template_of(alloc, &[field(PROTOCOL, 1)], 0)?;
-    let template = Arc::new(alloc, protocol)?;
-    match Record::try_new(template.clone()?, one_value(alloc, b"\x06")?) {
-        Ok(_) => {
-            let whole = Record::new(template, one_value(alloc, b"\x06")?);
-            let written = record_written(&rt, alloc, &whole)?;
-            assert_eq!(rt; appended(&rt, &written), b"\x06".as_slice());
-            Ok(())
-        }
-        Err(_) => Err(Fail::new("no record")),
-    }
+/// Whether so many empty interface names are a record.
+fn holds_fields(alloc: Global, count: usize) -> Result<bool, Fail> {
+    let values = Values::from_vec(Vec::from_elem(alloc, Bytes::new(), count)?);
+    Ok(tried(alloc, long_template(alloc, count)?, values)?.is_ok())
 }
+
+/// Whether so many fields are a template's list.
+fn is_list(alloc: Global, count: usize) -> Result<bool, AllocError> {
+    Ok(Fields::from_vec(many_names(alloc, count)?).is_ok())
+}
+
+/// Octets of a value, whose length takes 3 more, and whether a message holds it.
+static LONG_VALUES: [(usize, bool); 2] = [(RECORD_ROOM - 3, true), (RECORD_ROOM - 2, false)];
+
+/// Fields, and whether a message holds their template: 4 octets for its head and for each field, 65,512 of 65,515
+/// octets, and 65,516 with a field more.
+static LONG_TEMPLATES: [(usize, bool); 2] = [(16377, true), (16378, false)];
+
+/// Fields, and whether they are a list that two octets count.
+static LONG_LISTS: [(usize, bool); 2] = [(65535, true), (65536, false)];
+
+#[test]
+fn longest_records_and_templates(rt: HostRuntime) -> Result<(), Fail> {
+    let alloc = rt.alloc();
+    for (octets, fits) in &LONG_VALUES {
+        assert_eq!(rt; holds_value(alloc, *octets)?, *fits, "{octets}");
+    }
+    for (fields, fits) in &LONG_TEMPLATES {
+        assert_eq!(rt; holds_fields(alloc, *fields)?, *fits, "{fields}");
+    }
+    for (fields, fits) in &LONG_LISTS {
+        assert_eq!(rt; is_list(alloc, *fields)?, *fits, "{fields}");
+    }
+    Ok(())
+}
+
+static REFUSALS: [(Refused, &str); 4] = [
+    (Refused::BadId, "BadId"),
+    (Refused::BadLength, "BadLength"),
+    (Refused::BadScope, "BadScope"),
+    (Refused::EmptyRecord, "EmptyRecord"),
+];
 
 #[test]
 fn texts_of_refusals(rt: HostRuntime) -> Result<(), Fail> {
-    for (why, want) in [
-        (Refused::BadId, "BadId"),
-        (Refused::BadLength, "BadLength"),
-        (Refused::BadScope, "BadScope"),
-        (Refused::EmptyRecord, "EmptyRecord"),
-    ] {
-        assert_eq!(rt; format!(in rt.alloc(); "{why}")?.as_str(), want);
+    for (why, want) in &REFUSALS {
+        assert_eq!(rt; format!(in rt.alloc(); "{why}")?.as_str(), *want);
     }
     Ok(())
-}
-
-#[test]
-fn laws_are_called() {
-    record_splits_back();
-    one_split();
-    one_template();
 }

@@ -1,12 +1,13 @@
-use crate::{
-    Action, FaultKind, Policy, PolicyFault, first_fault, is_name, one_policy, print_then_parse,
-};
+//! Texts from outside and what they are: the fault of each, or what it prints; printed texts, sizes at
+//! their bounds, and that a call that was refused memory answers as ever when it is made again.
+use crate::{FaultKind, Policy, PolicyFault, is_name};
 use std::alloc::{AllocError, Global};
+use std::fmt::Write;
 use std::process::Abort;
 use std::test::Fail;
 
 /// Texts and their faults, as the checks of an independent reading have them.
-const FAULTS: [(&str, usize, FaultKind); 36] = [
+static FAULTS: [(&str, usize, FaultKind); 36] = [
     (
         "policy 1\naggregate web key destinationTransportPort interval 300 grace 60\nrule for * in 0 from 2001:db8::/129 to :::/0 element * keep\nrule\tfor\t*\tin\t0\tfrom\t192.0.2.0/24\tto\t*\tpass\nrule for * in 0 from 192.0.2.0/24 to 192.0.2.0/24 element * truncate 49\n",
         3,
@@ -185,263 +186,279 @@ const FAULTS: [(&str, usize, FaultKind); 36] = [
     ),
 ];
 
-/// Texts, and how many rules and aggregates they have.
-const POLICIES: [(&str, usize, usize); 4] = [
-    ("policy 1\n", 0, 0),
-    ("policy 1\n\n", 0, 0),
+/// The worked bad lines, one after `policy 1`; and texts without that line.
+static BAD_LINES: [(&str, usize, FaultKind); 12] = [
     (
-        "policy 1\naggregate w2 key destinationTransportPort interval 1 grace 0\nrule for * in 7 from 1:2:3:4:5:6:7::/112 to 192.0.2.0/24 element e1/2 keep\n",
-        1,
-        1,
+        "policy 1\nrule for acme in 4294967296 from * to * pass",
+        2,
+        FaultKind::BadNumber,
     ),
     (
-        "policy 1\naggregate web key destinationTransportPort interval 300 grace 60\n",
-        0,
-        1,
+        "policy 1\nrule for acme in * from * to * pass pass",
+        2,
+        FaultKind::UnknownWord,
+    ),
+    (
+        "policy 1\nrule for acme in * from * to * element e8 keep",
+        2,
+        FaultKind::BadName,
+    ),
+    (
+        "policy 1\nrule for acme in * from * to * element * truncate 8",
+        2,
+        FaultKind::BadTruncate,
+    ),
+    (
+        "policy 1\nrule for acme in * from * to * element sourceIPv4Address truncate 33",
+        2,
+        FaultKind::BadTruncate,
+    ),
+    (
+        "policy 1\nrule for acme in * from * to * element sourceIPv4Address truncate 1000",
+        2,
+        FaultKind::BadNumber,
+    ),
+    (
+        "policy 1\nrule for acme in * from * to * aggregate web",
+        2,
+        FaultKind::UnknownAggregate,
+    ),
+    (
+        "policy 1\naggregate a key flowId interval 300 grace 0",
+        2,
+        FaultKind::BadKey,
+    ),
+    (
+        "policy 1\naggregate a key vlanId,vlanId interval 300 grace 0",
+        2,
+        FaultKind::BadKey,
+    ),
+    ("", 1, FaultKind::NoHeader),
+    ("policy 2\nrule", 1, FaultKind::NoHeader),
+    (
+        "policy 1\nrule for a in * from 192.0.2.1/24 to * pass",
+        2,
+        FaultKind::BadPrefix,
     ),
 ];
 
-const PASS: &str =
-    "policy 1\nrule for * in * from * to * pass\nrule for * in * from * to * element * keep\n";
+/// A text that is a policy.
+struct Spelled {
+    /// The case.
+    name: &'static str,
+    text: &'static str,
+    rules: usize,
+    aggregates: usize,
+    /// What it prints.
+    printed: &'static str,
+}
+
+static POLICIES: [Spelled; 7] = [
+    Spelled {
+        name: "check_policy",
+        text: "policy 1\nrule for * in * from * to * pass\nrule for * in * from * to * element * keep\n",
+        rules: 2,
+        aggregates: 0,
+        printed: "policy 1\nrule for * in * from * to * pass\nrule for * in * from * to * element * keep\n",
+    },
+    Spelled {
+        name: "tabs_comments_and_carriage_returns",
+        text: "\t# a comment\r\n\r\n policy\t1 \r\naggregate web\tkey vlanId,protocolIdentifier interval 300 grace 60\r\n#\nrule for acme in 7 from 2001:DB8::/32 to 192.0.2.0/24 aggregate web\r\nrule for * in * from * to * element sourceIPv4Address truncate 24",
+        rules: 2,
+        aggregates: 1,
+        printed: "policy 1\naggregate web key vlanId,protocolIdentifier interval 300 grace 60\nrule for acme in 7 from 2001:db8:0:0:0:0:0:0/32 to 192.0.2.0/24 aggregate web\nrule for * in * from * to * element sourceIPv4Address truncate 24\n",
+    },
+    Spelled {
+        name: "aggregate_and_its_rule",
+        text: "policy 1\naggregate web key vlanId interval 300 grace 60\nrule for acme in * from * to * aggregate web\n",
+        rules: 1,
+        aggregates: 1,
+        printed: "policy 1\naggregate web key vlanId interval 300 grace 60\nrule for acme in * from * to * aggregate web\n",
+    },
+    Spelled {
+        name: "no_lines",
+        text: "policy 1\n",
+        rules: 0,
+        aggregates: 0,
+        printed: "policy 1\n",
+    },
+    Spelled {
+        name: "an_empty_line",
+        text: "policy 1\n\n",
+        rules: 0,
+        aggregates: 0,
+        printed: "policy 1\n",
+    },
+    Spelled {
+        name: "aggregate_without_a_rule_for_it",
+        text: "policy 1\naggregate w2 key destinationTransportPort interval 1 grace 0\nrule for * in 7 from 1:2:3:4:5:6:7::/112 to 192.0.2.0/24 element e1/2 keep\n",
+        rules: 1,
+        aggregates: 1,
+        printed: "policy 1\naggregate w2 key destinationTransportPort interval 1 grace 0\nrule for * in 7 from 1:2:3:4:5:6:7:0/112 to 192.0.2.0/24 element e1/2 keep\n",
+    },
+    Spelled {
+        name: "aggregate_alone",
+        text: "policy 1\naggregate web key destinationTransportPort interval 300 grace 60\n",
+        rules: 0,
+        aggregates: 1,
+        printed: "policy 1\naggregate web key destinationTransportPort interval 300 grace 60\n",
+    },
+];
 
 /// The answer for a text. A call that is refused for memory has line 0, and is made again.
-fn parse<R: Abort + AllocGlobal>(rt: &R, text: &str) -> Result<Policy, PolicyFault> {
-    let answer = Policy::parse(rt.alloc(), text);
-    if let Err(refused) = &answer {
-        if refused.kind == FaultKind::OutOfMemory {
-            assert_eq!(rt; refused.line, 0, "of {text:?}");
-            return Policy::parse(rt.alloc(), text);
+fn parse(rt: &impl Abort, alloc: Global, text: &str) -> Result<Policy, PolicyFault> {
+    match Policy::parse(alloc, text) {
+        Err(
+            PolicyFault {
+                line,
+                kind: FaultKind::OutOfMemory,
+            },
+        ) => {
+            assert_eq!(rt; line, 0, "of {text:?}");
+            parse_again(alloc, text)
         }
+        answer => answer,
     }
-    answer
 }
 
-/// A policy's printed text. A call that is refused leaves the policy as it was, and is made again.
-fn print<R: Abort + AllocGlobal>(rt: &R, policy: &Policy) -> Result<String, AllocError> {
-    let (rules, aggregates) = (policy.rules().len(), policy.aggregates().len());
-    match policy.print(rt.alloc()) {
+fn parse_again(alloc: Global, text: &str) -> Result<Policy, PolicyFault> {
+    Policy::parse(alloc, text)
+}
+
+/// A policy's printed text; a call that is refused is made again.
+fn print(alloc: Global, policy: &Policy) -> Result<String, AllocError> {
+    match policy.print(alloc) {
         Ok(text) => Ok(text),
-        Err(_) => {
-            assert_eq!(rt; policy.rules().len(), rules);
-            assert_eq!(rt; policy.aggregates().len(), aggregates);
-            policy.print(rt.alloc())
-        }
-    }
-}
-
-/// The line of an aggregate `aPLACE`.
-fn aggregate_line(alloc: Global, place: u32) -> Result<String, AllocError> {
-    match format!(in alloc; "aggregate a{place} key vlanId interval 1 grace 0\n") {
-        Ok(line) => Ok(line),
-        Err(_) => format!(in alloc; "aggregate a{place} key vlanId interval 1 grace 0\n"),
+        Err(_) => policy.print(alloc),
     }
 }
 
 /// That the text has this fault.
-fn expect_fault<R: Abort + AllocGlobal>(rt: &R, text: &str, line: usize, kind: FaultKind) {
-    let found = parse(rt, text).err().map(|fault| (fault.line, fault.kind));
-    assert_eq!(rt; found, Some((line, kind)), "of {text:?}");
-}
-
-/// Six lines of the table: few, so that each allocation of a test can be refused in turn.
-fn expect_faults<R: Abort + AllocGlobal>(rt: &R, from: usize) {
-    for (text, line, kind) in FAULTS.iter().skip(from).take(6) {
-        expect_fault(rt, text, *line, *kind);
+fn expect_fault(rt: &impl Abort, alloc: Global, text: &str, line: usize, kind: FaultKind) {
+    match parse(rt, alloc, text) {
+        Ok(_) => panic!(rt; "no fault of {text:?}"),
+        Err(fault) => assert_eq!(rt; (fault.line, fault.kind), (line, kind), "of {text:?}"),
     }
 }
 
-#[test]
-fn faults_from_the_first(rt: HostRuntime) {
-    expect_faults(&rt, 0);
+fn expect_counts(rt: &impl Abort, name: &str, policy: &Policy, rules: usize, aggregates: usize) {
+    assert_eq!(rt; policy.rules().len(), rules, "rules of {name}");
+    assert_eq!(rt;
+        policy.aggregates().len(),
+        aggregates,
+        "aggregates of {name}"
+    );
 }
 
-#[test]
-fn faults_from_the_seventh(rt: HostRuntime) {
-    expect_faults(&rt, 6);
-}
-
-#[test]
-fn faults_from_the_13th(rt: HostRuntime) {
-    expect_faults(&rt, 12);
-}
-
-#[test]
-fn faults_from_the_19th(rt: HostRuntime) {
-    expect_faults(&rt, 18);
-}
-
-#[test]
-fn faults_from_the_25th(rt: HostRuntime) {
-    expect_faults(&rt, 24);
-}
-
-#[test]
-fn faults_from_the_31st(rt: HostRuntime) {
-    expect_faults(&rt, 30);
-}
-
-#[test]
-fn policies(rt: HostRuntime) -> Result<(), Fail> {
-    for (text, rules, aggregates) in POLICIES {
-        let policy = parse(&rt, text).ok().ok_or("a policy")?;
-        assert_eq!(rt; policy.rules().len(), rules, "of {text:?}");
-        assert_eq!(rt; policy.aggregates().len(), aggregates, "of {text:?}");
-    }
+/// That the text is a policy with these counts and this printed text.
+fn expect_policy(rt: &impl Abort, alloc: Global, row: &Spelled) -> Result<(), Fail> {
+    let policy = parse(rt, alloc, row.text).map_err(|_| row.name)?;
+    expect_counts(rt, row.name, &policy, row.rules, row.aggregates);
+    let printed = print(alloc, &policy)?;
+    assert_eq!(rt; printed.as_str(), row.printed, "{}", row.name);
     Ok(())
+}
+
+#[test]
+fn faults_from_outside(rt: HostRuntime) {
+    for (text, line, kind) in FAULTS {
+        expect_fault(&rt, rt.alloc(), text, line, kind);
+    }
 }
 
 #[test]
 fn bad_lines(rt: HostRuntime) {
-    for (text, kind) in [
-        (
-            "policy 1\nrule for acme in 4294967296 from * to * pass",
-            FaultKind::BadNumber,
-        ),
-        (
-            "policy 1\nrule for acme in * from * to * pass pass",
-            FaultKind::UnknownWord,
-        ),
-        (
-            "policy 1\nrule for acme in * from * to * element e8 keep",
-            FaultKind::BadName,
-        ),
-        (
-            "policy 1\nrule for acme in * from * to * element * truncate 8",
-            FaultKind::BadTruncate,
-        ),
-        (
-            "policy 1\nrule for acme in * from * to * element sourceIPv4Address truncate 33",
-            FaultKind::BadTruncate,
-        ),
-        (
-            "policy 1\nrule for acme in * from * to * element sourceIPv4Address truncate 1000",
-            FaultKind::BadNumber,
-        ),
-        (
-            "policy 1\nrule for acme in * from * to * aggregate web",
-            FaultKind::UnknownAggregate,
-        ),
-        (
-            "policy 1\naggregate a key flowId interval 300 grace 0",
-            FaultKind::BadKey,
-        ),
-        (
-            "policy 1\naggregate a key vlanId,vlanId interval 300 grace 0",
-            FaultKind::BadKey,
-        ),
-    ] {
-        expect_fault(&rt, text, 2, kind);
+    for (text, line, kind) in BAD_LINES {
+        expect_fault(&rt, rt.alloc(), text, line, kind);
     }
-    expect_fault(&rt, "", 1, FaultKind::NoHeader);
-    expect_fault(&rt, "policy 2\nrule", 1, FaultKind::NoHeader);
-    expect_fault(
-        &rt,
-        "policy 1\nrule for a in * from 192.0.2.1/24 to * pass",
-        2,
-        FaultKind::BadPrefix,
-    );
 }
 
 #[test]
-fn check_policy(rt: HostRuntime) -> Result<(), Fail> {
-    let policy = parse(&rt, PASS).ok().ok_or("a policy")?;
-    assert_eq!(rt; policy.rules().len(), 2);
-    assert_eq!(rt; policy.aggregates().len(), 0);
-    let text = print(&rt, &policy)?;
-    assert_eq!(rt; text.as_str(), PASS);
-    print_then_parse();
-    one_policy();
-    first_fault();
+fn policies(rt: HostRuntime) -> Result<(), Fail> {
+    for row in &POLICIES {
+        expect_policy(&rt, rt.alloc(), row)?;
+    }
     Ok(())
 }
 
-#[test]
-fn tabs_comments_and_carriage_returns(rt: HostRuntime) -> Result<(), Fail> {
-    let text =
-        "\t# a comment\r\n\r\n policy\t1 \r\naggregate web\tkey vlanId,protocolIdentifier interval 300 grace 60\r\n#\nrule for acme in 7 from 2001:DB8::/32 to 192.0.2.0/24 aggregate web\r\nrule for * in * from * to * element sourceIPv4Address truncate 24";
-    let policy = parse(&rt, text).ok().ok_or("a policy")?;
-    let printed = print(&rt, &policy)?;
-    assert_eq!(rt;
-        printed.as_str(),
-        "policy 1\naggregate web key vlanId,protocolIdentifier interval 300 grace 60\nrule for acme in 7 from 2001:db8:0:0:0:0:0:0/32 to 192.0.2.0/24 aggregate web\nrule for * in * from * to * element sourceIPv4Address truncate 24\n"
-    );
-    assert_eq!(rt; policy.rules().len(), 2);
-    let rule = &policy.rules()[0];
-    assert_eq!(rt; rule.action, Action::Aggregate(0));
-    assert_eq!(rt; rule.domain, Some(7));
-    assert!(rt; rule.element.is_none());
-    let who = rule.who.as_ref().ok_or("a name")?;
-    assert_eq!(rt; who.as_str(), "acme");
-    assert_eq!(rt; who.as_bytes(), b"acme".as_slice());
-    assert_eq!(rt; policy.rules()[1].action, Action::Truncate(24));
-    assert_eq!(rt; policy.aggregates().len(), 1);
-    let web = &policy.aggregates()[0];
-    assert_eq!(rt; web.name().as_str(), "web");
-    assert_eq!(rt; web.key().len(), 2);
-    assert_eq!(rt; (web.interval(), web.grace()), (300, 60));
-    Ok(())
-}
-
-#[test]
-fn most_rules(rt: HostRuntime) -> Result<(), Fail> {
-    let mut text = String::new(rt.alloc());
+/// A text of so many rules, each of one aggregate.
+fn text_of_rules(alloc: Global, count: u32) -> Result<String, Fail> {
+    let mut text = String::new(alloc);
     text.push_str("policy 1\naggregate a key vlanId interval 1 grace 0\n")?;
-    for _ in 0..4096u32 {
+    for _ in 0..count {
         text.push_str("rule for * in * from * to * aggregate a\n")?;
     }
-    let policy = parse(&rt, text.as_str()).ok().ok_or("a policy")?;
-    assert_eq!(rt; policy.rules().len(), 4096);
-    text.push_str("rule")?;
-    expect_fault(&rt, text.as_str(), 4099, FaultKind::TooMany);
+    Ok(text)
+}
+
+/// A text of so many aggregates, with a rule for the last of 256.
+fn text_of_aggregates(alloc: Global, count: u32) -> Result<String, Fail> {
+    let mut text = String::new(alloc);
+    text.push_str("policy 1\n")?;
+    for place in 0..count {
+        write!(text, "aggregate a{place} key vlanId interval 1 grace 0\n")?;
+    }
+    text.push_str("rule for * in * from * to * aggregate a255\n")?;
+    Ok(text)
+}
+
+/// That the text is a policy with these counts, and no longer one with a line more, which begins with this word.
+fn expect_most(
+    rt: &impl Abort,
+    alloc: Global,
+    mut text: String,
+    (rules, aggregates): (usize, usize),
+    (word, line): (&str, usize),
+) -> Result<(), Fail> {
+    let policy = parse(rt, alloc, text.as_str()).map_err(|_| "a policy")?;
+    expect_counts(rt, word, &policy, rules, aggregates);
+    text.push_str(word)?;
+    expect_fault(rt, alloc, text.as_str(), line, FaultKind::TooMany);
     Ok(())
 }
 
 #[test]
-fn most_aggregates(rt: HostRuntime) -> Result<(), Fail> {
-    let mut text = String::new(rt.alloc());
-    text.push_str("policy 1\n")?;
-    for place in 0..256u32 {
-        let line = aggregate_line(rt.alloc(), place)?;
-        text.push_str(line.as_str())?;
-    }
-    text.push_str("rule for * in * from * to * aggregate a255\n")?;
-    let policy = parse(&rt, text.as_str()).ok().ok_or("a policy")?;
-    assert_eq!(rt; policy.aggregates().len(), 256);
-    assert_eq!(rt; policy.rules().len(), 1);
-    assert_eq!(rt; policy.rules()[0].action, Action::Aggregate(255));
-    text.push_str("aggregate")?;
-    expect_fault(&rt, text.as_str(), 259, FaultKind::TooMany);
-    Ok(())
+fn most_rules_and_aggregates(rt: HostRuntime) -> Result<(), Fail> {
+    let alloc = rt.alloc();
+    let rules = text_of_rules(alloc, 4096)?;
+    expect_most(&rt, alloc, rules, (4096, 1), ("rule", 4099))?;
+    let aggregates = text_of_aggregates(alloc, 256)?;
+    expect_most(&rt, alloc, aggregates, (1, 256), ("aggregate", 259))
 }
+
+static NAMES: [(&str, bool); 10] = [
+    ("a", true),
+    ("acme-2_x", true),
+    ("abcdefghijklmnopqrstuvwxyz012345", true),
+    ("abcdefghijklmnopqrstuvwxyz0123456", false),
+    ("", false),
+    ("Acme", false),
+    ("9a", false),
+    ("-a", false),
+    ("a.b", false),
+    ("*", false),
+];
 
 #[test]
 fn names(rt: HostRuntime) {
-    for (text, want) in [
-        ("a", true),
-        ("acme-2_x", true),
-        ("abcdefghijklmnopqrstuvwxyz012345", true),
-        ("abcdefghijklmnopqrstuvwxyz0123456", false),
-        ("", false),
-        ("Acme", false),
-        ("9a", false),
-        ("-a", false),
-        ("a.b", false),
-        ("*", false),
-    ] {
+    for (text, want) in NAMES {
         assert_eq!(rt; is_name(text), want, "of {text}");
     }
 }
 
-#[test]
-fn want_of_memory(rt: HostRuntime) -> Result<(), Fail> {
-    let text =
-        "policy 1\naggregate web key vlanId interval 300 grace 60\nrule for acme in * from * to * aggregate web\n";
-    let policy = parse(&rt, text).ok().ok_or("a policy")?;
-    assert_eq!(rt; policy.rules().len(), 1);
-    let printed = print(&rt, &policy)?;
-    assert_eq!(rt; printed.as_str(), text);
-    Ok(())
-}
+static KINDS: [(FaultKind, &str); 11] = [
+    (FaultKind::NoHeader, "NoHeader"),
+    (FaultKind::UnknownWord, "UnknownWord"),
+    (FaultKind::BadName, "BadName"),
+    (FaultKind::BadNumber, "BadNumber"),
+    (FaultKind::BadPrefix, "BadPrefix"),
+    (FaultKind::BadTruncate, "BadTruncate"),
+    (FaultKind::UnknownAggregate, "UnknownAggregate"),
+    (FaultKind::DoubleAggregate, "DoubleAggregate"),
+    (FaultKind::BadKey, "BadKey"),
+    (FaultKind::TooMany, "TooMany"),
+    (FaultKind::OutOfMemory, "OutOfMemory"),
+];
 
 /// The text of a fault; a call that is refused is made again.
 fn fault_text(alloc: Global, kind: FaultKind) -> Result<String, AllocError> {
@@ -454,21 +471,8 @@ fn fault_text(alloc: Global, kind: FaultKind) -> Result<String, AllocError> {
 
 #[test]
 fn texts_of_faults(rt: HostRuntime) -> Result<(), Fail> {
-    for (kind, want) in [
-        (FaultKind::NoHeader, "NoHeader"),
-        (FaultKind::UnknownWord, "UnknownWord"),
-        (FaultKind::BadName, "BadName"),
-        (FaultKind::BadNumber, "BadNumber"),
-        (FaultKind::BadPrefix, "BadPrefix"),
-        (FaultKind::BadTruncate, "BadTruncate"),
-        (FaultKind::UnknownAggregate, "UnknownAggregate"),
-        (FaultKind::DoubleAggregate, "DoubleAggregate"),
-        (FaultKind::BadKey, "BadKey"),
-        (FaultKind::TooMany, "TooMany"),
-        (FaultKind::OutOfMemory, "OutOfMemory"),
-    ] {
-        let text = fault_text(rt.alloc(), kind)?;
-        assert_eq!(rt; text.as_str(), want);
+    for (kind, want) in KINDS {
+        assert_eq!(rt; fault_text(rt.alloc(), kind)?.as_str(), want);
     }
     Ok(())
 }

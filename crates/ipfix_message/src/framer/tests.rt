@@ -5,15 +5,242 @@ use std::process::Abort;
 use std::test::Fail;
 
 /// A template and one record of it, 50 octets.
-const ONE_RECORD: [u8; 50] = [
-    0x00, 0x0a, 0x00, 0x32, 0x65, 0x53, 0xf1, 0x00, 0x00, 0x00, 0x00, 0x00, 0x00, 0x00, 0x00, 0x07, // header
-    0x00, 0x02, 0x00, 0x14, 0x01, 0x00, 0x00, 0x03, 0x00, 0x08, 0x00, 0x04, 0x00, 0x07, 0x00, 0x02, // template
-    0x00, 0x01, 0x00, 0x04, 0x01, 0x00, 0x00, 0x0e, 0xc0, 0x00, 0x02, 0x4d, 0x01, 0xbb, 0x00, 0x00, // data
-    0x05, 0xdc,
+const ONE_RECORD: &[u8] = b"\x00\x0a\x00\x32\x65\x53\xf1\x00\x00\x00\x00\x00\x00\x00\x00\x07\
+\x00\x02\x00\x14\x01\x00\x00\x03\x00\x08\x00\x04\x00\x07\x00\x02\x00\x01\x00\x04\
+\x01\x00\x00\x0e\xc0\x00\x02\x4d\x01\xbb\x00\x00\x05\xdc";
+
+/// A piece of a stream, and the answer: how many messages become whole, each the one record, or the fault.
+/// After it so many octets wait, and this fault stands.
+struct Piece {
+    octets: &'static [u8],
+    answer: Result<usize, FrameError>,
+    pending: usize,
+    fault: Option<FrameError>,
+}
+
+/// The pieces of a stream, by the name of the case that they work out.
+struct Case {
+    name: &'static str,
+    pieces: &'static [Piece],
+}
+
+const BAD_VERSION: Piece = Piece {
+    octets: b"\x10",
+    answer: Err(FrameError::BadVersion),
+    pending: 0,
+    fault: Some(FrameError::BadVersion),
+};
+
+static CASES: [Case; 8] = [
+    Case {
+        name: "message_and_then_a_fault",
+        pieces: &[
+            // The message of one record, and the front of one of version 9.
+            Piece {
+                octets: b"\x00\x0a\x00\x32\x65\x53\xf1\x00\x00\x00\x00\x00\x00\x00\x00\x07\
+\x00\x02\x00\x14\x01\x00\x00\x03\x00\x08\x00\x04\x00\x07\x00\x02\x00\x01\x00\x04\
+\x01\x00\x00\x0e\xc0\x00\x02\x4d\x01\xbb\x00\x00\x05\xdc\x00\x09\x00\x10",
+                answer: Ok(1),
+                pending: 0,
+                fault: Some(FrameError::BadVersion),
+            },
+            Piece {
+                octets: ONE_RECORD,
+                answer: Err(FrameError::BadVersion),
+                pending: 0,
+                fault: Some(FrameError::BadVersion),
+            },
+            Piece {
+                octets: b"",
+                answer: Err(FrameError::BadVersion),
+                pending: 0,
+                fault: Some(FrameError::BadVersion),
+            },
+        ],
+    },
+    Case {
+        name: "faults_show_with_four_octets",
+        pieces: &[
+            Piece {
+                octets: b"\x00\x09\x00",
+                answer: Ok(0),
+                pending: 3,
+                fault: None,
+            },
+            BAD_VERSION,
+        ],
+    },
+    // Version 9 and length 15 are wrong both: the version is judged first.
+    Case {
+        name: "faults_show_with_four_octets",
+        pieces: &[
+            Piece {
+                octets: b"\x00\x09\x00",
+                answer: Ok(0),
+                pending: 3,
+                fault: None,
+            },
+            Piece {
+                octets: b"\x0f",
+                answer: Err(FrameError::BadVersion),
+                pending: 0,
+                fault: Some(FrameError::BadVersion),
+            },
+        ],
+    },
+    Case {
+        name: "faults_show_with_four_octets",
+        pieces: &[
+            Piece {
+                octets: b"\x0a\x0a\x00",
+                answer: Ok(0),
+                pending: 3,
+                fault: None,
+            },
+            BAD_VERSION,
+        ],
+    },
+    Case {
+        name: "faults_show_with_four_octets",
+        pieces: &[
+            Piece {
+                octets: b"\x00\x0a\x00",
+                answer: Ok(0),
+                pending: 3,
+                fault: None,
+            },
+            Piece {
+                octets: b"\x0f",
+                answer: Err(FrameError::BadLength),
+                pending: 0,
+                fault: Some(FrameError::BadLength),
+            },
+        ],
+    },
+    Case {
+        name: "faults_show_with_four_octets",
+        pieces: &[
+            Piece {
+                octets: b"\x00\x0a\x00",
+                answer: Ok(0),
+                pending: 3,
+                fault: None,
+            },
+            Piece {
+                octets: b"\x00",
+                answer: Err(FrameError::BadLength),
+                pending: 0,
+                fault: Some(FrameError::BadLength),
+            },
+        ],
+    },
+    Case {
+        name: "cut_off",
+        pieces: &[Piece {
+            octets: b"\x00\x0a\x00\x32\x65\x53\xf1\x00\x00\x00\x00\x00\x00\x00\x00\x07\
+\x00\x02\x00\x14\x01\x00\x00\x03\x00\x08\x00\x04\x00\x07\x00\x02\x00\x01\x00\x04\
+\x01\x00\x00\x0e\xc0\x00\x02\x4d\x01\xbb\x00\x00\x05",
+            answer: Ok(0),
+            pending: 49,
+            fault: None,
+        }],
+    },
+    Case {
+        name: "three_messages_in_three_pieces",
+        pieces: &[
+            Piece {
+                octets: b"\x00\x0a\x00\x32\x65\x53\xf1\x00\x00\x00\x00\x00\x00\x00\x00\x07\
+\x00\x02\x00\x14\x01\x00\x00\x03\x00\x08\x00\x04\x00\x07\x00\x02\x00\x01\x00\x04\
+\x01\x00\x00\x0e\xc0\x00\x02\x4d\x01\xbb\x00\x00\x05",
+                answer: Ok(0),
+                pending: 49,
+                fault: None,
+            },
+            Piece {
+                octets: b"\xdc\x00\x0a\x00\x32\x65\x53\xf1\x00\x00\x00\x00\x00\x00\x00\x00\x07\
+\x00\x02\x00\x14\x01\x00\x00\x03\x00\x08\x00\x04\x00\x07\x00\x02\x00\x01\x00\x04\
+\x01\x00\x00\x0e\xc0\x00\x02\x4d\x01\xbb\x00\x00\x05\xdc\
+\x00\x0a\x00\x32\x65\x53\xf1\x00\x00\x00\x00\x00\x00\x00\x00\x07\
+\x00\x02\x00\x14\x01\x00\x00\x03\x00\x08\x00\x04\x00\x07\x00\x02\x00\x01\x00\x04\
+\x01\x00\x00\x0e",
+                answer: Ok(2),
+                pending: 40,
+                fault: None,
+            },
+            Piece {
+                octets: b"\xc0\x00\x02\x4d\x01\xbb\x00\x00\x05\xdc",
+                answer: Ok(1),
+                pending: 0,
+                fault: None,
+            },
+        ],
+    },
 ];
 
-/// The front of a header of version 9.
-const VERSION_NINE: [u8; 4] = [0x00, 0x09, 0x00, 0x10];
+/// How many messages a piece makes whole; each is this one.
+fn feed(
+    rt: &impl Abort,
+    framer: &mut Framer,
+    octets: &[u8],
+    message: &[u8],
+) -> Result<usize, FrameError> {
+    let found = framer.feed(octets)?;
+    for next in &found {
+        assert_eq!(rt; next.as_slice(), message);
+    }
+    Ok(found.len())
+}
+
+/// The same, once more if memory was refused: the refused call changed nothing.
+fn feed_again(
+    rt: &impl Abort,
+    framer: &mut Framer,
+    octets: &[u8],
+    message: &[u8],
+) -> Result<usize, FrameError> {
+    let before = framer.pending();
+    match feed(rt, framer, octets, message) {
+        Err(FrameError::OutOfMemory) => {
+            assert_eq!(rt; framer.pending(), before);
+            assert_eq!(rt; framer.fault(), None);
+            feed(rt, framer, octets, message)
+        }
+        answer => answer,
+    }
+}
+
+fn expect_piece(rt: &impl Abort, name: &str, framer: &mut Framer, piece: &Piece) {
+    let answer = feed_again(rt, framer, piece.octets, ONE_RECORD);
+    assert_eq!(rt; answer, piece.answer, "{name}");
+    assert_eq!(rt; framer.pending(), piece.pending, "{name}");
+    assert_eq!(rt; framer.fault(), piece.fault, "{name}");
+}
+
+#[test]
+fn pieces(rt: HostRuntime) {
+    for case in &CASES {
+        let mut framer = Framer::new(rt.alloc());
+        for piece in case.pieces {
+            expect_piece(&rt, case.name, &mut framer, piece);
+        }
+    }
+}
+
+/// Feeds a message octet by octet: empty answers, and at the last the message.
+fn expect_octet_by_octet(
+    rt: &impl Abort,
+    framer: &mut Framer,
+    message: &[u8],
+) -> Result<(), FrameError> {
+    for (place, octet) in message.iter().enumerate() {
+        assert_eq!(rt; framer.pending(), place);
+        let whole = feed(rt, framer, &[*octet], message)?;
+        let is_last = framer.pending() == 0;
+        assert_eq!(rt; whole, usize::from(is_last), "at {place}");
+    }
+    assert_eq!(rt; framer.pending(), 0);
+    Ok(())
+}
 
 /// A message of `length` octets: the front of its header, and zeros.
 fn zeros(alloc: Global, length: u16) -> Result<Vec<u8>, AllocError> {
@@ -26,100 +253,14 @@ fn zeros(alloc: Global, length: u16) -> Result<Vec<u8>, AllocError> {
     Ok(octets)
 }
 
-/// The message of one record, three times.
-fn three_records() -> [u8; 150] {
-    let mut octets = [0; 150];
-    for (i, octet) in octets.iter_mut().enumerate() {
-        *octet = ONE_RECORD[i % 50];
-    }
-    octets
-}
-
+/// The message of one record, and then ten of the longest.
 #[test]
 fn octet_by_octet(rt: HostRuntime) -> Result<(), Fail> {
     let mut framer = Framer::new(rt.alloc());
-    for (i, octet) in ONE_RECORD.iter().enumerate() {
-        assert_eq!(rt; framer.pending(), i);
-        let messages = framer.feed(&[*octet])?;
-        if i < 49 {
-            assert!(rt; messages.is_empty(), "at {i}");
-        } else {
-            assert_eq!(rt; messages.len(), 1);
-            assert_eq!(rt; messages[0].as_slice(), ONE_RECORD.as_slice());
-        }
-    }
-    assert_eq!(rt; framer.pending(), 0);
-    assert!(rt; framer.fault().is_none());
-    Ok(())
-}
-
-#[test]
-fn message_and_then_a_fault(rt: HostRuntime) -> Result<(), Fail> {
-    let mut framer = Framer::new(rt.alloc());
-    let mut piece = ONE_RECORD.to_vec(rt.alloc())?;
-    piece.extend_from_slice(&VERSION_NINE)?;
-    let messages = framer.feed(piece.as_slice())?;
-    assert_eq!(rt; messages.len(), 1);
-    assert_eq!(rt; messages[0].as_slice(), ONE_RECORD.as_slice());
-    assert_eq!(rt; framer.fault(), Some(FrameError::BadVersion));
-    assert_eq!(rt; framer.pending(), 0);
-    fails(&rt, &mut framer, &ONE_RECORD, FrameError::BadVersion);
-    fails(&rt, &mut framer, &[], FrameError::BadVersion);
-    assert_eq!(rt; framer.pending(), 0);
-    Ok(())
-}
-
-/// A feed of `piece` is answered by `fault`.
-fn fails(rt: &impl Abort, framer: &mut Framer, piece: &[u8], fault: FrameError) {
-    match framer.feed(piece) {
-        Ok(_) => panic!(rt; "no fault"),
-        Err(e) => assert_eq!(rt; e, fault),
-    }
-}
-
-#[test]
-fn faults_show_with_four_octets(rt: HostRuntime) -> Result<(), Fail> {
-    // Version 9 and length 15 are wrong both: the version is judged first.
-    for (front, fault) in [
-        ([0x00, 0x09, 0x00, 0x10], FrameError::BadVersion),
-        ([0x00, 0x09, 0x00, 0x0f], FrameError::BadVersion),
-        ([0x0a, 0x0a, 0x00, 0x10], FrameError::BadVersion),
-        ([0x00, 0x0a, 0x00, 0x0f], FrameError::BadLength),
-        ([0x00, 0x0a, 0x00, 0x00], FrameError::BadLength),
-    ] {
-        let mut framer = Framer::new(rt.alloc());
-        let messages = framer.feed(&front[..3])?;
-        assert!(rt; messages.is_empty());
-        assert_eq!(rt; framer.pending(), 3);
-        fails(&rt, &mut framer, &front[3..], fault);
-        assert_eq!(rt; framer.fault(), Some(fault));
-        assert_eq!(rt; framer.pending(), 0);
-    }
-    Ok(())
-}
-
-#[test]
-fn cut_off(rt: HostRuntime) -> Result<(), Fail> {
-    let mut framer = Framer::new(rt.alloc());
-    let messages = framer.feed(&ONE_RECORD[..49])?;
-    assert!(rt; messages.is_empty());
-    assert_eq!(rt; framer.pending(), 49);
-    assert!(rt; framer.fault().is_none());
-    Ok(())
-}
-
-#[test]
-fn longest_messages_octet_by_octet(rt: HostRuntime) -> Result<(), Fail> {
+    expect_octet_by_octet(&rt, &mut framer, ONE_RECORD)?;
     let longest = zeros(rt.alloc(), u16::MAX)?;
-    let mut framer = Framer::new(rt.alloc());
     for _ in 0..10 {
-        let mut whole = 0usize;
-        for octet in longest.as_slice() {
-            assert_eq!(rt; whole, 0);
-            whole = framer.feed(&[*octet])?.len();
-        }
-        assert_eq!(rt; whole, 1);
-        assert_eq!(rt; framer.pending(), 0);
+        expect_octet_by_octet(&rt, &mut framer, &longest)?;
     }
     Ok(())
 }
@@ -129,58 +270,11 @@ fn many_shortest_messages_in_one_piece(rt: HostRuntime) -> Result<(), Fail> {
     let shortest = zeros(rt.alloc(), 16)?;
     let mut piece = Vec::new(rt.alloc());
     for _ in 0..10_000 {
-        piece.extend_from_slice(shortest.as_slice())?;
+        piece.extend_from_slice(&shortest)?;
     }
-    let mut framer = Framer::new(rt.alloc());
-    let messages = framer.feed(piece.as_slice())?;
-    assert_eq!(rt; messages.len(), 10_000);
-    for message in messages.as_slice() {
-        assert_eq!(rt; message.as_slice(), shortest.as_slice());
-    }
-    assert_eq!(rt; framer.pending(), 0);
+    let whole = feed(&rt, &mut Framer::new(rt.alloc()), &piece, &shortest)?;
+    assert_eq!(rt; whole, 10_000);
     Ok(())
-}
-
-/// Feeds a piece, and once more if memory was refused: the refused call changed nothing.
-fn feed_again(rt: &impl Abort, framer: &mut Framer, piece: &[u8], whole: usize) {
-    let before = framer.pending();
-    let first = framer.feed(piece);
-    let answer = match first {
-        Err(FrameError::OutOfMemory) => {
-            assert_eq!(rt; framer.pending(), before);
-            assert!(rt; framer.fault().is_none());
-            framer.feed(piece)
-        }
-        other => other,
-    };
-    match answer {
-        Ok(messages) => {
-            assert_eq!(rt; messages.len(), whole);
-            for message in messages.as_slice() {
-                assert_eq!(rt; message.as_slice(), ONE_RECORD.as_slice());
-            }
-        }
-        Err(_) => panic!(rt; "refused twice"),
-    }
-}
-
-// For `rt try --test --fail-alloc N`, with each N up to the number of allocations.
-#[test]
-fn refused_memory_changes_nothing(rt: HostRuntime) {
-    let octets = three_records();
-    feed_in_three(&rt, &mut Framer::new(rt.alloc()), &octets);
-}
-
-/// Feeds three messages in pieces of 49, 91 and 10 octets.
-fn feed_in_three(rt: &impl Abort, framer: &mut Framer, octets: &[u8; 150]) {
-    let (first, others) = octets.split_at(49);
-    let (second, third) = others.split_at(91);
-    feed_again(rt, framer, first, 0);
-    assert_eq!(rt; framer.pending(), 49);
-    feed_again(rt, framer, second, 2);
-    assert_eq!(rt; framer.pending(), 40);
-    feed_again(rt, framer, third, 1);
-    assert_eq!(rt; framer.pending(), 0);
 }
 
 #[test]
@@ -190,8 +284,7 @@ fn faults_are_shown_as_their_names(rt: HostRuntime) -> Result<(), Fail> {
         (FrameError::BadLength, "BadLength"),
         (FrameError::OutOfMemory, "OutOfMemory"),
     ] {
-        let shown = fault.to_string(rt.alloc())?;
-        assert_eq!(rt; shown.as_str(), name);
+        assert_eq!(rt; fault.to_string(rt.alloc())?.as_str(), name);
     }
     Ok(())
 }
