@@ -1,5 +1,7 @@
-ghost use Rattle.std.specs.Prelude.{◌≡◌, true, length, IfOk};
+ghost use Rattle.std.specs.Prelude.{◌≡◌, true, length, IfOk, nat_eq};
 ghost use Rattle.std.specs.List.{list_all};
+ghost use Rattle.std.specs.Cmp.Lexicographic.{pointwise, nat_list_eq_equiv};
+ghost use Rattle.std.specs.Cmp.{partial_equiv_from_equiv};
 ghost use Rattle.policy_text.specs.Naming.{is_name, is_name_octet};
 
 use std::alloc::{AllocError, Global};
@@ -54,7 +56,10 @@ impl Model for Name {
 
 impl Name {
     /// The name that the word is.
-    pub(crate) fn new(alloc: Global, word: &[u8]) -> Result<Name, AllocError>
+    ///
+    /// # Errors
+    /// Want of memory.
+    pub fn new(alloc: Global, word: &[u8]) -> Result<Name, AllocError>
         requires { is_name word.now ≡ true }
         ensures { IfOk result (λ name. name ≡ word.now) }
     {
@@ -80,4 +85,18 @@ impl Name {
     {
         self.octets.as_slice()
     }
+}
+
+impl PartialEq for Name {
+    ghost eq = { pointwise nat_eq };
+
+    ghost laws = { partial_equiv_from_equiv nat_list_eq_equiv };
+
+    fn eq(&self, other: &Name) -> bool {
+        self.octets.as_slice() == other.octets.as_slice()
+    }
+}
+
+impl Eq for Name {
+    ghost laws = { nat_list_eq_equiv };
 }

@@ -1,0 +1,143 @@
+//! What keeps a history, or its sizes.
+ghost use Rattle.std.specs.Prelude.{◌≡◌, ◌≤◌, ◌<◌, ◌+◌, ◌-◌, ◌↔◌, ℕ, List, [], ◌∷◌, ◌++◌, length, IsTrue, IsOk, OnOk, OnErr};
+ghost use Rattle.std.proofs.Common.{ap};
+ghost use Rattle.event_journal.specs.declared.entry.Entry.{Entry};
+ghost use Rattle.event_journal.specs.Sizes.{entry_octets, history_octets, IsCountOf};
+ghost use Rattle.event_journal.specs.Room.{Limits, HasRoom};
+ghost use Rattle.event_journal.specs.Counted.{AreLimits};
+
+use crate::entry::Entry;
+use crate::journal::Journal;
+use crate::tally::Tally;
+use std::alloc::AllocError;
+
+/// What keeps a history, or its sizes. What holds one is generic over it, and its contract speaks of each history that
+/// the chronicle tells.
+pub trait Chronicle {
+    // The histories that it may stand for: a journal's is its entries, and a tally tells each one that has its sizes.
+    ghost tells: { Self → List Entry → Type 0 };
+
+    // The number of the entries, and the octets that they count for.
+    ghost count: { Self → ℕ };
+
+    ghost octets: { Self → ℕ };
+
+    // How many entries and octets it may hold.
+    ghost limits: { Self → Limits };
+
+    // For how many more entries room is reserved.
+    ghost spare: { Self → ℕ };
+
+    /// Whether both limits leave room for all these entries, and a journal file can spell each of them. It takes no memory.
+    fn room(&self, more: &[Entry]) -> bool
+        ensures { IsTrue result ↔ HasRoom (limits self.now) (count self.now) (octets self.now) more.now };
+
+    /// Makes room in memory for so many more entries, whatever the limits.
+    ///
+    /// # Errors
+    /// Want of memory, and then nothing has changed.
+    fn reserve(&mut self, more: u64) -> Result<(), AllocError>
+        ensures tells { (h : List Entry) → tells self.old h → tells self.new h }
+        ensures count { count self.new ≡ count self.old }
+        ensures octets { octets self.new ≡ octets self.old }
+        ensures limits { limits self.new ≡ limits self.old }
+        ensures kept { spare self.old ≤ spare self.new }
+        ensures ok { OnOk result (more ≤ spare self.new) }
+        ensures err { OnErr result (spare self.new ≡ spare self.old) }
+        // Room that is reserved already takes no memory.
+        ensures there { more ≤ spare self.old → IsOk result };
+
+    /// Takes an entry into the reserved room, behind the others. It takes no memory.
+    fn push_reserved(&mut self, entry: Entry)
+        requires room { HasRoom (limits self.old) (count self.old) (octets self.old) (entry ∷ []) }
+        requires reserved { 0 < spare self.old }
+        ensures tells { (h : List Entry) → tells self.old h → tells self.new (h ++ entry ∷ []) }
+        ensures count { count self.new ≡ count self.old + 1 }
+        ensures octets { octets self.new ≡ octets self.old + entry_octets entry }
+        ensures limits { limits self.new ≡ limits self.old }
+        ensures spare { spare self.new + 1 ≡ spare self.old };
+
+    /// How many entries there are.
+    fn len(&self) -> u64
+        ensures value { result ≡ count self.now }
+        ensures within { result ≤ (limits self.now).entries }
+        ensures limits { AreLimits (limits self.now) };
+
+    /// For how many octets they count.
+    fn octets(&self) -> u64
+        ensures value { result ≡ octets self.now }
+        ensures within { result ≤ (limits self.now).octets }
+        ensures limits { AreLimits (limits self.now) };
+
+    // The sizes are those of each history that it tells.
+    ghost counted: { (c : Self) (h : List Entry) → tells c h → IsCountOf h (count c) (octets c) };
+}
+
+impl Chronicle for Journal {
+    ghost tells = { λ j h. j.entries ≡ h };
+
+    ghost count = { λ j. length j.entries };
+
+    ghost octets = { λ j. history_octets j.entries };
+
+    ghost limits = { λ j. j.limits };
+
+    ghost spare = { λ j. j.spare };
+
+    ghost counted = { λ j h told. record { entries = ap (λ (e : List Entry). length e) told; sizes = ap history_octets told } };
+
+    fn room(&self, more: &[Entry]) -> bool {
+        Journal::room(self, more)
+    }
+
+    fn reserve(&mut self, more: u64) -> Result<(), AllocError> {
+        Journal::reserve(self, more)
+    }
+
+    fn push_reserved(&mut self, entry: Entry) {
+        Journal::push_reserved(self, entry);
+    }
+
+    fn len(&self) -> u64 {
+        Journal::len(self)
+    }
+
+    fn octets(&self) -> u64 {
+        Journal::octets(self)
+    }
+}
+
+impl Chronicle for Tally {
+    ghost tells = { λ t h. IsCountOf h t.count t.octets };
+
+    ghost count = { λ t. t.count };
+
+    ghost octets = { λ t. t.octets };
+
+    ghost limits = { λ t. t.limits };
+
+    ghost spare = { λ t. t.spare };
+
+    ghost counted = { λ t h told. told };
+
+    fn room(&self, more: &[Entry]) -> bool {
+        Tally::room(self, more)
+    }
+
+    fn reserve(&mut self, more: u64) -> Result<(), AllocError> {
+        Tally::reserve(self, more);
+        Ok(())
+    }
+
+    fn push_reserved(&mut self, entry: Entry) {
+        Tally::push_reserved(self, entry);
+    }
+
+    fn len(&self) -> u64 {
+        Tally::len(self)
+    }
+
+    fn octets(&self) -> u64 {
+        Tally::octets(self)
+    }
+}
