@@ -1,0 +1,20 @@
+//! Reading a stream of IPFIX messages from a source, piece by piece, as TCP or a file gives it (RFC 7011, sections 3.1
+//! and 10.4). It knows no session: what the messages mean is said above.
+//!
+//! - `intake`: [`Intake`], which hands out the messages of a source.
+//! - `fault`: [`IntakeFault`], why nothing more is handed out, with [`FramingFault`].
+//!
+//! Proved, over any `Source`: the octets that are read are framed into the messages that are handed out, and what is
+//! pending (`Intake::next`, `ok`); the answer None stands only at the end, with nothing pending; each fault stands only
+//! where its cause does, and a fault of the stream comes after all messages before it (`err`); only a failed read leaves
+//! a failed reader (`sound`, `fails`). Each call makes one read at most, of at most 65,536 octets.
+#![tactic(auto)]
+
+mod fault;
+mod intake;
+
+pub use fault::{FramingFault, IntakeFault};
+pub use intake::Intake;
+
+#[cfg(test)]
+mod tests;
