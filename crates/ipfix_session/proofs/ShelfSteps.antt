@@ -17,7 +17,7 @@ use Rattle.std.proofs.lemmas.Map.Keys.{IsDistinct-from_sorted, sorted_head}
 use Rattle.ipfix_template.specs.declared.template.Template.{Template}
 use Rattle.ipfix_session.specs.declared.shelf.Shelf.{Shelf}
 use Rattle.ipfix_session.specs.Keeping.{at_key}
-use Rattle.ipfix_session.specs.Places.{with_shown, shown_in, shown_of, is_among, AreAmong}
+use Rattle.ipfix_session.specs.Places.{with_shown, shown_in, shown_of, AreAmong}
 use Rattle.ipfix_session.specs.Shelves.{shown_on, on_shelf, has_place, places_on}
 use Rattle.ipfix_session.proofs.PlaceSteps.{shown-at, among-keys}
 

@@ -3,7 +3,7 @@ use Rattle.std.specs.Prelude.{◌≡◌, ℕ, List, ◌∷◌, Option, Ok, IsSom
 use Rattle.ipfix_session.specs.InForce.{template_in_force}
 use Rattle.ipfix_session.specs.Meaning.{Meaning, domain_of, items_of_domain, expected_number, meaning_of}
 use Rattle.ipfix_session.specs.Keeping.{at_key}
-use Rattle.ipfix_session.specs.Places.{Places, HasPlaces}
+use Rattle.ipfix_session.specs.Places.{HasPlaces}
 use Rattle.ipfix_session.specs.Change.{Change, changed}
 use Rattle.ipfix_session.specs.Standing.{Kept}
 

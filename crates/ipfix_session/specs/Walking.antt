@@ -1,5 +1,5 @@
 -- What the functions that walk over a message's items answer.
-use Rattle.std.specs.Prelude.{◌≡◌, ◌≤◌, ℕ, List, Result, Ok, Err}
+use Rattle.std.specs.Prelude.{◌≡◌, ◌≤◌, ℕ, Result, Ok, Err}
 use Rattle.ipfix_session.specs.declared.read.Skips.{Skips}
 use Rattle.ipfix_session.specs.declared.read_error.ReadError.{ReadError}
 use Rattle.ipfix_session.specs.declared.walk.Walk.{Walk}

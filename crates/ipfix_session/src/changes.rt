@@ -1,5 +1,5 @@
 //! What a message changes of its domain's templates.
-ghost use Rattle.std.specs.Prelude.{◌≡◌, ℕ, List, Some, None, false, true, ◌==◌, if◌then◌else◌, IfSome, OnOk, OnErr, IsTrue};
+ghost use Rattle.std.specs.Prelude.{◌≡◌, ℕ, List, Some, None, false, true, ◌==◌, if◌then◌else◌, IfSome, OnOk, IsTrue};
 ghost use Rattle.std.specs.Option.{option_map};
 ghost use Rattle.std.specs.Arc.{arc_value};
 ghost use Rattle.std.specs.Ordering.{nat_cmp};

@@ -1,5 +1,5 @@
 //! What a session keeps of its domains.
-ghost use Rattle.std.specs.Prelude.{◌≡◌, ℕ, [], OnOk, IsSomeAnd};
+ghost use Rattle.std.specs.Prelude.{◌≡◌, [], OnOk, IsSomeAnd};
 ghost use Rattle.std.specs.Option.{option_copied};
 ghost use Rattle.std.specs.Ordering.{nat_cmp};
 ghost use Rattle.std.specs.BTreeMap.{IsOrdered, keys};

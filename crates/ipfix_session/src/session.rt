@@ -5,7 +5,7 @@ ghost use Rattle.ipfix_message.specs.declared.item.Item.{Item};
 ghost use Rattle.ipfix_session.specs.InForce.{template_in_force};
 ghost use Rattle.ipfix_session.specs.Contents.{contents_after};
 ghost use Rattle.ipfix_session.specs.Meaning.{items_of_domain, number_after, gap_between, meaning_of};
-ghost use Rattle.ipfix_session.specs.Keeping.{at_key, Keeps, AreInForce, StandIn};
+ghost use Rattle.ipfix_session.specs.Keeping.{Keeps, AreInForce, StandIn};
 ghost use Rattle.ipfix_session.specs.Standing.{kept_of, StandsFor};
 ghost use Rattle.ipfix_session.specs.ReadAhead.{IsReadingOf, HasRoomFor};
 ghost use Rattle.ipfix_message.specs.Reading as decoding;

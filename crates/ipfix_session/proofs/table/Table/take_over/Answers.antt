@@ -1,4 +1,4 @@
-use Rattle.std.proofs.Common.{◌≡◌, false, cond, Option, None, sym, ap, ◌∙◌, subst}
+use Rattle.std.proofs.Common.{◌≡◌, false, cond, Option, None, sym, ◌∙◌, subst}
 use Rattle.std.specs.Option.{option_or}
 use Rattle.ipfix_template.specs.declared.template.Template.{Template}
 use Rattle.std.specs.Ordering.{nat_cmp}
