@@ -1,152 +1,68 @@
 //! What no clause says: the registry's own numbers, names and kinds, texts that name nothing, lengths
 //! at their edges, and that each call succeeds where memory is left.
-use crate::{
-    ElementId, Kind, allowed_length, by_name, full_width, kind_of, name_of, one_name, one_word,
-};
-use std::alloc::Global;
+use crate::{ElementId, Kind, allowed_length, by_name, full_width, kind_of, name_of};
+use std::alloc::{AllocError, Global};
 use std::process::Abort;
 use std::test::Fail;
 
-// The registered elements by their kinds (IANA's registry of information elements).
-static SHORT_NUMBERS: [(Kind, u16, &str); 11] = [
-    (Kind::U8, 4, "protocolIdentifier"),
-    (Kind::U8, 5, "ipClassOfService"),
-    (Kind::U8, 9, "sourceIPv4PrefixLength"),
-    (Kind::U8, 13, "destinationIPv4PrefixLength"),
-    (Kind::U8, 60, "ipVersion"),
-    (Kind::U8, 61, "flowDirection"),
-    (Kind::U8, 136, "flowEndReason"),
-    (Kind::U16, 6, "tcpControlBits"),
-    (Kind::U16, 7, "sourceTransportPort"),
-    (Kind::U16, 11, "destinationTransportPort"),
-    (Kind::U16, 58, "vlanId"),
+type Named = (Option<u32>, u16, Kind, &'static str);
+
+/// The registered elements by their kinds (IANA's registry of information elements), and elements that it
+/// doesn't name, all of bare octets.
+static ELEMENTS: [Named; 43] = [
+    (None, 4, Kind::U8, "protocolIdentifier"),
+    (None, 5, Kind::U8, "ipClassOfService"),
+    (None, 9, Kind::U8, "sourceIPv4PrefixLength"),
+    (None, 13, Kind::U8, "destinationIPv4PrefixLength"),
+    (None, 60, Kind::U8, "ipVersion"),
+    (None, 61, Kind::U8, "flowDirection"),
+    (None, 136, Kind::U8, "flowEndReason"),
+    (None, 6, Kind::U16, "tcpControlBits"),
+    (None, 7, Kind::U16, "sourceTransportPort"),
+    (None, 11, Kind::U16, "destinationTransportPort"),
+    (None, 58, Kind::U16, "vlanId"),
+    (None, 10, Kind::U32, "ingressInterface"),
+    (None, 14, Kind::U32, "egressInterface"),
+    (None, 16, Kind::U32, "bgpSourceAsNumber"),
+    (None, 17, Kind::U32, "bgpDestinationAsNumber"),
+    (None, 149, Kind::U32, "observationDomainId"),
+    (None, 1, Kind::U64, "octetDeltaCount"),
+    (None, 2, Kind::U64, "packetDeltaCount"),
+    (None, 3, Kind::U64, "deltaFlowCount"),
+    (None, 85, Kind::U64, "octetTotalCount"),
+    (None, 86, Kind::U64, "packetTotalCount"),
+    (None, 148, Kind::U64, "flowId"),
+    (None, 8, Kind::Ipv4, "sourceIPv4Address"),
+    (None, 12, Kind::Ipv4, "destinationIPv4Address"),
+    (None, 15, Kind::Ipv4, "ipNextHopIPv4Address"),
+    (None, 27, Kind::Ipv6, "sourceIPv6Address"),
+    (None, 28, Kind::Ipv6, "destinationIPv6Address"),
+    (None, 56, Kind::Mac, "sourceMacAddress"),
+    (None, 80, Kind::Mac, "destinationMacAddress"),
+    (None, 150, Kind::Seconds, "flowStartSeconds"),
+    (None, 151, Kind::Seconds, "flowEndSeconds"),
+    (None, 152, Kind::Millis, "flowStartMilliseconds"),
+    (None, 153, Kind::Millis, "flowEndMilliseconds"),
+    (None, 82, Kind::Text, "interfaceName"),
+    (None, 210, Kind::Octets, "paddingOctets"),
+    (None, 0, Kind::Octets, "e0"),
+    (None, 32, Kind::Octets, "e32"),
+    (None, 32767, Kind::Octets, "e32767"),
+    (Some(29305), 1, Kind::Octets, "e29305/1"),
+    (Some(0), 8, Kind::Octets, "e0/8"),
+    (Some(9), 0, Kind::Octets, "e9/0"),
+    (Some(4294967295), 32767, Kind::Octets, "e4294967295/32767"),
+    (Some(8), 210, Kind::Octets, "e8/210"),
 ];
 
-static LONG_NUMBERS: [(Kind, u16, &str); 11] = [
-    (Kind::U32, 10, "ingressInterface"),
-    (Kind::U32, 14, "egressInterface"),
-    (Kind::U32, 16, "bgpSourceAsNumber"),
-    (Kind::U32, 17, "bgpDestinationAsNumber"),
-    (Kind::U32, 149, "observationDomainId"),
-    (Kind::U64, 1, "octetDeltaCount"),
-    (Kind::U64, 2, "packetDeltaCount"),
-    (Kind::U64, 3, "deltaFlowCount"),
-    (Kind::U64, 85, "octetTotalCount"),
-    (Kind::U64, 86, "packetTotalCount"),
-    (Kind::U64, 148, "flowId"),
+/// The worked case prefix_and_element_names.
+static WORKED: [Named; 3] = [
+    (None, 32, Kind::Octets, "e32"),
+    (Some(29305), 1, Kind::Octets, "e29305/1"),
+    (None, 8, Kind::Ipv4, "sourceIPv4Address"),
 ];
 
-static ADDRESSES: [(Kind, u16, &str); 7] = [
-    (Kind::Ipv4, 8, "sourceIPv4Address"),
-    (Kind::Ipv4, 12, "destinationIPv4Address"),
-    (Kind::Ipv4, 15, "ipNextHopIPv4Address"),
-    (Kind::Ipv6, 27, "sourceIPv6Address"),
-    (Kind::Ipv6, 28, "destinationIPv6Address"),
-    (Kind::Mac, 56, "sourceMacAddress"),
-    (Kind::Mac, 80, "destinationMacAddress"),
-];
-
-static TIMES_AND_TEXT: [(Kind, u16, &str); 6] = [
-    (Kind::Seconds, 150, "flowStartSeconds"),
-    (Kind::Seconds, 151, "flowEndSeconds"),
-    (Kind::Millis, 152, "flowStartMilliseconds"),
-    (Kind::Millis, 153, "flowEndMilliseconds"),
-    (Kind::Text, 82, "interfaceName"),
-    (Kind::Octets, 210, "paddingOctets"),
-];
-
-// Elements that the registry doesn't name, all of bare octets.
-static NUMBERED: [(Option<u32>, u16, &str); 8] = [
-    (None, 0, "e0"),
-    (None, 32, "e32"),
-    (None, 32767, "e32767"),
-    (Some(29305), 1, "e29305/1"),
-    (Some(0), 8, "e0/8"),
-    (Some(9), 0, "e9/0"),
-    (Some(4294967295), 32767, "e4294967295/32767"),
-    (Some(8), 210, "e8/210"),
-];
-
-/// The element's name, at the second call where the first was refused memory.
-fn named(alloc: Global, element: ElementId) -> Result<String, Fail> {
-    match name_of(alloc, element) {
-        Ok(name) => Ok(name),
-        Err(_) => Ok(name_of(alloc, element)?),
-    }
-}
-
-fn both_ways(
-    rt: &(impl Abort + AllocGlobal),
-    pen: Option<u32>,
-    number: u16,
-    kind: Kind,
-    name: &str,
-) -> Result<(), Fail> {
-    let element = ElementId::new(pen, number).ok_or("a number above 32767")?;
-    assert_eq!(rt; kind_of(element), kind);
-    assert_eq!(rt; named(rt.alloc(), element)?.as_str(), name);
-    assert_eq!(rt; by_name(name), Some(element));
-    Ok(())
-}
-
-#[test]
-fn short_numbers_both_ways(rt: HostRuntime) -> Result<(), Fail> {
-    for (kind, number, name) in SHORT_NUMBERS {
-        both_ways(&rt, None, number, kind, name)?;
-    }
-    Ok(())
-}
-
-#[test]
-fn long_numbers_both_ways(rt: HostRuntime) -> Result<(), Fail> {
-    for (kind, number, name) in LONG_NUMBERS {
-        both_ways(&rt, None, number, kind, name)?;
-    }
-    Ok(())
-}
-
-#[test]
-fn addresses_both_ways(rt: HostRuntime) -> Result<(), Fail> {
-    for (kind, number, name) in ADDRESSES {
-        both_ways(&rt, None, number, kind, name)?;
-    }
-    Ok(())
-}
-
-#[test]
-fn times_and_text_both_ways(rt: HostRuntime) -> Result<(), Fail> {
-    for (kind, number, name) in TIMES_AND_TEXT {
-        both_ways(&rt, None, number, kind, name)?;
-    }
-    Ok(())
-}
-
-#[test]
-fn numbered_both_ways(rt: HostRuntime) -> Result<(), Fail> {
-    for (pen, number, name) in NUMBERED {
-        both_ways(&rt, pen, number, Kind::Octets, name)?;
-    }
-    Ok(())
-}
-
-#[test]
-fn prefix_and_element_names(rt: HostRuntime) -> Result<(), Fail> {
-    let alloc = rt.alloc();
-    assert_eq!(rt; named(alloc, ElementId::registered(32))?.as_str(), "e32");
-    assert_eq!(rt;
-        named(alloc, ElementId::enterprise(29305, 1))?.as_str(),
-        "e29305/1"
-    );
-    assert_eq!(rt;
-        named(alloc, ElementId::registered(8))?.as_str(),
-        "sourceIPv4Address"
-    );
-    assert_eq!(rt; by_name("e8"), None);
-    one_name();
-    one_word();
-    Ok(())
-}
-
+/// The first is of the worked case prefix_and_element_names.
 static NAMELESS: [&str; 29] = [
     "e8",
     "e210",
@@ -179,33 +95,6 @@ static NAMELESS: [&str; 29] = [
     "sourceipv4address",
 ];
 
-#[test]
-fn texts_that_name_nothing(rt: HostRuntime) -> Result<(), Fail> {
-    for text in NAMELESS {
-        assert_eq!(rt; by_name(text), None, "{text}");
-    }
-    let mut long = String::from_str(rt.alloc(), "e")?;
-    for _ in 0..1000 {
-        long.push('7')?;
-    }
-    assert_eq!(rt; by_name(long.as_str()), None);
-    long.push_str("/1")?;
-    assert_eq!(rt; by_name(long.as_str()), None);
-    Ok(())
-}
-
-#[test]
-fn numbers_of_fifteen_bits(rt: HostRuntime) -> Result<(), Fail> {
-    let element = ElementId::new(Some(0), ElementId::GREATEST_NUMBER).ok_or("refused")?;
-    assert_eq!(rt; element.pen(), Some(0));
-    assert_eq!(rt; element.number(), 32767);
-    assert_eq!(rt; element, ElementId::enterprise(0, 32767));
-    assert_ne!(rt; element, ElementId::registered(32767));
-    assert_eq!(rt; ElementId::new(None, 32768), None);
-    assert_eq!(rt; ElementId::new(Some(1), 65535), None);
-    Ok(())
-}
-
 // Each kind with its full width, lengths that it allows and lengths that it doesn't.
 static LENGTHS: [(Kind, Option<u16>, &[u16], &[u16]); 11] = [
     (Kind::U8, Some(1), &[1], &[0, 2, 65535]),
@@ -221,15 +110,65 @@ static LENGTHS: [(Kind, Option<u16>, &[u16], &[u16]); 11] = [
     (Kind::Octets, None, &[0, 1, 65534, 65535], &[]),
 ];
 
+/// The element's name, at the second call where the first was refused memory.
+fn named(alloc: Global, element: ElementId) -> Result<String, AllocError> {
+    match name_of(alloc, element) {
+        Ok(name) => Ok(name),
+        Err(_) => name_of(alloc, element),
+    }
+}
+
+fn both_ways(rt: &impl Abort, alloc: Global, row: &Named) -> Result<(), Fail> {
+    let (pen, number, kind, name) = row;
+    let element = ElementId::new(*pen, *number).ok_or("a number above 32767")?;
+    assert_eq!(rt; kind_of(element), *kind, "{name}");
+    assert_eq!(rt; named(alloc, element)?.as_str(), *name);
+    assert_eq!(rt; by_name(name), Some(element), "{name}");
+    Ok(())
+}
+
+#[test]
+fn names_both_ways(rt: HostRuntime) -> Result<(), Fail> {
+    for row in &ELEMENTS {
+        both_ways(&rt, rt.alloc(), row)?;
+    }
+    Ok(())
+}
+
+#[test]
+fn prefix_and_element_names(rt: HostRuntime) -> Result<(), Fail> {
+    for row in &WORKED {
+        both_ways(&rt, rt.alloc(), row)?;
+    }
+    Ok(())
+}
+
+#[test]
+fn texts_that_name_nothing(rt: HostRuntime) -> Result<(), Fail> {
+    for text in &NAMELESS {
+        assert_eq!(rt; by_name(text), None, "{text}");
+    }
+    let mut long = String::from_str(rt.alloc(), "e")?;
+    for _ in 0..1000 {
+        long.push('7')?;
+    }
+    assert_eq!(rt; by_name(&long), None);
+    long.push_str("/1")?;
+    assert_eq!(rt; by_name(&long), None);
+    Ok(())
+}
+
+fn expect_lengths(rt: &impl Abort, kind: Kind, lengths: &[u16], want: bool) {
+    for length in lengths {
+        assert_eq!(rt; allowed_length(kind, *length), want, "{kind:?} {length}");
+    }
+}
+
 #[test]
 fn lengths_at_their_edges(rt: HostRuntime) {
-    for (kind, width, allowed, refused) in LENGTHS {
-        assert_eq!(rt; full_width(kind), width, "{kind:?}");
-        for length in allowed {
-            assert!(rt; allowed_length(kind, *length), "{kind:?} {length}");
-        }
-        for length in refused {
-            assert!(rt; !allowed_length(kind, *length), "{kind:?} {length}");
-        }
+    for (kind, width, allowed, refused) in &LENGTHS {
+        assert_eq!(rt; full_width(*kind), *width, "{kind:?}");
+        expect_lengths(&rt, *kind, allowed, true);
+        expect_lengths(&rt, *kind, refused, false);
     }
 }

@@ -1,5 +1,5 @@
-//! The laws are called; and worked cases go through a `Stream` and back through a `Session`, which is what
-//! the laws say of all: the values that were given come out, under equal templates.
+//! Worked cases go through a `Stream` and back through a `Session`, which is what the laws say of all: the
+//! values that were given come out, under equal templates.
 ghost use Rattle.std.specs.Prelude.{◌≡◌, ◌<◌, ◌≤◌, ◌+◌, ◌^◌, ◌++◌, ◌∷◌, [], ℕ, List, IfOk, IsTrue, length, take};
 ghost use Rattle.ipfix_template.specs.DataRecord.{DataRecord};
 ghost use Rattle.subscriber_stream.specs.Parts.{parts, records_in};
@@ -13,14 +13,11 @@ use super::*;
 use bytes::Bytes;
 use ipfix_element::ElementId;
 use ipfix_session::{Read, ReadError, Session, Skips};
-use ipfix_template::Record;
+use ipfix_template::{FieldSpec, Record};
 use std::alloc::Global;
 use std::process::Abort;
 use std::test::Fail;
 use subscriber_stream::{Limits, PullError, Stream};
-
-/// The Field Length of values of variable length.
-const VARIABLE: u16 = 65535;
 
 /// The Export Time of the messages that are pulled.
 const NOW: u32 = 0x6553_f13c;
@@ -64,28 +61,145 @@ const OPTIONS: &[u8] = b"\x00\x0a\x00\x5a\x65\x53\xf1\x00\x00\x00\x00\x00\x00\x0
 /// A field's element by its number in the registry, its length in the template, and its value.
 type Field = (u16, u16, &'static [u8]);
 
-const TCP: [Field; 1] = [(4, 1, b"\x06")];
-
-const VERSION_4: [Field; 1] = [(60, 1, b"\x04")];
-
-const EMPTY_NAME: [Field; 2] = [(82, 0, b""), (4, 1, b"\x06")];
-
-fn flow(port: &'static [u8]) -> [Field; 3] {
-    [
-        (8, 4, b"\xc0\x00\x02\x4d"),
-        (7, 2, port),
-        (1, 4, b"\x00\x00\x05\xdc"),
-    ]
+/// A record's fields and values, the first `scope` of them scope fields.
+struct Wanted {
+    scope: u16,
+    fields: &'static [Field],
 }
 
-fn interface(number: &'static [u8], name: &'static [u8]) -> [Field; 2] {
-    [(10, 4, number), (82, VARIABLE, name)]
+const TCP: Wanted = Wanted {
+    scope: 0,
+    fields: &[(4, 1, b"\x06")],
+};
+
+/// Records go from messages into a stream, and its messages of a target are read.
+struct Case {
+    name: &'static str,
+    /// Each is read by an exporter's new session.
+    received: &'static [&'static [u8]],
+    target: u16,
+    /// How many messages there are, where the case tells.
+    messages: Option<usize>,
+    shapes: u32,
+    records: &'static [Wanted],
 }
 
-/// The records of an exporter's message.
-fn received(alloc: Global, message: &[u8]) -> Result<Vec<Record>, Fail> {
-    let mut exporter = Session::new(alloc);
-    Ok(read(&mut exporter, message)?.records)
+static CASES: [Case; 7] = [
+    // A holder of a stream, from its first record to the end.
+    Case {
+        name: "a_holder",
+        received: &[ONE_PROTOCOL],
+        target: 1400,
+        messages: Some(1),
+        shapes: 1,
+        records: &[TCP],
+    },
+    // One part a message: the announcement alone, and then each record.
+    Case {
+        name: "small_target",
+        received: &[TWO_FLOWS],
+        target: 16,
+        messages: Some(3),
+        shapes: 1,
+        records: &[
+            Wanted {
+                scope: 0,
+                fields: &[
+                    (8, 4, b"\xc0\x00\x02\x4d"),
+                    (7, 2, b"\x01\xbb"),
+                    (1, 4, b"\x00\x00\x05\xdc"),
+                ],
+            },
+            Wanted {
+                scope: 0,
+                fields: &[
+                    (8, 4, b"\xc0\x00\x02\x4d"),
+                    (7, 2, b"\x00\x50"),
+                    (1, 4, b"\x00\x00\x05\xdc"),
+                ],
+            },
+        ],
+    },
+    // The exporter withdraws its template and defines another under the same ID; a Data Set between the two
+    // has no template. The subscriber gets two shapes under IDs of its own, each announced once: of messages of
+    // one part, two are announcements and three records.
+    Case {
+        name: "withdraw_and_redefine",
+        received: &[REDEFINED, ONE_PROTOCOL],
+        target: 16,
+        messages: Some(5),
+        shapes: 2,
+        records: &[
+            TCP,
+            Wanted {
+                scope: 0,
+                fields: &[(60, 1, b"\x04")],
+            },
+            TCP,
+        ],
+    },
+    Case {
+        name: "options_and_lengths, one part a message",
+        received: &[OPTIONS],
+        target: 0,
+        messages: Some(6),
+        shapes: 2,
+        records: INTERFACES,
+    },
+    Case {
+        name: "options_and_lengths, no room behind a header",
+        received: &[OPTIONS],
+        target: 16,
+        messages: Some(6),
+        shapes: 2,
+        records: INTERFACES,
+    },
+    Case {
+        name: "options_and_lengths, at 60",
+        received: &[OPTIONS],
+        target: 60,
+        messages: None,
+        shapes: 2,
+        records: INTERFACES,
+    },
+    Case {
+        name: "options_and_lengths, all in one message",
+        received: &[OPTIONS],
+        target: 65535,
+        messages: Some(1),
+        shapes: 2,
+        records: INTERFACES,
+    },
+];
+
+/// The records of `OPTIONS`: an options template, a field of no octets, and values of variable length beside it.
+const INTERFACES: &[Wanted] = &[
+    Wanted {
+        scope: 1,
+        fields: &[(10, 4, b"\x00\x00\x00\x07"), (82, 65535, b"eth7")],
+    },
+    Wanted {
+        scope: 1,
+        fields: &[(10, 4, b"\x00\x00\x00\x08"), (82, 65535, b"")],
+    },
+    Wanted {
+        scope: 0,
+        fields: &[(82, 0, b""), (4, 1, b"\x06")],
+    },
+    Wanted {
+        scope: 1,
+        fields: &[(10, 4, b"\x00\x00\x00\x09"), (82, 65535, b"ethernet")],
+    },
+];
+
+/// The records of the messages.
+fn received(alloc: Global, messages: &[&[u8]]) -> Result<Vec<Record>, Fail> {
+    let mut records = Vec::new(alloc);
+    for message in messages {
+        let mut read = read(&mut Session::new(alloc), message)?;
+        records.append(&mut read.records)?;
+    }
+    Ok(records)
 }
 
 /// A stream that was given these records. Where memory is refused it is as it was, and is asked again.
@@ -98,20 +212,37 @@ fn stream_of(rt: &impl Abort, alloc: Global, records: Vec<Record>) -> Result<Str
     Ok(stream)
 }
 
+fn apply(session: &mut Session, message: &[u8]) -> Result<Read, ReadError> {
+    session.apply(message)
+}
+
 /// What a message is read as. Where memory is refused once, the same message is read again.
-fn read(session: &mut Session, message: &[u8]) -> Result<Read, Fail> {
-    match session.apply(message) {
-        Err(ReadError::OutOfMemory) => Ok(session.apply(message)?),
-        answer => Ok(answer?),
+fn read(session: &mut Session, message: &[u8]) -> Result<Read, ReadError> {
+    match apply(session, message) {
+        Err(ReadError::OutOfMemory) => apply(session, message),
+        answer => answer,
     }
 }
 
+fn pull(stream: &mut Stream, target: u16) -> Result<Option<Bytes>, PullError> {
+    pull_kept(stream, NOW, target)
+}
+
 /// The next message. Where memory is refused once, the stream is asked again.
-fn next_message(stream: &mut Stream, target: u16) -> Result<Option<Bytes>, Fail> {
-    match pull_kept(stream, NOW, target) {
-        Err(PullError::OutOfMemory) => Ok(pull_kept(stream, NOW, target)?),
-        answer => Ok(answer?),
+fn next_message(stream: &mut Stream, target: u16) -> Result<Option<Bytes>, PullError> {
+    match pull(stream, target) {
+        Err(PullError::OutOfMemory) => pull(stream, target),
+        answer => answer,
     }
+}
+
+/// That what was read begins with the header of a subscriber's message behind so many records.
+fn expect_front(rt: &impl Abort, answer: &Read, records: usize) {
+    assert_eq!(rt; answer.header.domain, 0);
+    assert_eq!(rt; answer.header.export_time, NOW);
+    assert_eq!(rt; answer.header.sequence as usize, records);
+    assert_eq!(rt; answer.skips, NO_SKIPS);
+    assert_eq!(rt; answer.gap, None);
 }
 
 /// Pulls messages of this target to the end, and reads each into the records that were read before. Their
@@ -128,37 +259,43 @@ fn drain(
         let Some(message) = next_message(stream, target)? else {
             break;
         };
-        let answer = read(session, &message)?;
-        assert_eq!(rt; answer.header.domain, 0);
-        assert_eq!(rt; answer.header.export_time, NOW);
-        assert_eq!(rt; answer.header.sequence as usize, found.len());
-        assert_eq!(rt; answer.skips, NO_SKIPS);
-        assert_eq!(rt; answer.gap, None);
-        for next in answer.records {
-            found.push(next)?;
-        }
+        let mut answer = read(session, &message)?;
+        expect_front(rt, &answer, found.len());
+        found.append(&mut answer.records)?;
         messages = messages.saturating_add(1);
     }
     assert_eq!(rt; stream.queued(), 0);
     Ok(messages)
 }
 
-/// That a record has these fields and values, the first `scope` of them scope fields.
-fn expect(rt: &impl Abort, next: Option<&Record>, scope: u16, wanted: &[Field]) {
-    let Some(next) = next else {
-        assert!(rt; false, "a record");
-        return;
-    };
-    assert_eq!(rt; next.template().scope, scope);
-    let fields = next.template().fields.as_slice();
-    assert_eq!(rt; fields.len(), wanted.len());
-    for (field, (number, length, _)) in fields.iter().zip(wanted) {
-        assert_eq!(rt; Some(field.element), ElementId::new(None, *number));
-        assert_eq!(rt; field.length, *length);
+fn expect_field(rt: &impl Abort, name: &str, field: FieldSpec, value: &Bytes, wanted: &Field) {
+    let (number, length, octets) = wanted;
+    assert_eq!(rt;
+        Some(field.element),
+        ElementId::new(None, *number),
+        "{name}"
+    );
+    assert_eq!(rt; field.length, *length, "{name}");
+    assert_eq!(rt; value.as_slice(), *octets, "{name}");
+}
+
+/// That a record has these fields and values.
+fn expect_record(rt: &impl Abort, name: &str, next: &Record, wanted: &Wanted) {
+    let template = next.template();
+    assert_eq!(rt; template.scope, wanted.scope, "{name}");
+    let fields = template.fields.as_slice();
+    let values = next.values().as_slice();
+    assert_eq!(rt; fields.len(), wanted.fields.len(), "{name}");
+    assert_eq!(rt; values.len(), wanted.fields.len(), "{name}");
+    for ((field, value), wanted) in fields.iter().zip(values).zip(wanted.fields) {
+        expect_field(rt, name, *field, value, wanted);
     }
-    assert_eq!(rt; next.values().len(), wanted.len());
-    for (value, (_, _, octets)) in next.values().as_slice().iter().zip(wanted) {
-        assert_eq!(rt; &value[..], *octets);
+}
+
+fn expect_records(rt: &impl Abort, name: &str, found: &[Record], wanted: &[Wanted]) {
+    assert_eq!(rt; found.len(), wanted.len(), "{name}");
+    for (next, wanted) in found.iter().zip(wanted) {
+        expect_record(rt, name, next, wanted);
     }
 }
 
@@ -192,95 +329,26 @@ fn pull_kept(stream: &mut Stream, now: u32, target: u16) -> Result<Option<Bytes>
     stream.pull(now, target)
 }
 
-#[test]
-fn laws_are_called() {
-    messages_mean_the_list();
-    the_first_are_handed_out();
-    answers_mean_the_list();
-    holders_keep();
-}
-
-/// A holder of a stream, from its first record to the end.
-#[test]
-fn a_holder(rt: HostRuntime) -> Result<(), Fail> {
-    let alloc = rt.alloc();
-    let records = received(alloc, ONE_PROTOCOL)?;
-    assert_eq!(rt; records.len(), 1);
-    let mut stream = stream_of(&rt, alloc, records)?;
-    let message = next_message(&mut stream, 1400)?.ok_or("nothing was queued")?;
-    assert!(rt; next_message(&mut stream, 1400)?.is_none());
-    let mut session = Session::new(alloc);
-    let answer = read(&mut session, &message)?;
-    assert_eq!(rt; answer.records.len(), 1);
-    expect(&rt, answer.records.first(), 0, &TCP);
-    Ok(())
-}
-
-/// One part a message: the announcement alone, and then each record.
-#[test]
-fn small_target(rt: HostRuntime) -> Result<(), Fail> {
-    let alloc = rt.alloc();
-    let mut stream = stream_of(&rt, alloc, received(alloc, TWO_FLOWS)?)?;
-    let mut session = Session::new(alloc);
+fn expect_case(rt: &impl Abort, alloc: Global, case: &Case) -> Result<(), Fail> {
+    let mut stream = stream_of(rt, alloc, received(alloc, case.received)?)?;
+    assert_eq!(rt; stream.shapes(), case.shapes, "{}", case.name);
     let mut found = Vec::new(alloc);
-    assert_eq!(rt; drain(&rt, &mut stream, &mut session, 16, &mut found)?, 3);
-    assert_eq!(rt; found.len(), 2);
-    expect(&rt, found.first(), 0, &flow(b"\x01\xbb"));
-    expect(&rt, found.last(), 0, &flow(b"\x00\x50"));
-    Ok(())
-}
-
-/// The exporter withdraws its template and defines another under the same ID; a Data Set between the two
-/// has no template. The subscriber gets two shapes under IDs of its own, each announced once: of messages of one part,
-/// two are announcements and three records.
-#[test]
-fn withdraw_and_redefine(rt: HostRuntime) -> Result<(), Fail> {
-    let alloc = rt.alloc();
-    let mut exporter = Session::new(alloc);
-    let redefined = read(&mut exporter, REDEFINED)?;
-    assert_eq!(rt; redefined.skips.unknown, 1);
-    let mut records = redefined.records;
-    for next in received(alloc, ONE_PROTOCOL)? {
-        records.push(next)?;
-    }
-    let mut stream = stream_of(&rt, alloc, records)?;
-    assert_eq!(rt; stream.shapes(), 2);
     let mut session = Session::new(alloc);
-    let mut found = Vec::new(alloc);
-    assert_eq!(rt; drain(&rt, &mut stream, &mut session, 16, &mut found)?, 5);
-    assert_eq!(rt; found.len(), 3);
-    let mut each = found.iter();
-    expect(&rt, each.next(), 0, &TCP);
-    expect(&rt, each.next(), 0, &VERSION_4);
-    expect(&rt, each.next(), 0, &TCP);
+    let messages = drain(rt, &mut stream, &mut session, case.target, &mut found)?;
+    assert_eq!(rt;
+        messages,
+        case.messages.unwrap_or(messages),
+        "{}",
+        case.name
+    );
+    expect_records(rt, case.name, &found, case.records);
     Ok(())
 }
 
-/// An options template, a field of no octets, and values of variable length beside it.
 #[test]
-fn options_and_lengths(rt: HostRuntime) -> Result<(), Fail> {
-    let alloc = rt.alloc();
-    for target in [0, 16, 60, 65535] {
-        let mut stream = stream_of(&rt, alloc, received(alloc, OPTIONS)?)?;
-        let mut session = Session::new(alloc);
-        let mut found = Vec::new(alloc);
-        drain(&rt, &mut stream, &mut session, target, &mut found)?;
-        assert_eq!(rt; found.len(), 4, "at {target}");
-        let mut each = found.iter();
-        expect(
-            &rt,
-            each.next(),
-            1,
-            &interface(b"\x00\x00\x00\x07", b"eth7"),
-        );
-        expect(&rt, each.next(), 1, &interface(b"\x00\x00\x00\x08", b""));
-        expect(&rt, each.next(), 0, &EMPTY_NAME);
-        expect(
-            &rt,
-            each.next(),
-            1,
-            &interface(b"\x00\x00\x00\x09", b"ethernet"),
-        );
+fn worked_cases(rt: HostRuntime) -> Result<(), Fail> {
+    for case in &CASES {
+        expect_case(&rt, rt.alloc(), case)?;
     }
     Ok(())
 }
