@@ -13,16 +13,16 @@ const KIND: u64 = 1;
 /// The octets of each number, as of a session or a time.
 const NUMBER: u64 = 8;
 
-/// The octets of the length of a message.
-const MESSAGE_LENGTH: u64 = 4;
+/// The octets of a message's entry before the message: its session, its number, and 4 octets of length.
+const BEFORE_MESSAGE: u64 = KIND + 2 * NUMBER + 4;
 
-/// The octets of the length of a text.
-const TEXT_LENGTH: u64 = 8;
+/// The octets of an edit's entry before the text: 8 octets of length.
+const BEFORE_TEXT: u64 = KIND + 8;
 
-/// The octets of the length of a name.
-const NAME_LENGTH: u64 = 1;
+/// The octets of a subscription's entry before the name: its number, and one octet of length.
+const BEFORE_NAME: u64 = KIND + NUMBER + 1;
 
-/// The octets of the longest message whose length has [`MESSAGE_LENGTH`] octets.
+/// The octets of the longest message whose length has 4 octets.
 const LONGEST_MESSAGE: u64 = u32::MAX as u64;
 
 /// One thing that a mediator accepted. Sessions and subscriptions have numbers from 1 on.
@@ -79,15 +79,9 @@ impl Entry {
             | Entry::Unsubscribe { .. }
             | Entry::Advance { .. }
             | Entry::Cut { .. } => KIND + NUMBER,
-            Entry::Message { octets, .. } => KIND
-                + 2 * NUMBER
-                + MESSAGE_LENGTH
-                + octets.len() as u64,
-            Entry::Edit { text } => KIND + TEXT_LENGTH + text.as_str().len() as u64,
-            Entry::Subscribe { name, .. } => KIND
-                + NUMBER
-                + NAME_LENGTH
-                + name.as_bytes().len() as u64,
+            Entry::Message { octets, .. } => BEFORE_MESSAGE + octets.len() as u64,
+            Entry::Edit { text } => BEFORE_TEXT + text.as_str().len() as u64,
+            Entry::Subscribe { name, .. } => BEFORE_NAME + name.as_bytes().len() as u64,
         }
     }
 
