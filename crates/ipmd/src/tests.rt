@@ -6,6 +6,7 @@ mod devices;
 mod example_files;
 mod examples;
 mod files;
+mod long_texts;
 mod memory;
 mod misuse;
 mod worked;
@@ -13,22 +14,32 @@ mod worked;
 use crate::program;
 use octet_devices::Device;
 use std::alloc::{AllocError, Global};
-use std::io::Read;
+use std::io::{Read, Write};
 use std::process::Abort;
 use std::rt::Files;
 use std::test::Fail;
-use std::{process, str};
+use std::{fs, process, str};
 
 /// A policy that passes each record whole.
 const PASS: &str =
     "policy 1;rule for * in * from * to * pass;rule for * in * from * to * element * keep";
 
 /// The words of a run for acme, to whom all passes.
-const OFFLINE: [&str; 5] = ["offline", "--policy-text", PASS, "--subscriber", "acme"];
+const OFFLINE: &[&str] = &["offline", "--policy-text", PASS, "--subscriber", "acme"];
+
+/// The same, of a stream in hexadecimal.
+const OFFLINE_HEX: &[&str] = &[
+    "offline",
+    "--policy-text",
+    PASS,
+    "--subscriber",
+    "acme",
+    "--hex",
+];
 
 /// A message with a template of source address, source port and octet count, and one record.
-const FLOW: &str =
-    "000a0032 6553f100 00000000 00000007  00020014 01000003 00080004 00070002 00010004  0100000e c000024d 01bb 000005dc";
+const FLOW: &[u8] =
+    b"000a0032 6553f100 00000000 00000007  00020014 01000003 00080004 00070002 00010004  0100000e c000024d 01bb 000005dc";
 
 /// What acme gets of it where all passes.
 const FLOW_PASSED: &str =
@@ -37,11 +48,24 @@ const FLOW_PASSED: &str =
 /// The report on it.
 const FLOW_REPORT: &str = "messages 1 records 1 disclosed 1\n";
 
+/// Where a reader or a writer has failed.
+const DEVICE: &str = "ipmd: device\n";
+
 /// The Export Time that the worked cases ask for.
 const NOW: &str = "1700000060";
 
 /// Room for what a test writes.
 const ROOM: usize = 4096;
+
+/// A run of the program on octets in memory, and what it must leave: a status and two texts.
+struct Run<'a> {
+    name: &'a str,
+    words: &'a [&'a str],
+    input: &'a [u8],
+    status: u8,
+    output: &'a str,
+    errors: &'a str,
+}
 
 /// What a run of the program left.
 #[derive(Drop)]
@@ -59,16 +83,15 @@ fn some_room(alloc: Global) -> Result<Vec<u8>, AllocError> {
     }
 }
 
-/// These words, and these options behind them.
-fn offline<'a>(alloc: Global, options: &[&'a str]) -> Result<Vec<&'a str>, AllocError> {
-    let mut words = Vec::new(alloc);
-    for word in OFFLINE {
-        words.push(word)?;
-    }
-    for option in options {
-        words.push(*option)?;
-    }
-    Ok(words)
+/// Runs the program between these devices.
+fn run_between<R: Files + AllocGlobal, I: Read + Drop, O: Write, E: Write>(
+    rt: &R,
+    words: &[&str],
+    input: I,
+    output: &mut Device<O>,
+    errors: &mut Device<E>,
+) -> u8 {
+    program(rt, words, input, output, errors)
 }
 
 /// Runs the program on streams in memory.
@@ -77,43 +100,71 @@ fn run_on<R: Files + AllocGlobal, I: Read + Drop>(
     words: &[&str],
     input: I,
 ) -> Result<Ran, AllocError> {
-    let mut output = some_room(rt.alloc())?;
-    let mut errors = some_room(rt.alloc())?;
-    let mut device = Device::new(&mut output);
-    let status = program(rt, words, input, &mut device, &mut Device::new(&mut errors));
+    let mut output = Device::new(some_room(rt.alloc())?);
+    let mut errors = Device::new(some_room(rt.alloc())?);
+    let status = run_between(rt, words, input, &mut output, &mut errors);
     Ok(Ran {
         status,
-        output,
-        errors,
+        output: output.into_inner(),
+        errors: errors.into_inner(),
     })
 }
 
-/// That a run ends with a status, and leaves these texts.
-fn expect_texts<R: Files + AllocGlobal + Abort>(
+/// That this is the text.
+fn expect_text<R: Abort>(rt: &R, name: &str, octets: &[u8], wanted: &str) -> Result<(), Fail> {
+    let text = str::from_utf8(octets)?;
+    assert!(rt; text == wanted, "{name}: {text}");
+    Ok(())
+}
+
+/// That a run ended with this status.
+fn expect_status<R: Abort>(rt: &R, name: &str, status: u8, wanted: u8) {
+    assert!(rt; status == wanted, "{name}: {status}");
+}
+
+/// That a run ended with a status, and left these texts.
+fn expect_texts<R: Abort>(
     rt: &R,
+    name: &str,
     ran: &Ran,
     status: u8,
     output: &str,
     errors: &str,
 ) -> Result<(), Fail> {
-    assert_eq!(rt; str::from_utf8(ran.errors.as_slice())?, errors);
-    assert_eq!(rt; str::from_utf8(ran.output.as_slice())?, output);
-    assert_eq!(rt; ran.status, status);
+    expect_text(rt, name, ran.errors.as_slice(), errors)?;
+    expect_text(rt, name, ran.output.as_slice(), output)?;
+    expect_status(rt, name, ran.status, status);
+    Ok(())
+}
+
+/// That a file holds this text.
+fn expect_file<R: Files + AllocGlobal + Abort>(
+    rt: &R,
+    name: &str,
+    path: &str,
+    wanted: &str,
+) -> Result<(), Fail> {
+    let text = fs::read_to_string(rt, path)?;
+    expect_text(rt, name, text.as_bytes(), wanted)
+}
+
+/// That the run leaves what it must.
+fn expect_run<R: Files + AllocGlobal + Abort>(rt: &R, run: &Run<'_>) -> Result<(), Fail> {
+    let ran = run_on(rt, run.words, run.input)?;
+    expect_texts(rt, run.name, &ran, run.status, run.output, run.errors)
+}
+
+/// That each run leaves what it must.
+fn expect_runs<R: Files + AllocGlobal + Abort>(rt: &R, runs: &[Run<'_>]) -> Result<(), Fail> {
+    for run in runs {
+        expect_run(rt, run)?;
+    }
     Ok(())
 }
 
 /// A text without its blanks; expected lines are written with blanks to be read by.
 fn without_blanks(alloc: Global, text: &str) -> Result<String, AllocError> {
     text.chars().filter(|c| *c != ' ').collect(alloc)
-}
-
-/// The octets that a text spells in hexadecimal, blanks and line feeds skipped.
-fn octets_of(alloc: Global, text: &str) -> Result<Vec<u8>, Fail> {
-    let digits: String = text
-        .chars()
-        .filter(|c| *c != ' ' && *c != '\n')
-        .collect(alloc)?;
-    Ok(hex::decode(alloc, digits.as_str())?)
 }
 
 /// A path for a file of this process's own.

@@ -2,186 +2,356 @@
 
 use super::*;
 
-#[test]
-fn check_policy(rt: HostRuntime) -> Result<(), Fail> {
-    let cases = [
-        (
+/// Policies that are checked, and numbers of `ipmd offline`: the greatest that there are, and those that hold where
+/// none is given, 0 seconds and 1400 octets (of which `default_target` in `long_texts` shows the second).
+const RUNS: &[Run<'static>] = &[
+    Run {
+        name: "check_policy: bits past the prefix",
+        words: &[
+            "check-policy",
+            "--policy-text",
             "policy 1;rule for a in * from 192.0.2.1/24 to * pass",
-            1,
-            "",
-            "ipmd: policy line 2: BadPrefix\n",
-        ),
-        (PASS, 0, "rules 2 aggregates 0\n", ""),
-        (
+        ],
+        input: b"",
+        status: 1,
+        output: "",
+        errors: "ipmd: policy line 2: BadPrefix\n",
+    },
+    Run {
+        name: "check_policy: all passes",
+        words: &["check-policy", "--policy-text", PASS],
+        input: b"",
+        status: 0,
+        output: "rules 2 aggregates 0\n",
+        errors: "",
+    },
+    Run {
+        name: "check_policy: an aggregate",
+        words: &[
+            "check-policy",
+            "--policy-text",
             "policy 1;aggregate web key destinationTransportPort interval 300 grace 60;rule for acme in * from * to * aggregate web",
-            0,
-            "rules 1 aggregates 1\n",
-            "",
-        ),
-        (
+        ],
+        input: b"",
+        status: 0,
+        output: "rules 1 aggregates 1\n",
+        errors: "",
+    },
+    Run {
+        name: "check_policy: a key of two elements",
+        words: &[
+            "check-policy",
+            "--policy-text",
             "policy 1;aggregate web key destinationTransportPort,protocolIdentifier interval 300 grace 60",
-            0,
-            "rules 0 aggregates 1\n",
-            "",
-        ),
-        ("", 1, "", "ipmd: policy line 1: NoHeader\n"),
-        (
-            "policy 1;;# pass;rule",
-            1,
-            "",
-            "ipmd: policy line 4: UnknownWord\n",
-        ),
-    ];
-    for (text, status, output, errors) in cases {
-        let ran = run_on(
-            &rt,
-            &["check-policy", "--policy-text", text],
-            b"".as_slice(),
-        )?;
-        expect_texts(&rt, &ran, status, output, errors)?;
-    }
+        ],
+        input: b"",
+        status: 0,
+        output: "rules 0 aggregates 1\n",
+        errors: "",
+    },
+    Run {
+        name: "check_policy: an empty text",
+        words: &["check-policy", "--policy-text", ""],
+        input: b"",
+        status: 1,
+        output: "",
+        errors: "ipmd: policy line 1: NoHeader\n",
+    },
+    Run {
+        name: "check_policy: lines that say nothing are counted",
+        words: &["check-policy", "--policy-text", "policy 1;;# pass;rule"],
+        input: b"",
+        status: 1,
+        output: "",
+        errors: "ipmd: policy line 4: UnknownWord\n",
+    },
+    Run {
+        name: "greatest_numbers",
+        words: &[
+            "offline",
+            "--policy-text",
+            PASS,
+            "--subscriber",
+            "acme",
+            "--now",
+            "4294967295",
+            "--target",
+            "65535",
+        ],
+        input: b"",
+        status: 0,
+        output: "",
+        errors: "messages 0 records 0 disclosed 0\n",
+    },
+    Run {
+        name: "default_numbers",
+        words: OFFLINE_HEX,
+        input: FLOW,
+        status: 0,
+        output: "000a00320000000000000000000000000002001401000003000800040007000200010004\
+0100000ec000024d01bb000005dc\n",
+        errors: FLOW_REPORT,
+    },
+];
+
+#[test]
+fn runs(rt: HostRuntime) -> Result<(), Fail> {
+    expect_runs(&rt, RUNS)
+}
+
+/// A command line, and a part of the text that answers it.
+struct Answer<'a> {
+    name: &'a str,
+    words: &'a [&'a str],
+    part: &'a str,
+}
+
+const ONE_POLICY: &str =
+    "exactly one of '--policy <FILE>' and '--policy-text <TEXT>' must be given";
+
+const REFUSED: &[Answer<'static>] = &[
+    Answer {
+        name: "no words",
+        words: &[],
+        part: "requires a subcommand",
+    },
+    Answer {
+        name: "a misspelt command",
+        words: &["ofline"],
+        part: "unrecognized subcommand 'ofline'",
+    },
+    Answer {
+        name: "no policy to check",
+        words: &["check-policy"],
+        part: ONE_POLICY,
+    },
+    Answer {
+        name: "two policies to check",
+        words: &["check-policy", "--policy", "a", "--policy-text", "b"],
+        part: ONE_POLICY,
+    },
+    Answer {
+        name: "an option without its value",
+        words: &["check-policy", "--policy"],
+        part: "a value is required",
+    },
+    Answer {
+        name: "a word too many",
+        words: &["check-policy", "--policy", "a", "b"],
+        part: "unexpected argument 'b' found",
+    },
+    Answer {
+        name: "no subscriber",
+        words: &["offline", "--policy", "a"],
+        part: "--subscriber <NAME>",
+    },
+    Answer {
+        name: "no policy",
+        words: &["offline", "--subscriber", "acme"],
+        part: ONE_POLICY,
+    },
+    Answer {
+        name: "two policies",
+        words: &[
+            "offline",
+            "--policy-text",
+            PASS,
+            "--subscriber",
+            "acme",
+            "--policy",
+            "a",
+        ],
+        part: ONE_POLICY,
+    },
+    // Where the policy is missing, the usage is that of the command that was named.
+    Answer {
+        name: "usage_of_the_command: check-policy",
+        words: &["check-policy"],
+        part: "\nUsage: ipmd check-policy (--policy <FILE> | --policy-text <TEXT>)\n",
+    },
+    Answer {
+        name: "usage_of_the_command: offline",
+        words: &["offline", "--subscriber", "acme"],
+        part: "\nUsage: ipmd offline (--policy <FILE> | --policy-text <TEXT>) --subscriber <NAME> [OPTIONS]\n",
+    },
+    Answer {
+        name: "wrong_options: misspelt",
+        words: &[
+            "offline",
+            "--policy-text",
+            PASS,
+            "--subscriber",
+            "acme",
+            "--hexx",
+        ],
+        part: "unexpected argument '--hexx' found",
+    },
+    Answer {
+        name: "wrong_options: of the other command",
+        words: &["check-policy", "--policy", "a", "--hex"],
+        part: "unexpected argument '--hex' found",
+    },
+    Answer {
+        name: "wrong_options: given twice",
+        words: &[
+            "offline",
+            "--policy-text",
+            PASS,
+            "--subscriber",
+            "acme",
+            "--now",
+            "1",
+            "--now",
+            "2",
+        ],
+        part: "'--now <SECONDS>' cannot be used multiple times",
+    },
+];
+
+/// Numbers that an option doesn't take.
+const REFUSED_NUMBERS: [(&str, &str); 5] = [
+    ("--now", "4294967296"),
+    ("--now", "x"),
+    ("--now", ""),
+    ("--target", "65536"),
+    ("--target", "1e3"),
+];
+
+/// That the text has this part.
+fn expect_part<R: Abort>(rt: &R, name: &str, octets: &[u8], part: &str) -> Result<(), Fail> {
+    let text = str::from_utf8(octets)?;
+    assert!(rt; text.contains(part), "{name}: {text}");
     Ok(())
+}
+
+/// Whether a text begins as one on a refused command line does.
+fn begins_as_an_error(octets: &[u8]) -> bool {
+    octets.starts_with(b"error: ")
+}
+
+/// Whether a text ends with one line feed, and no more.
+fn ends_with_one_line_feed(octets: &[u8]) -> bool {
+    octets.ends_with(b"\n") && !octets.ends_with(b"\n\n")
 }
 
 /// That the command line is refused with a text that has this part.
 fn expect_refused<R: Files + AllocGlobal + Abort>(
     rt: &R,
+    name: &str,
     words: &[&str],
     part: &str,
 ) -> Result<(), Fail> {
     let ran = run_on(rt, words, b"".as_slice())?;
-    let errors = str::from_utf8(ran.errors.as_slice())?;
-    assert!(rt; errors.starts_with("error: "), "{errors}");
-    assert!(rt; errors.contains(part), "{errors}");
-    assert!(rt; errors.ends_with('\n'), "{errors}");
-    assert!(rt; !errors.ends_with("\n\n"), "{errors}");
-    assert_eq!(rt; ran.output.len(), 0);
-    assert_eq!(rt; ran.status, 2);
+    assert!(rt; begins_as_an_error(ran.errors.as_slice()), "{name}");
+    assert!(rt; ends_with_one_line_feed(ran.errors.as_slice()), "{name}");
+    expect_part(rt, name, ran.errors.as_slice(), part)?;
+    expect_text(rt, name, ran.output.as_slice(), "")?;
+    expect_status(rt, name, ran.status, 2);
     Ok(())
 }
 
-#[test]
-fn refused_command_lines(rt: HostRuntime) -> Result<(), Fail> {
-    expect_refused(&rt, &[], "requires a subcommand")?;
-    expect_refused(&rt, &["ofline"], "unrecognized subcommand 'ofline'")?;
-    let one_policy = "exactly one of '--policy <FILE>' and '--policy-text <TEXT>' must be given";
-    expect_refused(&rt, &["check-policy"], one_policy)?;
-    expect_refused(
-        &rt,
-        &["check-policy", "--policy", "a", "--policy-text", "b"],
-        one_policy,
-    )?;
-    expect_refused(&rt, &["check-policy", "--policy"], "a value is required")?;
-    expect_refused(
-        &rt,
-        &["check-policy", "--policy", "a", "b"],
-        "unexpected argument 'b' found",
-    )?;
-    expect_refused(&rt, &["offline", "--policy", "a"], "--subscriber <NAME>")?;
-    expect_refused(&rt, &["offline", "--subscriber", "acme"], one_policy)?;
-    let both_policies = offline(rt.alloc(), &["--policy", "a"])?;
-    expect_refused(&rt, &both_policies, one_policy)
-}
-
-/// Where the policy is missing, the usage is that of the command that was named.
-#[test]
-fn usage_of_the_command(rt: HostRuntime) -> Result<(), Fail> {
-    let policy = "(--policy <FILE> | --policy-text <TEXT>)";
-    let check = format!(in rt.alloc(); "\nUsage: ipmd check-policy {policy}\n")?;
-    expect_refused(&rt, &["check-policy"], check.as_str())?;
-    let usage = format!(in rt.alloc();
-        "\nUsage: ipmd offline {policy} --subscriber <NAME> [OPTIONS]\n"
-    )?;
-    expect_refused(&rt, &["offline", "--subscriber", "acme"], usage.as_str())
-}
-
-/// An option that there is not, one of the other command, and one given twice.
-#[test]
-fn wrong_options(rt: HostRuntime) -> Result<(), Fail> {
-    let misspelt = offline(rt.alloc(), &["--hexx"])?;
-    expect_refused(&rt, &misspelt, "unexpected argument '--hexx' found")?;
-    expect_refused(
-        &rt,
-        &["check-policy", "--policy", "a", "--hex"],
-        "unexpected argument '--hex' found",
-    )?;
-    let twice = offline(rt.alloc(), &["--now", "1", "--now", "2"])?;
-    let part = "'--now <SECONDS>' cannot be used multiple times";
-    expect_refused(&rt, &twice, part)
-}
-
-#[test]
-fn refused_numbers(rt: HostRuntime) -> Result<(), Fail> {
-    for (option, number) in [
-        ("--now", "4294967296"),
-        ("--now", "x"),
-        ("--now", ""),
-        ("--target", "65536"),
-        ("--target", "1e3"),
-    ] {
-        let words = offline(rt.alloc(), &[option, number])?;
-        expect_refused(&rt, &words, option)?;
-    }
-    let options = ["--now", "4294967295", "--target", "65535"];
-    let greatest = offline(rt.alloc(), &options)?;
-    let ran = run_on(&rt, &greatest, b"".as_slice())?;
-    expect_texts(&rt, &ran, 0, "", "messages 0 records 0 disclosed 0\n")
-}
-
-/// Where no time and no target are given, they are 0 and 1400.
-#[test]
-fn default_numbers(rt: HostRuntime) -> Result<(), Fail> {
-    let words = offline(rt.alloc(), &["--hex"])?;
-    let ran = run_on(&rt, &words, FLOW.as_bytes())?;
-    let output =
-        "000a0032 00000000 00000000 00000000  00020014 01000003 00080004 00070002 00010004  0100000e c000024d 01bb 000005dc\n";
-    let output = without_blanks(rt.alloc(), output)?;
-    expect_texts(&rt, &ran, 0, output.as_str(), FLOW_REPORT)
-}
-
-/// Adds so many records of the flow's template.
-fn push_records(text: &mut String, count: u16) -> Result<(), AllocError> {
-    for _ in 0..count {
-        text.push_str("c000024d01bb000005dc")?;
+/// That each command line is refused with a text that has its part.
+fn expect_each_refused<R: Files + AllocGlobal + Abort>(
+    rt: &R,
+    answers: &[Answer<'_>],
+) -> Result<(), Fail> {
+    for answer in answers {
+        expect_refused(rt, answer.name, answer.words, answer.part)?;
     }
     Ok(())
 }
 
-/// Of 137 records, 136 fill a message of 1,400 octets; one octet more would not be taken.
+/// That `ipmd offline` is refused for the number that this option has.
+fn expect_refused_number<R: Files + AllocGlobal + Abort>(
+    rt: &R,
+    option: &str,
+    number: &str,
+) -> Result<(), Fail> {
+    let words = [
+        "offline",
+        "--policy-text",
+        PASS,
+        "--subscriber",
+        "acme",
+        option,
+        number,
+    ];
+    expect_refused(rt, number, &words, option)
+}
+
 #[test]
-fn default_target(rt: HostRuntime) -> Result<(), Fail> {
-    let words = offline(rt.alloc(), &["--now", NOW, "--hex"])?;
-    let template = "0002001401000003000800040007000200010004";
-    let mut input = format!(in rt.alloc(); "000a05826553f1000000000000000007{template}0100055e")?;
-    push_records(&mut input, 137)?;
-    let mut output = format!(in rt.alloc(); "000a05786553f13c0000000000000000{template}01000554")?;
-    push_records(&mut output, 136)?;
-    output.push_str("\n000a001e6553f13c00000088000000000100000ec000024d01bb000005dc\n")?;
-    let ran = run_on(&rt, &words, input.as_bytes())?;
-    let report = "messages 1 records 137 disclosed 137\n";
-    expect_texts(&rt, &ran, 0, output.as_str(), report)
+fn refused(rt: HostRuntime) -> Result<(), Fail> {
+    expect_each_refused(&rt, REFUSED)?;
+    for (option, number) in REFUSED_NUMBERS {
+        expect_refused_number(&rt, option, number)?;
+    }
+    Ok(())
+}
+
+const HELP: &[Answer<'static>] = &[
+    Answer {
+        name: "--help",
+        words: &["--help"],
+        part: "check-policy",
+    },
+    Answer {
+        name: "help",
+        words: &["help"],
+        part: "Usage: ipmd <COMMAND>",
+    },
+    Answer {
+        name: "offline --help: options",
+        words: &["offline", "--help"],
+        part: "--audit <FILE>",
+    },
+    Answer {
+        name: "offline -h: examples",
+        words: &["offline", "-h"],
+        part: "\n  ipmd offline --policy",
+    },
+    Answer {
+        name: "offline --help: what a policy with aggregates is answered",
+        words: &["offline", "--help"],
+        part: "ipmd offline can't carry out yet",
+    },
+    Answer {
+        name: "check-policy --help: examples",
+        words: &["check-policy", "--help"],
+        part: "\n  ipmd check-policy --policy-text",
+    },
+    Answer {
+        name: "--version",
+        words: &["--version"],
+        part: "ipmd 0.1.0\n",
+    },
+];
+
+/// That a text with this part is written.
+fn expect_shown<R: Files + AllocGlobal + Abort>(
+    rt: &R,
+    name: &str,
+    words: &[&str],
+    part: &str,
+) -> Result<(), Fail> {
+    let ran = run_on(rt, words, b"".as_slice())?;
+    expect_part(rt, name, ran.output.as_slice(), part)?;
+    expect_text(rt, name, ran.errors.as_slice(), "")?;
+    expect_status(rt, name, ran.status, 0);
+    Ok(())
+}
+
+/// That each command line has a text with its part written.
+fn expect_each_shown<R: Files + AllocGlobal + Abort>(
+    rt: &R,
+    answers: &[Answer<'_>],
+) -> Result<(), Fail> {
+    for answer in answers {
+        expect_shown(rt, answer.name, answer.words, answer.part)?;
+    }
+    Ok(())
 }
 
 #[test]
 fn help(rt: HostRuntime) -> Result<(), Fail> {
-    let cases = [
-        (["--help"].as_slice(), "check-policy"),
-        (&["help"], "Usage: ipmd <COMMAND>"),
-        (&["offline", "--help"], "--audit <FILE>"),
-        (&["offline", "-h"], "\n  ipmd offline --policy"),
-        (&["offline", "--help"], "ipmd offline can't carry out yet"),
-        (
-            &["check-policy", "--help"],
-            "\n  ipmd check-policy --policy-text",
-        ),
-        (&["--version"], "ipmd 0.1.0\n"),
-    ];
-    for (words, part) in cases {
-        let ran = run_on(&rt, words, b"".as_slice())?;
-        let output = str::from_utf8(ran.output.as_slice())?;
-        assert!(rt; output.contains(part), "{output}");
-        assert_eq!(rt; ran.errors.len(), 0);
-        assert_eq!(rt; ran.status, 0);
-    }
-    Ok(())
+    expect_each_shown(&rt, HELP)
 }

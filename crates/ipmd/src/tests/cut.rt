@@ -1,7 +1,6 @@
 //! A subscription that is cut: a message would give it a record of one shape too many.
 
 use super::*;
-use std::fs;
 
 /// How many shapes a message brings; 32 such messages bring 65,280, as many as there are Template IDs from
 /// 256 on (RFC 7011, section 3.4.1).
@@ -42,25 +41,45 @@ fn all_shapes(alloc: Global) -> Result<Vec<u8>, Fail> {
     Ok(stream)
 }
 
+/// Runs over a stream, with an audit.
+fn run_audited<R: Files + AllocGlobal>(
+    rt: &R,
+    path: &str,
+    stream: &[u8],
+) -> Result<Ran, AllocError> {
+    let words = [
+        "offline",
+        "--policy-text",
+        PASS,
+        "--subscriber",
+        "acme",
+        "--audit",
+        path,
+    ];
+    run_on(rt, &words, stream)
+}
+
+/// That all the shapes are taken, and one more is not.
+fn expect_cut<R: Files + AllocGlobal + Abort>(rt: &R, path: &str) -> Result<(), Fail> {
+    let mut stream = all_shapes(rt.alloc())?;
+    let whole = run_audited(rt, path, stream.as_slice())?;
+    let report = "messages 32 records 65280 disclosed 65280\n";
+    expect_text(rt, "all shapes", whole.errors.as_slice(), report)?;
+    push_message(&mut stream, MESSAGES * u32::from(SHAPES), 1)?;
+    let cut = run_audited(rt, path, stream.as_slice())?;
+    expect_text(rt, "one more", cut.errors.as_slice(), "ipmd: Cut\n")?;
+    expect_status(rt, "one more", cut.status, 1);
+    assert!(rt; cut.output.as_slice() == whole.output.as_slice());
+    Ok(())
+}
+
 /// The Cut stands in the journal before the message that would have brought the shape, after an edit, a
 /// subscription, an opened session and 32 messages; its audit line is written.
 #[test]
 fn shapes_limit(rt: HostRuntime) -> Result<(), Fail> {
     let path = scratch_path(&rt, "cut")?;
-    let words = offline(rt.alloc(), &["--audit", path.as_str()])?;
-    let mut stream = all_shapes(rt.alloc())?;
-    let whole = run_on(&rt, &words, stream.as_slice())?;
-    assert_eq!(rt;
-        str::from_utf8(whole.errors.as_slice())?,
-        "messages 32 records 65280 disclosed 65280\n"
-    );
-    push_message(&mut stream, MESSAGES * u32::from(SHAPES), 1)?;
-    let cut = run_on(&rt, &words, stream.as_slice())?;
-    assert_eq!(rt; str::from_utf8(cut.errors.as_slice())?, "ipmd: Cut\n");
-    assert_eq!(rt; cut.status, 1);
-    assert!(rt; cut.output.as_slice() == whole.output.as_slice());
-    let audit = fs::read_to_string(&rt, path.as_str())?;
-    assert_eq!(rt; audit.as_str(), "35 0 1 cut\n");
+    expect_cut(&rt, path.as_str())?;
+    expect_file(&rt, "the audit", path.as_str(), "35 0 1 cut\n")?;
     fs::remove_file(&rt, path.as_str())?;
     Ok(())
 }

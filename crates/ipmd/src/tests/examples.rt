@@ -1,8 +1,8 @@
 //! The examples of `examples/`: what each command writes, and how each policy with a fault is answered.
 
 use super::example_files::{EXAMPLES, FAULTS};
+use super::files::{Checked, expect_checked};
 use super::*;
-use std::fs;
 
 /// A command of `examples/` with the files that it names, and what it must leave.
 #[derive(Clone, Copy)]
@@ -15,14 +15,13 @@ pub struct Example<'a> {
     pub report: &'a str,
 }
 
-/// That the command of an example leaves what its files say.
-fn expect_example<R: Files + AllocGlobal + Abort>(
+/// That the command of an example writes and says what its files say.
+fn expect_filtered<R: Files + AllocGlobal + Abort>(
     rt: &R,
     policy: &str,
     audit: &str,
     example: &Example<'_>,
 ) -> Result<(), Fail> {
-    fs::write(rt, policy, example.policy)?;
     let words = [
         "offline",
         "--policy",
@@ -36,9 +35,31 @@ fn expect_example<R: Files + AllocGlobal + Abort>(
         "--hex",
     ];
     let ran = run_on(rt, &words, example.input.as_bytes())?;
-    expect_texts(rt, &ran, 0, example.output, example.report)?;
-    let lines = fs::read_to_string(rt, audit)?;
-    assert_eq!(rt; lines.as_str(), example.audit);
+    let name = example.policy;
+    expect_texts(rt, name, &ran, 0, example.output, example.report)
+}
+
+/// That the command of an example leaves what its files say.
+pub fn expect_example<R: Files + AllocGlobal + Abort>(
+    rt: &R,
+    policy: &str,
+    audit: &str,
+    example: &Example<'_>,
+) -> Result<(), Fail> {
+    fs::write(rt, policy, example.policy)?;
+    expect_filtered(rt, policy, audit, example)?;
+    expect_file(rt, example.policy, audit, example.audit)
+}
+
+fn expect_examples<R: Files + AllocGlobal + Abort>(
+    rt: &R,
+    policy: &str,
+    audit: &str,
+    examples: &[Example<'_>],
+) -> Result<(), Fail> {
+    for example in examples {
+        expect_example(rt, policy, audit, example)?;
+    }
     Ok(())
 }
 
@@ -46,47 +67,35 @@ fn expect_example<R: Files + AllocGlobal + Abort>(
 fn examples(rt: HostRuntime) -> Result<(), Fail> {
     let policy = scratch_path(&rt, "example-policy")?;
     let audit = scratch_path(&rt, "example-audit")?;
-    for example in EXAMPLES {
-        expect_example(&rt, policy.as_str(), audit.as_str(), &example)?;
-    }
+    expect_examples(&rt, policy.as_str(), audit.as_str(), &EXAMPLES)?;
     fs::remove_file(&rt, policy.as_str())?;
     fs::remove_file(&rt, audit.as_str())?;
+    Ok(())
+}
+
+/// That `check-policy` answers each policy so.
+fn expect_faults<R: Files + AllocGlobal + Abort>(
+    rt: &R,
+    path: &str,
+    faults: &[(&str, &str)],
+) -> Result<(), Fail> {
+    for (text, answer) in faults {
+        let case = Checked {
+            name: text,
+            content: text.as_bytes(),
+            status: 1,
+            output: "",
+            errors: answer,
+        };
+        expect_checked(rt, path, &case)?;
+    }
     Ok(())
 }
 
 #[test]
 fn policies_with_faults(rt: HostRuntime) -> Result<(), Fail> {
     let path = scratch_path(&rt, "faulty-policy")?;
-    for (text, answer) in FAULTS {
-        fs::write(&rt, path.as_str(), text)?;
-        let words = ["check-policy", "--policy", path.as_str()];
-        let ran = run_on(&rt, &words, b"".as_slice())?;
-        expect_texts(&rt, &ran, 1, "", answer)?;
-    }
+    expect_faults(&rt, path.as_str(), &FAULTS)?;
     fs::remove_file(&rt, path.as_str())?;
-    Ok(())
-}
-
-/// A policy of this many rules, each on a line of its own, the first on the second line.
-fn policy_of_rules(alloc: Global, count: u16) -> Result<String, AllocError> {
-    let mut text = String::from_str(alloc, "policy 1\n")?;
-    for _ in 0..count {
-        text.push_str("rule for * in * from * to * pass\n")?;
-    }
-    Ok(text)
-}
-
-/// The 4,097th rule is one too many.
-#[test]
-fn too_many_rules(rt: HostRuntime) -> Result<(), Fail> {
-    for (count, status, output, errors) in [
-        (4096, 0, "rules 4096 aggregates 0\n", ""),
-        (4097, 1, "", "ipmd: policy line 4098: TooMany\n"),
-    ] {
-        let text = policy_of_rules(rt.alloc(), count)?;
-        let words = ["check-policy", "--policy-text", text.as_str()];
-        let ran = run_on(&rt, &words, b"".as_slice())?;
-        expect_texts(&rt, &ran, status, output, errors)?;
-    }
     Ok(())
 }

@@ -4,21 +4,35 @@
 
 use super::*;
 
-const WORDS: [&str; 10] = [
-    "offline",
-    "--policy-text",
-    "policy 1;rule for * in * from * to * pass;rule for * in * from * to * element sourceTransportPort remove;rule for * in * from * to * element * keep",
-    "--subscriber",
-    "acme",
-    "--now",
-    NOW,
-    "--audit",
-    "/dev/null",
-    "--hex",
+const RUNS: &[Run<'static>] = &[
+    Run {
+        name: "each_refusal_of_memory",
+        words: &[
+            "offline",
+            "--policy-text",
+            "policy 1;rule for * in * from * to * pass;rule for * in * from * to * element sourceTransportPort remove;rule for * in * from * to * element * keep",
+            "--subscriber",
+            "acme",
+            "--now",
+            NOW,
+            "--audit",
+            "/dev/null",
+            "--hex",
+        ],
+        input: FLOW,
+        status: 0,
+        output: "000a002c6553f13c0000000000000000000200100100000200080004000100040100000cc000024d000005dc\n",
+        errors: FLOW_REPORT,
+    },
+    Run {
+        name: "each_refusal_of_memory_for_a_check",
+        words: &["check-policy", "--policy-text", PASS],
+        input: b"",
+        status: 0,
+        output: "rules 2 aggregates 0\n",
+        errors: "",
+    },
 ];
-
-const OUTPUT: &str =
-    "000a002c6553f13c0000000000000000000200100100000200080004000100040100000cc000024d000005dc\n";
 
 /// That a run was refused memory, and wrote a front of the output.
 fn expect_out_of_memory<R: Files + AllocGlobal + Abort>(
@@ -28,30 +42,26 @@ fn expect_out_of_memory<R: Files + AllocGlobal + Abort>(
 ) -> Result<(), Fail> {
     let written = str::from_utf8(ran.output.as_slice())?;
     assert!(rt; output.starts_with(written), "{written}");
-    let errors = str::from_utf8(ran.errors.as_slice())?;
-    assert_eq!(rt; errors, "ipmd: OutOfMemory\n");
-    assert_eq!(rt; ran.status, 1);
+    expect_text(rt, "refused", ran.errors.as_slice(), "ipmd: OutOfMemory\n")?;
+    expect_status(rt, "refused", ran.status, 1);
     Ok(())
+}
+
+/// The run, a second one where the first was refused memory.
+fn run_again<R: Files + AllocGlobal + Abort>(rt: &R, run: &Run<'_>) -> Result<Ran, Fail> {
+    let ran = run_on(rt, run.words, run.input)?;
+    if ran.status == 0 {
+        return Ok(ran);
+    }
+    expect_out_of_memory(rt, &ran, run.output)?;
+    Ok(run_on(rt, run.words, run.input)?)
 }
 
 #[test]
 fn each_refusal_of_memory(rt: HostRuntime) -> Result<(), Fail> {
-    let mut ran = run_on(&rt, &WORDS, FLOW.as_bytes())?;
-    if ran.status != 0 {
-        expect_out_of_memory(&rt, &ran, OUTPUT)?;
-        ran = run_on(&rt, &WORDS, FLOW.as_bytes())?;
+    for run in RUNS {
+        let ran = run_again(&rt, run)?;
+        expect_texts(&rt, run.name, &ran, run.status, run.output, run.errors)?;
     }
-    expect_texts(&rt, &ran, 0, OUTPUT, FLOW_REPORT)
-}
-
-#[test]
-fn each_refusal_of_memory_for_a_check(rt: HostRuntime) -> Result<(), Fail> {
-    let words = ["check-policy", "--policy-text", PASS];
-    let output = "rules 2 aggregates 0\n";
-    let mut ran = run_on(&rt, &words, b"".as_slice())?;
-    if ran.status != 0 {
-        expect_out_of_memory(&rt, &ran, output)?;
-        ran = run_on(&rt, &words, b"".as_slice())?;
-    }
-    expect_texts(&rt, &ran, 0, output, "")
+    Ok(())
 }

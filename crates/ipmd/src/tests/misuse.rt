@@ -4,64 +4,79 @@ use super::*;
 
 const BAD_VERSION: &str = "ipmd: framing BadVersion\n";
 
-/// That the octets of a text in hexadecimal, read as they are, are answered so.
-fn expect_answer<R: Files + AllocGlobal + Abort>(
-    rt: &R,
-    input: &str,
-    answer: &str,
-) -> Result<(), Fail> {
-    let octets = octets_of(rt.alloc(), input)?;
-    let ran = run_on(rt, &OFFLINE, octets.as_slice())?;
-    expect_texts(rt, &ran, 1, "", answer)
-}
+const RUNS: &[Run<'static>] = &[
+    // The front of a NetFlow version 9 export packet (RFC 3954): version, count, uptime, time, sequence, source.
+    Run {
+        name: "netflow_version_9",
+        words: OFFLINE,
+        input: b"\x00\x09\x00\x01\x00\x00\x00\x01\x65\x53\xf1\x00\x00\x00\x00\x00\x00\x00\x00\x07\
+\x00\x00\x00\x0c\x01\x00\x00\x01\x00\x08\x00\x04",
+        status: 1,
+        output: "",
+        errors: BAD_VERSION,
+    },
+    // The front of a file that gzip made (RFC 1952).
+    Run {
+        name: "packed_input",
+        words: OFFLINE,
+        input: b"\x1f\x8b\x08\x00\x00\x00\x00\x00\x00\x03",
+        status: 1,
+        output: "",
+        errors: BAD_VERSION,
+    },
+    // A file that is shorter than the octets that tell a message's length.
+    Run {
+        name: "two_octets",
+        words: OFFLINE,
+        input: b"\x1f\x8b",
+        status: 1,
+        output: "",
+        errors: "ipmd: framing CutOff\n",
+    },
+    Run {
+        name: "hexadecimal_read_as_octets",
+        words: OFFLINE,
+        input: FLOW,
+        status: 1,
+        output: "",
+        errors: BAD_VERSION,
+    },
+    // The octets of FLOW.
+    Run {
+        name: "octets_read_as_hexadecimal",
+        words: OFFLINE_HEX,
+        input: b"\x00\x0a\x00\x32\x65\x53\xf1\x00\x00\x00\x00\x00\x00\x00\x00\x07\
+\x00\x02\x00\x14\x01\x00\x00\x03\x00\x08\x00\x04\x00\x07\x00\x02\x00\x01\x00\x04\
+\x01\x00\x00\x0e\xc0\x00\x02\x4d\x01\xbb\x00\x00\x05\xdc",
+        status: 1,
+        output: "",
+        errors: "ipmd: hex\n",
+    },
+    // A carriage return parts words, so a policy may have the line ends of Windows.
+    Run {
+        name: "windows_line_ends",
+        words: &[
+            "check-policy",
+            "--policy-text",
+            "policy 1\r\n\r\n# all\r\nrule for * in * from * to * pass\r\nrule for * in * from * to * element * keep\r\n",
+        ],
+        input: b"",
+        status: 0,
+        output: "rules 2 aggregates 0\n",
+        errors: "",
+    },
+    // A byte order mark is no blank: the first line that has words isn't `policy 1`.
+    Run {
+        name: "byte_order_mark",
+        words: &["check-policy", "--policy-text", "\u{feff}policy 1\n"],
+        input: b"",
+        status: 1,
+        output: "",
+        errors: "ipmd: policy line 1: NoHeader\n",
+    },
+];
 
-/// The front of a NetFlow version 9 export packet (RFC 3954): version, count, uptime, time, sequence, source.
 #[test]
-fn netflow_version_9(rt: HostRuntime) -> Result<(), Fail> {
-    let packet = "0009 0001 00000001 6553f100 00000000 00000007  0000 000c 0100 0001 0008 0004";
-    expect_answer(&rt, packet, BAD_VERSION)
-}
-
-/// The front of a file that gzip made (RFC 1952).
-#[test]
-fn packed_input(rt: HostRuntime) -> Result<(), Fail> {
-    expect_answer(&rt, "1f8b 0800 00000000 0003", BAD_VERSION)
-}
-
-/// A file that is shorter than the octets that tell a message's length.
-#[test]
-fn two_octets(rt: HostRuntime) -> Result<(), Fail> {
-    expect_answer(&rt, "1f8b", "ipmd: framing CutOff\n")
-}
-
-#[test]
-fn hexadecimal_read_as_octets(rt: HostRuntime) -> Result<(), Fail> {
-    let ran = run_on(&rt, &OFFLINE, FLOW.as_bytes())?;
-    expect_texts(&rt, &ran, 1, "", BAD_VERSION)
-}
-
-#[test]
-fn octets_read_as_hexadecimal(rt: HostRuntime) -> Result<(), Fail> {
-    let octets = octets_of(rt.alloc(), FLOW)?;
-    let words = offline(rt.alloc(), &["--hex"])?;
-    let ran = run_on(&rt, &words, octets.as_slice())?;
-    expect_texts(&rt, &ran, 1, "", "ipmd: hex\n")
-}
-
-/// A carriage return parts words, so a policy may have the line ends of Windows.
-#[test]
-fn windows_line_ends(rt: HostRuntime) -> Result<(), Fail> {
-    let text =
-        "policy 1\r\n\r\n# all\r\nrule for * in * from * to * pass\r\nrule for * in * from * to * element * keep\r\n";
-    let words = ["check-policy", "--policy-text", text];
-    let ran = run_on(&rt, &words, b"".as_slice())?;
-    expect_texts(&rt, &ran, 0, "rules 2 aggregates 0\n", "")
-}
-
-/// A byte order mark is no blank: the first line that has words isn't `policy 1`.
-#[test]
-fn byte_order_mark(rt: HostRuntime) -> Result<(), Fail> {
-    let words = ["check-policy", "--policy-text", "\u{feff}policy 1\n"];
-    let ran = run_on(&rt, &words, b"".as_slice())?;
-    expect_texts(&rt, &ran, 1, "", "ipmd: policy line 1: NoHeader\n")
+fn misuse(rt: HostRuntime) -> Result<(), Fail> {
+    expect_runs(&rt, RUNS)
 }
