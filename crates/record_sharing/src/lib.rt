@@ -12,3 +12,6 @@ mod shares;
 
 pub use served::Served;
 pub use shares::{Note, Share, Shares};
+
+#[cfg(test)]
+mod tests;

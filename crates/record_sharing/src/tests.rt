@@ -1,0 +1,77 @@
+//! Two subscriptions side by side, neither of which sees what the other's rules do.
+use super::*;
+use disclosure_audit::What;
+use ipfix_session::Session;
+use policy_text::Policy;
+use std::alloc::Global;
+use std::process::Abort;
+use std::test::Fail;
+
+/// A message with a template of source address, source port and octet count, and one record.
+const FLOW: &[u8] =
+    b"\x00\x0a\x00\x32\x65\x53\xf1\x00\x00\x00\x00\x00\x00\x00\x00\x07\x00\x02\x00\x14\x01\x00\x00\x03\x00\x08\x00\x04\x00\x07\x00\x02\x00\x01\x00\x04\x01\x00\x00\x0e\xc0\x00\x02\x4d\x01\xbb\x00\x00\x05\xdc";
+
+const POLICY: &str = "policy 1
+rule for acme in * from * to * pass
+rule for acme in * from * to * element sourceTransportPort remove
+rule for * in * from * to * element * keep
+";
+
+/// What acme and beta are given of the message.
+fn shared(alloc: Global) -> Result<Shares, Fail> {
+    let policy = Policy::parse(alloc, POLICY)?;
+    let read = Session::new(alloc).apply(FLOW)?;
+    let served = [
+        Served {
+            sub: 1,
+            name: "acme",
+        },
+        Served {
+            sub: 2,
+            name: "beta",
+        },
+    ];
+    Ok(Shares::of_records(alloc, &policy, 7, &read.records, &served)?)
+}
+
+/// The subscriptions with the number of records that each is given.
+fn counts(alloc: Global, found: &Shares) -> Result<Vec<(u64, usize)>, Fail> {
+    Ok(
+        found
+            .shares
+            .iter()
+            .map(|share| (share.sub, share.given.len()))
+            .collect(alloc)?,
+    )
+}
+
+/// What is noted: index, subscription, and whether a record was withheld.
+fn noted(alloc: Global, found: &Shares) -> Result<Vec<(u32, u64, bool)>, Fail> {
+    Ok(
+        found
+            .notes
+            .iter()
+            .map(|note| {
+                (
+                    note.index,
+                    note.sub,
+                    matches!(&note.what, What::Withheld { .. }),
+                )
+            })
+            .collect(alloc)?,
+    )
+}
+
+#[test]
+fn isolation(rt: HostRuntime) -> Result<(), Fail> {
+    let found = shared(rt.alloc())?;
+    assert_eq!(rt;
+        counts(rt.alloc(), &found)?.as_slice(),
+        [(1, 1), (2, 0)].as_slice()
+    );
+    assert_eq!(rt;
+        noted(rt.alloc(), &found)?.as_slice(),
+        [(0, 1, false), (0, 2, true)].as_slice()
+    );
+    Ok(())
+}
