@@ -14,8 +14,6 @@
 mod narrow;
 mod schedule;
 mod sparing;
-#[cfg(test)]
-mod tests;
 
 pub use narrow::Narrow;
 pub use schedule::Schedule;

@@ -8,7 +8,5 @@
 #![tactic(auto)]
 
 mod numeral;
-#[cfg(test)]
-mod tests;
 
 pub use numeral::{read_digits, read_number};

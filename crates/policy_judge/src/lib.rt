@@ -22,6 +22,3 @@ mod verdict;
 pub use judge::{element_verdict, record_verdict};
 pub use laws::{later_rules_never_matter, others_never_matter};
 pub use verdict::{ElementAction, ElementVerdict, RecordAction, RecordVerdict};
-
-#[cfg(test)]
-mod tests;
