@@ -4,7 +4,7 @@
 ghost use Rattle.std.specs.Prelude.{◌≡◌, ◌≤◌, ◌↔◌, ◌++◌, List, IsTrue, IfOk, OnErr, if◌then◌else◌};
 ghost use Rattle.event_journal.specs.declared.entry.Entry.{Entry};
 ghost use Rattle.event_journal.specs.declared.limits.TheConstants.{MOST_ENTRIES, MOST_OCTETS};
-ghost use Rattle.event_journal.specs.Room.{HasRoom};
+ghost use Rattle.event_journal.specs.Room.{HasRoomAfter};
 
 use super::*;
 use bytes::Bytes;
@@ -65,8 +65,8 @@ fn try_first_history(rt: &impl Abort, alloc: Global) -> Result<Vec<Entry>, Alloc
 
 /// Appends entries where there is room for all of them, and says whether there was.
 fn append<C: Chronicle>(chronicle: &mut C, entries: Vec<Entry>) -> Result<bool, AllocError>
-    ensures room { IfOk result (λ done. IsTrue done ↔ HasRoom (C.limits chronicle.old) (C.count chronicle.old) (C.octets chronicle.old) entries.items) }
-    // Each history that it told goes on with the entries, or is told still.
+    // There was room behind each history that it told, and that history goes on with the entries, or is told still.
+    ensures room { (h : List Entry) → C.tells chronicle.old h → IfOk result (λ done. IsTrue done ↔ HasRoomAfter (C.limits chronicle.old) h entries.items) }
     ensures tells { (h : List Entry) → C.tells chronicle.old h → IfOk result (λ done. C.tells chronicle.new (if done then h ++ entries.items else h)) }
     ensures err { (h : List Entry) → C.tells chronicle.old h → OnErr result (C.tells chronicle.new h) }
 {

@@ -19,7 +19,7 @@ use Rattle.octet_devices.specs.Written.{WritesFront}
 use Rattle.ipfix_session.specs.Standing.{StandsFor}
 use Rattle.disclosure_audit.specs.Queue.{StandsIn}
 use Rattle.sequences.specs.Before.{each_after}
-use Rattle.mediator_history.specs.Entries.{Entry as HistoryEntry}
+use Rattle.event_journal.specs.declared.entry.Entry.{Entry as HistoryEntry}
 use Rattle.mediator_history.specs.Sessions.{messages_of}
 use Rattle.mediator_history.specs.Auditing.{audit_list}
 use Rattle.mediator_history.specs.Disclosed.{disclosed}

@@ -7,7 +7,7 @@ use Rattle.ipfix_template.specs.DataRecord.{DataRecord}
 use Rattle.subscriber_stream.specs.Parts.{Part, parts, records_in}
 use Rattle.subscriber_stream.specs.Message.{run_length, taken, next_message, built, place_after}
 use Rattle.subscriber_stream.proofs.CallLaws.{parts_more, run_some}
-use Rattle.mediator_history.specs.Entries.{Entry}
+use Rattle.event_journal.specs.declared.entry.Entry.{Entry}
 use Rattle.mediator_history.specs.Disclosed.{given_at, disclosed}
 use Rattle.mediator_core.specs.declared.job.OfflineJob.{OfflineJob}
 use Rattle.mediator_core.specs.Offline.{cuts_by, next_message as next_entry, history_of, disclosed_by, and_then, pulled, due_by, due}

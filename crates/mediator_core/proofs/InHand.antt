@@ -18,8 +18,9 @@ use Rattle.stream_meaning.proofs.Handing.{handed_given, handed_answer}
 use Rattle.octet_devices.specs.Written.{WritesFront}
 use Rattle.disclosure_audit.specs.declared.entry.AuditEntry.{AuditEntry}
 use Rattle.disclosure_audit.specs.Queue.{StandsIn}
-use Rattle.mediator_history.specs.Entries.{Entry, Cut as CutEntry}
-use Rattle.mediator_history.specs.Entries.{Message}
+use Rattle.event_journal.specs.declared.entry.Entry.{Entry}
+use Rattle.event_journal.specs.declared.entry.Entry.TheVariants.{Cut as CutEntry}
+use Rattle.event_journal.specs.declared.entry.Entry.TheVariants.{Message}
 use Rattle.mediator_history.specs.Subscriptions.{is_served}
 use Rattle.mediator_history.specs.Disclosed.{given_at, disclosed}
 use Rattle.mediator_history.proofs.HistoryLaws.{disclosed-push, is_served-cut}

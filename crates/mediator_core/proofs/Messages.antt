@@ -8,7 +8,8 @@ use Rattle.ipfix_message.specs.Reading.{header_of}
 use Rattle.ipfix_session.specs.Contents.{Contents}
 use Rattle.ipfix_session.specs.Meaning.{Meaning, meaning_of, contents_of, gap_of, domain_of}
 use Rattle.ipfix_session.specs.declared.read_error.ReadError.{ReadError}
-use Rattle.mediator_history.specs.Entries.{Entry, Message, Cut}
+use Rattle.event_journal.specs.declared.entry.Entry.{Entry}
+use Rattle.event_journal.specs.declared.entry.Entry.TheVariants.{Message, Cut}
 use Rattle.mediator_history.specs.Sessions.{messages_of}
 use Rattle.mediator_history.specs.Subscriptions.{policy_in_force, name_of, is_served, subscribed_in, served}
 use Rattle.mediator_history.specs.Accepted.{records_meant, records_at, accepted_as, accepted_at}

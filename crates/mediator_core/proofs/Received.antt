@@ -11,7 +11,7 @@ use Rattle.stream_meaning.specs.Served.{IsStreamable}
 use Rattle.disclosure_audit.specs.declared.entry.AuditEntry.{AuditEntry}
 use Rattle.disclosure_audit.specs.declared.entry.What.TheVariants.{Cut as CutOff}
 use Rattle.disclosure_audit.specs.Queue.{Takes}
-use Rattle.mediator_history.specs.Entries.{Entry}
+use Rattle.event_journal.specs.declared.entry.Entry.{Entry}
 use Rattle.mediator_history.specs.Sessions.{messages_of}
 use Rattle.mediator_history.specs.Disclosed.{disclosed}
 use Rattle.mediator_history.specs.Auditing.{audit_entry}

@@ -25,7 +25,9 @@ use Rattle.stream_meaning.specs.Served.{IsStreamable}
 use Rattle.disclosure_audit.specs.declared.entry.AuditEntry.{AuditEntry}
 use Rattle.disclosure_audit.specs.declared.entry.What.TheVariants.{Cut as CutOff}
 use Rattle.disclosure_audit.specs.Queue.{StandsIn, Takes}
-use Rattle.mediator_history.specs.Entries.{Entry, Message, Cut, entry_octets, history_octets}
+use Rattle.event_journal.specs.declared.entry.Entry.{Entry}
+use Rattle.event_journal.specs.declared.entry.Entry.TheVariants.{Message, Cut}
+use Rattle.event_journal.specs.Sizes.{entry_octets, history_octets}
 use Rattle.mediator_history.specs.Sessions.{messages_of}
 use Rattle.mediator_history.specs.Subscriptions.{policy_in_force, is_served, subscribed_in, served}
 use Rattle.mediator_history.specs.Accepted.{Accepted, records_meant, records_at, accepted_as, accepted_at, accepted}

@@ -13,7 +13,7 @@ use Rattle.ipfix_session.specs.Meaning.{Meaning, meaning_of, contents_of, read_i
 use Rattle.subscriber_stream.specs.Parts.{parts, records_in}
 use Rattle.subscriber_stream.proofs.CallLaws.{parts_bring}
 use Rattle.subscriber_stream.proofs.Standings.{records_in-append}
-use Rattle.mediator_history.specs.Entries.{Entry}
+use Rattle.event_journal.specs.declared.entry.Entry.{Entry}
 use Rattle.mediator_history.specs.Disclosed.{disclosed}
 use Rattle.mediator_history.specs.Auditing.{audit_list}
 use Rattle.sequences.specs.Results.{◌>>=◌}

@@ -6,7 +6,8 @@ use Rattle.subscriber_stream.specs.Shapes.{shapes_of}
 use Rattle.subscriber_stream.specs.Standing.{StandsAt}
 use Rattle.stream_meaning.specs.Served.{IsStreamable}
 use Rattle.disclosure_audit.specs.Queue.{StandsIn}
-use Rattle.mediator_history.specs.Entries.{Entry, history_octets}
+use Rattle.event_journal.specs.declared.entry.Entry.{Entry}
+use Rattle.event_journal.specs.Sizes.{history_octets}
 use Rattle.mediator_history.specs.Sessions.{messages_of}
 use Rattle.mediator_history.specs.Subscriptions.{policy_in_force, name_of, is_served, subscribed_in}
 use Rattle.mediator_history.specs.Accepted.{accepted}

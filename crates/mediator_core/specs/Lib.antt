@@ -1,4 +1,4 @@
-pub use Rattle.mediator_history.specs.Entries
+pub use Rattle.event_journal.specs.Sizes
 pub use Rattle.mediator_history.specs.Sessions
 pub use Rattle.mediator_history.specs.Subscriptions
 pub use Rattle.mediator_history.specs.Accepted

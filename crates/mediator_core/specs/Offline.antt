@@ -7,7 +7,9 @@ use Rattle.subscriber_stream.specs.Parts.{parts}
 use Rattle.subscriber_stream.specs.Message.{built, place_after}
 use Rattle.mediator_core.specs.Recording.{lines_of}
 use Rattle.mediator_core.specs.declared.job.OfflineJob.{OfflineJob}
-use Rattle.mediator_history.specs.Entries.{Entry, Open, Message, Edit, Subscribe, history_octets}
+use Rattle.event_journal.specs.declared.entry.Entry.{Entry}
+use Rattle.event_journal.specs.declared.entry.Entry.TheVariants.{Open, Message, Edit, Subscribe}
+use Rattle.event_journal.specs.Sizes.{history_octets}
 use Rattle.mediator_history.specs.Sessions.{messages_of}
 use Rattle.mediator_history.specs.Disclosed.{disclosed}
 use Rattle.mediator_history.specs.Auditing.{audit_list}

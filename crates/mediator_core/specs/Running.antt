@@ -4,7 +4,7 @@ use Rattle.std.specs.List.{concat}
 use Rattle.std.specs.Io.KnownBytes.{Appends}
 use Rattle.octet_devices.specs.Written.{WritesFront}
 use Rattle.stream_meaning.specs.HandedOut.{AreHandedOut}
-use Rattle.mediator_history.specs.Entries.{Cut as CutEntry}
+use Rattle.event_journal.specs.declared.entry.Entry.TheVariants.{Cut as CutEntry}
 use Rattle.mediator_core.specs.declared.fault.Fault.TheVariants as fault
 use Rattle.mediator_core.specs.declared.job.OfflineJob.{OfflineJob}
 use Rattle.mediator_core.specs.declared.job.OfflineFault.{OfflineFault}

@@ -7,7 +7,8 @@ use Rattle.subscriber_stream.specs.Standing.{queued}
 use Rattle.subscriber_stream.specs.Calls.{TakesRecords}
 use Rattle.disclosure_audit.specs.declared.entry.AuditEntry.{AuditEntry}
 use Rattle.disclosure_audit.specs.Queue.{StandsIn, Takes}
-use Rattle.mediator_history.specs.Entries.{Entry, Cut}
+use Rattle.event_journal.specs.declared.entry.Entry.{Entry}
+use Rattle.event_journal.specs.declared.entry.Entry.TheVariants.{Cut}
 use Rattle.mediator_history.specs.Sessions.{messages_of}
 use Rattle.mediator_history.specs.Disclosed.{disclosed}
 use Rattle.mediator_history.specs.Auditing.{audit_list}

@@ -8,7 +8,9 @@ use Rattle.std.proofs.lemmas.List.Concat.{flat_map-cons}
 use Rattle.std.proofs.lemmas.List.Sums.{sum_by_push}
 use Rattle.sequences.proofs.BeforeLaws.{each_with_before-push, last_of-push}
 use Rattle.policy_text.specs.Policies.{nothing as no_policy}
-use Rattle.mediator_history.specs.Entries.{Entry, Message, Cut, entry_octets, history_octets}
+use Rattle.event_journal.specs.declared.entry.Entry.{Entry}
+use Rattle.event_journal.specs.declared.entry.Entry.TheVariants.{Message, Cut}
+use Rattle.event_journal.specs.Sizes.{entry_octets, history_octets}
 use Rattle.mediator_history.specs.Sessions.{message_in, messages_of}
 use Rattle.mediator_history.specs.Subscriptions.{edited, policy_in_force, named, name_of, switched, is_served, subscribed_in}
 use Rattle.mediator_history.specs.Accepted.{accepted_at, accepted}

@@ -8,7 +8,8 @@ use Rattle.sequences.proofs.BeforeLaws.{last_of-append, last_of-found, last_of-o
 use Rattle.policy_text.specs.Policies.{Meaning as Policy, nothing as no_policy}
 use Rattle.policy_text.specs.Parsing.{policy_of}
 use Rattle.policy_text.specs.declared.fault.PolicyFault.{PolicyFault}
-use Rattle.mediator_history.specs.Entries.{Entry, Open, Close, Message, Edit, Subscribe, Unsubscribe, Advance, Cut}
+use Rattle.event_journal.specs.declared.entry.Entry.{Entry}
+use Rattle.event_journal.specs.declared.entry.Entry.TheVariants.{Open, Close, Message, Edit, Subscribe, Unsubscribe, Advance, Cut}
 use Rattle.mediator_history.specs.Subscriptions.{policy_or_none, edited, policy_in_force, named, name_of, switched, is_served}
 use Rattle.mediator_history.specs.LastEntries.{EditsNone, IsInForce, NamesNone, IsNamed, Stays, IsSubscribed}
 

@@ -11,7 +11,8 @@ use Rattle.disclosure_audit.specs.declared.entry.AuditEntry.{AuditEntry}
 use Rattle.flow_anonymize.specs.declared.disclosure.Reason.{Reason as Because}
 use Rattle.flow_anonymize.specs.declared.disclosure.Reason.TheVariants as because
 use Rattle.flow_anonymize.specs.Outcome.{Outcome, Passes, Aggregates, Withholds}
-use Rattle.mediator_history.specs.Entries.{Entry, Message, Cut}
+use Rattle.event_journal.specs.declared.entry.Entry.{Entry}
+use Rattle.event_journal.specs.declared.entry.Entry.TheVariants.{Message, Cut}
 use Rattle.mediator_history.specs.Subscriptions.{served}
 use Rattle.mediator_history.specs.Accepted.{Accepted, accepted_at}
 use Rattle.mediator_history.specs.Disclosed.{outcome_for}

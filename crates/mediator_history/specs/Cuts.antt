@@ -3,7 +3,8 @@ use Rattle.std.specs.Prelude.{ℕ, ◌+◌, Bool, nat_lt, List, ◌++◌, length
 use Rattle.ipfix_template.specs.DataRecord.{DataRecord}
 use Rattle.subscriber_stream.specs.Shapes.{shapes_of}
 use Rattle.subscriber_stream.specs.declared.limits.Limits.{Limits}
-use Rattle.mediator_history.specs.Entries.{Entry, Cut}
+use Rattle.event_journal.specs.declared.entry.Entry.{Entry}
+use Rattle.event_journal.specs.declared.entry.Entry.TheVariants.{Cut}
 use Rattle.mediator_history.specs.Subscriptions.{served}
 use Rattle.mediator_history.specs.Disclosed.{given_at, disclosed}
 

@@ -6,7 +6,8 @@ use Rattle.ipfix_template.specs.DataRecord.{DataRecord}
 use Rattle.ipfix_session.specs.Meaning.{domain_of}
 use Rattle.flow_anonymize.specs.Outcome.{Outcome, Passes, Aggregates, Withholds}
 use Rattle.flow_anonymize.specs.Disclosed.{disclosure_of}
-use Rattle.mediator_history.specs.Entries.{Entry, Message}
+use Rattle.event_journal.specs.declared.entry.Entry.{Entry}
+use Rattle.event_journal.specs.declared.entry.Entry.TheVariants.{Message}
 use Rattle.mediator_history.specs.Subscriptions.{policy_in_force, name_of, is_served}
 use Rattle.mediator_history.specs.Accepted.{records_at}
 

@@ -3,7 +3,8 @@ use Rattle.std.specs.Prelude.{◌≡◌, ◌≢◌, ◌⊎◌, ℕ, List, [], �
 use Rattle.std.specs.List.{AllByRecursion}
 use Rattle.policy_text.specs.Policies.{Meaning as Policy, nothing as no_policy}
 use Rattle.policy_text.specs.Parsing.{policy_of}
-use Rattle.mediator_history.specs.Entries.{Entry, Edit, Subscribe, Unsubscribe, Cut}
+use Rattle.event_journal.specs.declared.entry.Entry.{Entry}
+use Rattle.event_journal.specs.declared.entry.Entry.TheVariants.{Edit, Subscribe, Unsubscribe, Cut}
 
 -- ---- the policy in force
 

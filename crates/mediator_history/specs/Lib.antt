@@ -1,11 +1,11 @@
 pub use Rattle.sequences.specs.Before
+pub use Rattle.event_journal.specs.Sizes
 pub use Rattle.ipfix_session.specs.Meaning as SessionMeaning
 pub use Rattle.policy_text.specs.Policies
 pub use Rattle.policy_text.specs.Parsing
 pub use Rattle.flow_anonymize.specs.Disclosed as Disclosures
 pub use Rattle.disclosure_audit.specs.Lines
 pub use Rattle.subscriber_stream.specs.Shapes
-pub mod Entries
 pub mod Sessions
 pub mod Subscriptions
 pub mod LastEntries

@@ -1,7 +1,8 @@
 -- The messages of a session.
 use Rattle.std.specs.Prelude.{ℕ, List, [], ◌∷◌, reverse, if◌then◌else◌, ◌==◌}
 use Rattle.std.specs.List.{flat_map}
-use Rattle.mediator_history.specs.Entries.{Entry, Message}
+use Rattle.event_journal.specs.declared.entry.Entry.{Entry}
+use Rattle.event_journal.specs.declared.entry.Entry.TheVariants.{Message}
 
 -- the message that an entry brings to the session
 abbrev pub message_in : ℕ → Entry → List (List ℕ)

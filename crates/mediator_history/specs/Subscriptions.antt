@@ -5,7 +5,8 @@ use Rattle.sequences.specs.Before.{last_of}
 use Rattle.policy_text.specs.Policies.{Meaning as Policy, nothing as no_policy}
 use Rattle.policy_text.specs.Parsing.{policy_of}
 use Rattle.policy_text.specs.declared.fault.PolicyFault.{PolicyFault}
-use Rattle.mediator_history.specs.Entries.{Entry, Edit, Subscribe, Unsubscribe, Cut}
+use Rattle.event_journal.specs.declared.entry.Entry.{Entry}
+use Rattle.event_journal.specs.declared.entry.Entry.TheVariants.{Edit, Subscribe, Unsubscribe, Cut}
 
 abbrev pub policy_or_none : Result Policy PolicyFault → Option Policy
 policy_or_none (Ok policy) = Some policy

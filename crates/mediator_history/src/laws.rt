@@ -1,7 +1,7 @@
 //! Laws over the definitions of a history: what the last entry of its kind decides, and what one entry more adds.
 ghost use Rattle.std.specs.Prelude.{◌≡◌, ◌↔◌, ◌∷◌, ◌++◌, [], ℕ, List, IsTrue};
 ghost use Rattle.policy_text.specs.Policies.{Meaning as Policy};
-ghost use Rattle.mediator_history.specs.Entries.{Entry};
+ghost use Rattle.event_journal.specs.declared.entry.Entry.{Entry};
 ghost use Rattle.mediator_history.specs.Subscriptions.{policy_in_force, name_of, is_served};
 ghost use Rattle.mediator_history.specs.LastEntries.{IsInForce, IsNamed, IsSubscribed};
 ghost use Rattle.mediator_history.specs.Accepted.{accepted_at, accepted};

@@ -1,6 +1,6 @@
-//! What a mediator's history says: definitions and their laws alone.
+//! What a mediator's history says: definitions and their laws alone. A history is a list of `event_journal`'s entries; the
+//! place of an entry, counted from 0, is its position.
 //!
-//! - `specs/Entries`: the entries of a history, and the octets that each counts for.
 //! - `specs/Sessions`: the messages of a session.
 //! - `specs/Subscriptions`: the policy in force, and who is subscribed, under which name, and not cut.
 //! - `specs/LastEntries`: the same by the last entry that decides it.
