@@ -46,11 +46,17 @@ type Field = (u16, u16, &'static [u8]);
 
 /// A record of registered elements, the first `scope` of them scope fields.
 fn record_of(alloc: Global, fields: &[Field], scope: u16) -> Result<Record, Fail> {
-    let built = match build_record(alloc, fields, scope) {
-        Some(flow_record) => Some(flow_record),
-        None => build_record(alloc, fields, scope),
-    };
-    Ok(built.ok_or("no record")?)
+    match build_record(alloc, fields, scope) {
+        Some(flow_record) => Ok(flow_record),
+        None => record_at_last(alloc, fields, scope),
+    }
+}
+
+fn record_at_last(alloc: Global, fields: &[Field], scope: u16) -> Result<Record, Fail> {
+    match build_record(alloc, fields, scope) {
+        Some(flow_record) => Ok(flow_record),
+        None => Err(Fail::new("no record")),
+    }
 }
 
 fn build_record(alloc: Global, fields: &[Field], scope: u16) -> Option<Record> {
@@ -98,343 +104,548 @@ fn disclosed(alloc: Global, rules: &[&str], flow_record: &Record) -> Result<Disc
     }
 }
 
-/// That the record is withheld from acme by this rule, for this reason.
-fn expect_withheld<R: Abort + AllocGlobal>(
-    rt: &R,
-    rules: &[&str],
-    flow_record: &Record,
-    expected: (u32, Reason),
-) -> Result<(), Fail> {
-    match disclosed(rt.alloc(), rules, flow_record)? {
-        Disclosure::Withheld { rule, reason } => {
-            assert_eq!(rt; (rule, reason), expected, "of {rules:?}");
-            Ok(())
-        }
-        Disclosure::Passed {
-            kept: _,
-            removed: _,
-        } => Err(Fail::new("passed")),
-        Disclosure::Aggregated {
-            rule: _,
-            definition: _,
-        } => Err(Fail::new("aggregated")),
+/// Whether a field has this element and this length.
+fn is_field(spec: &FieldSpec, field: &Field) -> bool {
+    let (number, length, _) = field;
+    ElementId::new(None, *number) == Some(spec.element) && spec.length == *length
+}
+
+/// That these are the fields, in this order, and no others.
+fn expect_specs<R: Abort>(rt: &R, specs: &[FieldSpec], expected: &[Field]) {
+    assert_eq!(rt; specs.len(), expected.len());
+    for (spec, field) in specs.iter().zip(expected) {
+        assert!(rt; is_field(spec, field));
     }
 }
 
-/// That the record passes to acme with these fields, and that these places were removed by these rules.
-fn expect_passed<R: Abort + AllocGlobal>(
-    rt: &R,
-    rules: &[&str],
-    flow_record: &Record,
-    expected: &[Field],
-    gone: &[(u16, u32)],
-) -> Result<(), Fail> {
-    match disclosed(rt.alloc(), rules, flow_record)? {
-        Disclosure::Passed { kept, removed } => {
-            assert_eq!(rt; kept.template().scope, flow_record.template().scope);
-            expect_fields(rt, &kept, expected)?;
-            expect_removed(rt, &removed, gone);
-            Ok(())
-        }
-        Disclosure::Withheld { rule: _, reason: _ } => Err(Fail::new("withheld")),
-        Disclosure::Aggregated {
-            rule: _,
-            definition: _,
-        } => Err(Fail::new("aggregated")),
-    }
-}
-
-/// That the record has these fields and values, in this order, and no others.
-fn expect_fields<R: Abort + AllocGlobal>(
-    rt: &R,
-    flow_record: &Record,
-    expected: &[Field],
-) -> Result<(), Fail> {
-    let fields = flow_record.template().fields.as_slice();
-    let values = flow_record.values().as_slice();
-    assert_eq!(rt; fields.len(), expected.len());
+/// That these are the values, in this order, and no others.
+fn expect_values<R: Abort>(rt: &R, values: &[Bytes], expected: &[Field]) {
     assert_eq!(rt; values.len(), expected.len());
-    for (field, (number, length, _)) in fields.iter().zip(expected) {
-        let element = ElementId::new(None, *number).ok_or("an element")?;
-        assert_eq!(rt; field.element, element);
-        assert_eq!(rt; field.length, *length);
-    }
     for (value, (_, _, octets)) in values.iter().zip(expected) {
-        assert_eq!(rt; value.as_slice(), *octets);
+        assert!(rt; value.as_slice() == *octets);
     }
-    Ok(())
 }
 
-fn expect_removed<R: Abort + AllocGlobal>(rt: &R, removed: &[RemovedField], gone: &[(u16, u32)]) {
+/// Whether this place was removed by this rule.
+fn is_removed(field: &RemovedField, gone: &(u16, u32)) -> bool {
+    let (place, rule) = gone;
+    field.place == *place && field.rule == *rule
+}
+
+/// That these places were removed by these rules, and no others.
+fn expect_removed<R: Abort>(rt: &R, removed: &[RemovedField], gone: &[(u16, u32)]) {
     assert_eq!(rt; removed.len(), gone.len());
-    for (field, (place, rule)) in removed.iter().zip(gone) {
-        assert_eq!(rt; (field.place, field.rule), (*place, *rule));
+    for (field, place) in removed.iter().zip(gone) {
+        assert!(rt; is_removed(field, place));
     }
 }
 
-#[test]
-fn repeated_addresses(rt: HostRuntime) -> Result<(), Fail> {
-    let near = (SOURCE_IPV4, 4, b"\xc0\x00\x02\x01".as_slice());
-    let far = (SOURCE_IPV4, 4, b"\xc6\x33\x64\x01".as_slice());
-    for fields in [[near, far], [far, near]] {
-        let flow_record = record_of(rt.alloc(), &fields, 0)?;
-        let permit = ["rule for acme in * from 192.0.2.0/24 to * pass"];
-        expect_withheld(&rt, &permit, &flow_record, (0, Reason::Rule))?;
-        let deny = [
+/// What is to be disclosed to acme.
+enum Wanted {
+    /// Nothing, by this rule, for this reason.
+    Withheld(u32, Reason),
+    /// These fields, where these places were removed by these rules.
+    Passed(&'static [Field], &'static [(u16, u32)]),
+    /// A part of the aggregate at this place, by this rule.
+    Aggregated(u32, usize),
+}
+
+/// A policy, a record whose first `scope` fields are scope fields, and what of it is disclosed.
+struct Case {
+    name: &'static str,
+    rules: &'static [&'static str],
+    fields: &'static [Field],
+    scope: u16,
+    wanted: Wanted,
+}
+
+const NEAR: Field = (SOURCE_IPV4, 4, b"\xc0\x00\x02\x01");
+
+const FAR: Field = (SOURCE_IPV4, 4, b"\xc6\x33\x64\x01");
+
+const ADDRESS: Field = (SOURCE_IPV4, 4, b"\xc0\x00\x02\x4d");
+
+const ONES: Field = (
+    SOURCE_IPV6,
+    16,
+    b"\xff\xff\xff\xff\xff\xff\xff\xff\xff\xff\xff\xff\xff\xff\xff\xff",
+);
+
+const MAC: Field = (SOURCE_MAC, 6, b"\x02\x1a\x2b\x3c\x4d\x5e");
+
+const SIX: Field = (PROTOCOL, 1, b"\x06");
+
+const HTTPS: Field = (SOURCE_PORT, 2, b"\x01\xbb");
+
+const SHORT_PORT: Field = (SOURCE_PORT, 1, b"\x35");
+
+const FIVE: Field = (INGRESS, 4, b"\x00\x00\x00\x05");
+
+const NINE: Field = (EGRESS, 1, b"\x09");
+
+const ETH0: Field = (NAME, VARIABLE, b"eth0");
+
+const NO_NAME: Field = (NAME, 0, b"");
+
+const CASES: &[Case] = &[
+    Case {
+        name: "repeated_addresses: one outside",
+        rules: &["rule for acme in * from 192.0.2.0/24 to * pass"],
+        fields: &[NEAR, FAR],
+        scope: 0,
+        wanted: Wanted::Withheld(0, Reason::Rule),
+    },
+    Case {
+        name: "repeated_addresses: one inside",
+        rules: &[
             "rule for acme in * from 198.51.100.0/24 to * withhold",
             PASS,
-        ];
-        expect_withheld(&rt, &deny, &flow_record, (1, Reason::Rule))?;
+        ],
+        fields: &[NEAR, FAR],
+        scope: 0,
+        wanted: Wanted::Withheld(1, Reason::Rule),
+    },
+    Case {
+        name: "repeated_addresses: one outside, exchanged",
+        rules: &["rule for acme in * from 192.0.2.0/24 to * pass"],
+        fields: &[FAR, NEAR],
+        scope: 0,
+        wanted: Wanted::Withheld(0, Reason::Rule),
+    },
+    Case {
+        name: "repeated_addresses: one inside, exchanged",
+        rules: &[
+            "rule for acme in * from 198.51.100.0/24 to * withhold",
+            PASS,
+        ],
+        fields: &[FAR, NEAR],
+        scope: 0,
+        wanted: Wanted::Withheld(1, Reason::Rule),
+    },
+    Case {
+        name: "first_rule_decides: pass first",
+        rules: &[PASS, WITHHOLD, KEEP],
+        fields: &[SIX],
+        scope: 0,
+        wanted: Wanted::Passed(&[SIX], &[]),
+    },
+    Case {
+        name: "first_rule_decides: withhold first",
+        rules: &[WITHHOLD, PASS, KEEP],
+        fields: &[SIX],
+        scope: 0,
+        wanted: Wanted::Withheld(1, Reason::Rule),
+    },
+    Case {
+        name: "nothing_left: one field",
+        rules: &[
+            PASS,
+            "rule for * in * from * to * element protocolIdentifier remove",
+            KEEP,
+        ],
+        fields: &[NO_NAME, SIX],
+        scope: 0,
+        wanted: Wanted::Withheld(2, Reason::Empty),
+    },
+    // Where no rule on fields matches, rule 0 removes.
+    Case {
+        name: "nothing_left: nothing kept",
+        rules: &[PASS],
+        fields: &[NO_NAME, SIX],
+        scope: 0,
+        wanted: Wanted::Withheld(0, Reason::Empty),
+    },
+    Case {
+        name: "nothing_left: two fields",
+        rules: &[
+            PASS,
+            "rule for * in * from * to * element sourceTransportPort remove",
+            "rule for * in * from * to * element protocolIdentifier remove",
+            KEEP,
+        ],
+        fields: &[NO_NAME, SIX, HTTPS],
+        scope: 0,
+        wanted: Wanted::Withheld(3, Reason::Empty),
+    },
+    Case {
+        name: "scope_lost: options",
+        rules: &[
+            PASS,
+            "rule for * in * from * to * element ingressInterface remove",
+            KEEP,
+        ],
+        fields: &[FIVE, ETH0],
+        scope: 1,
+        wanted: Wanted::Withheld(2, Reason::ScopeLost),
+    },
+    Case {
+        name: "scope_lost: plain",
+        rules: &[
+            PASS,
+            "rule for * in * from * to * element ingressInterface remove",
+            KEEP,
+        ],
+        fields: &[FIVE, ETH0],
+        scope: 0,
+        wanted: Wanted::Passed(&[ETH0], &[(0, 2)]),
+    },
+    // The first removed scope field names the rule, and a lost scope comes before an empty record.
+    Case {
+        name: "scope_lost: the first removed field, and empty",
+        rules: &[
+            PASS,
+            "rule for * in * from * to * element egressInterface remove",
+            "rule for * in * from * to * element ingressInterface remove",
+        ],
+        fields: &[FIVE, NINE, ETH0],
+        scope: 2,
+        wanted: Wanted::Withheld(3, Reason::ScopeLost),
+    },
+    Case {
+        name: "scope_lost: the second field",
+        rules: &[
+            PASS,
+            "rule for * in * from * to * element egressInterface remove",
+            KEEP,
+        ],
+        fields: &[FIVE, NINE, ETH0],
+        scope: 2,
+        wanted: Wanted::Withheld(2, Reason::ScopeLost),
+    },
+    Case {
+        name: "options_records: whole",
+        rules: &[PASS, KEEP],
+        fields: &[FIVE, ETH0],
+        scope: 1,
+        wanted: Wanted::Passed(&[FIVE, ETH0], &[]),
+    },
+    Case {
+        name: "options_records: kept first",
+        rules: &[
+            PASS,
+            KEEP,
+            "rule for * in * from * to * element interfaceName remove",
+        ],
+        fields: &[FIVE, ETH0],
+        scope: 1,
+        wanted: Wanted::Passed(&[FIVE, ETH0], &[]),
+    },
+    Case {
+        name: "options_records: removed first",
+        rules: &[
+            PASS,
+            "rule for * in * from * to * element interfaceName remove",
+            KEEP,
+        ],
+        fields: &[FIVE, ETH0],
+        scope: 1,
+        wanted: Wanted::Passed(&[FIVE], &[(1, 2)]),
+    },
+    Case {
+        name: "truncate_and_remove",
+        rules: &[
+            PASS,
+            "rule for * in * from * to * element sourceIPv4Address truncate 24",
+            "rule for * in * from * to * element sourceTransportPort remove",
+            KEEP,
+        ],
+        fields: &[ADDRESS, HTTPS, (OCTETS, 4, b"\x00\x00\x05\xdc")],
+        scope: 0,
+        wanted: Wanted::Passed(
+            &[
+                (SOURCE_IPV4, 4, b"\xc0\x00\x02\x00"),
+                (OCTETS, 4, b"\x00\x00\x05\xdc"),
+            ],
+            &[(1, 3)],
+        ),
+    },
+    Case {
+        name: "kept_bits: 0",
+        rules: &[
+            PASS,
+            "rule for * in * from * to * element sourceIPv4Address truncate 0",
+            KEEP,
+        ],
+        fields: &[ADDRESS],
+        scope: 0,
+        wanted: Wanted::Passed(&[(SOURCE_IPV4, 4, b"\0\0\0\0")], &[]),
+    },
+    Case {
+        name: "kept_bits: 24",
+        rules: &[
+            PASS,
+            "rule for * in * from * to * element sourceIPv4Address truncate 24",
+            KEEP,
+        ],
+        fields: &[ADDRESS],
+        scope: 0,
+        wanted: Wanted::Passed(&[(SOURCE_IPV4, 4, b"\xc0\x00\x02\x00")], &[]),
+    },
+    Case {
+        name: "kept_bits: 28",
+        rules: &[
+            PASS,
+            "rule for * in * from * to * element sourceIPv4Address truncate 28",
+            KEEP,
+        ],
+        fields: &[ADDRESS],
+        scope: 0,
+        wanted: Wanted::Passed(&[(SOURCE_IPV4, 4, b"\xc0\x00\x02\x40")], &[]),
+    },
+    Case {
+        name: "kept_bits: 32",
+        rules: &[
+            PASS,
+            "rule for * in * from * to * element sourceIPv4Address truncate 32",
+            KEEP,
+        ],
+        fields: &[ADDRESS],
+        scope: 0,
+        wanted: Wanted::Passed(&[(SOURCE_IPV4, 4, b"\xc0\x00\x02\x4d")], &[]),
+    },
+    Case {
+        name: "kept_bits_of_ipv6: 0",
+        rules: &[
+            PASS,
+            "rule for * in * from * to * element sourceIPv6Address truncate 0",
+            KEEP,
+        ],
+        fields: &[ONES],
+        scope: 0,
+        wanted: Wanted::Passed(
+            &[(SOURCE_IPV6, 16, b"\0\0\0\0\0\0\0\0\0\0\0\0\0\0\0\0")],
+            &[],
+        ),
+    },
+    Case {
+        name: "kept_bits_of_ipv6: 1",
+        rules: &[
+            PASS,
+            "rule for * in * from * to * element sourceIPv6Address truncate 1",
+            KEEP,
+        ],
+        fields: &[ONES],
+        scope: 0,
+        wanted: Wanted::Passed(
+            &[(SOURCE_IPV6, 16, b"\x80\0\0\0\0\0\0\0\0\0\0\0\0\0\0\0")],
+            &[],
+        ),
+    },
+    Case {
+        name: "kept_bits_of_ipv6: 63",
+        rules: &[
+            PASS,
+            "rule for * in * from * to * element sourceIPv6Address truncate 63",
+            KEEP,
+        ],
+        fields: &[ONES],
+        scope: 0,
+        wanted: Wanted::Passed(
+            &[(
+                SOURCE_IPV6,
+                16,
+                b"\xff\xff\xff\xff\xff\xff\xff\xfe\0\0\0\0\0\0\0\0",
+            )],
+            &[],
+        ),
+    },
+    Case {
+        name: "kept_bits_of_ipv6: 64",
+        rules: &[
+            PASS,
+            "rule for * in * from * to * element sourceIPv6Address truncate 64",
+            KEEP,
+        ],
+        fields: &[ONES],
+        scope: 0,
+        wanted: Wanted::Passed(
+            &[(
+                SOURCE_IPV6,
+                16,
+                b"\xff\xff\xff\xff\xff\xff\xff\xff\0\0\0\0\0\0\0\0",
+            )],
+            &[],
+        ),
+    },
+    Case {
+        name: "kept_bits_of_ipv6: 127",
+        rules: &[
+            PASS,
+            "rule for * in * from * to * element sourceIPv6Address truncate 127",
+            KEEP,
+        ],
+        fields: &[ONES],
+        scope: 0,
+        wanted: Wanted::Passed(
+            &[(
+                SOURCE_IPV6,
+                16,
+                b"\xff\xff\xff\xff\xff\xff\xff\xff\xff\xff\xff\xff\xff\xff\xff\xfe",
+            )],
+            &[],
+        ),
+    },
+    Case {
+        name: "kept_bits_of_ipv6: 128",
+        rules: &[
+            PASS,
+            "rule for * in * from * to * element sourceIPv6Address truncate 128",
+            KEEP,
+        ],
+        fields: &[ONES],
+        scope: 0,
+        wanted: Wanted::Passed(&[ONES], &[]),
+    },
+    Case {
+        name: "kept_bits_of_mac: 0",
+        rules: &[
+            PASS,
+            "rule for * in * from * to * element sourceMacAddress truncate 0",
+            KEEP,
+        ],
+        fields: &[MAC],
+        scope: 0,
+        wanted: Wanted::Passed(&[(SOURCE_MAC, 6, b"\0\0\0\0\0\0")], &[]),
+    },
+    Case {
+        name: "kept_bits_of_mac: 24",
+        rules: &[
+            PASS,
+            "rule for * in * from * to * element sourceMacAddress truncate 24",
+            KEEP,
+        ],
+        fields: &[MAC],
+        scope: 0,
+        wanted: Wanted::Passed(&[(SOURCE_MAC, 6, b"\x02\x1a\x2b\0\0\0")], &[]),
+    },
+    Case {
+        name: "kept_bits_of_mac: 48",
+        rules: &[
+            PASS,
+            "rule for * in * from * to * element sourceMacAddress truncate 48",
+            KEEP,
+        ],
+        fields: &[MAC],
+        scope: 0,
+        wanted: Wanted::Passed(&[(SOURCE_MAC, 6, b"\x02\x1a\x2b\x3c\x4d\x5e")], &[]),
+    },
+    Case {
+        name: "aggregated",
+        rules: &[
+            "rule for * in * from * to * element * remove",
+            "rule for acme in * from * to * aggregate web",
+        ],
+        fields: &[SIX],
+        scope: 0,
+        wanted: Wanted::Aggregated(2, 1),
+    },
+    // Fields of one element are judged alike; a rule on an enterprise's element does not touch them.
+    Case {
+        name: "fields_of_their_own",
+        rules: &[
+            PASS,
+            "rule for * in * from * to * element e9/7 keep",
+            "rule for other in * from * to * element sourceTransportPort keep",
+            "rule for acme in 7 from 192.0.2.0/24 to * element sourceIPv4Address truncate 24",
+        ],
+        fields: &[SHORT_PORT, NEAR, SHORT_PORT, NEAR],
+        scope: 0,
+        wanted: Wanted::Passed(
+            &[
+                (SOURCE_IPV4, 4, b"\xc0\x00\x02\x00"),
+                (SOURCE_IPV4, 4, b"\xc0\x00\x02\x00"),
+            ],
+            &[(0, 0), (2, 0)],
+        ),
+    },
+];
+
+/// That the record which passed has the scope fields of the one that came in, these fields, and lost these.
+fn expect_passed<R: Abort>(
+    rt: &R,
+    case: &Case,
+    kept: &Record,
+    removed: &[RemovedField],
+) -> Result<(), Fail> {
+    match case.wanted {
+        Wanted::Passed(fields, gone) => {
+            assert_eq!(rt; kept.template().scope, case.scope, "{}", case.name);
+            expect_specs(rt, kept.template().fields.as_slice(), fields);
+            expect_values(rt, kept.values().as_slice(), fields);
+            expect_removed(rt, removed, gone);
+            Ok(())
+        }
+        _ => Err(Fail::new(case.name)),
+    }
+}
+
+/// Whether the record is to be withheld by this rule, for this reason.
+fn is_withheld(wanted: &Wanted, rule: u32, reason: Reason) -> bool {
+    match wanted {
+        Wanted::Withheld(by, why) => *by == rule && *why == reason,
+        _ => false,
+    }
+}
+
+/// Whether the record is to count in the aggregate at this place, by this rule.
+fn is_aggregated(wanted: &Wanted, rule: u32, definition: usize) -> bool {
+    match wanted {
+        Wanted::Aggregated(by, place) => *by == rule && *place == definition,
+        _ => false,
+    }
+}
+
+/// That so much is disclosed.
+fn expect_case<R: Abort + AllocGlobal>(rt: &R, case: &Case) -> Result<(), Fail> {
+    let flow_record = record_of(rt.alloc(), case.fields, case.scope)?;
+    match disclosed(rt.alloc(), case.rules, &flow_record)? {
+        Disclosure::Passed { kept, removed } => expect_passed(rt, case, &kept, &removed),
+        Disclosure::Withheld { rule, reason } => {
+            let same = is_withheld(&case.wanted, rule, reason);
+            assert!(rt; same, "{}: withheld by {rule}", case.name);
+            Ok(())
+        }
+        Disclosure::Aggregated { rule, definition } => {
+            let same = is_aggregated(&case.wanted, rule, definition);
+            assert!(rt; same, "{}: aggregated by {rule}", case.name);
+            Ok(())
+        }
+    }
+}
+
+#[test]
+fn disclosures(rt: HostRuntime) -> Result<(), Fail> {
+    for case in CASES {
+        expect_case(&rt, case)?;
     }
     Ok(())
 }
 
 #[test]
-fn first_rule_decides(rt: HostRuntime) -> Result<(), Fail> {
-    let fields = [(PROTOCOL, 1, b"\x06".as_slice())];
-    let flow_record = record_of(rt.alloc(), &fields, 0)?;
-    expect_passed(&rt, &[PASS, WITHHOLD, KEEP], &flow_record, &fields, &[])?;
-    expect_withheld(
-        &rt,
-        &[WITHHOLD, PASS, KEEP],
-        &flow_record,
-        (1, Reason::Rule),
-    )?;
+fn laws() {
     only_permitted_passes();
     passed_is_sound();
     denied_is_secret();
     others_never_matter();
     later_rules_never_matter();
-    Ok(())
 }
 
-#[test]
-fn nothing_left(rt: HostRuntime) -> Result<(), Fail> {
-    let fields = [(NAME, 0, b"".as_slice()), (PROTOCOL, 1, b"\x06")];
-    let flow_record = record_of(rt.alloc(), &fields, 0)?;
-    let protocol = "rule for * in * from * to * element protocolIdentifier remove";
-    expect_withheld(
-        &rt,
-        &[PASS, protocol, KEEP],
-        &flow_record,
-        (2, Reason::Empty),
-    )?;
-    // Where no rule on fields matches, rule 0 removes.
-    expect_withheld(&rt, &[PASS], &flow_record, (0, Reason::Empty))?;
-    let port = "rule for * in * from * to * element sourceTransportPort remove";
-    let more = [fields[0], fields[1], (SOURCE_PORT, 2, b"\x01\xbb")];
-    let flow_record = record_of(rt.alloc(), &more, 0)?;
-    expect_withheld(
-        &rt,
-        &[PASS, port, protocol, KEEP],
-        &flow_record,
-        (3, Reason::Empty),
-    )
-}
-
-#[test]
-fn scope_lost(rt: HostRuntime) -> Result<(), Fail> {
-    let fields = [
-        (INGRESS, 4, b"\x00\x00\x00\x05".as_slice()),
-        (NAME, VARIABLE, b"eth0"),
-    ];
-    let ingress = "rule for * in * from * to * element ingressInterface remove";
-    let rules = [PASS, ingress, KEEP];
-    let options = record_of(rt.alloc(), &fields, 1)?;
-    expect_withheld(&rt, &rules, &options, (2, Reason::ScopeLost))?;
-    let plain = record_of(rt.alloc(), &fields, 0)?;
-    expect_passed(&rt, &rules, &plain, &[fields[1]], &[(0, 2)])?;
-    // The first removed scope field names the rule, and a lost scope comes before an empty record.
-    let two = [fields[0], (EGRESS, 1, b"\x09"), fields[1]];
-    let egress = "rule for * in * from * to * element egressInterface remove";
-    let options = record_of(rt.alloc(), &two, 2)?;
-    expect_withheld(
-        &rt,
-        &[PASS, egress, ingress],
-        &options,
-        (3, Reason::ScopeLost),
-    )?;
-    expect_withheld(&rt, &[PASS, egress, KEEP], &options, (2, Reason::ScopeLost))
-}
-
-#[test]
-fn options_records(rt: HostRuntime) -> Result<(), Fail> {
-    let fields = [
-        (INGRESS, 4, b"\x00\x00\x00\x05".as_slice()),
-        (NAME, VARIABLE, b"eth0"),
-    ];
-    let options = record_of(rt.alloc(), &fields, 1)?;
-    expect_passed(&rt, &[PASS, KEEP], &options, &fields, &[])?;
-    let name = "rule for * in * from * to * element interfaceName remove";
-    expect_passed(&rt, &[PASS, KEEP, name], &options, &fields, &[])?;
-    expect_passed(&rt, &[PASS, name, KEEP], &options, &[fields[0]], &[(1, 2)])
-}
-
-#[test]
-fn truncate_and_remove(rt: HostRuntime) -> Result<(), Fail> {
-    let fields = [
-        (SOURCE_IPV4, 4, b"\xc0\x00\x02\x4d".as_slice()),
-        (SOURCE_PORT, 2, b"\x01\xbb"),
-        (OCTETS, 4, b"\x00\x00\x05\xdc"),
-    ];
-    let flow_record = record_of(rt.alloc(), &fields, 0)?;
-    let rules = [
-        PASS,
-        "rule for * in * from * to * element sourceIPv4Address truncate 24",
-        "rule for * in * from * to * element sourceTransportPort remove",
-        KEEP,
-    ];
-    let kept = [(SOURCE_IPV4, 4, b"\xc0\x00\x02\x00".as_slice()), fields[2]];
-    expect_passed(&rt, &rules, &flow_record, &kept, &[(1, 3)])
-}
-
-/// That an element's value is cut so.
-fn expect_cut<R: Abort + AllocGlobal>(
+/// Who holds a record's template after a disclosure by these rules.
+fn expect_holders<R: Abort + AllocGlobal>(
     rt: &R,
-    rule: &str,
-    field: Field,
-    cut: &'static [u8],
+    rules: &[&str],
+    holders: usize,
 ) -> Result<(), Fail> {
-    let (number, length, _) = field;
-    let flow_record = record_of(rt.alloc(), &[field], 0)?;
-    expect_passed(
-        rt,
-        &[PASS, rule, KEEP],
-        &flow_record,
-        &[(number, length, cut)],
-        &[],
-    )
-}
-
-#[test]
-fn kept_bits(rt: HostRuntime) -> Result<(), Fail> {
-    for (rule, cut) in [
-        (
-            "rule for * in * from * to * element sourceIPv4Address truncate 0",
-            b"\0\0\0\0".as_slice(),
-        ),
-        (
-            "rule for * in * from * to * element sourceIPv4Address truncate 24",
-            b"\xc0\x00\x02\x00",
-        ),
-        (
-            "rule for * in * from * to * element sourceIPv4Address truncate 28",
-            b"\xc0\x00\x02\x40",
-        ),
-        (
-            "rule for * in * from * to * element sourceIPv4Address truncate 32",
-            b"\xc0\x00\x02\x4d",
-        ),
-    ] {
-        expect_cut(&rt, rule, (SOURCE_IPV4, 4, b"\xc0\x00\x02\x4d"), cut)?;
-    }
+    let flow_record = record_of(rt.alloc(), &[SIX, HTTPS], 0)?;
+    let disclosure = disclosed(rt.alloc(), rules, &flow_record)?;
+    assert_eq!(rt; Arc::strong_count(flow_record.shared_template()), holders);
+    drop(disclosure);
     Ok(())
-}
-
-#[test]
-fn kept_bits_of_ipv6(rt: HostRuntime) -> Result<(), Fail> {
-    let all = b"\xff\xff\xff\xff\xff\xff\xff\xff\xff\xff\xff\xff\xff\xff\xff\xff".as_slice();
-    for (rule, cut) in [
-        (
-            "rule for * in * from * to * element sourceIPv6Address truncate 0",
-            b"\0\0\0\0\0\0\0\0\0\0\0\0\0\0\0\0".as_slice(),
-        ),
-        (
-            "rule for * in * from * to * element sourceIPv6Address truncate 1",
-            b"\x80\0\0\0\0\0\0\0\0\0\0\0\0\0\0\0",
-        ),
-        (
-            "rule for * in * from * to * element sourceIPv6Address truncate 63",
-            b"\xff\xff\xff\xff\xff\xff\xff\xfe\0\0\0\0\0\0\0\0",
-        ),
-        (
-            "rule for * in * from * to * element sourceIPv6Address truncate 64",
-            b"\xff\xff\xff\xff\xff\xff\xff\xff\0\0\0\0\0\0\0\0",
-        ),
-        (
-            "rule for * in * from * to * element sourceIPv6Address truncate 127",
-            b"\xff\xff\xff\xff\xff\xff\xff\xff\xff\xff\xff\xff\xff\xff\xff\xfe",
-        ),
-        (
-            "rule for * in * from * to * element sourceIPv6Address truncate 128",
-            all,
-        ),
-    ] {
-        expect_cut(&rt, rule, (SOURCE_IPV6, 16, all), cut)?;
-    }
-    Ok(())
-}
-
-#[test]
-fn kept_bits_of_mac(rt: HostRuntime) -> Result<(), Fail> {
-    for (rule, cut) in [
-        (
-            "rule for * in * from * to * element sourceMacAddress truncate 0",
-            b"\0\0\0\0\0\0".as_slice(),
-        ),
-        (
-            "rule for * in * from * to * element sourceMacAddress truncate 24",
-            b"\x02\x1a\x2b\0\0\0",
-        ),
-        (
-            "rule for * in * from * to * element sourceMacAddress truncate 48",
-            b"\x02\x1a\x2b\x3c\x4d\x5e",
-        ),
-    ] {
-        expect_cut(&rt, rule, (SOURCE_MAC, 6, b"\x02\x1a\x2b\x3c\x4d\x5e"), cut)?;
-    }
-    Ok(())
-}
-
-#[test]
-fn aggregated(rt: HostRuntime) -> Result<(), Fail> {
-    let fields = [(PROTOCOL, 1, b"\x06".as_slice())];
-    let flow_record = record_of(rt.alloc(), &fields, 0)?;
-    let rules = [
-        "rule for * in * from * to * element * remove",
-        "rule for acme in * from * to * aggregate web",
-    ];
-    match disclosed(rt.alloc(), &rules, &flow_record)? {
-        Disclosure::Aggregated { rule, definition } => {
-            assert_eq!(rt; (rule, definition), (2, 1));
-            Ok(())
-        }
-        Disclosure::Passed {
-            kept: _,
-            removed: _,
-        } => Err(Fail::new("passed")),
-        Disclosure::Withheld { rule: _, reason: _ } => Err(Fail::new("withheld")),
-    }
 }
 
 #[test]
 fn shared_template(rt: HostRuntime) -> Result<(), Fail> {
-    let fields = [
-        (PROTOCOL, 1, b"\x06".as_slice()),
-        (SOURCE_PORT, 2, b"\x01\xbb"),
-    ];
-    let flow_record = record_of(rt.alloc(), &fields, 0)?;
     let port = "rule for * in * from * to * element sourceTransportPort remove";
-    for (rules, holders) in [([PASS, KEEP, port], 2), ([PASS, port, KEEP], 1)] {
-        let disclosure = disclosed(rt.alloc(), &rules, &flow_record)?;
-        assert_eq!(rt; Arc::strong_count(flow_record.shared_template()), holders);
-        drop(disclosure);
-    }
-    Ok(())
-}
-
-#[test]
-fn fields_of_their_own(rt: HostRuntime) -> Result<(), Fail> {
-    // Fields of one element are judged alike; a rule on an enterprise's element does not touch them.
-    let near = (SOURCE_IPV4, 4, b"\xc0\x00\x02\x01".as_slice());
-    let port = (SOURCE_PORT, 1, b"\x35".as_slice());
-    let flow_record = record_of(rt.alloc(), &[port, near, port, near], 0)?;
-    let rules = [
-        PASS,
-        "rule for * in * from * to * element e9/7 keep",
-        "rule for other in * from * to * element sourceTransportPort keep",
-        "rule for acme in 7 from 192.0.2.0/24 to * element sourceIPv4Address truncate 24",
-    ];
-    let cut = (SOURCE_IPV4, 4, b"\xc0\x00\x02\x00".as_slice());
-    expect_passed(&rt, &rules, &flow_record, &[cut, cut], &[(0, 0), (2, 0)])
+    expect_holders(&rt, &[PASS, KEEP, port], 2)?;
+    expect_holders(&rt, &[PASS, port, KEEP], 1)
 }
