@@ -1,12 +1,8 @@
 use super::*;
+use crate::variable::LONGEST_VALUE;
+use std::alloc::{AllocError, Global};
+use std::process::Abort;
 use std::test::Fail;
-
-/// A text read back: where its value starts, and the value's length.
-fn read_of(rt: &impl std::process::Abort, text: &[u8]) -> (usize, usize) {
-    let found = read_varlen(text);
-    assert!(rt; found.is_some());
-    found.unwrap_or((0, 0))
-}
 
 #[test]
 fn numbers_both_ways(rt: HostRuntime) -> Result<(), Fail> {
@@ -23,47 +19,57 @@ fn numbers_both_ways(rt: HostRuntime) -> Result<(), Fail> {
     Ok(())
 }
 
+/// Values, and what is written before them: the worked case value_lengths.
+static VALUES: [(&[u8], &[u8]); 3] = [
+    (&[], &[0]),
+    (&[0x61; 254], &[254]),
+    (&[0x61; 255], &[255, 0, 255]),
+];
+
+/// Octets, and where the value at their front starts, with its length.
+static TEXTS: [(&[u8], Option<(usize, usize)>); 9] = [
+    // The long form may carry any length.
+    (b"\xff\x00\x03abc", Some((3, 3))),
+    (b"\xff\x00\x00", Some((3, 0))),
+    (b"\x03abcd", Some((1, 3))),
+    (b"", None),
+    (b"\x01", None),
+    (b"\xff", None),
+    (b"\xff\x00", None),
+    (b"\xff\x00\x01", None),
+    (b"\xff\xff\xffa", None),
+];
+
+fn write(value: &[u8], out: &mut Vec<u8>) -> Result<(), AllocError> {
+    if value.len() > LONGEST_VALUE {
+        return Ok(());
+    }
+    write_varlen(value, out)
+}
+
+/// What is written for a value; a call that is refused appends nothing, and is made again.
+fn written(rt: &impl Abort, alloc: Global, value: &[u8]) -> Result<Vec<u8>, AllocError> {
+    let mut out = Vec::new(alloc);
+    if write(value, &mut out).is_err() {
+        assert_eq!(rt; out.len(), 0);
+        write(value, &mut out)?;
+    }
+    Ok(out)
+}
+
 #[test]
 fn value_lengths(rt: HostRuntime) -> Result<(), Fail> {
-    let value = [0x61u8; 255];
-    let mut out = Vec::new(rt.alloc());
-    if write_varlen(&value[..0], &mut out).is_err() {
-        assert_eq!(rt; out.len(), 0);
-        write_varlen(&value[..0], &mut out)?;
+    for (value, front) in &VALUES {
+        let out = written(&rt, rt.alloc(), value)?;
+        assert_eq!(rt; out.strip_prefix(*front), Some(*value));
+        assert_eq!(rt; read_varlen(&out), Some((front.len(), value.len())));
     }
-    assert_eq!(rt; out.as_slice(), [0].as_slice());
-    out.clear();
-    if write_varlen(&value[..254], &mut out).is_err() {
-        assert_eq!(rt; out.len(), 0);
-        write_varlen(&value[..254], &mut out)?;
-    }
-    assert_eq!(rt; out.len(), 255);
-    assert_eq!(rt; out.first().copied(), Some(254));
-    assert_eq!(rt; read_of(&rt, &out), (1, 254));
-    out.clear();
-    if write_varlen(&value, &mut out).is_err() {
-        assert_eq!(rt; out.len(), 0);
-        write_varlen(&value, &mut out)?;
-    }
-    assert_eq!(rt; out.len(), 258);
-    assert_eq!(rt; &out[..3], [255, 0, 255].as_slice());
-    assert_eq!(rt; read_of(&rt, &out), (3, 255));
     Ok(())
 }
 
 #[test]
 fn the_long_form_may_carry_any_length(rt: HostRuntime) {
-    assert_eq!(rt; read_of(&rt, b"\xff\x00\x03abc"), (3, 3));
-    assert_eq!(rt; read_of(&rt, b"\xff\x00\x00"), (3, 0));
-    assert_eq!(rt; read_of(&rt, b"\x03abcd"), (1, 3));
-    for text in [
-        b"".as_slice(),
-        b"\x01",
-        b"\xff",
-        b"\xff\x00",
-        b"\xff\x00\x01",
-        b"\xff\xff\xffa",
-    ] {
-        assert_eq!(rt; read_varlen(text), None);
+    for (text, want) in &TEXTS {
+        assert_eq!(rt; read_varlen(text), *want, "{text:?}");
     }
 }

@@ -307,7 +307,7 @@ static POLICIES: [Spelled; 7] = [
 
 /// The answer for a text. A call that is refused for memory has line 0, and is made again.
 fn parse(rt: &impl Abort, alloc: Global, text: &str) -> Result<Policy, PolicyFault> {
-    match Policy::parse(alloc, text) {
+    match parse_once(alloc, text) {
         Err(
             PolicyFault {
                 line,
@@ -315,13 +315,13 @@ fn parse(rt: &impl Abort, alloc: Global, text: &str) -> Result<Policy, PolicyFau
             },
         ) => {
             assert_eq!(rt; line, 0, "of {text:?}");
-            parse_again(alloc, text)
+            parse_once(alloc, text)
         }
         answer => answer,
     }
 }
 
-fn parse_again(alloc: Global, text: &str) -> Result<Policy, PolicyFault> {
+fn parse_once(alloc: Global, text: &str) -> Result<Policy, PolicyFault> {
     Policy::parse(alloc, text)
 }
 
@@ -361,15 +361,15 @@ fn expect_policy(rt: &impl Abort, alloc: Global, row: &Spelled) -> Result<(), Fa
 
 #[test]
 fn faults_from_outside(rt: HostRuntime) {
-    for (text, line, kind) in FAULTS {
-        expect_fault(&rt, rt.alloc(), text, line, kind);
+    for (text, line, kind) in &FAULTS {
+        expect_fault(&rt, rt.alloc(), text, *line, *kind);
     }
 }
 
 #[test]
 fn bad_lines(rt: HostRuntime) {
-    for (text, line, kind) in BAD_LINES {
-        expect_fault(&rt, rt.alloc(), text, line, kind);
+    for (text, line, kind) in &BAD_LINES {
+        expect_fault(&rt, rt.alloc(), text, *line, *kind);
     }
 }
 
@@ -441,8 +441,8 @@ static NAMES: [(&str, bool); 10] = [
 
 #[test]
 fn names(rt: HostRuntime) {
-    for (text, want) in NAMES {
-        assert_eq!(rt; is_name(text), want, "of {text}");
+    for (text, want) in &NAMES {
+        assert_eq!(rt; is_name(text), *want, "of {text}");
     }
 }
 
@@ -471,8 +471,8 @@ fn fault_text(alloc: Global, kind: FaultKind) -> Result<String, AllocError> {
 
 #[test]
 fn texts_of_faults(rt: HostRuntime) -> Result<(), Fail> {
-    for (kind, want) in KINDS {
-        assert_eq!(rt; fault_text(rt.alloc(), kind)?.as_str(), want);
+    for (kind, want) in &KINDS {
+        assert_eq!(rt; fault_text(rt.alloc(), *kind)?.as_str(), *want);
     }
     Ok(())
 }

@@ -1,5 +1,6 @@
 //! Worked cases of framing.
 use crate::{FrameError, Framer};
+use bytes::Bytes;
 use std::alloc::{AllocError, Global};
 use std::process::Abort;
 use std::test::Fail;
@@ -177,6 +178,10 @@ static CASES: [Case; 8] = [
     },
 ];
 
+fn feed_once(framer: &mut Framer, octets: &[u8]) -> Result<Vec<Bytes>, FrameError> {
+    framer.feed(octets)
+}
+
 /// How many messages a piece makes whole; each is this one.
 fn feed(
     rt: &impl Abort,
@@ -184,7 +189,7 @@ fn feed(
     octets: &[u8],
     message: &[u8],
 ) -> Result<usize, FrameError> {
-    let found = framer.feed(octets)?;
+    let found = feed_once(framer, octets)?;
     for next in &found {
         assert_eq!(rt; next.as_slice(), message);
     }
@@ -277,14 +282,16 @@ fn many_shortest_messages_in_one_piece(rt: HostRuntime) -> Result<(), Fail> {
     Ok(())
 }
 
+static NAMES: [(FrameError, &str); 3] = [
+    (FrameError::BadVersion, "BadVersion"),
+    (FrameError::BadLength, "BadLength"),
+    (FrameError::OutOfMemory, "OutOfMemory"),
+];
+
 #[test]
 fn faults_are_shown_as_their_names(rt: HostRuntime) -> Result<(), Fail> {
-    for (fault, name) in [
-        (FrameError::BadVersion, "BadVersion"),
-        (FrameError::BadLength, "BadLength"),
-        (FrameError::OutOfMemory, "OutOfMemory"),
-    ] {
-        assert_eq!(rt; fault.to_string(rt.alloc())?.as_str(), name);
+    for (fault, name) in &NAMES {
+        assert_eq!(rt; fault.to_string(rt.alloc())?.as_str(), *name);
     }
     Ok(())
 }
