@@ -38,6 +38,3 @@ pub use laws::{one_split, one_template, record_splits_back};
 pub use spans::{Span, Split};
 pub use template::{Refused, Template};
 pub use values::split;
-
-#[cfg(test)]
-mod tests;

@@ -2,8 +2,9 @@
 //! try again, and a `Device` does not.
 use super::*;
 use faulty_devices::{Narrow, Sparing};
+use std::alloc::{AllocError, Global};
 use std::io::ErrorKind::{BrokenPipe, Interrupted};
-use std::io::{BufWriter, Write};
+use std::io::{BufWriter, ErrorKind, Write};
 use std::process::Abort;
 use std::test::Fail;
 
@@ -12,84 +13,115 @@ const OCTETS: &[u8] = b"0123456789";
 /// Room for what a test writes.
 const ROOM: usize = 16;
 
-/// That the device holds these octets, and has failed or not.
+/// A device whose writer takes at most so many octets a call, and fails after so many calls.
+fn narrow(
+    alloc: Global,
+    most: usize,
+    calls: usize,
+    failure: ErrorKind,
+) -> Result<Device<Narrow>, AllocError> {
+    Ok(Device::new(Narrow::new(alloc, ROOM, most, calls, failure)?))
+}
+
+/// That a device has failed or not, and holds these octets.
 fn holds(rt: &impl Abort, device: Device<Narrow>, wanted: &[u8], failed: bool) {
-    assert_eq!(rt; device.has_failed(), failed);
+    assert!(rt; device.has_failed() == failed);
     let writer = device.into_inner();
-    assert_eq!(rt; writer.octets.as_slice(), wanted);
+    assert!(rt; writer.octets.as_slice() == wanted);
+}
+
+/// That all of the octets are written, or so many.
+fn expect_written<S: Sink>(
+    rt: &impl Abort,
+    sink: &mut S,
+    octets: &[u8],
+    wanted: Result<(), WriteStopped>,
+) {
+    let answer = write_all(sink, octets);
+    assert!(rt; answer == wanted);
 }
 
 #[test]
 fn one_octet_at_a_time(rt: HostRuntime) -> Result<(), Fail> {
-    let mut device = Device::new(Narrow::new(rt.alloc(), ROOM, 1, 10, Interrupted)?);
-    assert_eq!(rt; device.has_failed(), false);
-    assert_eq!(rt; write_all(&mut device, OCTETS), Ok(()));
+    let mut device = narrow(rt.alloc(), 1, 10, Interrupted)?;
+    expect_written(&rt, &mut device, OCTETS, Ok(()));
     holds(&rt, device, OCTETS, false);
     Ok(())
 }
 
 #[test]
 fn none_taken(rt: HostRuntime) -> Result<(), Fail> {
-    let mut device = Device::new(Narrow::new(rt.alloc(), ROOM, 0, 5, Interrupted)?);
-    assert_eq!(rt; device.write(&[]), Ok(0));
-    assert_eq!(rt; write_all(&mut device, &[]), Ok(()));
-    assert_eq!(rt; device.has_failed(), false);
-    assert_eq!(rt;
-        write_all(&mut device, OCTETS),
-        Err(WriteStopped { sent: 0 })
-    );
+    let mut device = narrow(rt.alloc(), 0, 5, Interrupted)?;
+    assert!(rt; device.write(&[]) == Ok(0));
+    expect_written(&rt, &mut device, &[], Ok(()));
+    assert!(rt; !device.has_failed());
+    expect_written(&rt, &mut device, OCTETS, Err(WriteStopped { sent: 0 }));
     holds(&rt, device, &[], true);
+    Ok(())
+}
+
+/// That a write of one octet at a time stops after so many.
+fn expect_stopped(rt: &impl Abort, alloc: Global, sent: usize) -> Result<(), Fail> {
+    let mut device = narrow(alloc, 1, sent, Interrupted)?;
+    expect_written(rt, &mut device, OCTETS, Err(WriteStopped { sent }));
+    holds(rt, device, OCTETS.get(..sent).ok_or("sent")?, true);
     Ok(())
 }
 
 #[test]
 fn each_write_fails(rt: HostRuntime) -> Result<(), Fail> {
     for sent in 0..10 {
-        let mut device = Device::new(Narrow::new(rt.alloc(), ROOM, 1, sent, Interrupted)?);
-        assert_eq!(rt; write_all(&mut device, OCTETS), Err(WriteStopped { sent }));
-        holds(&rt, device, &OCTETS[..sent], true);
+        expect_stopped(&rt, rt.alloc(), sent)?;
     }
     Ok(())
 }
 
 #[test]
 fn write_after_a_failure(rt: HostRuntime) -> Result<(), Fail> {
-    let mut device = Device::new(Narrow::new(rt.alloc(), ROOM, 4, 1, Interrupted)?);
-    assert_eq!(rt;
-        write_all(&mut device, OCTETS),
-        Err(WriteStopped { sent: 4 })
-    );
-    assert_eq!(rt; device.write(b"more"), Ok(4));
+    let mut device = narrow(rt.alloc(), 4, 1, Interrupted)?;
+    expect_written(&rt, &mut device, OCTETS, Err(WriteStopped { sent: 4 }));
+    assert!(rt; device.write(b"more") == Ok(4));
     holds(&rt, device, b"0123more", true);
     Ok(())
 }
 
+/// That a read of at most so many octets, sixteen at most, gives these.
+fn expect_read<S: Source>(rt: &impl Abort, source: &mut S, room: usize, wanted: &[u8]) {
+    let mut buffer = [0u8; ROOM];
+    let answer = source.read(&mut buffer[..room.min(ROOM)]);
+    assert!(rt; answer == Ok(wanted.len()));
+    assert!(rt; buffer.get(..wanted.len()) == Some(wanted));
+}
+
+/// That a device which is read three octets at a time fails after so many calls.
+fn expect_failed_read(rt: &impl Abort, calls: usize) {
+    let mut device = Device::new(Sparing::new(OCTETS, 3, calls, Interrupted));
+    let mut buffer = [0u8; 7];
+    for _ in 0..calls {
+        assert!(rt; device.read(&mut buffer) == Ok(3));
+    }
+    assert!(rt; !device.has_failed());
+    assert!(rt; device.read(&mut buffer) == Err(Failed));
+    assert!(rt; device.has_failed());
+    let left = device.into_inner().rest;
+    assert!(rt; Some(left) == OCTETS.get(calls.saturating_mul(3)..));
+}
+
 #[test]
 fn each_read_fails(rt: HostRuntime) {
-    for call in 0..4 {
-        let mut device = Device::new(Sparing::new(OCTETS, 3, call, Interrupted));
-        let mut buffer = [0u8; 7];
-        for _ in 0..call {
-            assert_eq!(rt; device.read(&mut buffer), Ok(3));
-        }
-        assert_eq!(rt; device.has_failed(), false);
-        assert_eq!(rt; device.read(&mut buffer), Err(Failed));
-        assert_eq!(rt; device.has_failed(), true);
-        assert_eq!(rt; device.into_inner().rest, &OCTETS[3 * call..]);
+    for calls in 0..4 {
+        expect_failed_read(&rt, calls);
     }
 }
 
 #[test]
 fn seven_octets_at_a_time(rt: HostRuntime) {
     let mut device = Device::new(Sparing::new(OCTETS, 7, 4, Interrupted));
-    let mut buffer = [0u8; 64];
-    assert_eq!(rt; device.read(&mut buffer), Ok(7));
-    assert_eq!(rt; &buffer[..7], b"0123456".as_slice());
-    assert_eq!(rt; device.read(&mut buffer), Ok(3));
-    assert_eq!(rt; &buffer[..3], b"789".as_slice());
-    assert_eq!(rt; device.read(&mut buffer), Ok(0));
-    assert_eq!(rt; device.read(&mut []), Ok(0));
-    assert_eq!(rt; device.has_failed(), false);
+    expect_read(&rt, &mut device, 16, b"0123456");
+    expect_read(&rt, &mut device, 16, b"789");
+    expect_read(&rt, &mut device, 16, b"");
+    expect_read(&rt, &mut device, 0, b"");
+    assert!(rt; !device.has_failed());
 }
 
 /// What a buffer holds back is written when it is flushed.
@@ -97,10 +129,22 @@ fn seven_octets_at_a_time(rt: HostRuntime) {
 fn flush_fails(rt: HostRuntime) -> Result<(), Fail> {
     let writer = Narrow::new(rt.alloc(), ROOM, 10, 0, BrokenPipe)?;
     let mut device = Device::new(BufWriter::with_capacity(rt.alloc(), ROOM, writer)?);
-    assert_eq!(rt; write_all(&mut device, OCTETS), Ok(()));
-    assert_eq!(rt; device.has_failed(), false);
-    assert_eq!(rt; device.flush(), Err(Failed));
-    assert_eq!(rt; device.has_failed(), true);
+    expect_written(&rt, &mut device, OCTETS, Ok(()));
+    assert!(rt; !device.has_failed());
+    assert!(rt; device.flush() == Err(Failed));
+    assert!(rt; device.has_failed());
+    Ok(())
+}
+
+fn write_text(device: &mut Device<Narrow>) -> Result<(), Failed> {
+    writeln!(device, "{} octets", 10)
+}
+
+/// That a text isn't written where the write after so many calls fails.
+fn expect_failed_text(rt: &impl Abort, alloc: Global, calls: usize) -> Result<(), Fail> {
+    let mut device = narrow(alloc, 4, calls, BrokenPipe)?;
+    assert!(rt; write_text(&mut device) == Err(Failed));
+    assert!(rt; device.has_failed());
     Ok(())
 }
 
@@ -108,25 +152,21 @@ fn flush_fails(rt: HostRuntime) -> Result<(), Fail> {
 #[test]
 fn each_write_of_a_text_fails(rt: HostRuntime) -> Result<(), Fail> {
     for calls in 0..3 {
-        let mut device = Device::new(Narrow::new(rt.alloc(), ROOM, 4, calls, BrokenPipe)?);
-        assert_eq!(rt; writeln!(device, "{} octets", 10), Err(Failed));
-        assert_eq!(rt; device.has_failed(), true);
+        expect_failed_text(&rt, rt.alloc(), calls)?;
     }
-    let mut device = Device::new(Narrow::new(rt.alloc(), ROOM, 4, 3, BrokenPipe)?);
-    assert_eq!(rt; writeln!(device, "{} octets", 10), Ok(()));
+    let mut device = narrow(rt.alloc(), 4, 3, BrokenPipe)?;
+    assert!(rt; write_text(&mut device) == Ok(()));
     holds(&rt, device, b"10 octets\n", false);
     Ok(())
 }
 
 #[test]
 fn over_memory(rt: HostRuntime) -> Result<(), Fail> {
-    let mut source = Device::new(OCTETS);
-    let mut buffer = [0u8; 64];
-    assert_eq!(rt; source.read(&mut buffer), Ok(10));
+    expect_read(&rt, &mut Device::new(OCTETS), ROOM, OCTETS);
     let mut sink = Device::new(Vec::with_capacity(rt.alloc(), ROOM)?);
-    assert_eq!(rt; write_all(&mut sink, &buffer[..10]), Ok(()));
-    assert_eq!(rt; sink.flush(), Ok(()));
-    assert_eq!(rt; sink.into_inner().as_slice(), OCTETS);
+    expect_written(&rt, &mut sink, OCTETS, Ok(()));
+    assert!(rt; sink.flush() == Ok(()));
+    assert!(rt; sink.into_inner().as_slice() == OCTETS);
     Ok(())
 }
 
@@ -134,6 +174,6 @@ fn over_memory(rt: HostRuntime) -> Result<(), Fail> {
 fn error_texts(rt: HostRuntime) -> Result<(), Fail> {
     let mut text = String::with_capacity(rt.alloc(), 32)?;
     write!(text, "{} {}", Failed, WriteStopped { sent: 3 })?;
-    assert_eq!(rt; text.as_str(), "Failed WriteStopped");
+    assert!(rt; text.as_str() == "Failed WriteStopped");
     Ok(())
 }

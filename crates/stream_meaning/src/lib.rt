@@ -21,6 +21,3 @@ pub use laws::{
     the_first_are_handed_out,
 };
 pub use streamable::{see_record, see_records};
-
-#[cfg(test)]
-mod tests;
