@@ -31,6 +31,9 @@ fn shared(alloc: Global) -> Result<Shares, Fail> {
             name: "beta",
         },
     ];
+    if read.records.len() > 1 {
+        return Err(Fail::new("more than one record"));
+    }
     Ok(Shares::of_records(alloc, &policy, 7, &read.records, &served)?)
 }
 
