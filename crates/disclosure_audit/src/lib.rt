@@ -25,6 +25,3 @@ pub use entry::{AuditEntry, RemovedField, RemovedFields, What};
 pub use laws::one_entry;
 pub use lines::line;
 pub use reason::Reason;
-
-#[cfg(test)]
-mod tests;

@@ -26,8 +26,6 @@ mod laws;
 mod limits;
 mod room;
 mod tally;
-#[cfg(test)]
-mod tests;
 mod text;
 
 pub use chronicle::Chronicle;

@@ -31,6 +31,3 @@ pub use laws::{
     passed_is_sound,
 };
 pub use transform::disclose;
-
-#[cfg(test)]
-mod tests;

@@ -26,8 +26,6 @@ mod net;
 mod parts;
 mod prefix;
 mod scan;
-#[cfg(test)]
-mod tests;
 
 pub use bits::keep_bits;
 pub use family::Family;

@@ -20,8 +20,6 @@ mod kind;
 mod length;
 mod name;
 mod registry;
-#[cfg(test)]
-mod tests;
 
 pub use element_id::ElementId;
 pub use kind::Kind;

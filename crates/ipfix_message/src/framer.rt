@@ -9,8 +9,6 @@ use std::marker::Model;
 
 mod cut;
 mod scan;
-#[cfg(test)]
-mod tests;
 
 use cut::cut_messages;
 use scan::extent_of;

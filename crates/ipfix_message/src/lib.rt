@@ -31,8 +31,6 @@ pub mod laws;
 mod octets;
 pub mod sets;
 mod templates;
-#[cfg(test)]
-mod tests;
 
 pub use decode_error::DecodeError;
 pub use frame_error::FrameError;

@@ -18,6 +18,3 @@ pub mod variable;
 
 pub use number::{be_number, write_be};
 pub use variable::{one_value, read_varlen, write_varlen};
-
-#[cfg(test)]
-mod tests;

@@ -35,10 +35,6 @@ pub mod reading;
 pub mod session;
 mod shelf;
 mod table;
-#[cfg(test)]
-mod tests;
-#[cfg(test)]
-mod tests_steps;
 mod walk;
 
 pub use laws::{

@@ -15,6 +15,3 @@ mod intake;
 
 pub use fault::{FramingFault, IntakeFault};
 pub use intake::Intake;
-
-#[cfg(test)]
-mod tests;

@@ -25,6 +25,3 @@ pub use device::Device;
 pub use failed::Failed;
 pub use sink::{Sink, WriteStopped, write_all};
 pub use source::Source;
-
-#[cfg(test)]
-mod tests;

@@ -29,8 +29,6 @@ mod name;
 mod policy;
 mod print;
 mod rule;
-#[cfg(test)]
-mod tests;
 mod words;
 
 pub use aggregate::AggregateDef;

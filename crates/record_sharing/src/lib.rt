@@ -12,6 +12,3 @@ mod shares;
 
 pub use served::Served;
 pub use shares::{Note, Share, Shares};
-
-#[cfg(test)]
-mod tests;

@@ -35,6 +35,3 @@ pub use laws::{
 pub use limits::Limits;
 pub use pull_error::PullError;
 pub use stream::Stream;
-
-#[cfg(test)]
-mod tests;

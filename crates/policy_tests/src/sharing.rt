@@ -1,8 +1,8 @@
 //! Two subscriptions side by side, neither of which sees what the other's rules do.
-use super::*;
 use disclosure_audit::What;
 use ipfix_session::Session;
 use policy_text::Policy;
+use record_sharing::{Served, Shares};
 use std::alloc::Global;
 use std::process::Abort;
 use std::test::Fail;

@@ -1,9 +1,9 @@
 //! Worked cases of disclosure. What is refused memory once is asked for again, and answers as ever.
-use crate::{
+use bytes::Bytes;
+use flow_anonymize::{
     Disclosure, Reason, RemovedField, denied_is_secret, disclose, later_rules_never_matter,
     only_permitted_passes, others_never_matter, passed_is_sound,
 };
-use bytes::Bytes;
 use ipfix_element::ElementId;
 use ipfix_template::{FieldSpec, Fields, Record, Template, Values};
 use policy_text::Policy;

@@ -1,7 +1,7 @@
 //! Devices over readers and writers that do less than they are asked, or fail: most by an interruption, which std's own calls
 //! try again, and a `Device` does not.
-use super::*;
 use faulty_devices::{Narrow, Sparing};
+use octet_devices::{Device, Failed, Sink, Source, WriteStopped, write_all};
 use std::alloc::{AllocError, Global};
 use std::io::ErrorKind::{BrokenPipe, Interrupted};
 use std::io::{BufWriter, ErrorKind, Write};

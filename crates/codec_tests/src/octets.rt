@@ -1,5 +1,6 @@
-use super::*;
-use crate::variable::LONGEST_VALUE;
+//! Numbers and values of variable length, both ways. A call that is refused memory is made again.
+use ipfix_octets::variable::LONGEST_VALUE;
+use ipfix_octets::{be_number, read_varlen, write_be, write_varlen};
 use std::alloc::{AllocError, Global};
 use std::process::Abort;
 use std::test::Fail;

@@ -1,6 +1,6 @@
 //! Worked cases, texts at the edges of the grammar, and that a call that was refused memory answers as ever
 //! when it is made again.
-use crate::{Prefix, PrefixFault, keep_bits};
+use flow_prefix::{Prefix, PrefixFault, keep_bits};
 use std::alloc::{AllocError, Global};
 use std::process::Abort;
 use std::test::Fail;

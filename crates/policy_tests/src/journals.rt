@@ -6,8 +6,8 @@ ghost use Rattle.event_journal.specs.declared.entry.Entry.{Entry};
 ghost use Rattle.event_journal.specs.declared.limits.TheConstants.{MOST_ENTRIES, MOST_OCTETS};
 ghost use Rattle.event_journal.specs.Room.{HasRoomAfter};
 
-use super::*;
 use bytes::Bytes;
+use event_journal::{Chronicle, Entry, Journal, MOST_ENTRIES, MOST_OCTETS, PolicyText, Tally};
 use policy_text::{Name, is_name};
 use std::alloc::{AllocError, Global};
 use std::process::Abort;

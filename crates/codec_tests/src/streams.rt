@@ -2,23 +2,18 @@
 //! that was refused memory answers as ever when it is called again.
 ghost use Rattle.std.specs.Prelude.{◌≤◌, OnOk, length};
 
-use super::*;
+use crate::records::{Layout, record_of, shared_template, template_of, values_of};
 use bytes::Bytes;
 use ipfix_element::ElementId;
-use ipfix_template::{FieldSpec, Fields, Record, Template, Values};
+use ipfix_template::{FieldSpec, Record, Template};
 use std::alloc::{AllocError, Global};
 use std::process::Abort;
 use std::sync::Arc;
 use std::test::Fail;
+use subscriber_stream::{Limits, PullError, Stream};
 
 /// The Export Time of the worked cases.
 const NOW: u32 = 0x6553_f13c;
-
-/// Fields by their numbers in the registry and their lengths, the first `scope` of them scope fields.
-struct Layout {
-    fields: &'static [(u16, u16)],
-    scope: u16,
-}
 
 /// sourceIPv4Address, sourceTransportPort and octetDeltaCount.
 const FLOW: Layout = Layout {
@@ -368,37 +363,6 @@ aaaaaaaaaaaaaaaaaaaaaaaaaaaaaaaaaaaaaaaaaaaaaaaaaaaaaaaaaaaaaaa\
         ],
     },
 ];
-
-fn shared_template(
-    alloc: Global,
-    specs: Vec<FieldSpec>,
-    scope: u16,
-) -> Result<Arc<Template>, Fail> {
-    let fields = Fields::from_vec(specs)?;
-    Ok(Arc::new(alloc, Template { fields, scope })?)
-}
-
-fn template_of(alloc: Global, layout: &Layout) -> Result<Arc<Template>, Fail> {
-    let mut specs = Vec::new(alloc);
-    for (number, length) in layout.fields {
-        let element = ElementId::new(None, *number).ok_or("an element")?;
-        let length = *length;
-        specs.push(FieldSpec { element, length })?;
-    }
-    shared_template(alloc, specs, layout.scope)
-}
-
-fn values_of(alloc: Global, texts: &[&'static [u8]]) -> Result<Values, Fail> {
-    let mut values = Vec::new(alloc);
-    for text in texts {
-        values.push(Bytes::from_static(text))?;
-    }
-    Ok(Values::from_vec(values))
-}
-
-fn record_of(template: Arc<Template>, values: Values) -> Result<Record, Fail> {
-    Ok(Record::try_new(template, values).map_err(|_| "refused")?)
-}
 
 fn records_of(alloc: Global, given: &[Given]) -> Result<Vec<Record>, Fail> {
     let mut records = Vec::new(alloc);

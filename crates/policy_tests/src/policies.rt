@@ -1,6 +1,6 @@
 //! Texts from outside and what they are: the fault of each, or what it prints; printed texts, sizes at
 //! their bounds, and that a call that was refused memory answers as ever when it is made again.
-use crate::{FaultKind, Policy, PolicyFault, is_name};
+use policy_text::{FaultKind, Policy, PolicyFault, is_name};
 use std::alloc::{AllocError, Global};
 use std::fmt::Write;
 use std::process::Abort;

@@ -3,7 +3,9 @@
 
 ghost use Rattle.std.specs.Prelude.{◌≡◌, ◌≤◌, OnOk};
 
-use super::*;
+use disclosure_audit::{
+    Audit, AuditEntry, MOST_ENTRIES, Reason, RemovedField, RemovedFields, What, line,
+};
 use std::alloc::{AllocError, Global};
 use std::process::Abort;
 use std::test::Fail;

@@ -1,6 +1,6 @@
 //! What no clause says: the registry's own numbers, names and kinds, texts that name nothing, lengths
 //! at their edges, and that each call succeeds where memory is left.
-use crate::{ElementId, Kind, allowed_length, by_name, full_width, kind_of, name_of};
+use ipfix_element::{ElementId, Kind, allowed_length, by_name, full_width, kind_of, name_of};
 use std::alloc::{AllocError, Global};
 use std::process::Abort;
 use std::test::Fail;

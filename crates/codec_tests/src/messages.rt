@@ -1,6 +1,6 @@
 //! Worked cases of framing.
-use crate::{FrameError, Framer};
 use bytes::Bytes;
+use ipfix_message::{FrameError, Framer};
 use std::alloc::{AllocError, Global};
 use std::process::Abort;
 use std::test::Fail;

@@ -1,6 +1,6 @@
 //! Streams that are read in pieces of seven octets, to their end and to each fault.
-use super::*;
 use faulty_devices::Sparing;
+use message_intake::{FramingFault, Intake, IntakeFault};
 use octet_devices::Device;
 use std::alloc::Global;
 use std::io::ErrorKind::Interrupted;
