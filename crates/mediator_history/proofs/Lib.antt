@@ -1,5 +1,6 @@
 pub mod HistoryLaws
 pub mod LastLaws
+pub mod SinceLaws
 pub mod Counts
 pub mod ListFilters
 pub mod EntryLaws
