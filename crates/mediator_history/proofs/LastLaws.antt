@@ -13,7 +13,7 @@ use Rattle.event_journal.specs.declared.entry.Entry.TheVariants.{Open, Close, Me
 use Rattle.mediator_history.specs.Subscriptions.{policy_or_none, edited, policy_in_force, named, name_of, switched, is_served}
 use Rattle.mediator_history.specs.LastEntries.{EditsNone, IsInForce, NamesNone, IsNamed, Stays, IsSubscribed}
 
-all_of : {A : Type 0} {P Q : A → Type 0} → ((x : A) → P x → Q x) → (xs : List A) → AllByRecursion P xs → AllByRecursion Q xs
+pub all_of : {A : Type 0} {P Q : A → Type 0} → ((x : A) → P x → Q x) → (xs : List A) → AllByRecursion P xs → AllByRecursion Q xs
 all_of f [] all = tt
 all_of f (x ∷ xs) all = (f x all.0, all_of f xs all.1)
 

@@ -1,10 +1,11 @@
--- Which policy is in force, what a subscription is called, and whether it is served, each by the last entry that decides it.
+-- Which policy is in force, what a subscription is called, whether it is live and served, and which sessions are open, each by the
+-- last entry that decides it.
 use Rattle.std.specs.Prelude.{◌≡◌, ◌≢◌, ◌⊎◌, ℕ, List, [], ◌∷◌, ◌++◌, Ok}
 use Rattle.std.specs.List.{AllByRecursion}
 use Rattle.policy_text.specs.Policies.{Meaning as Policy, nothing as no_policy}
 use Rattle.policy_text.specs.Parsing.{policy_of}
 use Rattle.event_journal.specs.declared.entry.Entry.{Entry}
-use Rattle.event_journal.specs.declared.entry.Entry.TheVariants.{Edit, Subscribe, Unsubscribe, Cut}
+use Rattle.event_journal.specs.declared.entry.Entry.TheVariants.{Open, Close, Edit, Subscribe, Unsubscribe, Cut}
 
 -- ---- the policy in force
 
@@ -55,3 +56,30 @@ pub record IsSubscribed (sub : ℕ) (h : List Entry) : Type 0 where
   pub after : List Entry
   pub history_is : h ≡ before ++ Subscribe sub name ∷ after
   pub stays : AllByRecursion (Stays sub) after
+
+-- ---- who is live
+
+-- the subscription doesn't end here
+abbrev pub StaysLive : ℕ → Entry → Type 0
+StaysLive sub e = e ≢ Unsubscribe sub
+
+-- the subscription began, and after that it did not end
+pub record IsBegun (sub : ℕ) (h : List Entry) : Type 0 where
+  pub before : List Entry
+  pub name : List ℕ
+  pub after : List Entry
+  pub history_is : h ≡ before ++ Subscribe sub name ∷ after
+  pub stays : AllByRecursion (StaysLive sub) after
+
+-- ---- which sessions are open
+
+-- the session doesn't close here
+abbrev pub StaysOpen : ℕ → Entry → Type 0
+StaysOpen session e = e ≢ Close session
+
+-- the session was opened, and after that it was not closed
+pub record IsOpened (session : ℕ) (h : List Entry) : Type 0 where
+  pub before : List Entry
+  pub after : List Entry
+  pub history_is : h ≡ before ++ Open session ∷ after
+  pub stays : AllByRecursion (StaysOpen session) after

@@ -1,9 +1,11 @@
-//! Laws over the definitions of a history: what the last entry of its kind decides, and what one entry more adds.
-ghost use Rattle.std.specs.Prelude.{◌≡◌, ◌↔◌, ◌∷◌, ◌++◌, [], ℕ, List, IsTrue};
+//! Laws over the definitions of a history: what the last entry of its kind decides, what a cut ends, and what one entry more adds.
+ghost use Rattle.std.specs.Prelude.{◌≡◌, ◌↔◌, ◌∷◌, ◌++◌, [], ℕ, false, List, IsTrue};
 ghost use Rattle.policy_text.specs.Policies.{Meaning as Policy};
 ghost use Rattle.event_journal.specs.declared.entry.Entry.{Entry};
-ghost use Rattle.mediator_history.specs.Subscriptions.{policy_in_force, name_of, is_served};
-ghost use Rattle.mediator_history.specs.LastEntries.{IsInForce, IsNamed, IsSubscribed};
+ghost use Rattle.event_journal.specs.declared.entry.Entry.TheVariants.{Unsubscribe, Cut};
+ghost use Rattle.mediator_history.specs.Sessions.{is_open};
+ghost use Rattle.mediator_history.specs.Subscriptions.{policy_in_force, name_of, is_live, is_served};
+ghost use Rattle.mediator_history.specs.LastEntries.{IsInForce, IsNamed, IsSubscribed, IsBegun, IsOpened};
 ghost use Rattle.mediator_history.specs.Accepted.{accepted_at, accepted};
 ghost use Rattle.mediator_history.specs.Disclosed.{given_at, disclosed};
 ghost use Rattle.mediator_history.specs.Auditing.{audit_at, audit_list};
@@ -22,6 +24,22 @@ pub fn last_subscription_names()
 /// it is one by which it begins.
 pub fn served_since_subscribed()
     ensures { (sub : ℕ) (h : List Entry) → IsTrue (is_served sub h) ↔ IsSubscribed sub h }
+{}
+
+/// A subscription is live exactly where it began and after that did not end. A cut leaves it live.
+pub fn live_since_subscribed()
+    ensures { (sub : ℕ) (h : List Entry) → IsTrue (is_live sub h) ↔ IsBegun sub h }
+{}
+
+/// A session is open exactly where it was opened and after that not closed.
+pub fn open_since_opened()
+    ensures { (session : ℕ) (h : List Entry) → IsTrue (is_open session h) ↔ IsOpened session h }
+{}
+
+/// A subscription that was cut, or that ended, is served no more; and no entry gives a subscription anything that is not served.
+pub fn cut_ends_serving()
+    ensures serves_no_more { (sub : ℕ) (h : List Entry) → (is_served sub (h ++ Cut sub ∷ []) ≡ false) × (is_served sub (h ++ Unsubscribe sub ∷ []) ≡ false) }
+    ensures gives_nothing { (sub : ℕ) (h : List Entry) (e : Entry) → is_served sub h ≡ false → given_at sub h e ≡ [] }
 {}
 
 /// One entry more adds, behind all that was there, the records that it brings, what it gives to a subscription and what the audit
