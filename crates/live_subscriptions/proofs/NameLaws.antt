@@ -1,0 +1,93 @@
+-- Names and numbers stay tied where a subscription comes or goes.
+use Rattle.std.proofs.Common.{◌≡◌, ◌≢◌, ℕ, Bool, true, false, cond, eqb, List, Option, Some, None, refl, sym, ap, ◌∙◌, subst}
+use Rattle.std.specs.Map.{update}
+use Rattle.std.specs.Str.{bytes_eq}
+use Rattle.std.proofs.lemmas.Bool.{eqb-true, eqb-false, eq-eqb}
+use Rattle.std.proofs.lemmas.Slice.Eq.{bytes_eq-Decides}
+use Rattle.std.proofs.lemmas.Option.{none-some, same_Some}
+use Rattle.live_subscriptions.specs.Naming.{AreNamed}
+
+-- the same names
+pub named_same : (numbers numbers2 : List ℕ → Option ℕ) (names names2 : ℕ → Option (List ℕ)) → ((n : List ℕ) → numbers2 n ≡ numbers n) → ((q : ℕ) → names2 q ≡ names q)
+    → AreNamed numbers names → AreNamed numbers2 names2
+named_same numbers numbers2 names names2 same_numbers same_names so = record {
+  each = λ sub name is. same_numbers name ∙ so.each sub name (sym (same_names sub) ∙ is);
+  only = λ sub name is. same_names sub ∙ so.only sub name (sym (same_numbers name) ∙ is);
+}
+
+other_name : (name n : List ℕ) → (name ≡ n → ⊥) → bytes_eq name n ≡ false
+other_name name n apart = by (bytes_eq name n) refl
+  where
+    by : (b : Bool) → bytes_eq name n ≡ b → bytes_eq name n ≡ false
+    by true is = absurd (apart ((bytes_eq-Decides name n).0 is))
+    by false is = is
+
+-- one name more
+pub named_more : (numbers numbers2 : List ℕ → Option ℕ) (names names2 : ℕ → Option (List ℕ)) (sub : ℕ) (name : List ℕ) → names sub ≡ None → ((q : ℕ) → names q ≡ Some name → ⊥)
+    → ((n : List ℕ) → numbers2 n ≡ update bytes_eq numbers name (Some sub) n) → ((q : ℕ) → names2 q ≡ cond (eqb q sub) (Some name) (names q))
+    → AreNamed numbers names → AreNamed numbers2 names2
+named_more numbers numbers2 names names2 sub name new free n2 s2 so = record {
+  each = λ q n is. each_by q n (eqb q sub) refl is;
+  only = λ q n is. only_by q n (bytes_eq name n) refl is;
+}
+  where
+    each_by : (q : ℕ) (n : List ℕ) (b : Bool) → eqb q sub ≡ b → names2 q ≡ Some n → numbers2 n ≡ Some q
+    each_by q n true e is =
+        let same : name ≡ n = same_Some name n (sym (s2 q ∙ ap (λ b. cond b (Some name) (names q)) e) ∙ is) in
+        n2 n ∙ ap (λ b. cond b (Some sub) (numbers n)) ((bytes_eq-Decides name n).1 same) ∙ ap (λ (k : ℕ). Some k) (sym (eqb-true q sub e))
+    each_by q n false e is =
+        let was : names q ≡ Some n = sym (s2 q ∙ ap (λ b. cond b (Some name) (names q)) e) ∙ is in
+        let apart : name ≡ n → ⊥ = λ same. free q (was ∙ ap (λ (m : List ℕ). Some m) (sym same)) in
+        n2 n ∙ ap (λ b. cond b (Some sub) (numbers n)) (other_name name n apart) ∙ so.each q n was
+
+    only_by : (q : ℕ) (n : List ℕ) (b : Bool) → bytes_eq name n ≡ b → numbers2 n ≡ Some q → names2 q ≡ Some n
+    only_by q n true e is =
+        let same : sub ≡ q = same_Some sub q (sym (n2 n ∙ ap (λ b. cond b (Some sub) (numbers n)) e) ∙ is) in
+        s2 q ∙ ap (λ b. cond b (Some name) (names q)) (eq-eqb q sub (sym same)) ∙ ap (λ (m : List ℕ). Some m) ((bytes_eq-Decides name n).0 e)
+    only_by q n false e is = kept q n (so.only q n (sym (n2 n ∙ ap (λ b. cond b (Some sub) (numbers n)) e) ∙ is)) (eqb q sub) refl
+      where
+        kept : (q : ℕ) (n : List ℕ) → names q ≡ Some n → (b : Bool) → eqb q sub ≡ b → names2 q ≡ Some n
+        kept q n was true e = absurd (none-some n (sym (ap names (eqb-true q sub e) ∙ new) ∙ was))
+        kept q n was false e = s2 q ∙ ap (λ b. cond b (Some name) (names q)) e ∙ was
+
+true_and_false : (b : Bool) → b ≡ true → b ≡ false → ⊥
+true_and_false b t f = let e : true ≡ false = sym t ∙ f in cc
+
+-- one name less
+pub named_less : (numbers numbers2 : List ℕ → Option ℕ) (names names2 : ℕ → Option (List ℕ)) (sub : ℕ) (name : List ℕ) → names sub ≡ Some name
+    → ((n : List ℕ) → numbers2 n ≡ update bytes_eq numbers name None n) → ((q : ℕ) → names2 q ≡ cond (eqb q sub) None (names q))
+    → AreNamed numbers names → AreNamed numbers2 names2
+named_less numbers numbers2 names names2 sub name was n2 s2 so = record {
+  each = λ q n is. each_by q n (eqb q sub) refl is;
+  only = λ q n is. only_by q n (bytes_eq name n) refl is;
+}
+  where
+    each_by : (q : ℕ) (n : List ℕ) (b : Bool) → eqb q sub ≡ b → names2 q ≡ Some n → numbers2 n ≡ Some q
+    each_by q n true e is = absurd (none-some n (sym (s2 q ∙ ap (λ b. cond b None (names q)) e) ∙ is))
+    each_by q n false e is =
+        let had : numbers n ≡ Some q = so.each q n (sym (s2 q ∙ ap (λ b. cond b None (names q)) e) ∙ is) in
+        let apart : name ≡ n → ⊥ = λ same. eqb-false q sub e (same_Some q sub (sym had ∙ ap numbers (sym same) ∙ so.each sub name was)) in
+        n2 n ∙ ap (λ b. cond b None (numbers n)) (other_name name n apart) ∙ had
+
+    only_by : (q : ℕ) (n : List ℕ) (b : Bool) → bytes_eq name n ≡ b → numbers2 n ≡ Some q → names2 q ≡ Some n
+    only_by q n true e is = absurd (none-some q (sym (n2 n ∙ ap (λ b. cond b None (numbers n)) e) ∙ is))
+    only_by q n false e is = kept q n (so.only q n (sym (n2 n ∙ ap (λ b. cond b None (numbers n)) e) ∙ is)) e (eqb q sub) refl
+      where
+        kept : (q : ℕ) (n : List ℕ) → names q ≡ Some n → bytes_eq name n ≡ false → (b : Bool) → eqb q sub ≡ b → names2 q ≡ Some n
+        kept q n has other true e = absurd (true_and_false (bytes_eq name n) ((bytes_eq-Decides name n).1 (same_Some name n (sym was ∙ ap names (sym (eqb-true q sub e)) ∙ has))) other)
+        kept q n has other false e = s2 q ∙ ap (λ b. cond b None (names q)) e ∙ has
+
+-- a name that came and went
+pub named_back : (numbers numbers2 numbers3 : List ℕ → Option ℕ) (names : ℕ → Option (List ℕ)) (sub : ℕ) (name : List ℕ) → ((q : ℕ) → names q ≡ Some name → ⊥)
+    → ((n : List ℕ) → numbers2 n ≡ update bytes_eq numbers name (Some sub) n) → ((n : List ℕ) → numbers3 n ≡ update bytes_eq numbers2 name None n)
+    → AreNamed numbers names → AreNamed numbers3 names
+named_back numbers numbers2 numbers3 names sub name free n2 n3 so = named_same numbers numbers3 names names (λ n. back n (bytes_eq name n) refl) (λ q. refl) so
+  where
+    none_there : (o : Option ℕ) → numbers name ≡ o → o ≡ None
+    none_there None is = refl
+    none_there (Some q) is = absurd (free q (so.only q name is))
+
+    back : (n : List ℕ) (b : Bool) → bytes_eq name n ≡ b → numbers3 n ≡ numbers n
+    back n true e =
+        n3 n ∙ ap (λ b. cond b None (numbers2 n)) e ∙ sym (none_there (numbers name) refl) ∙ ap numbers ((bytes_eq-Decides name n).0 e)
+    back n false e = n3 n ∙ ap (λ b. cond b None (numbers2 n)) e ∙ n2 n ∙ ap (λ b. cond b (Some sub) (numbers n)) e
