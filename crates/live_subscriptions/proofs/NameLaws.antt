@@ -1,11 +1,17 @@
 -- Names and numbers stay tied where a subscription comes or goes.
-use Rattle.std.proofs.Common.{◌≡◌, ◌≢◌, ℕ, Bool, true, false, cond, eqb, List, Option, Some, None, refl, sym, ap, ◌∙◌, subst}
+use Rattle.std.proofs.Common.{◌≡◌, ◌≢◌, ℕ, Bool, true, false, cond, eqb, List, Option, Some, None, refl, sym, ap, ◌∙◌}
 use Rattle.std.specs.Map.{update}
 use Rattle.std.specs.Str.{bytes_eq}
 use Rattle.std.proofs.lemmas.Bool.{eqb-true, eqb-false, eq-eqb}
 use Rattle.std.proofs.lemmas.Slice.Eq.{bytes_eq-Decides}
 use Rattle.std.proofs.lemmas.Option.{none-some, same_Some}
-use Rattle.live_subscriptions.specs.Naming.{AreNamed}
+use Rattle.std.specs.Prelude.{IfSome, IfNone, IsSomeAnd}
+use Rattle.std.specs.Option.{option_map}
+use Rattle.ipfix_template.specs.DataRecord.{DataRecord}
+use Rattle.ipfix_session.specs.Keeping.{at_key}
+use Rattle.live_subscriptions.specs.declared.subscription.Subscription.{Subscription}
+use Rattle.live_subscriptions.specs.Table.{Seen, seen, SameLive, Related, TakesGiven, HasName, cut_off}
+use Rattle.live_subscriptions.specs.Naming.{AreNamed, name_at}
 
 -- the same names
 pub named_same : (numbers numbers2 : List ℕ → Option ℕ) (names names2 : ℕ → Option (List ℕ)) → ((n : List ℕ) → numbers2 n ≡ numbers n) → ((q : ℕ) → names2 q ≡ names q)
@@ -91,3 +97,77 @@ named_back numbers numbers2 numbers3 names sub name free n2 n3 so = named_same n
     back n true e =
         n3 n ∙ ap (λ b. cond b None (numbers2 n)) e ∙ sym (none_there (numbers name) refl) ∙ ap numbers ((bytes_eq-Decides name n).0 e)
     back n false e = n3 n ∙ ap (λ b. cond b None (numbers2 n)) e ∙ n2 n ∙ ap (λ b. cond b (Some sub) (numbers n)) e
+
+-- ---- the names of live subscriptions
+
+-- its name, where there is one
+abbrev pub name_in : Option Subscription → Option (List ℕ)
+name_in o = option_map (λ s. s.name) o
+
+name_seen : (o : Option Subscription) → option_map (λ (v : Seen). v.name) (option_map seen o) ≡ name_in o
+name_seen None = refl
+name_seen (Some s) = refl
+
+pub names_seen : (es es2 : List (ℕ × Subscription)) → SameLive es es2 → (q : ℕ) → name_at es2 q ≡ name_at es q
+names_seen es es2 same q = sym (name_seen (at_key q es2)) ∙ ap (option_map (λ (v : Seen). v.name)) (same q) ∙ name_seen (at_key q es)
+
+pub name_given : (more : List DataRecord) (o p : Option Subscription) → Related (TakesGiven more) o p → name_in p ≡ name_in o
+name_given more None None gives = refl
+name_given more None (Some t) gives = absurd gives
+name_given more (Some s) None gives = absurd gives
+name_given more (Some s) (Some t) gives = ap (λ (n : List ℕ). Some n) gives.name
+
+name_cut : (here : Bool) (o : Option Subscription) → name_in (cond here (option_map cut_off o) o) ≡ name_in o
+name_cut true None = refl
+name_cut true (Some s) = refl
+name_cut false o = refl
+
+pub names_cut : (es es2 : List (ℕ × Subscription)) (sub : ℕ) → ((q : ℕ) → at_key q es2 ≡ cond (eqb q sub) (option_map cut_off (at_key q es)) (at_key q es)) → (q : ℕ) → name_at es2 q ≡ name_at es q
+names_cut es es2 sub cuts q = ap name_in (cuts q) ∙ name_cut (eqb q sub) (at_key q es)
+
+name_put : (here : Bool) (s : Subscription) (o : Option Subscription) → name_in (cond here (Some s) o) ≡ cond here (Some s.name) (name_in o)
+name_put true s o = refl
+name_put false s o = refl
+
+pub names_more : (es es2 : List (ℕ × Subscription)) (sub : ℕ) (s : Subscription) → ((q : ℕ) → at_key q es2 ≡ cond (eqb q sub) (Some s) (at_key q es))
+    → (q : ℕ) → name_at es2 q ≡ cond (eqb q sub) (Some s.name) (name_at es q)
+names_more es es2 sub s puts q = ap name_in (puts q) ∙ name_put (eqb q sub) s (at_key q es)
+
+name_out : (here : Bool) (o : Option Subscription) → name_in (cond here None o) ≡ cond here None (name_in o)
+name_out true o = refl
+name_out false o = refl
+
+pub names_less : (es es2 : List (ℕ × Subscription)) (sub : ℕ) → ((q : ℕ) → at_key q es2 ≡ cond (eqb q sub) None (at_key q es)) → (q : ℕ) → name_at es2 q ≡ cond (eqb q sub) None (name_at es q)
+names_less es es2 sub takes q = ap name_in (takes q) ∙ name_out (eqb q sub) (at_key q es)
+
+-- a number that has no subscription has no name to lose
+none_out : {A : Type 0} (f : ℕ → Option A) (sub q : ℕ) → f sub ≡ None → (b : Bool) → eqb q sub ≡ b → cond b None (f q) ≡ f q
+none_out f sub q none true e = sym (ap f (eqb-true q sub e) ∙ none)
+none_out f sub q none false e = refl
+
+pub names_unless : (es es2 : List (ℕ × Subscription)) (sub : ℕ) → at_key sub es ≡ None → ((q : ℕ) → at_key q es2 ≡ cond (eqb q sub) None (at_key q es)) → (q : ℕ) → name_at es2 q ≡ name_at es q
+names_unless es es2 sub none takes q = names_less es es2 sub takes q ∙ none_out (name_at es) sub q (ap name_in none) (eqb q sub) refl
+
+pub name_free : (name : List ℕ) (o : Option Subscription) → IfSome o (λ s. s.name ≢ name) → name_in o ≡ Some name → ⊥
+name_free name None free is = none-some name is
+name_free name (Some s) free is = free (same_Some s.name name is)
+
+-- ---- looking a name up
+
+has_name : (name : List ℕ) (o : Option Subscription) → name_in o ≡ Some name → IsSomeAnd o (HasName name)
+has_name name None is = none-some name is
+has_name name (Some s) is = same_Some s.name name is
+
+pub named_found : (numbers : List ℕ → Option ℕ) (es : List (ℕ × Subscription)) (name : List ℕ) (found : Option ℕ) → found ≡ numbers name → AreNamed numbers (name_at es)
+    → IfSome found (λ sub. IsSomeAnd (at_key sub es) (HasName name))
+named_found numbers es name None is so = tt
+named_found numbers es name (Some sub) is so = has_name name (at_key sub es) (so.only sub name (sym is))
+
+other_named : (name : List ℕ) (o : Option Subscription) → (name_in o ≡ Some name → ⊥) → IfSome o (λ s. s.name ≢ name)
+other_named name None apart = tt
+other_named name (Some s) apart = λ same. apart (ap (λ (n : List ℕ). Some n) same)
+
+pub named_none : (numbers : List ℕ → Option ℕ) (es : List (ℕ × Subscription)) (name : List ℕ) (found : Option ℕ) → found ≡ numbers name → AreNamed numbers (name_at es)
+    → IfNone found ((sub : ℕ) → IfSome (at_key sub es) (λ s. s.name ≢ name))
+named_none numbers es name None is so = λ sub. other_named name (at_key sub es) (λ has. none-some sub (is ∙ so.each sub name has))
+named_none numbers es name (Some sub) is so = tt

@@ -112,7 +112,7 @@ impl Subscriptions {
         ensures served { self.new.served ≡ filter (λ q. not (q == sub)) self.old.served }
     {
         self.live.cut(sub);
-        self.served.retain(|q| *q != sub);
+        take_out(&mut self.served, sub);
     }
 
     /// Adds a subscription under this name, which gets what is given from now on.
@@ -147,10 +147,10 @@ impl Subscriptions {
         ensures each { (q : ℕ) → at self.new q ≡ (if q == sub then None else at self.old q) }
         ensures served { self.new.served ≡ filter (λ q. not (q == sub)) self.old.served }
     {
+        take_out(&mut self.served, sub);
         if let Some(gone) = self.live.remove(sub) {
             self.names.remove(gone.name.as_str());
         }
-        self.served.retain(|q| *q != sub);
     }
 
     /// Builds a subscription's next message, as its stream's `pull` does.
@@ -166,4 +166,11 @@ impl Subscriptions {
     {
         self.live.pull(sub, now, target)
     }
+}
+
+/// Takes a number out of a list of numbers.
+fn take_out(numbers: &mut Vec<u64>, sub: u64)
+    ensures { numbers.new.items ≡ filter (λ q. not (q == sub)) numbers.old.items }
+{
+    numbers.retain(|q| *q != sub);
 }
