@@ -1,10 +1,9 @@
 -- Loops over shares and over numbers.
-use Rattle.std.proofs.Common.{◌≡◌, ◌≢◌, ◌≤◌, ◌<◌, ◌+◌, ℕ, Bool, true, false, cond, eqb, List, [], ◌∷◌, ◌++◌, length, map, take, Option, Some, None, refl, sym, ap, ◌∙◌, subst, arith, append_assoc, append-nil}
-use Rattle.std.specs.Prelude.{filter, get_or, IfSome}
+use Rattle.std.proofs.Common.{◌≡◌, ◌≢◌, ◌≤◌, ◌<◌, ◌+◌, ℕ, cond, eqb, List, [], ◌∷◌, ◌++◌, length, map, take, Option, Some, None, sym, ap, ◌∙◌, subst, arith, append_assoc}
+use Rattle.std.specs.Prelude.{get_or, IfSome}
 use Rattle.std.specs.List.{AllByRecursion}
 use Rattle.std.proofs.lemmas.Grind.{flat_map-append}
 use Rattle.std.proofs.lemmas.List.{map-append, take_more}
-use Rattle.std.proofs.lemmas.List.Elements.{filter-append}
 use Rattle.ipfix_template.specs.DataRecord.{DataRecord}
 use Rattle.ipfix_session.specs.Keeping.{at_key}
 use Rattle.subscriber_stream.specs.Standing.{StandsAt}
@@ -14,14 +13,6 @@ use Rattle.live_subscriptions.specs.Naming.{KeepsSpare}
 
 -- ---- what is given
 
-none_given : (s : Subscription) → TakesGiven [] s s
-none_given s = record {
-  name = refl;
-  is_cut = refl;
-  limits = refl;
-  takes = record { stands = λ records p at. subst (λ (l : List DataRecord). StandsAt s.stream.standing l p) (sym (append-nil records)) at };
-}
-
 both_given : (a b : List DataRecord) (s t u : Subscription) → TakesGiven a s t → TakesGiven b t u → TakesGiven (a ++ b) s u
 both_given a b s t u f g = record {
   name = g.name ∙ f.name;
@@ -29,10 +20,6 @@ both_given a b s t u f g = record {
   limits = g.limits ∙ f.limits;
   takes = record { stands = λ records p at. subst (λ (l : List DataRecord). StandsAt u.stream.standing l p) (append_assoc records a b) (g.takes.stands (records ++ a) p (f.takes.stands records p at)) };
 }
-
-pub related_none : (o : Option Subscription) → Related (TakesGiven []) o o
-related_none None = tt
-related_none (Some s) = none_given s
 
 related_both : (a b : List DataRecord) (o p r : Option Subscription) → Related (TakesGiven a) o p → Related (TakesGiven b) p r → Related (TakesGiven (a ++ b)) o r
 related_both a b None None None f g = tt
@@ -55,9 +42,6 @@ pub record IsGiving (old now : List (ℕ × Subscription)) (all rest : List (ℕ
   pub each : (q : ℕ) → Related (TakesGiven (given_to q done)) (at_key q old) (at_key q now)
   pub ready : AreReadyAmong now rest
 
-pub giving_start : (old : List (ℕ × Subscription)) (all : List (ℕ × List DataRecord)) → AreReadyAmong old all → IsGiving old old all all
-giving_start old all ready = record { done = []; split = refl; each = λ q. related_none (at_key q old); ready = ready }
-
 pub giving_next : (old now now2 : List (ℕ × Subscription)) (all rest rest2 : List (ℕ × List DataRecord)) (s : ℕ × List DataRecord) → rest ≡ s ∷ rest2
     → ((q : ℕ) → Related (TakesGiven (given_to q (s ∷ []))) (at_key q now) (at_key q now2)) → ((q : ℕ) → q ≢ s.0 → at_key q now2 ≡ at_key q now)
     → IsGiving old now all rest → IsGiving old now2 all rest2
@@ -70,16 +54,6 @@ giving_next old now now2 all rest rest2 s is gives others so =
           (related_both (given_to q so.done) (given_to q (s ∷ [])) (at_key q old) (at_key q now) (at_key q now2) (so.each q) (gives q));
       ready = ready_stays s.0 now now2 rest2 others ready.1 ready.2;
     }
-
-pub giving_can : (old now : List (ℕ × Subscription)) (all rest rest2 : List (ℕ × List DataRecord)) (s : ℕ × List DataRecord) → rest ≡ s ∷ rest2 → IsGiving old now all rest
-    → IfSome (at_key s.0 now) (λ x. IsReady x.stream s.1)
-giving_can old now all rest rest2 s is so = let ready : AreReadyAmong now (s ∷ rest2) = subst (AreReadyAmong now) is so.ready in ready.0
-
-pub giving_end : (old now : List (ℕ × Subscription)) (all rest : List (ℕ × List DataRecord)) → rest ≡ [] → IsGiving old now all rest
-    → (q : ℕ) → Related (TakesGiven (given_to q all)) (at_key q old) (at_key q now)
-giving_end old now all rest none so q =
-    let all_done : all ≡ so.done = so.split ∙ ap (λ (l : List (ℕ × List DataRecord)). so.done ++ l) none ∙ append-nil so.done in
-    subst (λ (l : List (ℕ × List DataRecord)). Related (TakesGiven (given_to q l)) (at_key q old) (at_key q now)) (sym all_done) (so.each q)
 
 -- ---- room that is reserved
 
@@ -105,32 +79,3 @@ pub spare_more : {X : Type 0} (f : X → ℕ × List DataRecord) (es es2 : List 
     → KeepsSpare es es2 → HasSpare es2 (f x) → AllByRecursion (HasSpare es) (map f (take i xs)) → AllByRecursion (HasSpare es2) (map f (take (i + 1) xs))
 spare_more f es es2 xs i x d within is keeps here before =
     subst (AllByRecursion (HasSpare es2)) (sym (more_shown f xs i x d within is)) (all_push (HasSpare es2) (map f (take i xs)) (f x) (spare_stays es es2 keeps (map f (take i xs)) before) here)
-
--- ---- lists that are collected
-
-pub told_more : {X Y Z : Type 0} (f : X → Z) (g : Y → Z) (found found2 : List X) (y : X) (xs : List Y) (i : ℕ) (x d : Y) → i < length xs → x ≡ get_or xs i d
-    → map f found ≡ map g (take i xs) → found2 ≡ found ++ y ∷ [] → f y ≡ g x → map f found2 ≡ map g (take (i + 1) xs)
-told_more f g found found2 y xs i x d within is so push same =
-    ap (map f) push ∙ map-append f found (y ∷ []) ∙ (λ j. so j ++ same j ∷ []) ∙ sym (more_shown g xs i x d within is)
-
-chosen_by : {Y Z : Type 0} (g : Y → Z) (here : Bool) (y : Y) → map g (cond here (y ∷ []) []) ≡ cond here (g y ∷ []) []
-chosen_by g true y = refl
-chosen_by g false y = refl
-
-chosen_more : {X Y Z : Type 0} (f : X → Y) (test : Y → Bool) (g : Y → Z) (xs : List X) (i : ℕ) (x d : X) → i < length xs → x ≡ get_or xs i d
-    → map g (filter test (map f (take (i + 1) xs))) ≡ map g (filter test (map f (take i xs))) ++ cond (test (f x)) (g (f x) ∷ []) []
-chosen_more f test g xs i x d within is =
-    ap (λ l. map g (filter test l)) (more_shown f xs i x d within is)
-    ∙ ap (map g) (filter-append test (map f (take i xs)) (f x ∷ []))
-    ∙ map-append g (filter test (map f (take i xs))) (filter test (f x ∷ []))
-    ∙ ap (λ l. map g (filter test (map f (take i xs))) ++ l) (chosen_by g (test (f x)) (f x))
-
-pub chosen_here : {X Y Z : Type 0} (f : X → Y) (test : Y → Bool) (g : Y → Z) (found found2 : List Z) (xs : List X) (i : ℕ) (x d : X) → i < length xs → x ≡ get_or xs i d
-    → found ≡ map g (filter test (map f (take i xs))) → found2 ≡ found ++ g (f x) ∷ [] → test (f x) ≡ true → found2 ≡ map g (filter test (map f (take (i + 1) xs)))
-chosen_here f test g found found2 xs i x d within is so push is_here =
-    push ∙ ap (λ l. l ++ g (f x) ∷ []) so ∙ ap (λ b. map g (filter test (map f (take i xs))) ++ cond b (g (f x) ∷ []) []) (sym is_here) ∙ sym (chosen_more f test g xs i x d within is)
-
-pub chosen_other : {X Y Z : Type 0} (f : X → Y) (test : Y → Bool) (g : Y → Z) (found : List Z) (xs : List X) (i : ℕ) (x d : X) → i < length xs → x ≡ get_or xs i d
-    → found ≡ map g (filter test (map f (take i xs))) → test (f x) ≡ false → found ≡ map g (filter test (map f (take (i + 1) xs)))
-chosen_other f test g found xs i x d within is so not_here =
-    so ∙ sym (append-nil (map g (filter test (map f (take i xs))))) ∙ ap (λ b. map g (filter test (map f (take i xs))) ++ cond b (g (f x) ∷ []) []) (sym not_here) ∙ sym (chosen_more f test g xs i x d within is)

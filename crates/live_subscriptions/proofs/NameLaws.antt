@@ -83,21 +83,6 @@ named_less numbers numbers2 names names2 sub name was n2 s2 so = record {
         kept q n has other true e = absurd (true_and_false (bytes_eq name n) ((bytes_eq-Decides name n).1 (same_Some name n (sym was ∙ ap names (sym (eqb-true q sub e)) ∙ has))) other)
         kept q n has other false e = s2 q ∙ ap (λ b. cond b None (names q)) e ∙ has
 
--- a name that came and went
-pub named_back : (numbers numbers2 numbers3 : List ℕ → Option ℕ) (names : ℕ → Option (List ℕ)) (sub : ℕ) (name : List ℕ) → ((q : ℕ) → names q ≡ Some name → ⊥)
-    → ((n : List ℕ) → numbers2 n ≡ update bytes_eq numbers name (Some sub) n) → ((n : List ℕ) → numbers3 n ≡ update bytes_eq numbers2 name None n)
-    → AreNamed numbers names → AreNamed numbers3 names
-named_back numbers numbers2 numbers3 names sub name free n2 n3 so = named_same numbers numbers3 names names (λ n. back n (bytes_eq name n) refl) (λ q. refl) so
-  where
-    none_there : (o : Option ℕ) → numbers name ≡ o → o ≡ None
-    none_there None is = refl
-    none_there (Some q) is = absurd (free q (so.only q name is))
-
-    back : (n : List ℕ) (b : Bool) → bytes_eq name n ≡ b → numbers3 n ≡ numbers n
-    back n true e =
-        n3 n ∙ ap (λ b. cond b None (numbers2 n)) e ∙ sym (none_there (numbers name) refl) ∙ ap numbers ((bytes_eq-Decides name n).0 e)
-    back n false e = n3 n ∙ ap (λ b. cond b None (numbers2 n)) e ∙ n2 n ∙ ap (λ b. cond b (Some sub) (numbers n)) e
-
 -- ---- the names of live subscriptions
 
 -- its name, where there is one
@@ -139,14 +124,6 @@ name_out false o = refl
 
 pub names_less : (es es2 : List (ℕ × Subscription)) (sub : ℕ) → ((q : ℕ) → at_key q es2 ≡ cond (eqb q sub) None (at_key q es)) → (q : ℕ) → name_at es2 q ≡ cond (eqb q sub) None (name_at es q)
 names_less es es2 sub takes q = ap name_in (takes q) ∙ name_out (eqb q sub) (at_key q es)
-
--- a number that has no subscription has no name to lose
-none_out : {A : Type 0} (f : ℕ → Option A) (sub q : ℕ) → f sub ≡ None → (b : Bool) → eqb q sub ≡ b → cond b None (f q) ≡ f q
-none_out f sub q none true e = sym (ap f (eqb-true q sub e) ∙ none)
-none_out f sub q none false e = refl
-
-pub names_unless : (es es2 : List (ℕ × Subscription)) (sub : ℕ) → at_key sub es ≡ None → ((q : ℕ) → at_key q es2 ≡ cond (eqb q sub) None (at_key q es)) → (q : ℕ) → name_at es2 q ≡ name_at es q
-names_unless es es2 sub none takes q = names_less es es2 sub takes q ∙ none_out (name_at es) sub q (ap name_in none) (eqb q sub) refl
 
 pub name_free : (name : List ℕ) (o : Option Subscription) → IfSome o (λ s. s.name ≢ name) → name_in o ≡ Some name → ⊥
 name_free name None free is = none-some name is
