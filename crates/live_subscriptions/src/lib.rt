@@ -17,3 +17,6 @@ pub mod subscriptions;
 
 pub use subscription::Subscription;
 pub use subscriptions::Subscriptions;
+
+#[cfg(test)]
+mod tests;
