@@ -61,7 +61,7 @@ impl Live {
     }
 
     /// Whether the limits of a share's subscription leave no room for what it is given.
-    fn lacks_room(&self, share: &Share) -> bool
+    pub(crate) fn lacks_room(&self, share: &Share) -> bool
         ensures { result ≡ lacks_room_among self.now.by_number.entries (shown share.now) }
     {
         match self.get(share.sub) {

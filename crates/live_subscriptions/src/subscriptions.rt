@@ -76,6 +76,14 @@ impl Subscriptions {
         self.live.served(self.alloc, &self.served)
     }
 
+    /// Whether the limits of a share's subscription leave no room for what it is given, of which there is some. It takes no
+    /// memory.
+    pub fn lacks_room(&self, share: &Share) -> bool
+        ensures { result ≡ lacks_room_at self.now (shown share.now) }
+    {
+        self.live.lacks_room(share)
+    }
+
     /// The subscriptions whose limits leave no room for what these shares give them, where that is any record.
     ///
     /// # Errors

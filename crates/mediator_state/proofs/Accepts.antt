@@ -1,0 +1,160 @@
+-- A plan that is carried out: the cuts, and then the message.
+use Rattle.std.proofs.Common.{◌≡◌, ◌≢◌, ℕ, ◌+◌, ◌*◌, ◌≤◌, ◌<◌, ◌^◌, Bool, true, false, cond, List, [], ◌∷◌, ◌++◌, length, map, take, drop, Option, Some, None, refl, sym, ap, ◌∙◌, subst, arith, length-append}
+use Rattle.std.specs.Prelude.{IsSomeAnd, IfSome}
+use Rattle.std.specs.Option.{option_map}
+use Rattle.std.specs.List.{flat_map, AllByRecursion}
+use Rattle.std.proofs.lemmas.List.{length-drop, take-append-drop}
+use Rattle.ipfix_template.specs.DataRecord.{DataRecord}
+use Rattle.ipfix_session.specs.Keeping.{at_key}
+use Rattle.ipfix_session.specs.ReadAhead.{Ahead, IsReadingOf, HasRoomFor}
+use Rattle.subscriber_stream.specs.declared.limits.Limits.{Limits}
+use Rattle.subscriber_stream.specs.Parts.{parts, records_in}
+use Rattle.subscriber_stream.specs.Standing.{Standing, StandsAt, HasRoom, queued}
+use Rattle.subscriber_stream.proofs.CallLaws.{parts_bring}
+use Rattle.subscriber_stream.proofs.Standings.{records_in-append}
+use Rattle.disclosure_audit.specs.declared.entry.AuditEntry.{AuditEntry}
+use Rattle.event_journal.specs.declared.entry.Entry.{Entry}
+use Rattle.event_journal.specs.declared.entry.Entry.TheVariants.{Message}
+use Rattle.mediator_history.specs.Numbers.{AreDistinct, is_in}
+use Rattle.mediator_history.specs.Sessions.{is_open, messages_of}
+use Rattle.mediator_history.specs.Subscriptions.{is_served, subscribed_in, served}
+use Rattle.mediator_history.specs.Disclosed.{given_at, disclosed}
+use Rattle.mediator_history.specs.Auditing.{audit_list}
+use Rattle.mediator_history.specs.Cuts.{after_cuts}
+use Rattle.mediator_history.proofs.ListFilters.{distinct_filter}
+use Rattle.mediator_history.proofs.EntryLaws.{messages_few}
+use Rattle.mediator_history.proofs.CutLaws.{is_open-cuts, messages-cuts, length-cuts}
+use Rattle.record_sharing.specs.Sharing.{shown}
+use Rattle.open_sessions.specs.declared.open_session.OpenSession.{OpenSession}
+use Rattle.live_subscriptions.specs.declared.subscription.Subscription.{Subscription}
+use Rattle.live_subscriptions.specs.Table.{at, cut_off, HasSpare, IsReady, AreReadyAmong}
+use Rattle.mediator_state.specs.declared.engine.Engine.{Engine}
+use Rattle.mediator_state.specs.declared.plan.Plan.{Plan}
+use Rattle.mediator_state.specs.Standing.{Stands, place, IsSession, IsLiveAs, AreInRange}
+use Rattle.mediator_state.specs.Steps.{CutsInARow, HasAuditRoom}
+use Rattle.mediator_state.specs.Planning.{share_at, HasRoomIn, AreStreamed, IsPlan}
+use Rattle.mediator_state.specs.Accepting.{HasRoomForPlan, IsPlannedFor, IsReadyToTake, IsMessage}
+use Rattle.mediator_state.proofs.MessageSteps.{few_given}
+
+-- ---- counts
+
+-- what was handed out and what waits is the whole list
+whole : (s : Standing) (records : List DataRecord) → StandsAt s records (place s) → s.handed + queued s ≡ length records
+whole s records so =
+    omega (arith, so.handed, ap (λ ps. length (records_in ps)) so.waiting, streamed records (place s))
+  where
+    streamed : (records : List DataRecord) (p : ℕ) → length (records_in (take p (parts records))) + length (records_in (drop p (parts records))) ≡ length records
+    streamed records p =
+        sym (length-append (records_in (take p (parts records))) (records_in (drop p (parts records))))
+        ∙ ap (λ (rs : List DataRecord). length rs) (sym (records_in-append (take p (parts records)) (drop p (parts records))) ∙ ap records_in (take-append-drop p (parts records)) ∙ parts_bring records)
+
+-- the audit counts no more than the history allows
+pub audit_count : (e : Engine) (h : List Entry) → Stands e h → e.audit.standing.drained + length e.audit.standing.entries ≤ 10000000 * length h
+audit_count e h so = omega (arith, so.audit.within, ap (λ (l : List AuditEntry). length l) so.audit.waiting, length-drop e.audit.standing.drained (audit_list h), so.small.audited)
+
+-- ---- the session
+
+session_room : (h : List Entry) (session : ℕ) (reading : Ahead) (o : Option OpenSession) → IsSession h session o → is_open session h ≡ true → IfSome o (λ s. HasRoomFor s.session reading) → IsSomeAnd o (λ s. HasRoomFor s.session reading)
+session_room h session reading None so on room = false_true (sym so ∙ on) where
+  false_true : false ≡ true → ⊥
+  false_true e = absurd cc
+session_room h session reading (Some s) so on room = room
+
+session_count : (h : List Entry) (session : ℕ) (o : Option OpenSession) → length h ≤ 100000000 → IsSession h session o → IfSome o (λ s. s.accepted + 1 < 2 ^ 64)
+session_count h session None few so = tt
+session_count h session (Some s) few so = omega (arith, so.1, messages_few session h, few)
+
+-- ---- the streams
+
+-- a cut leaves a subscription's stream
+same_room : (more : List DataRecord) (in' : Bool) (s : Option Subscription) → IsSomeAnd s (λ x. HasRoom x.stream more) → IsSomeAnd (cond in' (option_map cut_off s) s) (λ x. HasRoom x.stream more)
+same_room more true None room = room
+same_room more true (Some s) room = room
+same_room more false s room = room
+
+kept_room : (d e : Engine) (cuts : List ℕ) → CutsInARow cuts d e → (share : ℕ × List DataRecord) → HasRoomIn d.subscriptions share → HasRoomIn e.subscriptions share
+kept_room d e cuts row share room some =
+    subst (λ (s : Option Subscription). IsSomeAnd s (λ x. HasRoom x.stream share.1)) (sym (row.table share.0)) (same_room share.1 (is_in share.0 cuts) (at d.subscriptions share.0) (room some))
+
+pub rooms_kept : (d e : Engine) (cuts : List ℕ) → CutsInARow cuts d e → (shares : List (ℕ × List DataRecord)) → AllByRecursion (HasRoomIn d.subscriptions) shares → AllByRecursion (HasRoomIn e.subscriptions) shares
+rooms_kept d e cuts row [] rooms = tt
+rooms_kept d e cuts row (share ∷ shares) rooms = (kept_room d e cuts row share rooms.0, rooms_kept d e cuts row shares rooms.1)
+
+same_spare : (n : ℕ) (in' : Bool) (s : Option Subscription) → IfSome s (λ x. n ≤ x.stream.spare) → IfSome (cond in' (option_map cut_off s) s) (λ x. n ≤ x.stream.spare)
+same_spare n true None spare = spare
+same_spare n true (Some s) spare = spare
+same_spare n false s spare = spare
+
+-- a live subscription is ready for its share
+ready_one : (limits : Limits) (h : List Entry) (share : ℕ × List DataRecord) (s : Option Subscription) → AreInRange limits → length h ≤ 200000000 → length (disclosed share.0 h) ≤ 1000000 * length h → IsLiveAs h limits share.0 s
+    → (0 < length share.1 → IsSomeAnd s (λ x. HasRoom x.stream share.1)) → IfSome s (λ x. length share.1 ≤ x.stream.spare) → IfSome s (λ x. IsReady x.stream share.1)
+ready_one limits h share None range short listed so room spare = tt
+ready_one limits h share (Some x) range short listed so room spare = record {
+  room = room;
+  reserved = spare;
+  count = omega (arith, whole x.stream.standing (disclosed share.0 h) so.stream, listed, short, few_given share limits h (Some x) range so room);
+}
+
+others_apart : (f : ℕ → List DataRecord) (n : ℕ) (ns : List ℕ) → AllByRecursion (λ m. m ≢ n) ns → AllByRecursion (λ (o : ℕ × List DataRecord). o.0 ≢ n) (map (λ m. (m, f m)) ns)
+others_apart f n [] apart = tt
+others_apart f n (m ∷ ns) apart = (apart.0, others_apart f n ns apart.1)
+
+ready_all : (e : Engine) (f : ℕ → List DataRecord) (ns : List ℕ) → ((n : ℕ) → HasRoomIn e.subscriptions (n, f n) → HasSpare e.subscriptions.live (n, f n) → IfSome (at e.subscriptions n) (λ x. IsReady x.stream (f n))) → AreDistinct ns
+    → AllByRecursion (HasRoomIn e.subscriptions) (map (λ n. (n, f n)) ns) → AllByRecursion (HasSpare e.subscriptions.live) (map (λ n. (n, f n)) ns) → AreReadyAmong e.subscriptions.live (map (λ n. (n, f n)) ns)
+ready_all e f [] one distinct rooms spares = tt
+ready_all e f (n ∷ ns) one distinct rooms spares = (one n rooms.0 spares.0, others_apart f n ns distinct.0, ready_all e f ns one distinct.1 rooms.1 spares.1)
+
+spares_kept : (d e : Engine) (cuts : List ℕ) → CutsInARow cuts d e → (shares : List (ℕ × List DataRecord)) → AllByRecursion (HasSpare d.subscriptions.live) shares → AllByRecursion (HasSpare e.subscriptions.live) shares
+spares_kept d e cuts row [] spares = tt
+spares_kept d e cuts row (share ∷ shares) spares = (
+  subst (λ (s : Option Subscription). IfSome s (λ x. length share.1 ≤ x.stream.spare)) (sym (row.table share.0)) (same_spare (length share.1) (is_in share.0 cuts) (at d.subscriptions share.0) spares.0),
+  spares_kept d e cuts row shares spares.1,
+)
+
+-- ---- a plan
+
+-- behind the cuts the message is what the plan says
+pub is_message : (d e : Engine) (h : List Entry) (number : ℕ) (octets : List ℕ) (p : Plan) → IsPlan d h number octets p → HasRoomForPlan d p → CutsInARow p.cuts.items d e
+    → IsMessage e (after_cuts h p.cuts.items) p.session number octets p.reading (map shown p.shares.items) p.entries.items
+is_message d e h number octets p plan room row = record {
+  opened = is_open-cuts p.session h p.cuts.items ∙ plan.opened;
+  read = subst (λ ms. IsReadingOf ms octets p.reading) (sym (messages-cuts p.session h p.cuts.items)) plan.read;
+  shares_are = plan.judged.shares_are;
+  entries_are = plan.judged.entries_are;
+  room = rooms_kept d e p.cuts.items row (map shown p.shares.items) plan.judged.room;
+  streamable = plan.judged.streamable;
+  few = omega (arith, room.audit, room.limit);
+}
+
+-- there is room for the cuts
+pub cuts_room : (d : Engine) (position : ℕ) (p : Plan) → IsPlannedFor d position p → HasRoomForPlan d p → HasAuditRoom d.audit (length p.cuts.items)
+cuts_room d position p planned room = record {
+  room = omega (arith, room.audit);
+  reserved = omega (arith, room.reserved);
+  count = omega (arith, audit_count d planned.history planned.stands, planned.counted, planned.short, room.audit, room.limit);
+}
+
+-- and behind them for the message
+pub ready : (d e : Engine) (position : ℕ) (p : Plan) → IsPlannedFor d position p → HasRoomForPlan d p → CutsInARow p.cuts.items d e
+    → ((h : List Entry) → Stands d h → length h ≡ position → Stands e (after_cuts h p.cuts.items)) → IsReadyToTake e p.session p.reading (map shown p.shares.items) (length p.entries.items)
+ready d e position p planned room row stands =
+    let h = planned.history in
+    let cuts = p.cuts.items in
+    let so : Stands e (after_cuts h cuts) = stands h planned.stands planned.counted in
+    let long : length (after_cuts h cuts) ≤ 200000000 = omega (arith, length-cuts h cuts, planned.counted, planned.short, room.audit, room.limit) in
+    let E : Entry = Message p.session planned.number planned.octets in
+    record {
+      history = after_cuts h cuts;
+      stands = so;
+      session_room = subst (λ ss. IsSomeAnd (at_key p.session ss) (λ o. HasRoomFor o.session p.reading)) (sym row.rest.sessions) (session_room h p.session p.reading (at_key p.session d.sessions) (planned.stands.sessions p.session) planned.plan.opened room.session);
+      session_count = subst (λ ss. IfSome (at_key p.session ss) (λ o. o.accepted + 1 < 2 ^ 64)) (sym row.rest.sessions) (session_count h p.session (at_key p.session d.sessions) (omega (arith, planned.counted, planned.short)) (planned.stands.sessions p.session));
+      streams = subst (AreReadyAmong e.subscriptions.live) (sym planned.plan.judged.shares_are)
+          (ready_all e (λ n. given_at n (after_cuts h cuts) E) (served (after_cuts h cuts))
+          (λ n has spare. ready_one e.limits (after_cuts h cuts) (n, given_at n (after_cuts h cuts) E) (at e.subscriptions n) so.limits long (so.small.listed n) (so.subscriptions n) has spare)
+          (distinct_filter (λ s. is_served s (after_cuts h cuts)) (flat_map subscribed_in (after_cuts h cuts)) so.numbered.distinct)
+          (subst (AllByRecursion (HasRoomIn e.subscriptions)) planned.plan.judged.shares_are (rooms_kept d e cuts row (map shown p.shares.items) planned.plan.judged.room))
+          (subst (AllByRecursion (HasSpare e.subscriptions.live)) planned.plan.judged.shares_are (spares_kept d e cuts row (map shown p.shares.items) room.streams)));
+      audit = omega (arith, row.entries, row.rest.audit_limit, room.audit);
+      reserved = omega (arith, row.spare, room.reserved);
+      count = omega (arith, audit_count e (after_cuts h cuts) so, long, room.audit, room.limit);
+    }

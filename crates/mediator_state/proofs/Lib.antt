@@ -1,0 +1,9 @@
+pub mod CutSteps
+pub mod MessageSteps
+pub mod CutRows
+pub mod Accepts
+pub mod EntrySteps
+pub mod Judging
+pub mod SameLaws
+pub mod CallLaws
+pub mod PullLaws
