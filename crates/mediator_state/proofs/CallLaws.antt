@@ -1,20 +1,19 @@
 -- What the calls of a state answer and leave, by what its parts do.
-use Rattle.std.proofs.Common.{◌≡◌, ℕ, suc, ◌+◌, ◌<◌, ◌≤◌, Bool, true, false, List, [], ◌∷◌, ◌++◌, length, map, Option, Some, None, Result, Ok, Err, refl, sym, ap, ◌∙◌, subst, arith, append_assoc, length-append}
-use Rattle.std.specs.Prelude.{filter, ◌↔◌, IsTrue, OnErr}
+use Rattle.std.proofs.Common.{◌≡◌, ℕ, suc, ◌+◌, ◌≤◌, Bool, true, false, List, [], ◌∷◌, ◌++◌, length, map, Result, Ok, Err, refl, sym, ap, ◌∙◌, subst, append_assoc, length-append}
+use Rattle.std.specs.Prelude.{◌↔◌, IsTrue, OnErr}
 use Rattle.std.specs.Result.{IsErr, IsErrAnd, IfErr}
 use Rattle.std.proofs.lemmas.List.{length-map}
 use Rattle.policy_text.specs.Naming.{is_name}
-use Rattle.ipfix_session.specs.Meaning.{Meaning, meaning_of}
+use Rattle.ipfix_session.specs.Meaning.{meaning_of}
 use Rattle.disclosure_audit.specs.declared.entry.AuditEntry.{AuditEntry}
-use Rattle.disclosure_audit.specs.Queue.{Kept as AuditKept}
 use Rattle.event_journal.specs.Sizes.{history_octets, IsCountOf}
 use Rattle.event_journal.specs.declared.entry.Entry.{Entry}
 use Rattle.event_journal.specs.declared.entry.Entry.TheVariants.{Message, Subscribe, Cut}
 use Rattle.event_journal.specs.Room.{Limits as Journaled, HasRoom, HasRoomAfter}
 use Rattle.mediator_history.specs.Sessions.{is_open, messages_of}
-use Rattle.mediator_history.specs.Subscriptions.{served, subscriptions_begun}
+use Rattle.mediator_history.specs.Subscriptions.{subscriptions_begun}
 use Rattle.mediator_history.specs.Auditing.{audit_at, audit_list, cut_entries}
-use Rattle.mediator_history.specs.Cuts.{is_cut_by, cuts_before, after_cuts}
+use Rattle.mediator_history.specs.Cuts.{cuts_before, after_cuts}
 use Rattle.mediator_history.proofs.CutLaws.{audit-cuts}
 use Rattle.mediator_history.proofs.HistoryLaws.{audit-push}
 use Rattle.mediator_state.specs.declared.engine.Engine.{Engine}
@@ -255,3 +254,11 @@ full_where b limits count sizes seen entries exact is no_room r = let has : b �
 
 pub room_where : (b : Bool) (limits : Journaled) (count sizes : ℕ) (seen entries : List Entry) → (IsTrue b ↔ HasRoom limits count sizes seen) → seen ≡ entries → b ≡ true → HasRoom limits count sizes entries
 room_where b limits count sizes seen entries exact is has = subst (λ (more : List Entry). HasRoom limits count sizes more) is (exact.0 has)
+
+-- what was found out, where the cuts were lent as a slice
+pub found : (e : Engine) (h : List Entry) (session number : ℕ) (octets : List ℕ) (p : Plan) (entries : List Entry) (seen : List ℕ) → IsPlan e h number octets p → p.session ≡ session → entries ≡ map Cut seen ++ Message session number octets ∷ [] → seen ≡ p.cuts.items → IsFound e h session number octets p entries
+found e h session number octets p entries seen plan is made lent = record {
+  plan = plan;
+  session_is = is;
+  entries_made = made ∙ ap (λ (cuts : List ℕ). map Cut cuts ++ Message session number octets ∷ []) lent;
+}

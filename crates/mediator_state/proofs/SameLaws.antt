@@ -1,6 +1,6 @@
 -- An engine in which room was made is as it was, for all that contracts see.
-use Rattle.std.proofs.Common.{◌≡◌, ℕ, ◌<◌, ◌≤◌, ◌+◌, List, [], ◌∷◌, length, Option, Some, None, refl, sym, ap, ◌∙◌, subst}
-use Rattle.std.specs.Prelude.{IsSomeAnd, filter}
+use Rattle.std.proofs.Common.{◌≡◌, ℕ, ◌≤◌, ◌+◌, List, [], ◌∷◌, length, Option, Some, None, refl, sym, ap, ◌∙◌, subst}
+use Rattle.std.specs.Prelude.{IsSomeAnd}
 use Rattle.std.specs.Option.{option_map}
 use Rattle.std.specs.List.{AllByRecursion}
 use Rattle.ipfix_template.specs.DataRecord.{DataRecord}
@@ -19,14 +19,13 @@ use Rattle.mediator_history.specs.Disclosed.{disclosed, given_at}
 use Rattle.mediator_history.specs.Auditing.{audit_list}
 use Rattle.mediator_history.specs.Cuts.{overflows, is_cut_by}
 use Rattle.mediator_history.proofs.ListFilters.{filter_ext}
-use Rattle.record_sharing.specs.Sharing.{shown}
 use Rattle.open_sessions.specs.declared.open_session.OpenSession.{OpenSession}
 use Rattle.open_sessions.specs.Table.{Seen as SeenSession, seen as session_seen}
 use Rattle.live_subscriptions.specs.declared.subscription.Subscription.{Subscription}
-use Rattle.live_subscriptions.specs.Table.{Table, Seen, seen, at}
+use Rattle.live_subscriptions.specs.Table.{Seen, seen, at}
 use Rattle.mediator_state.specs.declared.engine.Engine.{Engine}
 use Rattle.mediator_state.specs.declared.plan.Plan.{Plan}
-use Rattle.mediator_state.specs.Standing.{place, IsSession, IsSubscription, IsLiveAs, AreInRange, Stands}
+use Rattle.mediator_state.specs.Standing.{place, IsSession, IsLiveAs, AreInRange, Stands}
 use Rattle.mediator_state.specs.Seen.{place_in, waiting_in, waiting_of, IsUntouched, IsSameEngine}
 use Rattle.mediator_state.specs.Planning.{HasRoomIn, IsJudged, IsPlan}
 

@@ -47,7 +47,12 @@ impl<C: Chronicle + Drop> State<C> {
     /// Want of memory.
     pub fn new(alloc: Global, limits: Limits, chronicle: C) -> Result<State<C>, AllocError>
         requires range { AreLimits limits }
-        ensures { IfOk result (λ s. C.tells chronicle [] → StandsFor C.tells s []) }
+        ensures stands { IfOk result (λ s. C.tells chronicle [] → StandsFor C.tells s []) }
+        ensures chronicle { IfOk result (λ s. s.chronicle ≡ chronicle) }
+        ensures queue { IfOk result (λ s. s.engine.limits.queue ≡ limits.queue) }
+        ensures shapes { IfOk result (λ s. s.engine.limits.shapes ≡ limits.shapes) }
+        ensures audit_limit { IfOk result (λ s. s.engine.audit.limit ≡ limits.audit) }
+        ensures drained { IfOk result (λ s. s.engine.audit.standing.drained ≡ 0) }
     {
         let streams = subscriber_stream::Limits {
             queue: limits.queue,
@@ -89,6 +94,7 @@ impl<C: Chronicle + Drop> State<C> {
         ensures ok { IfOk result (λ n. (h : List Entry) → StandsFor C.tells self.old h → Opens C.tells C.limits self.old h n self.new) }
         ensures untouched { IsUntouched self.old.engine self.new.engine }
         ensures same { OnErr result ((h : List Entry) → StandsFor C.tells self.old h → StandsFor C.tells self.new h) }
+        ensures journaled { C.limits self.new.chronicle ≡ C.limits self.old.chronicle }
         ensures err { IfErr result (λ e. (h : List Entry) → StandsFor C.tells self.old h → LacksRoomAfter e (C.limits self.old.chronicle) h (Open (sessions_opened h + 1) ∷ [])) }
     {
         let session = self.engine.next_session(self.chronicle.len());
@@ -108,6 +114,7 @@ impl<C: Chronicle + Drop> State<C> {
         ensures ok { OnOk result ((h : List Entry) → StandsFor C.tells self.old h → Closes C.tells C.limits self.old h session self.new) }
         ensures untouched { IsUntouched self.old.engine self.new.engine }
         ensures same { OnErr result ((h : List Entry) → StandsFor C.tells self.old h → StandsFor C.tells self.new h) }
+        ensures journaled { C.limits self.new.chronicle ≡ C.limits self.old.chronicle }
         ensures err { IfErr result (λ e. (h : List Entry) → StandsFor C.tells self.old h → RefusesClose e (C.limits self.old.chronicle) h session) }
     {
         if !self.engine.is_open(session) {
@@ -137,6 +144,7 @@ impl<C: Chronicle + Drop> State<C> {
         ensures ok { IfOk result (λ r. (h : List Entry) → StandsFor C.tells self.old h → Receives C.tells C.limits self.old h session number message r self.new) }
         ensures untouched { IsUntouched self.old.engine self.new.engine }
         ensures same { OnErr result ((h : List Entry) → StandsFor C.tells self.old h → StandsFor C.tells self.new h) }
+        ensures journaled { C.limits self.new.chronicle ≡ C.limits self.old.chronicle }
         ensures err { IfErr result (λ e. (h : List Entry) → StandsFor C.tells self.old h → RefusesReceive e (C.limits self.old.chronicle) self.old.engine h session number message) }
     {
         let position = self.chronicle.len();
@@ -161,6 +169,7 @@ impl<C: Chronicle + Drop> State<C> {
         ensures ok { IfOk result (λ n. (h : List Entry) → StandsFor C.tells self.old h → Edits C.tells C.limits self.old h text.now n self.new) }
         ensures untouched { IsUntouched self.old.engine self.new.engine }
         ensures same { OnErr result ((h : List Entry) → StandsFor C.tells self.old h → StandsFor C.tells self.new h) }
+        ensures journaled { C.limits self.new.chronicle ≡ C.limits self.old.chronicle }
         ensures err { IfErr result (λ e. (h : List Entry) → StandsFor C.tells self.old h → RefusesEdit e (C.limits self.old.chronicle) h text.now) }
     {
         let policy = read_policy(self.engine.alloc, text)?;
@@ -182,6 +191,7 @@ impl<C: Chronicle + Drop> State<C> {
         ensures ok { IfOk result (λ n. (h : List Entry) → StandsFor C.tells self.old h → Subscribes C.tells C.limits self.old h name.now n self.new) }
         ensures untouched { IsUntouched self.old.engine self.new.engine }
         ensures same { OnErr result ((h : List Entry) → StandsFor C.tells self.old h → StandsFor C.tells self.new h) }
+        ensures journaled { C.limits self.new.chronicle ≡ C.limits self.old.chronicle }
         ensures err { IfErr result (λ e. (h : List Entry) → StandsFor C.tells self.old h → RefusesSubscribe e (C.limits self.old.chronicle) h name.now) }
     {
         if !is_name(name) {
@@ -205,11 +215,14 @@ impl<C: Chronicle + Drop> State<C> {
     /// No subscription with this number is live; the journal is full, or memory ran out.
     pub fn unsubscribe(&mut self, sub: u64) -> Result<(), Fault>
         requires stands { StandsForSome C.tells self.old }
+        ensures limits { self.new.engine.limits ≡ self.old.engine.limits }
+        ensures audit_limit { self.new.engine.audit.limit ≡ self.old.engine.audit.limit }
         ensures ok { OnOk result ((h : List Entry) → StandsFor C.tells self.old h → Unsubscribes C.tells C.limits self.old h sub self.new) }
         ensures others { (q : ℕ) → q ≢ sub → place_of self.new.engine q ≡ place_of self.old.engine q }
         ensures drained { self.new.engine.audit.standing.drained ≡ self.old.engine.audit.standing.drained }
         ensures same { OnErr result ((h : List Entry) → StandsFor C.tells self.old h → StandsFor C.tells self.new h) }
         ensures untouched { OnErr result (IsUntouched self.old.engine self.new.engine) }
+        ensures journaled { C.limits self.new.chronicle ≡ C.limits self.old.chronicle }
         ensures err { IfErr result (λ e. (h : List Entry) → StandsFor C.tells self.old h → RefusesUnsubscribe e (C.limits self.old.chronicle) h sub) }
     {
         if !self.engine.is_live(sub) {
@@ -228,6 +241,7 @@ impl<C: Chronicle + Drop> State<C> {
         requires reserved { length entries.items ≤ C.spare self.old.chronicle }
         ensures tells { (h : List Entry) → C.tells self.old.chronicle h → C.tells self.new.chronicle (h ++ entries.items) }
         ensures engine { self.new.engine ≡ self.old.engine }
+        ensures limits { C.limits self.new.chronicle ≡ C.limits self.old.chronicle }
     {
         'entries: for entry in entries {
             self.chronicle.push_reserved(entry);
@@ -246,11 +260,14 @@ impl<C: Chronicle + Drop> State<C> {
     /// # Errors
     /// No subscription with this number is live, or memory ran out.
     pub fn pull(&mut self, sub: u64, now: u32, target: u16) -> Result<Option<Bytes>, Fault>
+        ensures limits { self.new.engine.limits ≡ self.old.engine.limits }
+        ensures audit_limit { self.new.engine.audit.limit ≡ self.old.engine.audit.limit }
         ensures ok { IfOk result (λ m. (h : List Entry) → StandsFor C.tells self.old h → Pulls C.tells self.old h sub now target m self.new) }
         ensures others { (q : ℕ) → q ≢ sub → place_of self.new.engine q ≡ place_of self.old.engine q }
         ensures drained { self.new.engine.audit.standing.drained ≡ self.old.engine.audit.standing.drained }
         ensures same { OnErr result ((h : List Entry) → StandsFor C.tells self.old h → StandsFor C.tells self.new h) }
         ensures untouched { OnErr result (IsUntouched self.old.engine self.new.engine) }
+        ensures journaled { C.limits self.new.chronicle ≡ C.limits self.old.chronicle }
         ensures err { IfErr result (λ e. (h : List Entry) → StandsFor C.tells self.old h → RefusesPull e h sub) }
     {
         if !self.engine.is_live(sub) {
@@ -281,10 +298,13 @@ impl<C: Chronicle + Drop> State<C> {
     /// # Errors
     /// Want of memory, and then nothing has changed.
     pub fn drain_audit(&mut self, most: u32) -> Result<Vec<AuditEntry>, AllocError>
+        ensures limits { self.new.engine.limits ≡ self.old.engine.limits }
+        ensures audit_limit { self.new.engine.audit.limit ≡ self.old.engine.audit.limit }
         ensures ok { IfOk result (λ out. (h : List Entry) → StandsFor C.tells self.old h
             → (out.items ≡ take most (drop self.old.engine.audit.standing.drained (audit_list h))) × StandsFor C.tells self.new h) }
         ensures places { (q : ℕ) → place_of self.new.engine q ≡ place_of self.old.engine q }
         ensures drained { IfOk result (λ out. self.new.engine.audit.standing.drained ≡ self.old.engine.audit.standing.drained + length out.items) }
+        ensures journaled { C.limits self.new.chronicle ≡ C.limits self.old.chronicle }
         ensures err { OnErr result (self.new ≡ self.old) }
     {
         self.engine.audit.drain(most)

@@ -1,4 +1,4 @@
-use Rattle.std.proofs.Common.{◌≡◌, ◌≤◌, ◌+◌, ◌-◌, List, ◌++◌, length, map, take}
+use Rattle.std.proofs.Common.{◌≡◌, ◌≤◌, ◌+◌, length, map, take}
 use Rattle.std.specs.Prelude.{vec_capacity}
 use Rattle.event_journal.specs.declared.entry.Entry.TheVariants.{Cut}
 use Rattle.mediator_state.proofs.state.entries_of.Given as goal

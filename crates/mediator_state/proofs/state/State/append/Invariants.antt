@@ -11,4 +11,5 @@ invariant-entries g l = record {
   whole : l.yielded ++ into_iter_items l.entry-iterator ≡ l.fn.entries.items;
   tells : (h : List Entry) → g.C.Chronicle.tells l.fn.self.chronicle h → g.C.Chronicle.tells l.self.chronicle (h ++ l.yielded);
   engine : l.self.engine ≡ l.fn.self.engine;
+  limits : g.C.Chronicle.limits l.self.chronicle ≡ g.C.Chronicle.limits l.fn.self.chronicle;
 }

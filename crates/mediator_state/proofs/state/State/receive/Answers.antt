@@ -1,24 +1,19 @@
-use Rattle.std.proofs.Common.{◌++◌, ◌∷◌, [], List, ℕ, map, sym, ap, ◌∙◌, subst, arith}
+use Rattle.std.proofs.Common.{List, sym, ◌∙◌, subst, arith}
 use Rattle.event_journal.specs.declared.entry.Entry.{Entry}
-use Rattle.event_journal.specs.declared.entry.Entry.TheVariants.{Message, Cut}
 use Rattle.mediator_state.specs.declared.engine.Engine.{Engine}
 use Rattle.mediator_state.specs.declared.fault.Fault.{Fault}
 use Rattle.mediator_state.specs.Seen.{IsSameEngine}
 use Rattle.mediator_state.specs.Accepting.{IsPlannedFor}
 use Rattle.mediator_state.specs.Calls.{RefusesReceive}
 use Rattle.mediator_state.proofs.SameLaws.{stands_same}
-use Rattle.mediator_state.proofs.CallLaws.{refused_full, refused_audit, full_where, room_where, planned_for, received, err_gives, on_err}
+use Rattle.mediator_state.proofs.CallLaws.{found, refused_full, refused_audit, full_where, room_where, planned_for, received, err_gives, on_err}
 use Rattle.mediator_state.proofs.state.State.receive.Goals as goal
 
 pub returns-then-not-room-clause-err : goal.returns-then-not-room-clause-err
 returns-then-not-room-clause-err g c = λ h s.
     let counts = g.met.C.Chronicle.counted c.args.self.now.chronicle h s.told in
     refused_full (g.C.Chronicle.limits c.args.self.now.chronicle) (g.C.Chronicle.count c.args.self.now.chronicle) (g.C.Chronicle.octets c.args.self.now.chronicle) c.args.self.now.engine h c.args.session c.args.number c.args.message c.in_ok-plan.plan c.in_ok-entries.entries.items counts
-    (record {
-      plan = c.in_ok-plan.ensures.ok h s.stands (sym (c.len-position.ensures.value ∙ counts.entries));
-      session_is = c.in_ok-plan.ensures.session;
-      entries_made = c.in_ok-entries.ensures ∙ ap (λ (cuts : List ℕ). map Cut cuts ++ Message c.args.session c.args.number c.args.message ∷ []) c.deref.ensures.value;
-    })
+    (found c.args.self.now.engine h c.args.session c.args.number c.args.message c.in_ok-plan.plan c.in_ok-entries.entries.items c.deref.result.now (c.in_ok-plan.ensures.ok h s.stands (sym (c.len-position.ensures.value ∙ counts.entries))) c.in_ok-plan.ensures.session c.in_ok-entries.ensures c.deref.ensures.value)
     (full_where c.room.result (g.C.Chronicle.limits c.args.self.now.chronicle) (g.C.Chronicle.count c.args.self.now.chronicle) (g.C.Chronicle.octets c.args.self.now.chronicle) c.deref-2.result.now c.in_ok-entries.entries.items c.room.ensures c.deref-2.ensures.value c.if-not-room.true)
 
 pub returns-in_err-make_room-clause-same : goal.returns-in_err-make_room-clause-same
@@ -31,11 +26,7 @@ returns-in_err-make_room-clause-err g c =
     let counts = g.met.C.Chronicle.counted c.args.self.now.chronicle h s.told in
     subst (λ (why : Fault). RefusesReceive why (g.C.Chronicle.limits c.args.self.now.chronicle) c.args.self.now.engine h c.args.session c.args.number c.args.message) (sym is)
     (refused_audit c.in_err-make_room.field-0.0 (g.C.Chronicle.limits c.args.self.now.chronicle) (g.C.Chronicle.count c.args.self.now.chronicle) (g.C.Chronicle.octets c.args.self.now.chronicle) c.args.self.now.engine h c.args.session c.args.number c.args.message c.in_ok-plan.plan c.in_ok-entries.entries.items counts
-    (record {
-      plan = c.in_ok-plan.ensures.ok h s.stands (sym (c.len-position.ensures.value ∙ counts.entries));
-      session_is = c.in_ok-plan.ensures.session;
-      entries_made = c.in_ok-entries.ensures ∙ ap (λ (cuts : List ℕ). map Cut cuts ++ Message c.args.session c.args.number c.args.message ∷ []) c.deref.ensures.value;
-    })
+    (found c.args.self.now.engine h c.args.session c.args.number c.args.message c.in_ok-plan.plan c.in_ok-entries.entries.items c.deref.result.now (c.in_ok-plan.ensures.ok h s.stands (sym (c.len-position.ensures.value ∙ counts.entries))) c.in_ok-plan.ensures.session c.in_ok-entries.ensures c.deref.ensures.value)
     (room_where c.room.result (g.C.Chronicle.limits c.args.self.now.chronicle) (g.C.Chronicle.count c.args.self.now.chronicle) (g.C.Chronicle.octets c.args.self.now.chronicle) c.deref-2.result.now c.in_ok-entries.entries.items c.room.ensures c.deref-2.ensures.value c.if-not-room.false)
     c.in_err-make_room.ensures.err))
 
@@ -57,11 +48,7 @@ returns-clause-ok g c = λ h s.
     let counts = g.met.C.Chronicle.counted c.args.self.now.chronicle h s.told in
     received g.C.Chronicle.tells g.C.Chronicle.limits c.args.self.now (record { chronicle = c.append.new.self.chronicle; engine = c.accept.new.self }) c.append.new.self.engine (g.C.Chronicle.count c.args.self.now.chronicle) (g.C.Chronicle.octets c.args.self.now.chronicle) h c.args.session c.args.number c.args.message c.in_ok-plan.plan c.in_ok-entries.entries.items c.accept.result c.len-position.result
     s counts c.len-position.ensures.value
-    (record {
-      plan = c.in_ok-plan.ensures.ok h s.stands (sym (c.len-position.ensures.value ∙ counts.entries));
-      session_is = c.in_ok-plan.ensures.session;
-      entries_made = c.in_ok-entries.ensures ∙ ap (λ (cuts : List ℕ). map Cut cuts ++ Message c.args.session c.args.number c.args.message ∷ []) c.deref.ensures.value;
-    })
+    (found c.args.self.now.engine h c.args.session c.args.number c.args.message c.in_ok-plan.plan c.in_ok-entries.entries.items c.deref.result.now (c.in_ok-plan.ensures.ok h s.stands (sym (c.len-position.ensures.value ∙ counts.entries))) c.in_ok-plan.ensures.session c.in_ok-entries.ensures c.deref.ensures.value)
     (room_where c.room.result (g.C.Chronicle.limits c.args.self.now.chronicle) (g.C.Chronicle.count c.args.self.now.chronicle) (g.C.Chronicle.octets c.args.self.now.chronicle) c.deref-2.result.now c.in_ok-entries.entries.items c.room.ensures c.deref-2.ensures.value c.if-not-room.false)
     (subst (λ (e : Engine). IsSameEngine c.args.self.now.engine e) (sym c.append.ensures.engine) c.make_room.ensures.same)
     (c.append.ensures.tells h (c.reserve.ensures.tells h s.told)) c.accept.ensures.stands c.accept.ensures.receipt
