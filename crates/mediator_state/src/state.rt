@@ -48,9 +48,8 @@ impl<C: Chronicle + Drop> State<C> {
     pub fn new(alloc: Global, limits: Limits, chronicle: C) -> Result<State<C>, AllocError>
         requires range { AreLimits limits }
         ensures stands { IfOk result (λ s. C.tells chronicle [] → StandsFor C.tells s []) }
-        ensures chronicle { IfOk result (λ s. s.chronicle ≡ chronicle) }
-        ensures queue { IfOk result (λ s. s.engine.limits.queue ≡ limits.queue) }
-        ensures shapes { IfOk result (λ s. s.engine.limits.shapes ≡ limits.shapes) }
+        ensures kept { IfOk result (λ s. s.chronicle ≡ chronicle) }
+        ensures limits { IfOk result (λ s. s.engine.limits ≡ record { queue = limits.queue; shapes = limits.shapes }) }
         ensures audit_limit { IfOk result (λ s. s.engine.audit.limit ≡ limits.audit) }
         ensures drained { IfOk result (λ s. s.engine.audit.standing.drained ≡ 0) }
     {
