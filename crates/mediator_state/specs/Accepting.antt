@@ -1,0 +1,70 @@
+-- What the steps want by which a plan is carried out.
+use Rattle.std.specs.Prelude.{◌≡◌, ◌≢◌, ℕ, ◌+◌, ◌*◌, ◌<◌, ◌≤◌, ◌^◌, true, List, [], ◌∷◌, ◌++◌, length, map, Option, IfSome, IsSomeAnd}
+use Rattle.std.specs.List.{AllByRecursion}
+use Rattle.ipfix_template.specs.DataRecord.{DataRecord}
+use Rattle.ipfix_session.specs.declared.read.Gap.{Gap}
+use Rattle.ipfix_session.specs.Keeping.{at_key}
+use Rattle.ipfix_session.specs.Meaning.{Meaning}
+use Rattle.ipfix_session.specs.ReadAhead.{Ahead, IsReadingOf, HasRoomFor}
+use Rattle.disclosure_audit.specs.declared.entry.AuditEntry.{AuditEntry}
+use Rattle.disclosure_audit.specs.Queue.{Kept}
+use Rattle.event_journal.specs.declared.entry.Entry.{Entry}
+use Rattle.event_journal.specs.declared.entry.Entry.TheVariants.{Message}
+use Rattle.mediator_history.specs.Sessions.{is_open, messages_of}
+use Rattle.mediator_history.specs.Subscriptions.{served}
+use Rattle.mediator_history.specs.Auditing.{audit_at}
+use Rattle.record_sharing.specs.Sharing.{shown}
+use Rattle.live_subscriptions.specs.Table.{Table, at, HasSpare, AreReady}
+use Rattle.mediator_state.specs.declared.engine.Engine.{Engine}
+use Rattle.mediator_state.specs.declared.fault.Fault.{Fault}
+use Rattle.mediator_state.specs.declared.fault.Fault.TheVariants as fault
+use Rattle.mediator_state.specs.declared.plan.Plan.{Plan}
+use Rattle.mediator_state.specs.declared.receipt.Receipt.{Receipt}
+use Rattle.mediator_state.specs.Standing.{Stands}
+use Rattle.mediator_state.specs.Planning.{share_at, HasRoomIn, AreStreamed, IsPlan}
+
+-- the audit has no room for so many entries, and this is its room
+abbrev pub LacksAudit : Fault → Kept → ℕ → Type 0
+LacksAudit (fault.AuditFull need room) audit noted = (need ≡ noted) × (room < need) × (room + length audit.standing.entries ≡ audit.limit)
+LacksAudit fault.OutOfMemory audit noted = Unit {0}
+LacksAudit _ audit noted = ⊥
+
+-- room was made for what a plan does
+pub record HasRoomForPlan (e : Engine) (p : Plan) : Type 0 where
+  pub audit : length e.audit.standing.entries + (length p.cuts.items + length p.entries.items) ≤ e.audit.limit
+  pub reserved : length p.cuts.items + length p.entries.items ≤ e.audit.spare
+  pub session : IfSome (at_key p.session e.sessions) (λ o. HasRoomFor o.session p.reading)
+  pub streams : AllByRecursion (HasSpare e.subscriptions) (map shown p.shares.items)
+
+-- it is the plan for a message behind some history of so many entries
+pub record IsPlannedFor (e : Engine) (position : ℕ) (p : Plan) : Type 0 where
+  pub history : List Entry
+  pub number : ℕ
+  pub octets : List ℕ
+  pub stands : Stands e history
+  pub counted : length history ≡ position
+  pub short : position ≤ 100000000
+  pub plan : IsPlan e history number octets p
+
+-- the receipt of a message of this meaning, behind so many entries and cuts
+abbrev pub receipt_of : ℕ → ℕ → Meaning → Receipt
+receipt_of position cuts m = record { position = position + cuts; records = length m.records; cut = cuts; skips = m.skips; gap = m.gap }
+
+-- sessions, streams and audit have room for what a message brings, gives and keeps back
+pub record IsReadyToTake (e : Engine) (session : ℕ) (reading : Ahead) (shares : List (ℕ × List DataRecord)) (entries : ℕ) : Type 0 where
+  pub session_room : IsSomeAnd (at_key session e.sessions) (λ o. HasRoomFor o.session reading)
+  pub session_count : IfSome (at_key session e.sessions) (λ o. o.accepted + 1 < 2 ^ 64)
+  pub streams : AreReady e.subscriptions shares
+  pub audit : length e.audit.standing.entries + entries ≤ e.audit.limit
+  pub reserved : entries ≤ e.audit.spare
+  pub count : e.audit.standing.drained + length e.audit.standing.entries + entries < 2 ^ 64
+
+-- this is what a message brings, gives and keeps back behind a history
+pub record IsMessage (e : Engine) (h : List Entry) (session number : ℕ) (octets : List ℕ) (reading : Ahead) (shares : List (ℕ × List DataRecord)) (entries : List AuditEntry) : Type 0 where
+  pub opened : is_open session h ≡ true
+  pub read : IsReadingOf (messages_of session h) octets reading
+  pub shares_are : shares ≡ map (share_at h (Message session number octets)) (served h)
+  pub entries_are : entries ≡ audit_at h (Message session number octets)
+  pub room : AllByRecursion (HasRoomIn e.subscriptions) shares
+  pub streamable : AllByRecursion AreStreamed shares
+  pub few : length entries ≤ 10000000

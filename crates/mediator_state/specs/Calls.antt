@@ -1,0 +1,191 @@
+-- What the calls of a state answer, and what they leave.
+use Rattle.std.specs.Prelude.{◌≡◌, ◌≢◌, ◌⊎◌, ℕ, ◌+◌, ◌≤◌, ◌<◌, true, false, not, List, [], ◌∷◌, ◌++◌, length, take, drop, Option, Ok, Err}
+use Rattle.ipfix_session.specs.Meaning.{Meaning, meaning_of}
+use Rattle.policy_text.specs.declared.fault.FaultKind.TheVariants.{UnknownWord}
+use Rattle.policy_text.specs.declared.fault.PolicyFault.{PolicyFault}
+use Rattle.policy_text.specs.Policies.{Meaning as Policy}
+use Rattle.policy_text.specs.Parsing.{policy_of}
+use Rattle.policy_text.specs.Naming.{is_name}
+use Rattle.subscriber_stream.specs.Shapes.{shapes_of}
+use Rattle.subscriber_stream.specs.Parts.{parts, records_in}
+use Rattle.subscriber_stream.specs.Message.{built, place_after}
+use Rattle.disclosure_audit.specs.declared.entry.AuditEntry.{AuditEntry}
+use Rattle.event_journal.specs.Sizes.{history_octets}
+use Rattle.event_journal.specs.declared.entry.Entry.{Entry}
+use Rattle.event_journal.specs.declared.entry.Entry.TheVariants.{Open, Close, Message, Edit, Subscribe, Unsubscribe, Cut}
+use Rattle.event_journal.specs.Room.{Limits as Journaled, HasRoom, HasRoomAfter}
+use Rattle.mediator_history.specs.Sessions.{is_open, messages_of, sessions_opened}
+use Rattle.mediator_history.specs.Subscriptions.{edits_made, name_of, is_live, is_served, subscriptions_begun}
+use Rattle.mediator_history.specs.Disclosed.{disclosed}
+use Rattle.mediator_history.specs.Auditing.{audit_list}
+use Rattle.mediator_history.specs.Cuts.{cuts_before}
+use Rattle.mediator_state.specs.declared.engine.Engine.{Engine}
+use Rattle.mediator_state.specs.declared.receipt.Receipt.{Receipt}
+use Rattle.mediator_state.specs.declared.receipt.Status.{Status}
+use Rattle.mediator_state.specs.declared.fault.Fault.{Fault}
+use Rattle.mediator_state.specs.declared.fault.Fault.TheVariants as fault
+use Rattle.mediator_state.specs.declared.state.Limits.{Limits}
+use Rattle.mediator_state.specs.declared.state.State.{State}
+use Rattle.mediator_state.specs.Standing.{Stands}
+use Rattle.mediator_state.specs.Seen.{place_of, waiting_of}
+use Rattle.mediator_state.specs.Planning.{IsNext, RefusesMessage}
+use Rattle.mediator_state.specs.Accepting.{receipt_of}
+
+pub record AreLimits (limits : Limits) : Type 0 where
+  pub queue : limits.queue ≤ 1000000
+  pub shapes : limits.shapes ≤ 65280
+  pub some_audit : 1 ≤ limits.audit
+  pub audit : limits.audit ≤ 10000000
+
+-- the state stands for the history, which what keeps it tells
+pub record StandsFor {C : Type 0} (tells : C → List Entry → Type 0) (s : State C) (h : List Entry) : Type 0 where
+  pub told : tells s.chronicle h
+  pub stands : Stands s.engine h
+
+pub record StandsForSome {C : Type 0} (tells : C → List Entry → Type 0) (s : State C) : Type 0 where
+  pub history : List Entry
+  pub stands : StandsFor tells s history
+
+-- behind the history there was room for these entries, and it goes on with them
+pub record Accepts {C : Type 0} (tells : C → List Entry → Type 0) (limits : C → Journaled) (old : State C) (h more : List Entry) (new : State C) : Type 0 where
+  pub room : HasRoomAfter (limits old.chronicle) h more
+  pub stands : StandsFor tells new (h ++ more)
+
+-- behind so many entries of so many octets there is no room for these; want of memory says nothing
+abbrev pub LacksRoom : Fault → Journaled → ℕ → ℕ → List Entry → Type 0
+LacksRoom fault.JournalFull limits count octets more = HasRoom limits count octets more → ⊥
+LacksRoom fault.OutOfMemory limits count octets more = Unit {0}
+LacksRoom _ limits count octets more = ⊥
+
+-- the same behind a history
+abbrev pub LacksRoomAfter : Fault → Journaled → List Entry → List Entry → Type 0
+LacksRoomAfter e limits h more = LacksRoom e limits (length h) (history_octets h) more
+
+-- ---- sessions
+
+-- the next number, from 1 on
+pub record Opens {C : Type 0} (tells : C → List Entry → Type 0) (limits : C → Journaled) (old : State C) (h : List Entry) (n : ℕ) (new : State C) : Type 0 where
+  pub number : n ≡ sessions_opened h + 1
+  pub accepts : Accepts tells limits old h (Open n ∷ []) new
+
+pub record Closes {C : Type 0} (tells : C → List Entry → Type 0) (limits : C → Journaled) (old : State C) (h : List Entry) (session : ℕ) (new : State C) : Type 0 where
+  pub opened : is_open session h ≡ true
+  pub accepts : Accepts tells limits old h (Close session ∷ []) new
+
+abbrev pub RefusesClose : Fault → Journaled → List Entry → ℕ → Type 0
+RefusesClose fault.UnknownSession limits h session = is_open session h ≡ false
+RefusesClose e limits h session = (is_open session h ≡ true) × LacksRoomAfter e limits h (Close session ∷ [])
+
+-- ---- messages
+
+-- the cuts that a message makes, and the message
+abbrev pub with_cuts : Engine → List Entry → ℕ → ℕ → List ℕ → List Entry
+with_cuts e h session number octets = cuts_before e.limits h (Message session number octets) (waiting_of e) ++ Message session number octets ∷ []
+
+-- the message is the next of its session, it and its cuts are accepted, and this is its receipt
+pub record Receives {C : Type 0} (tells : C → List Entry → Type 0) (limits : C → Journaled) (old : State C) (h : List Entry) (session number : ℕ) (octets : List ℕ) (r : Receipt) (new : State C) : Type 0 where
+  pub next : IsNext h session number
+  pub meaning : Meaning
+  pub means : meaning_of (messages_of session h) octets ≡ Ok meaning
+  pub accepts : Accepts tells limits old h (with_cuts old.engine h session number octets) new
+  pub receipt : r ≡ receipt_of (length h) (length (cuts_before old.engine.limits h (Message session number octets) (waiting_of old.engine))) meaning
+
+-- the octets are a message of the session
+pub record HasMeaning (h : List Entry) (session : ℕ) (octets : List ℕ) : Type 0 where
+  pub meaning : Meaning
+  pub means : meaning_of (messages_of session h) octets ≡ Ok meaning
+
+-- first its own refusals, then the journal is judged, and then the audit, whose need and room are told
+abbrev pub RefusesReceive : Fault → Journaled → Engine → List Entry → ℕ → ℕ → List ℕ → Type 0
+RefusesReceive fault.JournalFull limits e h session number octets =
+    IsNext h session number × HasMeaning h session octets × (HasRoomAfter limits h (with_cuts e h session number octets) → ⊥)
+RefusesReceive (fault.AuditFull need room) limits e h session number octets =
+    IsNext h session number × HasMeaning h session octets × HasRoomAfter limits h (with_cuts e h session number octets)
+    × ((noted : List AuditEntry) × (audit_list (h ++ with_cuts e h session number octets) ≡ audit_list h ++ noted) × (need ≡ length noted))
+    × (room + length e.audit.standing.entries ≡ e.audit.limit) × (room < need)
+RefusesReceive why limits e h session number octets = RefusesMessage why h session number octets
+
+-- ---- policies
+
+-- the text spells a policy without aggregates
+pub record IsAccepted (text : List ℕ) (policy : Policy) : Type 0 where
+  pub spelled : policy_of text ≡ Ok policy
+  pub plain : policy.aggregates ≡ []
+
+-- the number of edits so far
+pub record Edits {C : Type 0} (tells : C → List Entry → Type 0) (limits : C → Journaled) (old : State C) (h : List Entry) (text : List ℕ) (n : ℕ) (new : State C) : Type 0 where
+  pub policy : Policy
+  pub accepted : IsAccepted text policy
+  pub number : n ≡ edits_made h + 1
+  pub accepts : Accepts tells limits old h (Edit text ∷ []) new
+
+-- the policy of the text defines aggregates
+pub record HasAggregates (text : List ℕ) : Type 0 where
+  pub policy : Policy
+  pub spelled : policy_of text ≡ Ok policy
+  pub some : policy.aggregates ≢ []
+
+-- the text has this fault; or its policy defines aggregates, which is said as an unknown word of the first line
+abbrev pub IsPolicyFault : List ℕ → PolicyFault → Type 0
+IsPolicyFault text why = (policy_of text ≡ Err why) ⊎ ((why ≡ record { line = 1; kind = UnknownWord }) × HasAggregates text)
+
+pub record HasPolicy (text : List ℕ) : Type 0 where
+  pub policy : Policy
+  pub accepted : IsAccepted text policy
+
+abbrev pub RefusesPolicy : Fault → List ℕ → Type 0
+RefusesPolicy (fault.Policy why) text = IsPolicyFault text why
+RefusesPolicy fault.OutOfMemory text = Unit {0}
+RefusesPolicy _ text = ⊥
+
+abbrev pub RefusesEdit : Fault → Journaled → List Entry → List ℕ → Type 0
+RefusesEdit fault.JournalFull limits h text = HasPolicy text × LacksRoomAfter fault.JournalFull limits h (Edit text ∷ [])
+RefusesEdit e limits h text = RefusesPolicy e text
+
+-- ---- subscriptions
+
+-- no live subscription has the name
+abbrev pub IsFree : List Entry → List ℕ → Type 0
+IsFree h name = (sub : ℕ) → is_live sub h ≡ true → name_of sub h ≢ name
+
+-- the next number, from 1 on
+pub record Subscribes {C : Type 0} (tells : C → List Entry → Type 0) (limits : C → Journaled) (old : State C) (h : List Entry) (name : List ℕ) (n : ℕ) (new : State C) : Type 0 where
+  pub named : is_name name ≡ true
+  pub free : IsFree h name
+  pub number : n ≡ subscriptions_begun h + 1
+  pub accepts : Accepts tells limits old h (Subscribe n name ∷ []) new
+
+abbrev pub RefusesSubscribe : Fault → Journaled → List Entry → List ℕ → Type 0
+RefusesSubscribe fault.BadName limits h name = is_name name ≡ false
+RefusesSubscribe (fault.AlreadySubscribed sub) limits h name = (is_name name ≡ true) × (is_live sub h ≡ true) × (name_of sub h ≡ name)
+RefusesSubscribe e limits h name = (is_name name ≡ true) × IsFree h name × LacksRoomAfter e limits h (Subscribe (subscriptions_begun h + 1) name ∷ [])
+
+pub record Unsubscribes {C : Type 0} (tells : C → List Entry → Type 0) (limits : C → Journaled) (old : State C) (h : List Entry) (sub : ℕ) (new : State C) : Type 0 where
+  pub live : is_live sub h ≡ true
+  pub accepts : Accepts tells limits old h (Unsubscribe sub ∷ []) new
+
+abbrev pub RefusesUnsubscribe : Fault → Journaled → List Entry → ℕ → Type 0
+RefusesUnsubscribe fault.UnknownSub limits h sub = is_live sub h ≡ false
+RefusesUnsubscribe e limits h sub = (is_live sub h ≡ true) × LacksRoomAfter e limits h (Unsubscribe sub ∷ [])
+
+-- ---- what is handed out
+
+-- the message built at the place up to which the parts of what is disclosed were handed out, which then moves past it
+pub record Pulls {C : Type 0} (tells : C → List Entry → Type 0) (old : State C) (h : List Entry) (sub now target : ℕ) (answer : Option (List ℕ)) (new : State C) : Type 0 where
+  pub live : is_live sub h ≡ true
+  pub message : answer ≡ built (disclosed sub h) (place_of old.engine sub) now target
+  pub stands : StandsFor tells new h
+  pub moved : place_of new.engine sub ≡ place_after (disclosed sub h) (place_of old.engine sub) target
+
+abbrev pub RefusesPull : Fault → List Entry → ℕ → Type 0
+RefusesPull fault.UnknownSub h sub = is_live sub h ≡ false
+RefusesPull fault.OutOfMemory h sub = is_live sub h ≡ true
+RefusesPull _ h sub = ⊥
+
+-- what waits, what was handed out, the templates, and whether it was cut
+pub record IsStatus (h : List Entry) (sub place : ℕ) (s : Status) : Type 0 where
+  pub live : is_live sub h ≡ true
+  pub queued : s.queued ≡ length (records_in (drop place (parts (disclosed sub h))))
+  pub handed : s.handed ≡ length (records_in (take place (parts (disclosed sub h))))
+  pub shapes : s.shapes ≡ length (shapes_of (disclosed sub h))
+  pub cut : s.cut ≡ not (is_served sub h)

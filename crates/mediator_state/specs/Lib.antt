@@ -1,0 +1,17 @@
+pub use Rattle.event_journal.specs.Sizes
+pub use Rattle.event_journal.specs.Room
+pub use Rattle.subscriber_stream.specs.Message
+pub use Rattle.mediator_history.specs.Sessions
+pub use Rattle.mediator_history.specs.Subscriptions
+pub use Rattle.mediator_history.specs.Accepted
+pub use Rattle.mediator_history.specs.Disclosed
+pub use Rattle.mediator_history.specs.Auditing
+pub use Rattle.mediator_history.specs.Cuts
+pub mod FaultTexts
+pub mod Refusals
+pub mod Standing
+pub mod Seen
+pub mod Steps
+pub mod Planning
+pub mod Accepting
+pub mod Calls

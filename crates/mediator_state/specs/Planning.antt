@@ -1,0 +1,95 @@
+-- What a message would do, and why it is refused.
+use Rattle.std.specs.Prelude.{◌≡◌, ◌≢◌, ℕ, ◌<◌, Bool, true, false, not, List, [], ◌∷◌, length, map, filter, Ok, Err, IfSome, IsSomeAnd}
+use Rattle.std.specs.List.{AllByRecursion}
+use Rattle.ipfix_template.specs.DataRecord.{DataRecord}
+use Rattle.ipfix_session.specs.Keeping.{at_key}
+use Rattle.ipfix_session.specs.Meaning.{Meaning, meaning_of}
+use Rattle.ipfix_session.specs.ReadAhead.{IsReadingOf}
+use Rattle.policy_text.specs.declared.rule.Rule.{Rule}
+use Rattle.subscriber_stream.specs.Standing.{HasRoom}
+use Rattle.stream_meaning.specs.Served.{IsStreamable}
+use Rattle.disclosure_audit.specs.declared.entry.AuditEntry.{AuditEntry}
+use Rattle.event_journal.specs.declared.entry.Entry.{Entry}
+use Rattle.event_journal.specs.declared.entry.Entry.TheVariants.{Message}
+use Rattle.mediator_history.specs.Sessions.{is_open, messages_of}
+use Rattle.mediator_history.specs.Subscriptions.{served}
+use Rattle.mediator_history.specs.Disclosed.{given_at}
+use Rattle.mediator_history.specs.Auditing.{audit_at, audit_entry}
+use Rattle.mediator_history.specs.Cuts.{is_cut_by, after_cuts}
+use Rattle.record_sharing.specs.declared.served.Served.{Served}
+use Rattle.record_sharing.specs.declared.shares.Note.{Note}
+use Rattle.record_sharing.specs.Sharing.{shown, share_of}
+use Rattle.open_sessions.specs.declared.open_session.OpenSession.{OpenSession}
+use Rattle.live_subscriptions.specs.Table.{Table, at, lacks_room_at}
+use Rattle.mediator_state.specs.declared.engine.Engine.{Engine}
+use Rattle.mediator_state.specs.declared.fault.Fault.{Fault}
+use Rattle.mediator_state.specs.declared.fault.Fault.TheVariants as fault
+use Rattle.mediator_state.specs.declared.plan.Judged.{Judged}
+use Rattle.mediator_state.specs.declared.plan.Plan.{Plan}
+use Rattle.mediator_state.specs.Seen.{waiting_of}
+
+-- whether there is no room for the share of one that is served
+abbrev pub lacks : Table → ℕ → List Rule → List DataRecord → Served → Bool
+lacks t domain rules records who = lacks_room_at t (share_of domain rules records who)
+
+abbrev pub has : Table → ℕ → List Rule → List DataRecord → Served → Bool
+has t domain rules records who = not (lacks t domain rules records who)
+
+-- the audit's entry of a note of the message at a position
+abbrev pub stamp : ℕ → Note → AuditEntry
+stamp position n = audit_entry position n.index n.sub n.what
+
+-- what an entry gives to a subscription
+abbrev pub share_at : List Entry → Entry → ℕ → ℕ × List DataRecord
+share_at h entry sub = (sub, given_at sub h entry)
+
+-- the subscription's stream has room for its share, if the share has a record
+abbrev pub HasRoomIn : Table → ℕ × List DataRecord → Type 0
+HasRoomIn t share = 0 < length share.1 → IsSomeAnd (at t share.0) (λ s. HasRoom s.stream share.1)
+
+-- each record of a share may be streamed
+abbrev pub AreStreamed : ℕ × List DataRecord → Type 0
+AreStreamed share = AllByRecursion IsStreamable share.1
+
+-- an entry behind a history cuts these, gives these shares to those that are left, and the audit names these of it
+pub record IsJudged (e : Engine) (h : List Entry) (entry : Entry) (cuts : List ℕ) (shares : List (ℕ × List DataRecord)) (entries : List AuditEntry) : Type 0 where
+  pub cuts_are : cuts ≡ filter (is_cut_by e.limits h entry (waiting_of e)) (served h)
+  pub shares_are : shares ≡ map (share_at (after_cuts h cuts) entry) (served (after_cuts h cuts))
+  pub entries_are : entries ≡ audit_at (after_cuts h cuts) entry
+  pub room : AllByRecursion (HasRoomIn e.subscriptions) shares
+  pub streamable : AllByRecursion AreStreamed shares
+
+abbrev pub IsJudgedFor : Engine → List Entry → Meaning → Judged → Type 0
+IsJudgedFor e h m j = (session number : ℕ) (octets : List ℕ) → meaning_of (messages_of session h) octets ≡ Ok m
+    → IsJudged e h (Message session number octets) j.cuts.items (map shown j.shares.items) j.entries.items
+
+-- what a message would do behind a history
+pub record IsPlan (e : Engine) (h : List Entry) (number : ℕ) (octets : List ℕ) (p : Plan) : Type 0 where
+  pub opened : is_open p.session h ≡ true
+  pub turn : number ≡ length (messages_of p.session h)
+  pub read : IsReadingOf (messages_of p.session h) octets p.reading
+  pub judged : IsJudged e h (Message p.session number octets) p.cuts.items (map shown p.shares.items) p.entries.items
+
+-- the session is open, and this is the number of its next message
+pub record IsInTurn (e : Engine) (session number : ℕ) (o : OpenSession) : Type 0 where
+  pub is : IsSomeAnd (at_key session e.sessions) (λ s. s ≡ o)
+  pub turn : number ≡ o.accepted
+
+-- a message is refused so before it is read
+abbrev pub RefusesTurn : Fault → List Entry → ℕ → ℕ → Type 0
+RefusesTurn fault.UnknownSession h session number = is_open session h ≡ false
+RefusesTurn (fault.OutOfTurn expected) h session number = (is_open session h ≡ true) × (expected ≡ length (messages_of session h)) × (number ≢ expected)
+RefusesTurn _ h session number = ⊥
+
+-- the message is the next of an open session
+pub record IsNext (h : List Entry) (session number : ℕ) : Type 0 where
+  pub opened : is_open session h ≡ true
+  pub turn : number ≡ length (messages_of session h)
+
+-- a message is refused so for itself: its session, its number, its octets, in this order; want of memory says nothing
+abbrev pub RefusesMessage : Fault → List Entry → ℕ → ℕ → List ℕ → Type 0
+RefusesMessage (fault.Malformed why) h session number octets = IsNext h session number × (meaning_of (messages_of session h) octets ≡ Err why)
+RefusesMessage fault.OutOfMemory h session number octets = Unit {0}
+RefusesMessage fault.UnknownSession h session number octets = RefusesTurn fault.UnknownSession h session number
+RefusesMessage (fault.OutOfTurn expected) h session number octets = RefusesTurn (fault.OutOfTurn expected) h session number
+RefusesMessage _ h session number octets = ⊥

@@ -1,0 +1,17 @@
+-- How a mediator names what its parts refuse.
+use Rattle.std.specs.Prelude.{if◌then◌else◌}
+use Rattle.ipfix_session.specs.declared.read_error.ReadError.{ReadError}
+use Rattle.ipfix_session.specs.declared.read_error.ReadError.TheVariants as read
+use Rattle.policy_text.specs.declared.fault.PolicyFault.{PolicyFault}
+use Rattle.policy_text.specs.Results.{is_memory}
+use Rattle.mediator_state.specs.declared.fault.Fault.{Fault}
+use Rattle.mediator_state.specs.declared.fault.Fault.TheVariants.{Malformed, Policy, OutOfMemory}
+
+abbrev pub refusal_of : ReadError → Fault
+refusal_of read.OutOfMemory = OutOfMemory
+refusal_of (read.Malformed why) = Malformed (read.Malformed why)
+refusal_of read.RecordOverrun = Malformed read.RecordOverrun
+
+-- want of memory is no fault of a policy
+abbrev pub policy_refusal : PolicyFault → Fault
+policy_refusal why = if is_memory why.kind then OutOfMemory else Policy why

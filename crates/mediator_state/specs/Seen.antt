@@ -1,0 +1,45 @@
+-- What contracts see of an engine beside its history: places, what was drained, limits.
+use Rattle.std.specs.Prelude.{◌≡◌, ℕ, List, Option, Some, None}
+use Rattle.std.specs.Option.{option_map}
+use Rattle.ipfix_session.specs.Keeping.{at_key}
+use Rattle.subscriber_stream.specs.Standing.{queued}
+use Rattle.open_sessions.specs.Table.{seen}
+use Rattle.live_subscriptions.specs.declared.subscription.Subscription.{Subscription}
+use Rattle.live_subscriptions.specs.Table.{Table, at, SameTable}
+use Rattle.mediator_state.specs.declared.engine.Engine.{Engine}
+use Rattle.mediator_state.specs.Standing.{place}
+
+abbrev pub place_in : Option Subscription → ℕ
+place_in None = 0
+place_in (Some s) = place s.stream.standing
+
+-- the place up to which a live subscription's parts were handed out
+abbrev pub place_of : Engine → ℕ → ℕ
+place_of e sub = place_in (at e.subscriptions sub)
+
+abbrev pub waiting_in : Option Subscription → ℕ
+waiting_in None = 0
+waiting_in (Some s) = queued s.stream.standing
+
+-- how many records wait for a live subscription
+abbrev pub waiting_of : Engine → ℕ → ℕ
+waiting_of e sub = waiting_in (at e.subscriptions sub)
+
+-- nothing is handed out or drained, and the limits stay
+pub record IsUntouched (old new : Engine) : Type 0 where
+  pub places : (sub : ℕ) → place_of new sub ≡ place_of old sub
+  pub drained : new.audit.standing.drained ≡ old.audit.standing.drained
+  pub limits : new.limits ≡ old.limits
+  pub audit_limit : new.audit.limit ≡ old.audit.limit
+
+-- the same, whatever room is reserved
+pub record IsSameEngine (old new : Engine) : Type 0 where
+  pub policy : new.policy ≡ old.policy
+  pub edits : new.edits ≡ old.edits
+  pub opened : new.opened ≡ old.opened
+  pub begun : new.begun ≡ old.begun
+  pub sessions : (session : ℕ) → option_map seen (at_key session new.sessions) ≡ option_map seen (at_key session old.sessions)
+  pub subscriptions : SameTable old.subscriptions new.subscriptions
+  pub audit : new.audit.standing ≡ old.audit.standing
+  pub audit_limit : new.audit.limit ≡ old.audit.limit
+  pub limits : new.limits ≡ old.limits

@@ -1,0 +1,94 @@
+-- The histories that an engine stands for.
+use Rattle.std.specs.Prelude.{◌≡◌, ℕ, ◌+◌, ◌*◌, ◌≤◌, ◌<◌, Bool, true, false, not, List, [], ◌∷◌, ◌++◌, length, Option, Some, None, Ok}
+use Rattle.std.specs.List.{flat_map, AllByRecursion}
+use Rattle.ipfix_session.specs.Keeping.{at_key}
+use Rattle.ipfix_session.specs.Standing.{StandsFor}
+use Rattle.subscriber_stream.specs.declared.limits.Limits.{Limits}
+use Rattle.subscriber_stream.specs.Standing.{Standing, StandsAt, queued}
+use Rattle.stream_meaning.specs.Served.{AreStreamable}
+use Rattle.disclosure_audit.specs.Queue.{StandsIn}
+use Rattle.event_journal.specs.declared.entry.Entry.{Entry}
+use Rattle.mediator_history.specs.Numbers.{AreDistinct}
+use Rattle.mediator_history.specs.Sessions.{is_open, messages_of, sessions_opened}
+use Rattle.mediator_history.specs.Subscriptions.{policy_in_force, edits_made, name_of, is_live, is_served, subscribed_in, subscriptions_begun, served}
+use Rattle.mediator_history.specs.Disclosed.{disclosed}
+use Rattle.mediator_history.specs.Auditing.{audit_list}
+use Rattle.open_sessions.specs.declared.open_session.OpenSession.{OpenSession}
+use Rattle.live_subscriptions.specs.declared.subscription.Subscription.{Subscription}
+use Rattle.live_subscriptions.specs.Table.{Table, at}
+use Rattle.mediator_state.specs.declared.engine.Engine.{Engine}
+
+-- the place up to which a stream's parts were handed out
+abbrev pub place : Standing → ℕ
+place s = s.handed + s.announced
+
+-- the session is open, and stands for its messages; or it isn't
+abbrev pub IsSession : List Entry → ℕ → Option OpenSession → Type 0
+IsSession h session None = is_open session h ≡ false
+IsSession h session (Some o) = (is_open session h ≡ true) × (o.accepted ≡ length (messages_of session h)) × StandsFor o.session (messages_of session h)
+
+-- the subscription is live, and its stream stands in what is disclosed to it
+pub record IsSubscription (h : List Entry) (limits : Limits) (sub : ℕ) (s : Subscription) : Type 0 where
+  pub live : is_live sub h ≡ true
+  pub name : s.name ≡ name_of sub h
+  pub cut : s.is_cut ≡ not (is_served sub h)
+  pub stream : StandsAt s.stream.standing (disclosed sub h) (place s.stream.standing)
+  pub limits_are : s.stream.limits ≡ limits
+
+-- so it is; or the subscription isn't live
+abbrev pub IsLiveAs : List Entry → Limits → ℕ → Option Subscription → Type 0
+IsLiveAs h limits sub None = is_live sub h ≡ false
+IsLiveAs h limits sub (Some s) = IsSubscription h limits sub s
+
+-- a session that was never opened
+pub record IsUnopened (h : List Entry) (session : ℕ) : Type 0 where
+  pub closed : is_open session h ≡ false
+  pub silent : messages_of session h ≡ []
+
+-- a subscription that never began
+pub record IsUnbegun (h : List Entry) (sub : ℕ) : Type 0 where
+  pub gone : is_live sub h ≡ false
+  pub unserved : is_served sub h ≡ false
+  pub nothing : disclosed sub h ≡ []
+
+-- numbers are those from 1 on, and none comes again
+pub record AreNumbered (h : List Entry) : Type 0 where
+  pub sessions : (session : ℕ) → sessions_opened h < session → IsUnopened h session
+  pub subscriptions : (sub : ℕ) → subscriptions_begun h < sub → IsUnbegun h sub
+  pub distinct : AreDistinct (flat_map subscribed_in h)
+  pub within : AllByRecursion (λ sub. sub ≤ subscriptions_begun h) (flat_map subscribed_in h)
+
+-- no count comes near its end, and what is disclosed can be streamed
+pub record IsSmall (h : List Entry) : Type 0 where
+  pub listed : (sub : ℕ) → length (disclosed sub h) ≤ 1000000 * length h
+  pub audited : length (audit_list h) ≤ 10000000 * length h
+  pub streamable : (sub : ℕ) → AreStreamable (disclosed sub h)
+
+-- the limits are ones that a mediator may have
+pub record AreInRange (limits : Limits) : Type 0 where
+  pub queue : limits.queue ≤ 1000000
+  pub shapes : limits.shapes ≤ 65280
+
+pub record Stands (e : Engine) (h : List Entry) : Type 0 where
+  pub policy : e.policy ≡ policy_in_force h
+  pub edits : e.edits ≡ edits_made h
+  pub opened : e.opened ≡ sessions_opened h
+  pub begun : e.begun ≡ subscriptions_begun h
+  pub sessions : (session : ℕ) → IsSession h session (at_key session e.sessions)
+  pub subscriptions : (sub : ℕ) → IsLiveAs h e.limits sub (at e.subscriptions sub)
+  pub served_are : e.subscriptions.served ≡ served h
+  pub audit : StandsIn e.audit.standing (audit_list h)
+  pub limits : AreInRange e.limits
+  pub numbered : AreNumbered h
+  pub small : IsSmall h
+
+-- so it does for some history of so many entries
+pub record StandsSomewhere (e : Engine) (count : ℕ) : Type 0 where
+  pub history : List Entry
+  pub stands : Stands e history
+  pub counted : length history ≡ count
+
+-- so it does for some history
+pub record HasHistory (e : Engine) : Type 0 where
+  pub history : List Entry
+  pub stands : Stands e history

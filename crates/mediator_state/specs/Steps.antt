@@ -1,0 +1,38 @@
+-- What the steps of an engine leave as it was.
+use Rattle.std.specs.Prelude.{◌≡◌, ◌≢◌, ℕ, ◌+◌, ◌≤◌, ◌<◌, ◌^◌, List, length, if◌then◌else◌, ◌==◌}
+use Rattle.std.specs.Option.{option_map}
+use Rattle.disclosure_audit.specs.Queue.{Kept}
+use Rattle.mediator_history.specs.Numbers.{is_in}
+use Rattle.live_subscriptions.specs.Table.{at, cut_off}
+use Rattle.mediator_state.specs.declared.engine.Engine.{Engine}
+
+-- the audit has room for so many entries, in memory too
+pub record HasAuditRoom (audit : Kept) (more : ℕ) : Type 0 where
+  pub room : length audit.standing.entries + more ≤ audit.limit
+  pub reserved : more ≤ audit.spare
+  pub count : audit.standing.drained + length audit.standing.entries + more < 2 ^ 64
+
+-- policy, counts, sessions and limits stay
+pub record KeepsRest (old new : Engine) : Type 0 where
+  pub policy : new.policy ≡ old.policy
+  pub edits : new.edits ≡ old.edits
+  pub opened : new.opened ≡ old.opened
+  pub begun : new.begun ≡ old.begun
+  pub sessions : new.sessions ≡ old.sessions
+  pub limits : new.limits ≡ old.limits
+  pub audit_limit : new.audit.limit ≡ old.audit.limit
+  pub drained : new.audit.standing.drained ≡ old.audit.standing.drained
+
+-- one subscription more is cut, and the audit has an entry more
+pub record IsCutOnce (number : ℕ) (old new : Engine) : Type 0 where
+  pub rest : KeepsRest old new
+  pub table : (q : ℕ) → at new.subscriptions q ≡ (if q == number then option_map cut_off (at old.subscriptions q) else at old.subscriptions q)
+  pub entries : length new.audit.standing.entries ≡ length old.audit.standing.entries + 1
+  pub spare : new.audit.spare + 1 ≡ old.audit.spare
+
+-- these are cut
+pub record CutsInARow (numbers : List ℕ) (old new : Engine) : Type 0 where
+  pub rest : KeepsRest old new
+  pub table : (q : ℕ) → at new.subscriptions q ≡ (if is_in q numbers then option_map cut_off (at old.subscriptions q) else at old.subscriptions q)
+  pub entries : length new.audit.standing.entries ≡ length old.audit.standing.entries + length numbers
+  pub spare : new.audit.spare + length numbers ≡ old.audit.spare
