@@ -1,5 +1,5 @@
 -- What the audit names: each record that is kept from a subscription or loses fields, and each cut.
-use Rattle.std.specs.Prelude.{ℕ, List, [], ◌∷◌, length, map}
+use Rattle.std.specs.Prelude.{ℕ, ◌+◌, List, [], ◌∷◌, length, map}
 use Rattle.std.specs.List.{flat_map}
 use Rattle.sequences.specs.Before.{each_with_before}
 use Rattle.disclosure_audit.specs.declared.reason.Reason.{Reason}
@@ -49,3 +49,8 @@ audit_at before _ = []
 -- all audit entries of a history, in the order of position, index and subscription
 abbrev pub audit_list : List Entry → List AuditEntry
 audit_list h = each_with_before audit_at h
+
+-- the audit entries of cuts in a row, the first of which stands at position n
+abbrev pub cut_entries : ℕ → List ℕ → List AuditEntry
+cut_entries n [] = []
+cut_entries n (sub ∷ subs) = audit_entry n 0 sub CutOff ∷ cut_entries (n + 1) subs

@@ -20,3 +20,7 @@ is_cut_by limits before entry waiting sub = overflows limits (disclosed sub befo
 -- the cuts that stand directly before an entry, in the order of the subscriptions' numbers
 abbrev pub cuts_before : Limits → List Entry → Entry → (ℕ → ℕ) → List Entry
 cuts_before limits before entry waiting = map Cut (filter (is_cut_by limits before entry waiting) (served before))
+
+-- a history with cuts of these subscriptions behind it, one after another
+abbrev pub after_cuts : List Entry → List ℕ → List Entry
+after_cuts h subs = h ++ map Cut subs

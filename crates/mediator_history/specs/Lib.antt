@@ -6,6 +6,7 @@ pub use Rattle.policy_text.specs.Parsing
 pub use Rattle.flow_anonymize.specs.Disclosed as Disclosures
 pub use Rattle.disclosure_audit.specs.Lines
 pub use Rattle.subscriber_stream.specs.Shapes
+pub mod Numbers
 pub mod Sessions
 pub mod Subscriptions
 pub mod LastEntries

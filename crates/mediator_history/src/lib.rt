@@ -7,7 +7,8 @@
 //! - `specs/Accepted`: the records that were accepted.
 //! - `specs/Disclosed`: what is disclosed to a subscription.
 //! - `specs/Auditing`: what the audit names.
-//! - `specs/Cuts`: whom a message cuts.
+//! - `specs/Cuts`: whom a message cuts, and a history with cuts behind it.
+//! - `specs/Numbers`: numbers in a list.
 //! - [`laws`]: the policy in force is that of the last edit whose text is a policy, or one without rules
 //!   (`last_edit_is_in_force`); a subscription has the name under which it began last (`last_subscription_names`), and
 //!   is served exactly where it began and after that neither ended nor was cut (`served_since_subscribed`); one entry
