@@ -34,7 +34,7 @@ pub record HasRoomForPlan (e : Engine) (p : Plan) : Type 0 where
   pub audit : length e.audit.standing.entries + (length p.cuts.items + length p.entries.items) ≤ e.audit.limit
   pub reserved : length p.cuts.items + length p.entries.items ≤ e.audit.spare
   pub session : IfSome (at_key p.session e.sessions) (λ o. HasRoomFor o.session p.reading)
-  pub streams : AllByRecursion (HasSpare e.subscriptions) (map shown p.shares.items)
+  pub streams : AllByRecursion (HasSpare e.subscriptions.live) (map shown p.shares.items)
 
 -- it is the plan for a message behind some history of so many entries
 pub record IsPlannedFor (e : Engine) (position : ℕ) (p : Plan) : Type 0 where

@@ -76,7 +76,7 @@ impl Engine {
     /// The number of the next session.
     pub(crate) fn next_session(&self, position: u64) -> u64
         requires somewhere { StandsSomewhere self.now position }
-        requires short { position < 100000000 }
+        requires short { position ≤ 100000000 }
         ensures value { result ≡ self.now.opened + 1 }
         ensures next { (h : List Entry) → Stands self.now h → result ≡ sessions_opened h + 1 }
     {
@@ -124,7 +124,7 @@ impl Engine {
     /// Puts a policy in force, and says how many edits there were.
     pub(crate) fn put_in_force(&mut self, policy: Policy, position: u64) -> u64
         requires somewhere { StandsSomewhere self.old position }
-        requires short { position < 100000000 }
+        requires short { position ≤ 100000000 }
         ensures value { (h : List Entry) → Stands self.old h → result ≡ edits_made h + 1 }
         ensures stands { (h : List Entry) (text : List ℕ) → Stands self.old h → policy_of text ≡ Ok policy → Stands self.new (h ++ Edit text ∷ []) }
         ensures untouched { IsUntouched self.old self.new }
@@ -137,7 +137,7 @@ impl Engine {
     /// The number of the next subscription.
     pub(crate) fn next_subscription(&self, position: u64) -> u64
         requires somewhere { StandsSomewhere self.now position }
-        requires short { position < 100000000 }
+        requires short { position ≤ 100000000 }
         ensures value { result ≡ self.now.begun + 1 }
         ensures next { (h : List Entry) → Stands self.now h → result ≡ subscriptions_begun h + 1 }
     {
@@ -148,6 +148,7 @@ impl Engine {
     pub(crate) fn named(&self, name: &str) -> Option<u64>
         ensures found { IfSome result (λ sub. (h : List Entry) → Stands self.now h → (is_live sub h ≡ true) × (name_of sub h ≡ name.now)) }
         ensures none { IfNone result ((h : List Entry) → Stands self.now h → (sub : ℕ) → is_live sub h ≡ true → name_of sub h ≢ name.now) }
+        ensures free { IfNone result ((q : ℕ) → IfSome (at self.now.subscriptions q) (λ s. s.name ≢ name.now)) }
     {
         self.subscriptions.named(name)
     }
@@ -186,6 +187,8 @@ fn no_policy(alloc: Global) -> Result<Policy, AllocError>
 }
 
 impl Engine {
+    ghost use Rattle.mediator_state.specs.Standing.{Stands};
+    ghost use Rattle.mediator_state.specs.Seen.{place_of};
     ghost use Rattle.live_subscriptions.specs.Table.{cut_off};
     ghost use Rattle.std.specs.Prelude.{filter, if◌then◌else◌, ◌==◌};
     ghost use Rattle.std.specs.Option.{option_map};
@@ -231,6 +234,8 @@ impl Engine {
 }
 
 impl Engine {
+    ghost use Rattle.mediator_state.specs.Standing.{Stands};
+    ghost use Rattle.mediator_state.specs.Seen.{IsSameEngine, IsUntouched};
     ghost use Rattle.ipfix_session.specs.Keeping.{at_key};
     ghost use Rattle.ipfix_session.specs.ReadAhead.{HasRoomFor};
     ghost use Rattle.live_subscriptions.specs.Table.{HasSpare};
@@ -284,13 +289,7 @@ impl Engine {
     }
 
     /// Takes what a message brings, gives and keeps back, in room that was made for it.
-    fn take(
-        &mut self,
-        session: u64,
-        reading: Reading,
-        shares: Vec<Share>,
-        entries: Vec<AuditEntry>,
-    )
+    fn take(&mut self, session: u64, reading: Reading, shares: Vec<Share>, entries: Vec<AuditEntry>)
         requires room { IsReadyToTake self.old session reading (map shown shares.items) (length entries.items) }
         ensures stands { (h : List Entry) (number : ℕ) (octets : List ℕ) → Stands self.old h → IsMessage self.old h session number octets reading (map shown shares.items) entries.items
             → Stands self.new (h ++ Message session number octets ∷ []) }

@@ -14,7 +14,7 @@ use disclosure_audit::AuditEntry;
 use event_journal::{Chronicle, Entry, PolicyText};
 use policy_text::{FaultKind, Name, Policy, PolicyFault, is_name};
 use std::alloc::{AllocError, Global};
-use std::array::from_ref;
+use std::slice::from_ref;
 use subscriber_stream::PullError;
 
 /// How much a mediator may hold beside its history.

@@ -1,0 +1,17 @@
+//! The live subscriptions of a mediator, by number and by subscriber's name, with those that are served.
+//!
+//! - `subscription`: [`Subscription`], a live subscription with its stream.
+//! - `subscriptions`: [`Subscriptions`], the table of them.
+//!
+//! Proved, of every table: `get` answers the subscription of a number, and `named` the number that has a name, or that
+//! none has it. `served` answers those that are served, in their order, and `without_room` exactly those for which
+//! there is no room. `reserve` changes nothing that contracts see but the reserved room; `give` hands each subscription
+//! its records; `cut`, `insert` and `remove` change one subscription and no other; `pull` answers what the stream of one
+//! gives, and changes no other. After want of memory the table is as it was.
+#![tactic(auto)]
+
+pub mod subscription;
+pub mod subscriptions;
+
+pub use subscription::Subscription;
+pub use subscriptions::Subscriptions;
