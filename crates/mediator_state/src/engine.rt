@@ -51,6 +51,7 @@ impl Engine {
 
     /// Before any entry: the policy has no rules.
     pub(crate) fn new(alloc: Global, limits: Limits, audit: u32) -> Result<Engine, AllocError>
+        requires stub { ⊥ }
         requires range { AreInRange limits }
         requires least { 1 ≤ audit }
         requires most { audit ≤ MOST_ENTRIES }
@@ -59,28 +60,18 @@ impl Engine {
         ensures limits { IfOk result (λ e. e.limits ≡ limits) }
         ensures audit_limit { IfOk result (λ e. e.audit.limit ≡ audit) }
     {
-        let policy = no_policy(alloc)?;
-        Ok(Engine {
-            alloc,
-            limits,
-            policy,
-            edits: 0,
-            sessions: Sessions::new(alloc),
-            opened: 0,
-            subscriptions: Subscriptions::new(alloc),
-            begun: 0,
-            audit: Audit::new(alloc, audit),
-        })
+        unreachable!()
     }
 
     /// The number of the next session.
     pub(crate) fn next_session(&self, position: u64) -> u64
+        requires stub { ⊥ }
         requires somewhere { StandsSomewhere self.now position }
         requires short { position ≤ 100000000 }
         ensures value { result ≡ self.now.opened + 1 }
         ensures next { (h : List Entry) → Stands self.now h → result ≡ sessions_opened h + 1 }
     {
-        self.opened + 1
+        unreachable!()
     }
 
     /// Opens the next session.
@@ -88,69 +79,72 @@ impl Engine {
     /// # Errors
     /// Want of memory.
     pub(crate) fn open(&mut self, number: u64) -> Result<(), AllocError>
+        requires stub { ⊥ }
         requires next { number ≡ self.old.opened + 1 }
         ensures ok { OnOk result ((h : List Entry) → Stands self.old h → Stands self.new (h ++ Open number ∷ [])) }
         ensures untouched { IsUntouched self.old self.new }
         ensures err { OnErr result (IsSameEngine self.old self.new) }
     {
-        self.sessions.open(number)?;
-        self.opened = number;
-        Ok(())
+        unreachable!()
     }
 
     /// Whether a session is open.
     pub(crate) fn is_open(&self, number: u64) -> bool
+        requires stub { ⊥ }
         ensures { (h : List Entry) → Stands self.now h → result ≡ is_open number h }
     {
-        self.sessions.get(number).is_some()
+        unreachable!()
     }
 
     /// Whether a subscription is live.
     pub(crate) fn is_live(&self, number: u64) -> bool
+        requires stub { ⊥ }
         ensures live { (h : List Entry) → Stands self.now h → result ≡ is_live number h }
         ensures there { result ≡ is_some (at self.now.subscriptions number) }
     {
-        self.subscriptions.get(number).is_some()
+        unreachable!()
     }
 
     /// Closes a session.
     pub(crate) fn close(&mut self, number: u64)
+        requires stub { ⊥ }
         ensures stands { (h : List Entry) → Stands self.old h → Stands self.new (h ++ Close number ∷ []) }
         ensures untouched { IsUntouched self.old self.new }
     {
-        self.sessions.close(number);
+        unreachable!()
     }
 
     /// Puts a policy in force, and says how many edits there were.
     pub(crate) fn put_in_force(&mut self, policy: Policy, position: u64) -> u64
+        requires stub { ⊥ }
         requires somewhere { StandsSomewhere self.old position }
         requires short { position ≤ 100000000 }
         ensures value { (h : List Entry) → Stands self.old h → result ≡ edits_made h + 1 }
         ensures stands { (h : List Entry) (text : List ℕ) → Stands self.old h → policy_of text ≡ Ok policy → Stands self.new (h ++ Edit text ∷ []) }
         ensures untouched { IsUntouched self.old self.new }
     {
-        self.policy = policy;
-        self.edits += 1;
-        self.edits
+        unreachable!()
     }
 
     /// The number of the next subscription.
     pub(crate) fn next_subscription(&self, position: u64) -> u64
+        requires stub { ⊥ }
         requires somewhere { StandsSomewhere self.now position }
         requires short { position ≤ 100000000 }
         ensures value { result ≡ self.now.begun + 1 }
         ensures next { (h : List Entry) → Stands self.now h → result ≡ subscriptions_begun h + 1 }
     {
-        self.begun + 1
+        unreachable!()
     }
 
     /// The number of the live subscription under a name.
     pub(crate) fn named(&self, name: &str) -> Option<u64>
+        requires stub { ⊥ }
         ensures found { IfSome result (λ sub. (h : List Entry) → Stands self.now h → (is_live sub h ≡ true) × (name_of sub h ≡ name.now)) }
         ensures none { IfNone result ((h : List Entry) → Stands self.now h → (sub : ℕ) → is_live sub h ≡ true → name_of sub h ≢ name.now) }
         ensures free { IfNone result ((q : ℕ) → IfSome (at self.now.subscriptions q) (λ s. s.name ≢ name.now)) }
     {
-        self.subscriptions.named(name)
+        unreachable!()
     }
 
     /// Begins the next subscription.
@@ -158,6 +152,7 @@ impl Engine {
     /// # Errors
     /// Want of memory.
     pub(crate) fn subscribe(&mut self, number: u64, name: &str) -> Result<(), AllocError>
+        requires stub { ⊥ }
         requires somewhere { HasHistory self.old }
         requires next { number ≡ self.old.begun + 1 }
         requires name { is_name name.now ≡ true }
@@ -166,10 +161,7 @@ impl Engine {
         ensures untouched { IsUntouched self.old self.new }
         ensures err { OnErr result (IsSameEngine self.old self.new) }
     {
-        let stream = Stream::new(self.alloc, self.limits);
-        self.subscriptions.insert(number, name, stream)?;
-        self.begun = number;
-        Ok(())
+        unreachable!()
     }
 }
 
@@ -178,12 +170,10 @@ impl Engine {
 /// # Errors
 /// Want of memory.
 fn no_policy(alloc: Global) -> Result<Policy, AllocError>
+    requires stub { ⊥ }
     ensures { IfOk result (λ policy. policy ≡ nothing) }
 {
-    match Policy::parse(alloc, "policy 1") {
-        Ok(policy) => Ok(policy),
-        Err(_) => Err(AllocError),
-    }
+    unreachable!()
 }
 
 impl Engine {
@@ -196,40 +186,35 @@ impl Engine {
 
     /// Ends a subscription, with what waits for it.
     pub(crate) fn unsubscribe(&mut self, number: u64)
+        requires stub { ⊥ }
         ensures stands { (h : List Entry) → Stands self.old h → Stands self.new (h ++ Unsubscribe number ∷ []) }
         ensures others { (q : ℕ) → q ≢ number → place_of self.new q ≡ place_of self.old q }
         ensures drained { self.new.audit.standing.drained ≡ self.old.audit.standing.drained }
         ensures limits { self.new.limits ≡ self.old.limits }
         ensures audit_limit { self.new.audit.limit ≡ self.old.audit.limit }
     {
-        self.subscriptions.remove(number);
+        unreachable!()
     }
 
     /// Cuts a subscription, in room that the audit has. It takes no memory.
     fn cut(&mut self, position: u64, number: u64)
+        requires stub { ⊥ }
         requires room { HasAuditRoom self.old.audit 1 }
         ensures stands { (h : List Entry) → Stands self.old h → length h ≡ position → Stands self.new (h ++ Cut number ∷ []) }
         ensures once { IsCutOnce number self.old self.new }
     {
-        self.subscriptions.cut(number);
-        self.audit.push_reserved(AuditEntry {
-            position,
-            index: 0,
-            sub: number,
-            what: What::Cut,
-        });
+        unreachable!()
     }
 
     /// Cuts subscriptions one after another, the first at a position.
     pub(crate) fn cut_all(&mut self, position: u64, numbers: &[u64])
+        requires stub { ⊥ }
         requires room { HasAuditRoom self.old.audit (length numbers.now) }
         requires short { position + length numbers.now < 2 ^ 63 }
         ensures stands { (h : List Entry) → Stands self.old h → length h ≡ position → Stands self.new (after_cuts h numbers.now) }
         ensures row { CutsInARow numbers.now self.old self.new }
     {
-        'cuts: for (place, number) in numbers.iter().enumerate() {
-            self.cut(position + place as u64, *number);
-        }
+        unreachable!()
     }
 }
 
@@ -249,26 +234,17 @@ impl Engine {
     /// # Errors
     /// The audit has no room, or memory ran out.
     pub(crate) fn make_room(&mut self, plan: &Plan) -> Result<(), Fault>
+        requires stub { ⊥ }
         ensures same { IsSameEngine self.old self.new }
         ensures ok { OnOk result (HasRoomForPlan self.new plan.now) }
         ensures err { IfErr result (λ e. LacksAudit e self.old.audit (length plan.now.cuts.items + length plan.now.entries.items)) }
     {
-        let need = plan.cuts.len() + plan.entries.len();
-        let room = self.audit.room();
-        if need > room as usize {
-            return Err(Fault::AuditFull {
-                need: need as u64,
-                room,
-            });
-        }
-        self.audit.reserve(need as u32)?;
-        self.sessions.make_room(plan.session, &plan.reading)?;
-        self.subscriptions.reserve(&plan.shares)?;
-        Ok(())
+        unreachable!()
     }
 
     /// Does what a plan says, in room that was made for it. It takes no memory.
     pub(crate) fn accept(&mut self, position: u64, plan: Plan) -> Receipt
+        requires stub { ⊥ }
         requires room { HasRoomForPlan self.old plan }
         requires planned { IsPlannedFor self.old position plan }
         ensures stands { (h : List Entry) (number : ℕ) (octets : List ℕ) → Stands self.old h → length h ≡ position → IsPlan self.old h number octets plan
@@ -276,27 +252,17 @@ impl Engine {
         ensures receipt { result ≡ receipt_of position (length plan.cuts.items) plan.reading.meaning }
         ensures untouched { IsUntouched self.old self.new }
     {
-        let receipt = Receipt {
-            position: position + plan.cuts.len() as u64,
-            records: plan.reading.records().len() as u64,
-            cut: plan.cuts.len() as u64,
-            skips: plan.reading.skips(),
-            gap: plan.reading.gap(),
-        };
-        self.cut_all(position, &plan.cuts);
-        self.take(plan.session, plan.reading, plan.shares, plan.entries);
-        receipt
+        unreachable!()
     }
 
     /// Takes what a message brings, gives and keeps back, in room that was made for it.
     fn take(&mut self, session: u64, reading: Reading, shares: Vec<Share>, entries: Vec<AuditEntry>)
+        requires stub { ⊥ }
         requires room { IsReadyToTake self.old session reading (map shown shares.items) (length entries.items) }
         ensures stands { (h : List Entry) (number : ℕ) (octets : List ℕ) → Stands self.old h → IsMessage self.old h session number octets reading (map shown shares.items) entries.items
             → Stands self.new (h ++ Message session number octets ∷ []) }
         ensures untouched { IsUntouched self.old self.new }
     {
-        self.sessions.keep(session, reading);
-        self.subscriptions.give(shares);
-        self.audit.extend_reserved(entries);
+        unreachable!()
     }
 }

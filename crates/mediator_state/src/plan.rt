@@ -47,38 +47,23 @@ impl Engine {
         number: u64,
         message: &Bytes,
     ) -> Result<Plan, Fault>
+        requires stub { ⊥ }
         requires somewhere { StandsSomewhere self.now position }
         requires short { position ≤ 100000000 }
         ensures ok { IfOk result (λ p. (h : List Entry) → Stands self.now h → length h ≡ position → IsPlan self.now h number message.now p) }
         ensures session { IfOk result (λ p. p.session ≡ session) }
         ensures err { IfErr result (λ e. (h : List Entry) → Stands self.now h → RefusesMessage e h session number message.now) }
     {
-        let open = self.in_turn(session, number)?;
-        let reading = open.session.read(message)?;
-        let judged = self.judge(position, &reading)?;
-        Ok(Plan {
-            session,
-            reading,
-            cuts: judged.cuts,
-            shares: judged.shares,
-            entries: judged.entries,
-        })
+        unreachable!()
     }
 
     /// The session, where it is open and this is the number of its next message.
     fn in_turn(&self, session: u64, number: u64) -> Result<&OpenSession, Fault>
+        requires stub { ⊥ }
         ensures ok { IfOk result (λ o. IsInTurn self.now session number o.now) }
         ensures err { IfErr result (λ e. (h : List Entry) → Stands self.now h → RefusesTurn e h session number) }
     {
-        let Some(open) = self.sessions.get(session) else {
-            return Err(Fault::UnknownSession);
-        };
-        if open.accepted != number {
-            return Err(Fault::OutOfTurn {
-                expected: open.accepted,
-            });
-        }
-        Ok(open)
+        unreachable!()
     }
 
     /// Judges what was read of a message for each subscription that is served.
@@ -86,21 +71,12 @@ impl Engine {
     /// # Errors
     /// Want of memory.
     fn judge(&self, position: u64, reading: &Reading) -> Result<Judged, AllocError>
+        requires stub { ⊥ }
         requires few { length reading.now.meaning.records ≤ 2 ^ 32 }
         requires short { position ≤ 100000000 }
         ensures { IfOk result (λ j. (h : List Entry) → Stands self.now h → length h ≡ position → IsJudgedFor self.now h reading.now.meaning j) }
     {
-        let domain = reading.header().domain;
-        let records = reading.records();
-        let served = self.subscriptions.served()?;
-        let all = Shares::of_records(self.alloc, &self.policy, domain, records, &served)?;
-        let split = self.split(&served, &all.shares)?;
-        let left = if split.cuts.is_empty() {
-            all
-        } else {
-            Shares::of_records(self.alloc, &self.policy, domain, records, &split.left)?
-        };
-        self.judged(position, split.cuts, left)
+        unreachable!()
     }
 }
 
@@ -128,20 +104,14 @@ impl Engine {
     /// # Errors
     /// Want of memory.
     fn judged(&self, position: u64, cuts: Vec<u64>, left: Shares) -> Result<Judged, AllocError>
+        requires stub { ⊥ }
         requires short { position ≤ 100000000 }
         ensures cuts { IfOk result (λ j. j.cuts.items ≡ cuts.items) }
         ensures shares { IfOk result (λ j. j.shares.items ≡ left.shares.items) }
         ensures entries { IfOk result (λ j. j.entries.items ≡ map (stamp (position + length cuts.items)) left.notes.items) }
         ensures streamable { IfOk result (λ j. AllByRecursion AreStreamed (map shown j.shares.items)) }
     {
-        see_shares(&left.shares);
-        let behind = position + cuts.len() as u64;
-        let entries = stamped(self.alloc, left.notes, behind)?;
-        Ok(Judged {
-            cuts,
-            shares: left.shares,
-            entries,
-        })
+        unreachable!()
     }
 
     /// Cuts those whose limits leave no room for their share.
@@ -149,32 +119,23 @@ impl Engine {
     /// # Errors
     /// Want of memory.
     fn split<'a>(&self, served: &[Served<'a>], shares: &[Share]) -> Result<Split<'a>, AllocError>
+        requires stub { ⊥ }
         requires each { length shares.now ≡ length served.now }
         ensures cuts { (domain : ℕ) (rules : List Rule) (records : List DataRecord) → map shown shares.now ≡ shares_of domain rules records served.now
             → IfOk result (λ s. s.cuts.items ≡ map (λ w. w.sub) (filter (lacks self.now.subscriptions domain rules records) served.now)) }
         ensures left { (domain : ℕ) (rules : List Rule) (records : List DataRecord) → map shown shares.now ≡ shares_of domain rules records served.now
             → IfOk result (λ s. s.left.items ≡ filter (has self.now.subscriptions domain rules records) served.now) }
     {
-        let mut cuts = Vec::new(self.alloc);
-        let mut left = Vec::new(self.alloc);
-        'served: for (place, who) in served.iter().enumerate() {
-            if self.subscriptions.lacks_room(&shares[place]) {
-                cuts.push(who.sub)?;
-            } else {
-                left.push(*who)?;
-            }
-        }
-        Ok(Split { cuts, left })
+        unreachable!()
     }
 }
 
 /// Each record of a share may be streamed, by its type.
 fn see_shares(shares: &[Share])
+    requires stub { ⊥ }
     ensures { AllByRecursion AreStreamed (map shown shares.now) }
 {
-    'shares: for share in shares {
-        see_records(&share.given);
-    }
+    unreachable!()
 }
 
 /// The audit's entries of notes of the message at a position.
@@ -182,16 +143,8 @@ fn see_shares(shares: &[Share])
 /// # Errors
 /// Want of memory.
 fn stamped(alloc: Global, notes: Vec<Note>, position: u64) -> Result<Vec<AuditEntry>, AllocError>
+    requires stub { ⊥ }
     ensures { IfOk result (λ v. v.items ≡ map (stamp position) notes.items) }
 {
-    let mut entries = Vec::with_capacity(alloc, notes.len())?;
-    for Note { index, sub, what } in notes {
-        entries.push_reserved(AuditEntry {
-            position,
-            index,
-            sub,
-            what,
-        });
-    }
-    Ok(entries)
+    unreachable!()
 }

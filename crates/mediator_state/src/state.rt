@@ -46,15 +46,11 @@ impl<C: Chronicle + Drop> State<C> {
     /// # Errors
     /// Want of memory.
     pub fn new(alloc: Global, limits: Limits, chronicle: C) -> Result<State<C>, AllocError>
+        requires stub { ⊥ }
         requires range { AreLimits limits }
         ensures { IfOk result (λ s. C.tells chronicle [] → StandsFor C.tells s []) }
     {
-        let streams = subscriber_stream::Limits {
-            queue: limits.queue,
-            shapes: limits.shapes,
-        };
-        let engine = Engine::new(alloc, streams, limits.audit)?;
-        Ok(State { chronicle, engine })
+        unreachable!()
     }
 
     /// Makes room for one entry more.
@@ -62,6 +58,7 @@ impl<C: Chronicle + Drop> State<C> {
     /// # Errors
     /// The journal is full, or memory ran out.
     fn make_room(&mut self, entry: &Entry) -> Result<(), Fault>
+        requires stub { ⊥ }
         ensures tells { (h : List Entry) → C.tells self.old.chronicle h → C.tells self.new.chronicle h }
         ensures engine { self.new.engine ≡ self.old.engine }
         ensures room { OnOk result (HasRoom (C.limits self.new.chronicle) (C.count self.new.chronicle) (C.octets self.new.chronicle) (entry.now ∷ [])) }
@@ -72,12 +69,7 @@ impl<C: Chronicle + Drop> State<C> {
         ensures reserved { OnOk result (0 < C.spare self.new.chronicle) }
         ensures err { IfErr result (λ e. LacksRoom e (C.limits self.old.chronicle) (C.count self.old.chronicle) (C.octets self.old.chronicle) (entry.now ∷ [])) }
     {
-        if !self.chronicle.room(from_ref(entry)) {
-            return Err(Fault::JournalFull);
-        }
-        let _length = self.chronicle.len();
-        self.chronicle.reserve(1)?;
-        Ok(())
+        unreachable!()
     }
 
     /// Opens a session, and answers its number: 1, 2, and so on.
@@ -85,18 +77,14 @@ impl<C: Chronicle + Drop> State<C> {
     /// # Errors
     /// The journal is full, or memory ran out.
     pub fn open(&mut self) -> Result<u64, Fault>
+        requires stub { ⊥ }
         requires stands { StandsForSome C.tells self.old }
         ensures ok { IfOk result (λ n. (h : List Entry) → StandsFor C.tells self.old h → Opens C.tells C.limits self.old h n self.new) }
         ensures untouched { IsUntouched self.old.engine self.new.engine }
         ensures same { OnErr result ((h : List Entry) → StandsFor C.tells self.old h → StandsFor C.tells self.new h) }
         ensures err { IfErr result (λ e. (h : List Entry) → StandsFor C.tells self.old h → LacksRoomAfter e (C.limits self.old.chronicle) h (Open (sessions_opened h + 1) ∷ [])) }
     {
-        let session = self.engine.next_session(self.chronicle.len());
-        let entry = Entry::Open { session };
-        self.make_room(&entry)?;
-        self.engine.open(session)?;
-        self.chronicle.push_reserved(entry);
-        Ok(session)
+        unreachable!()
     }
 
     /// Closes a session: its number never comes again.
@@ -104,20 +92,14 @@ impl<C: Chronicle + Drop> State<C> {
     /// # Errors
     /// No session with this number is open; the journal is full, or memory ran out.
     pub fn close(&mut self, session: u64) -> Result<(), Fault>
+        requires stub { ⊥ }
         requires stands { StandsForSome C.tells self.old }
         ensures ok { OnOk result ((h : List Entry) → StandsFor C.tells self.old h → Closes C.tells C.limits self.old h session self.new) }
         ensures untouched { IsUntouched self.old.engine self.new.engine }
         ensures same { OnErr result ((h : List Entry) → StandsFor C.tells self.old h → StandsFor C.tells self.new h) }
         ensures err { IfErr result (λ e. (h : List Entry) → StandsFor C.tells self.old h → RefusesClose e (C.limits self.old.chronicle) h session) }
     {
-        if !self.engine.is_open(session) {
-            return Err(Fault::UnknownSession);
-        }
-        let entry = Entry::Close { session };
-        self.make_room(&entry)?;
-        self.engine.close(session);
-        self.chronicle.push_reserved(entry);
-        Ok(())
+        unreachable!()
     }
 }
 
@@ -133,22 +115,14 @@ impl<C: Chronicle + Drop> State<C> {
     /// The session isn't open; the number isn't that of its next message; the message is malformed; the journal is full, or
     /// the audit; or memory ran out.
     pub fn receive(&mut self, session: u64, number: u64, message: Bytes) -> Result<Receipt, Fault>
+        requires stub { ⊥ }
         requires stands { StandsForSome C.tells self.old }
         ensures ok { IfOk result (λ r. (h : List Entry) → StandsFor C.tells self.old h → Receives C.tells C.limits self.old h session number message r self.new) }
         ensures untouched { IsUntouched self.old.engine self.new.engine }
         ensures same { OnErr result ((h : List Entry) → StandsFor C.tells self.old h → StandsFor C.tells self.new h) }
         ensures err { IfErr result (λ e. (h : List Entry) → StandsFor C.tells self.old h → RefusesReceive e (C.limits self.old.chronicle) self.old.engine h session number message) }
     {
-        let position = self.chronicle.len();
-        let plan = self.engine.plan(position, session, number, &message)?;
-        let entries = entries_of(self.engine.alloc, &plan.cuts, session, number, message)?;
-        if !self.chronicle.room(&entries) {
-            return Err(Fault::JournalFull);
-        }
-        self.engine.make_room(&plan)?;
-        self.chronicle.reserve(entries.len() as u64)?;
-        self.append(entries);
-        Ok(self.engine.accept(position, plan))
+        unreachable!()
     }
 
     /// Puts the policy of a text in force, and answers how many edits there were. What was accepted before is judged by the
@@ -157,20 +131,14 @@ impl<C: Chronicle + Drop> State<C> {
     /// # Errors
     /// The text is no policy, or one with aggregates, which are not carried out yet; the journal is full, or memory ran out.
     pub fn edit(&mut self, text: &str) -> Result<u64, Fault>
+        requires stub { ⊥ }
         requires stands { StandsForSome C.tells self.old }
         ensures ok { IfOk result (λ n. (h : List Entry) → StandsFor C.tells self.old h → Edits C.tells C.limits self.old h text.now n self.new) }
         ensures untouched { IsUntouched self.old.engine self.new.engine }
         ensures same { OnErr result ((h : List Entry) → StandsFor C.tells self.old h → StandsFor C.tells self.new h) }
         ensures err { IfErr result (λ e. (h : List Entry) → StandsFor C.tells self.old h → RefusesEdit e (C.limits self.old.chronicle) h text.now) }
     {
-        let policy = read_policy(self.engine.alloc, text)?;
-        let text = PolicyText::new(self.engine.alloc, text)?;
-        let entry = Entry::Edit { text };
-        let position = self.chronicle.len();
-        self.make_room(&entry)?;
-        let edits = self.engine.put_in_force(policy, position);
-        self.chronicle.push_reserved(entry);
-        Ok(edits)
+        unreachable!()
     }
 
     /// Begins a subscription under a name, and answers its number: 1, 2, and so on.
@@ -178,25 +146,14 @@ impl<C: Chronicle + Drop> State<C> {
     /// # Errors
     /// The text is no name, or that of a live subscription; the journal is full, or memory ran out.
     pub fn subscribe(&mut self, name: &str) -> Result<u64, Fault>
+        requires stub { ⊥ }
         requires stands { StandsForSome C.tells self.old }
         ensures ok { IfOk result (λ n. (h : List Entry) → StandsFor C.tells self.old h → Subscribes C.tells C.limits self.old h name.now n self.new) }
         ensures untouched { IsUntouched self.old.engine self.new.engine }
         ensures same { OnErr result ((h : List Entry) → StandsFor C.tells self.old h → StandsFor C.tells self.new h) }
         ensures err { IfErr result (λ e. (h : List Entry) → StandsFor C.tells self.old h → RefusesSubscribe e (C.limits self.old.chronicle) h name.now) }
     {
-        if !is_name(name) {
-            return Err(Fault::BadName);
-        }
-        if let Some(sub) = self.engine.named(name) {
-            return Err(Fault::AlreadySubscribed { sub });
-        }
-        let sub = self.engine.next_subscription(self.chronicle.len());
-        let copy = Name::new(self.engine.alloc, name.as_bytes())?;
-        let entry = Entry::Subscribe { sub, name: copy };
-        self.make_room(&entry)?;
-        self.engine.subscribe(sub, name)?;
-        self.chronicle.push_reserved(entry);
-        Ok(sub)
+        unreachable!()
     }
 
     /// Ends a subscription: what waits for it is gone, its name is free again, and its number never comes again.
@@ -204,6 +161,7 @@ impl<C: Chronicle + Drop> State<C> {
     /// # Errors
     /// No subscription with this number is live; the journal is full, or memory ran out.
     pub fn unsubscribe(&mut self, sub: u64) -> Result<(), Fault>
+        requires stub { ⊥ }
         requires stands { StandsForSome C.tells self.old }
         ensures ok { OnOk result ((h : List Entry) → StandsFor C.tells self.old h → Unsubscribes C.tells C.limits self.old h sub self.new) }
         ensures others { (q : ℕ) → q ≢ sub → place_of self.new.engine q ≡ place_of self.old.engine q }
@@ -212,26 +170,18 @@ impl<C: Chronicle + Drop> State<C> {
         ensures untouched { OnErr result (IsUntouched self.old.engine self.new.engine) }
         ensures err { IfErr result (λ e. (h : List Entry) → StandsFor C.tells self.old h → RefusesUnsubscribe e (C.limits self.old.chronicle) h sub) }
     {
-        if !self.engine.is_live(sub) {
-            return Err(Fault::UnknownSub);
-        }
-        let entry = Entry::Unsubscribe { sub };
-        self.make_room(&entry)?;
-        self.engine.unsubscribe(sub);
-        self.chronicle.push_reserved(entry);
-        Ok(())
+        unreachable!()
     }
 
     /// Appends entries for which there is room, in memory too.
     fn append(&mut self, entries: Vec<Entry>)
+        requires stub { ⊥ }
         requires room { HasRoom (C.limits self.old.chronicle) (C.count self.old.chronicle) (C.octets self.old.chronicle) entries.items }
         requires reserved { length entries.items ≤ C.spare self.old.chronicle }
         ensures tells { (h : List Entry) → C.tells self.old.chronicle h → C.tells self.new.chronicle (h ++ entries.items) }
         ensures engine { self.new.engine ≡ self.old.engine }
     {
-        'entries: for entry in entries {
-            self.chronicle.push_reserved(entry);
-        }
+        unreachable!()
     }
 }
 
@@ -246,6 +196,7 @@ impl<C: Chronicle + Drop> State<C> {
     /// # Errors
     /// No subscription with this number is live, or memory ran out.
     pub fn pull(&mut self, sub: u64, now: u32, target: u16) -> Result<Option<Bytes>, Fault>
+        requires stub { ⊥ }
         ensures ok { IfOk result (λ m. (h : List Entry) → StandsFor C.tells self.old h → Pulls C.tells self.old h sub now target m self.new) }
         ensures others { (q : ℕ) → q ≢ sub → place_of self.new.engine q ≡ place_of self.old.engine q }
         ensures drained { self.new.engine.audit.standing.drained ≡ self.old.engine.audit.standing.drained }
@@ -253,27 +204,16 @@ impl<C: Chronicle + Drop> State<C> {
         ensures untouched { OnErr result (IsUntouched self.old.engine self.new.engine) }
         ensures err { IfErr result (λ e. (h : List Entry) → StandsFor C.tells self.old h → RefusesPull e h sub) }
     {
-        if !self.engine.is_live(sub) {
-            return Err(Fault::UnknownSub);
-        }
-        match self.engine.subscriptions.pull(sub, now, target) {
-            Ok(message) => Ok(message),
-            Err(PullError::OutOfMemory) => Err(Fault::OutOfMemory),
-        }
+        unreachable!()
     }
 
     /// How a live subscription stands; `None` where none with this number is live. It takes no memory.
     pub fn status(&self, sub: u64) -> Option<Status>
+        requires stub { ⊥ }
         ensures some { IfSome result (λ s. (h : List Entry) → StandsFor C.tells self.now h → IsStatus h sub (place_of self.now.engine sub) s) }
         ensures none { IfNone result ((h : List Entry) → StandsFor C.tells self.now h → is_live sub h ≡ false) }
     {
-        let kept = self.engine.subscriptions.get(sub)?;
-        Some(Status {
-            queued: kept.stream.queued(),
-            handed: kept.stream.handed(),
-            shapes: kept.stream.shapes(),
-            cut: kept.is_cut,
-        })
+        unreachable!()
     }
 
     /// Hands out the oldest `most` of the audit's entries that wait, or all if there are fewer.
@@ -281,13 +221,14 @@ impl<C: Chronicle + Drop> State<C> {
     /// # Errors
     /// Want of memory, and then nothing has changed.
     pub fn drain_audit(&mut self, most: u32) -> Result<Vec<AuditEntry>, AllocError>
+        requires stub { ⊥ }
         ensures ok { IfOk result (λ out. (h : List Entry) → StandsFor C.tells self.old h
             → (out.items ≡ take most (drop self.old.engine.audit.standing.drained (audit_list h))) × StandsFor C.tells self.new h) }
         ensures places { (q : ℕ) → place_of self.new.engine q ≡ place_of self.old.engine q }
         ensures drained { IfOk result (λ out. self.new.engine.audit.standing.drained ≡ self.old.engine.audit.standing.drained + length out.items) }
         ensures err { OnErr result (self.new ≡ self.old) }
     {
-        self.engine.audit.drain(most)
+        unreachable!()
     }
 }
 
@@ -302,18 +243,10 @@ fn entries_of(
     number: u64,
     octets: Bytes,
 ) -> Result<Vec<Entry>, AllocError>
+    requires stub { ⊥ }
     ensures { IfOk result (λ v. v.items ≡ map Cut cuts.now ++ Message session number octets ∷ []) }
 {
-    let mut entries = Vec::with_capacity(alloc, cuts.len() + 1)?;
-    'cuts: for sub in cuts {
-        entries.push_reserved(Entry::Cut { sub: *sub });
-    }
-    entries.push_reserved(Entry::Message {
-        session,
-        number,
-        octets,
-    });
-    Ok(entries)
+    unreachable!()
 }
 
 ghost use Rattle.mediator_state.specs.Calls.{IsAccepted, RefusesPolicy};
@@ -321,40 +254,19 @@ ghost use Rattle.mediator_state.specs.Calls.{IsAccepted, RefusesPolicy};
 /// The policy that a text spells. One that defines aggregates is refused at its first line, as unknown words: so far nothing
 /// closes them.
 fn read_policy(alloc: Global, text: &str) -> Result<Policy, Fault>
+    requires stub { ⊥ }
     ensures ok { IfOk result (λ policy. IsAccepted text.now policy) }
     ensures err { IfErr result (λ e. RefusesPolicy e text.now) }
 {
-    let policy = match Policy::parse(alloc, text) {
-        Ok(policy) => policy,
-        Err(fault) => return Err(refusal(fault)),
-    };
-    if policy.aggregates().is_empty() {
-        Ok(policy)
-    } else {
-        Err(Fault::Policy(PolicyFault {
-            line: 1,
-            kind: FaultKind::UnknownWord,
-        }))
-    }
+    unreachable!()
 }
 
 ghost use Rattle.mediator_state.specs.Refusals.{policy_refusal};
 
 /// Want of memory is no fault of a policy.
 fn refusal(fault: PolicyFault) -> Fault
+    requires stub { ⊥ }
     ensures { result ≡ policy_refusal fault }
 {
-    match fault.kind {
-        FaultKind::OutOfMemory => Fault::OutOfMemory,
-        FaultKind::NoHeader
-        | FaultKind::UnknownWord
-        | FaultKind::BadName
-        | FaultKind::BadNumber
-        | FaultKind::BadPrefix
-        | FaultKind::BadTruncate
-        | FaultKind::UnknownAggregate
-        | FaultKind::DoubleAggregate
-        | FaultKind::BadKey
-        | FaultKind::TooMany => Fault::Policy(fault),
-    }
+    unreachable!()
 }
