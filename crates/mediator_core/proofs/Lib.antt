@@ -1,14 +1,1 @@
-pub mod ShareSteps
-pub mod Messages
-pub mod Receiving
-pub mod Sizes
-pub mod Received
-pub mod Delivering
-pub mod Lines
-pub mod Blaming
-pub mod InHand
-pub mod Streams
-pub mod Ends
-pub mod DueLaws
-pub mod PlainLaws
-pub mod Framed
+

@@ -1,4 +1,5 @@
 pub use Rattle.event_journal.specs.Sizes
+pub use Rattle.event_journal.specs.Room
 pub use Rattle.mediator_history.specs.Sessions
 pub use Rattle.mediator_history.specs.Subscriptions
 pub use Rattle.mediator_history.specs.Accepted
@@ -8,14 +9,15 @@ pub use Rattle.mediator_history.specs.Cuts
 pub mod Faults
 pub mod FaultTexts
 pub mod Failing
-pub mod Shares
-pub mod Recording
+pub mod Lines
 pub mod Offline
-pub mod Opening
-pub mod Desks
-pub mod Steps
-pub mod Pulling
 pub mod Due
+pub mod Opening
+pub mod Runs
+pub mod Steps
+pub mod Recording
+pub mod HandsOut
+pub mod Pulling
 pub mod Running
 pub mod PlainHistory
 pub mod Reading

@@ -5,15 +5,15 @@ use Rattle.std.specs.Io.KnownBytes.{Appends}
 use Rattle.octet_devices.specs.Written.{WritesFront}
 use Rattle.stream_meaning.specs.HandedOut.{AreHandedOut}
 use Rattle.event_journal.specs.declared.entry.Entry.TheVariants.{Cut as CutEntry}
-use Rattle.mediator_core.specs.declared.fault.Fault.TheVariants as fault
+use Rattle.mediator_state.specs.declared.fault.Fault.TheVariants as fault
 use Rattle.mediator_core.specs.declared.job.OfflineJob.{OfflineJob}
 use Rattle.mediator_core.specs.declared.job.OfflineFault.{OfflineFault}
-use Rattle.mediator_core.specs.declared.job.OfflineFault.TheVariants.{Read, Write, Framing, Turns, Core, Cut, AuditWrite}
-use Rattle.mediator_core.specs.declared.desk.Desk.{Desk}
-use Rattle.mediator_core.specs.Recording.{WritesOn}
-use Rattle.mediator_core.specs.Offline.{audit_limit, started, cuts_by, history_of, disclosed_by, due_by, due, audit_due}
+use Rattle.mediator_core.specs.declared.job.OfflineFault.TheVariants.{Write, Core, Cut, AuditWrite}
+use Rattle.mediator_core.specs.declared.run.Run.{Run}
+use Rattle.mediator_core.specs.Lines.{WritesOn}
+use Rattle.mediator_core.specs.Offline.{started, cuts_by, history_of, disclosed_by, due_by, due, audit_due}
 use Rattle.mediator_core.specs.Opening.{IsAcceptedJob}
-use Rattle.mediator_core.specs.Desks.{Stands, Small}
+use Rattle.mediator_core.specs.Runs.{audit_waiting, Stands, Small}
 use Rattle.mediator_core.specs.Steps.{end_of, Accepts, RefusesMessage}
 
 -- each message is accepted after those before it, and cuts nobody
@@ -21,22 +21,22 @@ abbrev pub AreAccepted : OfflineJob → List (List ℕ) → List (List ℕ) → 
 AreAccepted job before [] = Unit {0}
 AreAccepted job before (octets ∷ messages) = (Accepts (history_of job before) octets × (cuts_by (history_of job before) octets ≡ [])) × AreAccepted job (before ++ octets ∷ []) messages
 
--- a desk before the first message
-pub record IsOpened (d : Desk) (job : OfflineJob) : Type 0 where
+-- a run before the first message
+pub record IsOpened (d : Run) (job : OfflineJob) : Type 0 where
   pub job_is : d.job ≡ job
   pub job_accepted : IsAcceptedJob job
   pub stands : Stands d (started job) 0
   pub small : Small (started job)
-  pub quiet : d.audit.standing.entries ≡ []
+  pub quiet : audit_waiting d ≡ []
   pub sent : d.sent ≡ 0
 
 -- these messages were handled, and what is due for them was written
-pub record IsRunning (d : Desk) (job : OfflineJob) (messages : List (List ℕ)) (held holds aheld aholds : Option (List ℕ)) : Type 0 where
+pub record IsRunning (d : Run) (job : OfflineJob) (messages : List (List ℕ)) (held holds aheld aholds : Option (List ℕ)) : Type 0 where
   pub job_is : d.job ≡ job
   pub job_accepted : IsAcceptedJob job
   pub stands : Stands d (history_of job messages) (end_of (history_of job messages))
   pub small : Small (history_of job messages)
-  pub quiet : d.audit.standing.entries ≡ []
+  pub quiet : audit_waiting d ≡ []
   pub sent : d.sent ≡ length (concat (due job messages))
   pub few : d.sent ≤ 65535 * end_of (history_of job messages)
   pub written : Appends held holds (concat (due job messages))
@@ -44,8 +44,8 @@ pub record IsRunning (d : Desk) (job : OfflineJob) (messages : List (List ℕ)) 
   pub accepted : AreAccepted job [] messages
   pub handed : AreHandedOut (due job messages) (disclosed_by job messages) (end_of (history_of job messages))
 
--- a desk that runs somewhere
-pub record Runs (d : Desk) (holds aholds : Option (List ℕ)) : Type 0 where
+-- a run that runs somewhere
+pub record Runs (d : Run) (holds aholds : Option (List ℕ)) : Type 0 where
   pub job : OfflineJob
   pub messages : List (List ℕ)
   pub held : Option (List ℕ)
@@ -53,7 +53,7 @@ pub record Runs (d : Desk) (holds aholds : Option (List ℕ)) : Type 0 where
   pub running : IsRunning d job messages held holds aheld aholds
 
 -- a message more was handled
-pub record HandlesOn (old new : Desk) (octets : List ℕ) (holds writes aholds awrites : Option (List ℕ)) : Type 0 where
+pub record HandlesOn (old new : Run) (octets : List ℕ) (holds writes aholds awrites : Option (List ℕ)) : Type 0 where
   pub after : (job : OfflineJob) (messages : List (List ℕ)) (held aheld : Option (List ℕ)) → IsRunning old job messages held holds aheld aholds
       → IsRunning new job (messages ++ octets ∷ []) held writes aheld awrites
 
@@ -78,9 +78,7 @@ StopsAt (Core (fault.Malformed why)) job messages octets held writes aheld awrit
 StopsAt (Core fault.JournalFull) job messages octets held writes aheld awrites failed afailed =
     RefusesMessage fault.JournalFull (history_of job messages) octets × WritesNoMore job messages held writes aheld awrites
 StopsAt (Core (fault.AuditFull need room)) job messages octets held writes aheld awrites failed afailed =
-    RefusesMessage (fault.AuditFull need room) (history_of job messages) octets × (room ≡ audit_limit) × WritesNoMore job messages held writes aheld awrites
-StopsAt (Core (fault.Policy why)) job messages octets held writes aheld awrites failed afailed = ⊥
-StopsAt (Core fault.BadName) job messages octets held writes aheld awrites failed afailed = ⊥
+    RefusesMessage (fault.AuditFull need room) (history_of job messages) octets × WritesNoMore job messages held writes aheld awrites
 StopsAt (Write sent) job messages octets held writes aheld awrites failed afailed =
     Accepts (history_of job messages) octets × WritesFront held writes (concat (due job (messages ++ octets ∷ []))) sent failed × Appends aheld awrites (audit_due job messages)
 StopsAt Cut job messages octets held writes aheld awrites failed afailed =
@@ -89,10 +87,8 @@ StopsAt Cut job messages octets held writes aheld awrites failed afailed =
 StopsAt AuditWrite job messages octets held writes aheld awrites failed afailed =
     Accepts (history_of job messages) octets × Appends held writes (concat (due job (messages ++ octets ∷ [])))
     × WritesOn aheld awrites (audit_due job messages) (audit_due job (messages ++ octets ∷ [])) × (afailed ≡ true)
-StopsAt Read job messages octets held writes aheld awrites failed afailed = ⊥
-StopsAt (Framing why) job messages octets held writes aheld awrites failed afailed = ⊥
-StopsAt Turns job messages octets held writes aheld awrites failed afailed = ⊥
+StopsAt _ job messages octets held writes aheld awrites failed afailed = ⊥
 
-pub record StopsOn (e : OfflineFault) (old : Desk) (octets : List ℕ) (holds writes aholds awrites : Option (List ℕ)) (failed afailed : Bool) : Type 0 where
+pub record StopsOn (e : OfflineFault) (old : Run) (octets : List ℕ) (holds writes aholds awrites : Option (List ℕ)) (failed afailed : Bool) : Type 0 where
   pub after : (job : OfflineJob) (messages : List (List ℕ)) (held aheld : Option (List ℕ)) → IsRunning old job messages held holds aheld aholds
       → StopsAt e job messages octets held writes aheld awrites failed afailed

@@ -48,7 +48,10 @@ impl<C: Chronicle + Drop> State<C> {
     pub fn new(alloc: Global, limits: Limits, chronicle: C) -> Result<State<C>, AllocError>
         requires stub { ⊥ }
         requires range { AreLimits limits }
-        ensures { IfOk result (λ s. C.tells chronicle [] → StandsFor C.tells s []) }
+        ensures stands { IfOk result (λ s. C.tells chronicle [] → StandsFor C.tells s []) }
+        ensures kept { IfOk result (λ s. s.chronicle ≡ chronicle) }
+        ensures limits { IfOk result (λ s. s.engine.limits ≡ record { queue = limits.queue; shapes = limits.shapes }) }
+        ensures audit_limit { IfOk result (λ s. s.engine.audit.limit ≡ limits.audit) }
     {
         unreachable!()
     }
@@ -81,6 +84,7 @@ impl<C: Chronicle + Drop> State<C> {
         requires stands { StandsForSome C.tells self.old }
         ensures ok { IfOk result (λ n. (h : List Entry) → StandsFor C.tells self.old h → Opens C.tells C.limits self.old h n self.new) }
         ensures untouched { IsUntouched self.old.engine self.new.engine }
+        ensures journaled { C.limits self.new.chronicle ≡ C.limits self.old.chronicle }
         ensures same { OnErr result ((h : List Entry) → StandsFor C.tells self.old h → StandsFor C.tells self.new h) }
         ensures err { IfErr result (λ e. (h : List Entry) → StandsFor C.tells self.old h → LacksRoomAfter e (C.limits self.old.chronicle) h (Open (sessions_opened h + 1) ∷ [])) }
     {
@@ -96,6 +100,7 @@ impl<C: Chronicle + Drop> State<C> {
         requires stands { StandsForSome C.tells self.old }
         ensures ok { OnOk result ((h : List Entry) → StandsFor C.tells self.old h → Closes C.tells C.limits self.old h session self.new) }
         ensures untouched { IsUntouched self.old.engine self.new.engine }
+        ensures journaled { C.limits self.new.chronicle ≡ C.limits self.old.chronicle }
         ensures same { OnErr result ((h : List Entry) → StandsFor C.tells self.old h → StandsFor C.tells self.new h) }
         ensures err { IfErr result (λ e. (h : List Entry) → StandsFor C.tells self.old h → RefusesClose e (C.limits self.old.chronicle) h session) }
     {
@@ -119,6 +124,7 @@ impl<C: Chronicle + Drop> State<C> {
         requires stands { StandsForSome C.tells self.old }
         ensures ok { IfOk result (λ r. (h : List Entry) → StandsFor C.tells self.old h → Receives C.tells C.limits self.old h session number message r self.new) }
         ensures untouched { IsUntouched self.old.engine self.new.engine }
+        ensures journaled { C.limits self.new.chronicle ≡ C.limits self.old.chronicle }
         ensures same { OnErr result ((h : List Entry) → StandsFor C.tells self.old h → StandsFor C.tells self.new h) }
         ensures err { IfErr result (λ e. (h : List Entry) → StandsFor C.tells self.old h → RefusesReceive e (C.limits self.old.chronicle) self.old.engine h session number message) }
     {
@@ -135,6 +141,7 @@ impl<C: Chronicle + Drop> State<C> {
         requires stands { StandsForSome C.tells self.old }
         ensures ok { IfOk result (λ n. (h : List Entry) → StandsFor C.tells self.old h → Edits C.tells C.limits self.old h text.now n self.new) }
         ensures untouched { IsUntouched self.old.engine self.new.engine }
+        ensures journaled { C.limits self.new.chronicle ≡ C.limits self.old.chronicle }
         ensures same { OnErr result ((h : List Entry) → StandsFor C.tells self.old h → StandsFor C.tells self.new h) }
         ensures err { IfErr result (λ e. (h : List Entry) → StandsFor C.tells self.old h → RefusesEdit e (C.limits self.old.chronicle) h text.now) }
     {
@@ -150,6 +157,7 @@ impl<C: Chronicle + Drop> State<C> {
         requires stands { StandsForSome C.tells self.old }
         ensures ok { IfOk result (λ n. (h : List Entry) → StandsFor C.tells self.old h → Subscribes C.tells C.limits self.old h name.now n self.new) }
         ensures untouched { IsUntouched self.old.engine self.new.engine }
+        ensures journaled { C.limits self.new.chronicle ≡ C.limits self.old.chronicle }
         ensures same { OnErr result ((h : List Entry) → StandsFor C.tells self.old h → StandsFor C.tells self.new h) }
         ensures err { IfErr result (λ e. (h : List Entry) → StandsFor C.tells self.old h → RefusesSubscribe e (C.limits self.old.chronicle) h name.now) }
     {
@@ -203,6 +211,9 @@ impl<C: Chronicle + Drop> State<C> {
         ensures same { OnErr result ((h : List Entry) → StandsFor C.tells self.old h → StandsFor C.tells self.new h) }
         ensures untouched { OnErr result (IsUntouched self.old.engine self.new.engine) }
         ensures err { IfErr result (λ e. (h : List Entry) → StandsFor C.tells self.old h → RefusesPull e h sub) }
+        ensures journaled { C.limits self.new.chronicle ≡ C.limits self.old.chronicle }
+        ensures limits { self.new.engine.limits ≡ self.old.engine.limits }
+        ensures audit_limit { self.new.engine.audit.limit ≡ self.old.engine.audit.limit }
     {
         unreachable!()
     }
@@ -226,6 +237,9 @@ impl<C: Chronicle + Drop> State<C> {
             → (out.items ≡ take most (drop self.old.engine.audit.standing.drained (audit_list h))) × StandsFor C.tells self.new h) }
         ensures places { (q : ℕ) → place_of self.new.engine q ≡ place_of self.old.engine q }
         ensures drained { IfOk result (λ out. self.new.engine.audit.standing.drained ≡ self.old.engine.audit.standing.drained + length out.items) }
+        ensures journaled { C.limits self.new.chronicle ≡ C.limits self.old.chronicle }
+        ensures limits { self.new.engine.limits ≡ self.old.engine.limits }
+        ensures audit_limit { self.new.engine.audit.limit ≡ self.old.engine.audit.limit }
         ensures err { OnErr result (self.new ≡ self.old) }
     {
         unreachable!()
