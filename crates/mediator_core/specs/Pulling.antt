@@ -12,6 +12,7 @@ use Rattle.mediator_core.specs.declared.job.OfflineFault.{OfflineFault}
 use Rattle.mediator_core.specs.declared.job.OfflineFault.TheVariants.{Write, Core}
 use Rattle.mediator_core.specs.declared.run.Run.{Run}
 use Rattle.mediator_core.specs.Runs.{Stands, Small, KeepsAudit}
+use Rattle.mediator_core.specs.HandsOut.{HandsOut}
 use Rattle.mediator_core.specs.Steps.{end_of}
 
 -- a run that stands somewhere in what it discloses, and counts what it has written
