@@ -37,6 +37,8 @@ use Rattle.mediator_core.specs.HandsOut.{HandsOut}
 use Rattle.mediator_core.proofs.Receiving.{within_end}
 use Rattle.mediator_core.specs.Steps.{end_of}
 use Rattle.mediator_core.specs.declared.job.OfflineFault.{OfflineFault}
+use Rattle.mediator_core.specs.declared.job.OfflineFault.TheVariants.{Core}
+use Rattle.mediator_state.specs.declared.fault.Fault.TheVariants as fault
 use Rattle.mediator_core.specs.Pulling.{IsDelivering, Pulls, StopsWriting, Delivers, StopsDelivery, FailsDelivery}
 
 -- ---- a message is pulled
@@ -302,9 +304,9 @@ turn_smaller old d e f held holds m start so p state =
     )
 
 -- the writer failed at a message
-pub turn_fails : (old d e : Run) (held holds writes : Option (List ℕ)) (m : List ℕ) (fault : OfflineFault) (failed : Bool) → IsDelivering old → IsPulling old d held holds → Pulled d e (Some m)
-    → StopsWriting fault e holds writes m failed → FailsDelivery fault old held writes failed
-turn_fails old d e held holds writes m fault failed start so p stops = record {
+pub turn_fails : (old d e : Run) (held holds writes : Option (List ℕ)) (m : List ℕ) (e' : OfflineFault) (failed : Bool) → IsDelivering old → IsPulling old d held holds → Pulled d e (Some m)
+    → StopsWriting e' e holds writes m failed → FailsDelivery e' old held writes failed
+turn_fails old d e held holds writes m e' failed start so p stops = record {
   messages = so.messages ++ m ∷ [];
   handed = λ h q begin small. next h q begin small (so.handed h q begin small);
   stops = subst (λ x. StopsDelivery x old held writes failed (so.messages ++ m ∷ [])) (sym stops.is) (length (concat so.messages) + stops.sent, (omega (arith, p.sent, so.sent)), front);
@@ -323,6 +325,14 @@ turn_fails old d e held holds writes m fault failed start so p stops = record {
       written = subst (Appends held writes) (sym (take-add-append (concat so.messages) m stops.sent)) (Appends-trans held holds writes (concat so.messages) (take stops.sent m) so.written stops.front.written);
       failed = stops.front.failed;
     })
+
+-- memory ran out at a pull
+pub memory_fails : (old d : Run) (held holds : Option (List ℕ)) (e : OfflineFault) (failed : Bool) → e ≡ Core fault.OutOfMemory → IsPulling old d held holds → FailsDelivery e old held holds failed
+memory_fails old d held holds e failed is so = rw is (record {
+  messages = so.messages;
+  handed = λ h q begin small. let at = so.handed h q begin small in (at.place, at.hands);
+  stops = so.written;
+})
 
 pub some_same : (o : Option (List ℕ)) (a b : List ℕ) → o ≡ Some a → b ≡ a → o ≡ Some b
 some_same o a b is same = is ∙ ap some_message (sym same)

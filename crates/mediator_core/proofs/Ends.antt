@@ -1,5 +1,5 @@
 -- The reading of a stream, from its start to its end.
-use Rattle.std.proofs.Common.{◌≡◌, ℕ, ◌+◌, ◌≤◌, ◌<◌, Bool, true, List, [], ◌∷◌, ◌++◌, length, take, Option, Some, None, inl, inr, refl, sym, ap, ◌∙◌, subst, arith, append-nil, append_assoc, length-append}
+use Rattle.std.proofs.Common.{◌≡◌, ℕ, ◌+◌, ◌≤◌, ◌<◌, Bool, true, false, List, [], ◌∷◌, ◌++◌, length, take, Option, Some, None, inl, inr, refl, sym, ap, ◌∙◌, subst, arith, append-nil, append_assoc, length-append}
 use Rattle.std.proofs.lemmas.List.{take_all}
 use Rattle.std.specs.Io.KnownBytes.{Consumes, IsAtEnd}
 use Rattle.std.proofs.KnownBytes.{Appends-nil, Consumes-nil, Consumes-trans}
@@ -143,8 +143,7 @@ faulty w d i k job given mid left held holds aheld aholds so (inl was) = record 
   taken = same_read given mid left so.octets so.taken was.1.read;
   stops = (
     omega (arith, so.few),
-    so.messages,
-    done_of d job so.octets so.messages (Some w) [] held holds aheld aholds so.running (emptied w so.octets so.messages i.framing.pending (subst (λ x. IsFramed so.octets so.messages x i.framing.pending) was.0 so.framed)),
+    (so.messages, done_of d job so.octets so.messages (Some w) [] held holds aheld aholds so.running (emptied w so.octets so.messages i.framing.pending (subst (λ x. IsFramed so.octets so.messages x i.framing.pending) was.0 so.framed))),
   );
 }
 faulty w d i k job given mid left held holds aheld aholds so (inr now) = record {
@@ -152,9 +151,8 @@ faulty w d i k job given mid left held holds aheld aholds so (inr now) = record 
   taken = Consumes-trans given mid left so.octets now.piece so.taken now.is_piece.read;
   stops = (
     omega (arith, so.few, now.is_piece.few, now.turn, length-append so.octets now.piece),
-    so.messages ++ [],
-    done_of d job (so.octets ++ now.piece) (so.messages ++ []) (Some w) [] held holds aheld aholds (subst (λ ms. IsRunning d job ms held holds aheld aholds) (sym (append-nil so.messages)) so.running)
-        (emptied w (so.octets ++ now.piece) (so.messages ++ []) k.framing.pending (subst (λ x. IsFramed (so.octets ++ now.piece) (so.messages ++ []) x k.framing.pending) now.fault_is (now.goes_on.after so.octets so.messages so.framed))),
+    (so.messages ++ [], done_of d job (so.octets ++ now.piece) (so.messages ++ []) (Some w) [] held holds aheld aholds (subst (λ ms. IsRunning d job ms held holds aheld aholds) (sym (append-nil so.messages)) so.running)
+        (emptied w (so.octets ++ now.piece) (so.messages ++ []) k.framing.pending (subst (λ x. IsFramed (so.octets ++ now.piece) (so.messages ++ []) x k.framing.pending) now.fault_is (now.goes_on.after so.octets so.messages so.framed)))),
   );
 }
 

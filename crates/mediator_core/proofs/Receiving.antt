@@ -1,10 +1,10 @@
 -- A message that a run accepts, or refuses.
 use Rattle.std.proofs.Common.{◌≡◌, ℕ, ◌+◌, ◌≤◌, ◌<◌, ◌^◌, ◌⊎◌, inl, inr, Bool, true, false, List, [], ◌∷◌, ◌++◌, length, drop, map, Option, Some, None, Result, Ok, Err, refl, sym, ap, ◌∙◌, subst, arith, append_assoc, append-nil, length-append}
 use Rattle.std.specs.Result.{IsErr, IsErrAnd, IfErr}
-use Rattle.std.specs.Prelude.{filter, nat_lt, unwrap_or}
+use Rattle.std.specs.Prelude.{filter, nat_lt, take, OnOk}
 use Rattle.std.specs.List.{flat_map, enumerate_from}
 use Rattle.std.proofs.lemmas.Bool.{ltb-true, ltb-false}
-use Rattle.std.proofs.lemmas.List.{drop_all, length_push, length-map, length-drop}
+use Rattle.std.proofs.lemmas.List.{drop_all, take_all, length_push, length-map, length-drop}
 use Rattle.std.proofs.Math.Seq.{drop-append_seam}
 use Rattle.std.proofs.lemmas.List.Concat.{flat_map-cons}
 use Rattle.std.proofs.lemmas.List.FromFn.{length-enumerate_from}
@@ -219,7 +219,7 @@ goes_on old new octets r h t so small none = (subst (λ x. Stands new x (end_of 
         (omega (arith, accepts, octets-push h next, small.records, accepted-many h octets, few_records (messages_of 1 h) octets))
       where
         octets_one : history_octets (next ∷ []) ≡ 21 + length octets
-        octets_one = octets-push [] next
+        octets_one = omega (arith, octets-push [] next)
 
 pub received : (old new : Run) (octets : List ℕ) (r : Receipt) → Taken old new octets r → Receives old octets (nat_lt 0 r.cut) new
 received old new octets r t = record {
@@ -228,7 +228,8 @@ received old new octets r t = record {
   drained = t.untouched.drained;
   goes_on = λ h so small is.
       let none = nothing h so is (one_or_none h octets (served_alone h so.alone so.serving)) in
-      (none, goes_on old new octets r h t so small none);
+      let next = goes_on old new octets r h t so small none in
+      (none, next.0, next.1);
 }
   where
     one : (h : List Entry) → Stands old h (end_of h) → nat_lt 0 r.cut ≡ true → (cuts_by h octets ≡ []) ⊎ (cuts_by h octets ≡ Cut 1 ∷ []) → cuts_by h octets ≡ Cut 1 ∷ []
@@ -312,3 +313,26 @@ refused e old octets had refuses = record { after = λ h so small. by e h so (re
       no e = absurd cc
     by (fault.OutOfTurn expected) h so x = absurd (x.2 (so.messages ∙ sym x.1))
     by _ h so x = absurd x
+
+-- ---- pulls and drains
+
+pub pull_memory : (f : Fault) (h : List Entry) → is_live 1 h ≡ true → calls.RefusesPull f h 1 → f ≡ fault.OutOfMemory
+pull_memory fault.UnknownSub h live x = absurd (no (sym x ∙ live))
+  where
+    no : false ≡ true → ⊥
+    no e = absurd cc
+pull_memory fault.OutOfMemory h live x = refl
+pull_memory _ h live x = absurd x
+
+-- all that waits is drained
+pub drained_are : (d : Run) (h : List Entry) (out : List AuditEntry) → StandsFor tells d.state h → length (audit_waiting d) < 2 ^ 32 → out ≡ take 4294967295 (drop (audit_drained d) (audit_list h)) → out ≡ audit_waiting d
+drained_are d h out so few is = is ∙ ap (take 4294967295) (sym so.stands.audit.waiting) ∙ take_all 4294967295 (audit_waiting d) (omega (arith, few))
+
+pub quiet_after : (d e : Run) (h : List Entry) (out : List AuditEntry) → StandsFor tells d.state h → StandsFor tells e.state h → out ≡ audit_waiting d → audit_drained e ≡ audit_drained d + length out → audit_waiting e ≡ []
+quiet_after d e h out so then is count =
+    then.stands.audit.waiting
+    ∙ drop_all (audit_drained e) (audit_list h) (omega (arith, count, ap length is, ap length so.stands.audit.waiting, length-drop (audit_drained d) (audit_list h), so.stands.audit.within))
+
+pub on_ok : {X E : Type 0} {P : Type 0} (r : Result X E) → P → OnOk r P
+on_ok (Ok x) p = p
+on_ok (Err e) p = tt

@@ -3,7 +3,7 @@ use Rattle.mediator_core.specs.Failing.{writer_after}
 use Rattle.mediator_core.proofs.Blaming.{handed_on}
 use Rattle.mediator_core.proofs.Receiving.{err_gives}
 use Rattle.mediator_core.specs.Pulling.{Pulls, StopsWriting}
-use Rattle.mediator_core.proofs.Delivering.{turn, turn_ends, turn_fits, turn_smaller, turn_fails, turn_serves, some_same}
+use Rattle.mediator_core.proofs.Delivering.{turn, turn_ends, turn_fits, turn_smaller, turn_fails, turn_serves, memory_fails, some_same}
 use Rattle.mediator_core.proofs.run.Run.deliver.Goals as goal
 
 pub returns-in_default-clause-ok : goal.returns-in_default-clause-ok
@@ -42,3 +42,8 @@ returns-in_err-message-clause-fails g c =
 
 pub pull-requires : goal.pull-requires
 pull-requires g c = record { serving = turn_serves c.args.self.now c.pulls.self (g.W.Sink.contents c.args.writer.now) (g.W.Sink.contents c.pulls.writer) c.requires.delivering c.pulls.invariant.0 }
+
+pub returns-in_err-message-clause-err : goal.returns-in_err-message-clause-err
+returns-in_err-message-clause-err g c =
+    err_gives c.from_residual.result c.from_residual.ensures
+    (λ e is. memory_fails c.args.self.now c.pulls.self (g.W.Sink.contents c.args.writer.now) (g.W.Sink.contents c.pulls.writer) e (g.W.Sink.has_failed c.pulls.writer) (is ∙ c.in_err-message.ensures.err) c.pulls.invariant.0)

@@ -5,7 +5,7 @@ use Rattle.mediator_core.specs.Pulling.{FailsDelivery}
 use Rattle.mediator_core.specs.Running.{StopsAt}
 use Rattle.mediator_core.proofs.Blaming.{lines_only, delivery_only}
 use Rattle.mediator_core.proofs.Receiving.{err_gives}
-use Rattle.mediator_core.proofs.InHand.{stops_refused, stops_recording, stops_delivering, delivered, handled, was_cut_at, stops_cut, stops_cut_recording}
+use Rattle.mediator_core.proofs.InHand.{stops_refused, stops_recording, stops_delivering, delivered, handled, was_cut_at, stops_cut, stops_cut_recording, cut_history, delivered_history}
 use Rattle.mediator_core.proofs.run.Run.handle.Goals as goal
 
 pub returns-in_err-receive-clause-err : goal.returns-in_err-receive-clause-err
@@ -75,3 +75,6 @@ pub returns-in_err-record-2-clause-fails : goal.returns-in_err-record-2-clause-f
 returns-in_err-record-2-clause-fails g c =
     err_gives c.from_residual-in_err-record-2.result c.from_residual-in_err-record-2.ensures
     (λ e is. lines_only e c.in_err-record-2.field-0.0 (g.W.Sink.has_failed c.args.writer.now) (g.W.Sink.has_failed c.deliver.new.writer) (g.A.Sink.has_failed c.args.audit_writer.now) (g.A.Sink.has_failed c.record-2.new.writer) is c.in_err-record-2.ensures.cause c.in_err-record-2.ensures.fails c.in_ok-deliver.ensures.stays)
+
+pub record-requires-2-clause-known : goal.record-requires-2-clause-known
+record-requires-2-clause-known g c = delivered_history c.args.self.now c.receive.new.self c.deliver.new.self c.args.message (g.W.Sink.contents c.args.writer.now) (g.W.Sink.contents c.deliver.new.writer) (g.A.Sink.contents c.args.audit_writer.now) c.requires.running (subst (λ b. Receives c.args.self.now c.args.message b c.receive.new.self) c.if-branch.false c.in_ok-receive.ensures.ok) c.in_ok-deliver.ensures.ok

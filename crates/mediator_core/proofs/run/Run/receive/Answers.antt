@@ -1,4 +1,4 @@
-use Rattle.std.proofs.Common.{refl, subst, sym, arith}
+use Rattle.std.proofs.Common.{◌+◌, refl, subst, sym, arith}
 use Rattle.mediator_state.specs.Calls.{RefusesReceive}
 use Rattle.mediator_core.specs.Steps.{Refuses}
 use Rattle.mediator_core.proofs.Receiving.{err_gives, refused, received, records_fit, few_noted}
@@ -13,7 +13,7 @@ pub overflow_add-self-2 : goal.overflow_add-self-2
 overflow_add-self-2 c = omega (arith, records_fit c.args.self.now (record { alloc = c.args.self.now.alloc; job = c.args.self.now.job; state = c.receive.new.self; messages = 0; records = 0; sent = 0 }) c.args.message c.in_ok-receipt.receipt c.requires.delivered c.in_ok-receipt.ensures.ok)
 
 pub returns-clause-few : goal.returns-clause-few
-returns-clause-few c = few_noted c.args.self.now _ c.args.message c.in_ok-receipt.receipt c.requires.delivered (record {
+returns-clause-few c = few_noted c.args.self.now (record { alloc = c.args.self.now.alloc; job = c.args.self.now.job; state = c.receive.new.self; messages = c.args.self.now.messages + 1; records = c.args.self.now.records + c.in_ok-receipt.receipt.records; sent = c.args.self.now.sent }) c.args.message c.in_ok-receipt.receipt c.requires.delivered (record {
   job = refl;
   messages = refl;
   records = refl;
@@ -23,7 +23,7 @@ returns-clause-few c = few_noted c.args.self.now _ c.args.message c.in_ok-receip
 })
 
 pub returns-clause-ok : goal.returns-clause-ok
-returns-clause-ok c = received c.args.self.now _ c.args.message c.in_ok-receipt.receipt (record {
+returns-clause-ok c = received c.args.self.now (record { alloc = c.args.self.now.alloc; job = c.args.self.now.job; state = c.receive.new.self; messages = c.args.self.now.messages + 1; records = c.args.self.now.records + c.in_ok-receipt.receipt.records; sent = c.args.self.now.sent }) c.args.message c.in_ok-receipt.receipt (record {
   job = refl;
   messages = refl;
   records = refl;
