@@ -35,7 +35,7 @@ use Rattle.mediator_core.specs.declared.run.Run.{Run}
 use Rattle.mediator_core.specs.Runs.{tells, audit_drained, Stands, Small, IsServing, SameButState, KeepsAudit}
 use Rattle.mediator_core.specs.HandsOut.{HandsOut}
 use Rattle.mediator_core.proofs.Receiving.{within_end}
-use Rattle.mediator_core.specs.Steps.{end_of}
+use Rattle.mediator_core.specs.Offline.{end_of}
 use Rattle.mediator_core.specs.declared.job.OfflineFault.{OfflineFault}
 use Rattle.mediator_core.specs.declared.job.OfflineFault.TheVariants.{Core}
 use Rattle.mediator_state.specs.declared.fault.Fault.TheVariants as fault

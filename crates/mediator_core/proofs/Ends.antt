@@ -26,9 +26,11 @@ use Rattle.mediator_core.specs.declared.job.OfflineFault.TheVariants.{Write, Cor
 use Rattle.mediator_core.specs.declared.run.Run.{Run}
 use Rattle.mediator_core.specs.Offline.{started, history_of, disclosed_by, due, after_message, next_message as next_entry}
 use Rattle.mediator_core.specs.Runs.{IsServing, Stands}
-use Rattle.mediator_core.specs.Steps.{end_of}
-use Rattle.mediator_core.specs.Running.{AreAccepted, IsOpened, IsRunning, Runs, StopsAt}
-use Rattle.mediator_core.specs.Reading.{IsDone, StopsInHand, HandlesAll, StopsAmong, AreRead, IsAfter, ReachesEnd, StopsAfter, StopsReading, Finishes}
+use Rattle.mediator_core.specs.Offline.{end_of}
+use Rattle.mediator_core.specs.Stopping.{AreAccepted, StopsAt}
+use Rattle.mediator_core.specs.Running.{IsOpened, IsRunning, Runs}
+use Rattle.mediator_core.specs.Reading.{IsDone, StopsInHand, AreRead, StopsAfter, StopsReading, Finishes}
+use Rattle.mediator_core.specs.Reaching.{HandlesAll, StopsAmong, IsAfter, ReachesEnd}
 use Rattle.mediator_core.proofs.Streams.{done_of, emptied}
 use Rattle.mediator_core.proofs.InHand.{fold-snoc}
 

@@ -34,10 +34,13 @@ use Rattle.mediator_core.specs.Lines.{lines_of, WritesSome, WritesOn}
 use Rattle.mediator_core.specs.Recording.{Records, StopsLines}
 use Rattle.mediator_core.specs.Offline.{started, after_message, history_of, disclosed_by, and_then, pulled as pulled_list, pulled_to_end, due_by, due, audit_due, cuts_by, next_message as next_entry}
 use Rattle.mediator_core.specs.Runs.{tells, audit_waiting, audit_drained, HasHistory, Stands, Small}
-use Rattle.mediator_core.specs.Steps.{end_of, HasDelivered, Accepts, Receives, RefusesMessage}
+use Rattle.mediator_core.specs.Offline.{end_of}
+use Rattle.mediator_core.specs.Steps.{HasDelivered, Receives}
+use Rattle.mediator_core.specs.Accepting.{Accepts, RefusesMessage}
 use Rattle.mediator_core.specs.HandsOut.{HandsOut}
 use Rattle.mediator_core.specs.Pulling.{IsDelivering, Delivers, StopsDelivery, FailsDelivery}
-use Rattle.mediator_core.specs.Running.{AreAccepted, IsRunning, Runs, WritesInHand, StopsAt}
+use Rattle.mediator_core.specs.Stopping.{AreAccepted, WritesInHand, StopsAt}
+use Rattle.mediator_core.specs.Running.{IsRunning, Runs}
 use Rattle.mediator_state.specs.declared.fault.Fault.{Fault}
 use Rattle.mediator_state.specs.declared.fault.Fault.TheVariants as fault
 use Rattle.mediator_core.specs.declared.job.OfflineFault.{OfflineFault}

@@ -42,7 +42,9 @@ use Rattle.mediator_state.specs.Calls.{StandsFor, with_cuts, RefusesReceive}
 use Rattle.mediator_core.specs.declared.run.Run.{Run}
 use Rattle.mediator_core.specs.Offline.{stream_limits, audit_limit, journal_limits, next_message, cuts_by, after_message}
 use Rattle.mediator_core.specs.Runs.{tells, audit_waiting, audit_drained, IsLimited, Stands, Small}
-use Rattle.mediator_core.specs.Steps.{end_of, HasDelivered, Accepts, Receives, Refuses, RefusesMessage}
+use Rattle.mediator_core.specs.Offline.{end_of}
+use Rattle.mediator_core.specs.Steps.{HasDelivered, Receives, Refuses}
+use Rattle.mediator_core.specs.Accepting.{Accepts, RefusesMessage}
 use Rattle.mediator_core.proofs.Messages.{served_alone, filter-none, cuts_none, cuts_one}
 
 -- ---- the faults of the parts

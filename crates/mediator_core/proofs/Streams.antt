@@ -11,10 +11,11 @@ use Rattle.subscriber_stream.proofs.CallLaws.{parts_bring}
 use Rattle.stream_meaning.specs.Means.{Means}
 use Rattle.stream_meaning.proofs.Handing.{handed_means}
 use Rattle.mediator_core.specs.Offline.{history_of, disclosed_by, due}
-use Rattle.mediator_core.specs.Steps.{end_of}
+use Rattle.mediator_core.specs.Offline.{end_of}
 use Rattle.mediator_core.proofs.Delivering.{streamable_of}
 use Rattle.mediator_core.specs.Running.{IsRunning, Runs, HandlesOn, StopsOn}
-use Rattle.mediator_core.specs.Reading.{IsDone, HandlesAll, StopsAmong}
+use Rattle.mediator_core.specs.Reading.{IsDone}
+use Rattle.mediator_core.specs.Reaching.{HandlesAll, StopsAmong}
 
 -- ---- messages in a row
 

@@ -80,3 +80,7 @@ due job messages = each_with_before (due_by job) messages
 -- the lines that are due in the audit
 abbrev pub audit_due : OfflineJob → List (List ℕ) → List ℕ
 audit_due job messages = lines_of (audit_list (history_of job messages))
+
+-- the place behind all parts of what a history discloses
+abbrev pub end_of : List Entry → ℕ
+end_of h = length (parts (disclosed 1 h))

@@ -1,5 +1,5 @@
 -- Which policies and names a run accepts.
-use Rattle.std.specs.Prelude.{◌≡◌, ◌⊎◌, true, false, List, []}
+use Rattle.std.specs.Prelude.{◌≡◌, ◌⊎◌, true, false, []}
 use Rattle.policy_text.specs.Naming.{is_name}
 use Rattle.event_journal.specs.Room.{HasRoomAfter}
 use Rattle.mediator_state.specs.declared.fault.Fault.{Fault}

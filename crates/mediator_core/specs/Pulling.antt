@@ -1,8 +1,7 @@
 -- The messages that are pulled one after another, and what was written of them.
-use Rattle.std.specs.Prelude.{◌≡◌, ℕ, ◌+◌, ◌*◌, ◌≤◌, Bool, List, [], ◌∷◌, length, Option, Some}
+use Rattle.std.specs.Prelude.{◌≡◌, ℕ, ◌+◌, ◌*◌, ◌≤◌, Bool, List, [], ◌∷◌, length, Option}
 use Rattle.std.specs.List.{concat}
 use Rattle.std.specs.Io.KnownBytes.{Appends}
-use Rattle.ipfix_template.specs.DataRecord.{DataRecord}
 use Rattle.subscriber_stream.specs.Message.{built, place_after}
 use Rattle.octet_devices.specs.Written.{WritesFront}
 use Rattle.event_journal.specs.declared.entry.Entry.{Entry}
@@ -13,7 +12,7 @@ use Rattle.mediator_core.specs.declared.job.OfflineFault.TheVariants.{Write, Cor
 use Rattle.mediator_core.specs.declared.run.Run.{Run}
 use Rattle.mediator_core.specs.Runs.{Stands, Small, KeepsAudit}
 use Rattle.mediator_core.specs.HandsOut.{HandsOut}
-use Rattle.mediator_core.specs.Steps.{end_of}
+use Rattle.mediator_core.specs.Offline.{end_of}
 
 -- a run that stands somewhere in what it discloses, and counts what it has written
 pub record IsDelivering (d : Run) : Type 0 where

@@ -5,7 +5,6 @@ use Rattle.std.specs.Io.KnownBytes.{Appends, Consumes, IsAtEnd}
 use Rattle.ipfix_message.specs.declared.frame_error.FrameError.{FrameError}
 use Rattle.ipfix_message.specs.declared.frame_error.FrameError.TheVariants as frame
 use Rattle.ipfix_message.specs.Framing.{IsFramed}
-use Rattle.message_intake.specs.Intake.{IntakeState}
 use Rattle.stream_meaning.specs.Means.{Means}
 use Rattle.mediator_history.specs.Accepted.{accepted}
 use Rattle.mediator_state.specs.declared.fault.Fault.{Fault}
@@ -15,10 +14,9 @@ use Rattle.mediator_core.specs.declared.job.OfflineReport.{OfflineReport}
 use Rattle.message_intake.specs.declared.fault.FramingFault.TheVariants as framing
 use Rattle.mediator_core.specs.declared.job.OfflineFault.{OfflineFault}
 use Rattle.mediator_core.specs.declared.job.OfflineFault.TheVariants.{Read, Write, Framing, Turns, Core, Cut, AuditWrite}
-use Rattle.mediator_core.specs.declared.run.Run.{Run}
 use Rattle.mediator_core.specs.Offline.{history_of, disclosed_by, due, audit_due}
 use Rattle.mediator_core.specs.Opening.{IsAcceptedJob, RefusesJob}
-use Rattle.mediator_core.specs.Running.{AreAccepted, IsRunning, StopsAt}
+use Rattle.mediator_core.specs.Stopping.{AreAccepted, StopsAt}
 
 -- the job was accepted, and these octets are these messages, and then this fault or these octets that are pending; all
 -- messages were accepted, what is due for them was written, and it means what they disclose
@@ -64,20 +62,6 @@ StopsIn Cut job octets held holds aheld aholds failed afailed = StopsInHand Cut 
 StopsIn AuditWrite job octets held holds aheld aholds failed afailed = StopsInHand AuditWrite job octets held holds aheld aholds failed afailed
 StopsIn _ job octets held holds aheld aholds failed afailed = ⊥
 
--- messages in a row were handled
-pub record HandlesAll (old new : Run) (more : List (List ℕ)) (holds writes aholds awrites : Option (List ℕ)) : Type 0 where
-  pub after : (job : OfflineJob) (messages : List (List ℕ)) (held aheld : Option (List ℕ)) → IsRunning old job messages held holds aheld aholds
-      → IsRunning new job (messages ++ more) held writes aheld awrites
-
--- the run stops at one of them
-pub record StopsAmong (e : OfflineFault) (old : Run) (more : List (List ℕ)) (holds writes aholds awrites : Option (List ℕ)) (failed afailed : Bool) : Type 0 where
-  pub before : List (List ℕ)
-  pub message : List ℕ
-  pub later : List (List ℕ)
-  pub parts : more ≡ before ++ message ∷ later
-  pub after : (job : OfflineJob) (messages : List (List ℕ)) (held aheld : Option (List ℕ)) → IsRunning old job messages held holds aheld aholds
-      → AreAccepted job [] (messages ++ before) × Means (due job (messages ++ before)) (disclosed_by job (messages ++ before)) × StopsAt e job (messages ++ before) message held writes aheld awrites failed afailed
-
 -- so many reads, each of at most 65,536 octets, may have given these
 abbrev pub AreRead : ℕ → List ℕ → Type 0
 AreRead reads octets = length octets ≤ 65536 * reads
@@ -85,26 +69,6 @@ AreRead reads octets = length octets ≤ 65536 * reads
 -- the same, where one of the reads gave none
 abbrev pub AreReadBut : ℕ → List ℕ → Type 0
 AreReadBut reads octets = length octets + 65536 ≤ 65536 * reads
-
--- a run and an intake after what was read
-pub record IsAfter (d : Run) (i : IntakeState) (job : OfflineJob) (given left held holds aheld aholds : Option (List ℕ)) : Type 0 where
-  pub octets : List ℕ
-  pub messages : List (List ℕ)
-  pub taken : Consumes given left octets
-  pub running : IsRunning d job messages held holds aheld aholds
-  pub framed : IsFramed octets messages i.framing.fault i.framing.pending
-  pub many : job.turns ≤ length octets + i.turns
-  pub few : length octets + 65536 * i.turns ≤ 65536 * job.turns
-
--- all was read, and all messages were handled
-pub record ReachesEnd (d : Run) (job : OfflineJob) (given left held holds aheld aholds : Option (List ℕ)) : Type 0 where
-  pub octets : List ℕ
-  pub messages : List (List ℕ)
-  pub taken : Consumes given left octets
-  pub end : IsAtEnd left
-  pub framed : IsFramed octets messages None []
-  pub turns : AreReadBut job.turns octets
-  pub running : IsRunning d job messages held holds aheld aholds
 
 -- octets were read, and the run stops so
 pub record StopsAfter (P : List ℕ → Type 0) (given left : Option (List ℕ)) : Type 0 where

@@ -1,6 +1,7 @@
 //! A whole stream is read, and each of its messages handled.
 ghost use Rattle.std.specs.Prelude.{◌≡◌, ◌<◌, ◌≤◌, false, None, length, IfOk, IfErr, OnOk};
-ghost use Rattle.mediator_core.specs.Reading.{HandlesAll, StopsAmong, Finishes, Halts};
+ghost use Rattle.mediator_core.specs.Reaching.{HandlesAll, StopsAmong};
+ghost use Rattle.mediator_core.specs.Reading.{Finishes, Halts};
 ghost use Rattle.mediator_core.specs.Failing.{FailsOnly};
 ghost use Rattle.mediator_core.specs.Running.{Runs};
 
@@ -39,7 +40,8 @@ impl<'a> Run<'a> {
 
 ghost use Rattle.message_intake.specs.Intake.{nothing_read};
 ghost use Rattle.mediator_core.specs.Running.{IsOpened};
-ghost use Rattle.mediator_core.specs.Reading.{ReachesEnd, StopsReading};
+ghost use Rattle.mediator_core.specs.Reaching.{ReachesEnd};
+ghost use Rattle.mediator_core.specs.Reading.{StopsReading};
 
 impl<'a> Run<'a> {
     /// Reads the stream to its end, and handles its messages.

@@ -1,7 +1,7 @@
 use Rattle.std.proofs.Common.{false, ◌∙◌, subst}
 use Rattle.mediator_core.proofs.Receiving.{err_gives}
 use Rattle.mediator_core.proofs.Blaming.{only_then}
-use Rattle.mediator_core.specs.Reading.{ReachesEnd}
+use Rattle.mediator_core.specs.Reaching.{ReachesEnd}
 use Rattle.mediator_core.proofs.Ends.{finishes, end_serves}
 use Rattle.mediator_core.proofs.engine.offline.Goals as goal
 

@@ -2,7 +2,7 @@ use Rattle.std.proofs.Common.{refl, sym, subst}
 use Rattle.mediator_core.specs.Steps.{Receives}
 use Rattle.mediator_core.specs.Recording.{StopsLines}
 use Rattle.mediator_core.specs.Pulling.{FailsDelivery}
-use Rattle.mediator_core.specs.Running.{StopsAt}
+use Rattle.mediator_core.specs.Stopping.{StopsAt}
 use Rattle.mediator_core.proofs.Blaming.{lines_only, delivery_only}
 use Rattle.mediator_core.proofs.Receiving.{err_gives}
 use Rattle.mediator_core.proofs.InHand.{stops_refused, stops_recording, stops_delivering, delivered, handled, was_cut_at, stops_cut, stops_cut_recording, cut_history, delivered_history}

@@ -2,7 +2,8 @@ use Rattle.std.proofs.Common.{false, refl, sym, ap, ◌∙◌, subst, arith}
 use Rattle.std.specs.Prelude.{MatchOption}
 use Rattle.message_intake.specs.Intake.{Ends, Takes, reader_after as intake_reader}
 use Rattle.mediator_core.specs.Failing.{FailsOnly}
-use Rattle.mediator_core.specs.Reading.{StopsAmong, StopsReading}
+use Rattle.mediator_core.specs.Reaching.{StopsAmong}
+use Rattle.mediator_core.specs.Reading.{StopsReading}
 use Rattle.mediator_core.proofs.Blaming.{only_then}
 use Rattle.mediator_core.proofs.Receiving.{err_gives}
 use Rattle.mediator_core.proofs.Ends.{reading_starts, runs_after, reads_on, message_stops, intake_stops, intake_only, stream_ends}

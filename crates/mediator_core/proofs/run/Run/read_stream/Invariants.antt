@@ -1,5 +1,5 @@
 use Rattle.std.proofs.Common.{◌≡◌, false}
-use Rattle.mediator_core.specs.Reading.{IsAfter}
+use Rattle.mediator_core.specs.Reaching.{IsAfter}
 use Rattle.mediator_core.proofs.run.Run.read_stream.Given as goal
 
 abbrev pub invariant-reads : goal.invariant-reads
