@@ -8,5 +8,6 @@ pub mod Streams
 pub mod Ends
 pub mod Opened
 pub mod DueLaws
+pub mod Restated
 pub mod PlainLaws
 pub mod Framed

@@ -18,6 +18,7 @@ pub mod Opening
 pub mod Accepting
 pub mod Stopping
 pub mod Reading
+pub mod Filtering
 pub mod Runs
 pub mod Steps
 pub mod Recording

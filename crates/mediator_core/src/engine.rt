@@ -101,6 +101,35 @@ impl<'a> Run<'a> {
     }
 }
 
+/// Runs the job from its start to its end.
+///
+/// # Errors
+/// Those of [`offline`].
+fn run_through<R: Source, W: Sink, A: Sink>(
+    alloc: Global,
+    job: &OfflineJob<'_>,
+    reader: &mut R,
+    writer: &mut W,
+    audit_writer: &mut A,
+) -> Result<OfflineReport, OfflineFault>
+    requires reader { R.has_failed reader.old ≡ false }
+    requires writer { W.has_failed writer.old ≡ false }
+    requires audit { A.has_failed audit_writer.old ≡ false }
+    ensures ok { IfOk result (λ report. Finishes job.entry.now report (R.remaining reader.old) (R.remaining reader.new) (W.contents writer.old) (W.contents writer.new) (A.contents audit_writer.old) (A.contents audit_writer.new)) }
+    ensures sound { OnOk result ((R.has_failed reader.new ≡ false) × (W.has_failed writer.new ≡ false) × (A.has_failed audit_writer.new ≡ false)) }
+    ensures fails { IfErr result (λ e. FailsOnly e false false (R.has_failed reader.new) (W.has_failed writer.new) (A.has_failed audit_writer.new)) }
+    ensures err { IfErr result (λ e. Halts e job.entry.now (R.remaining reader.old) (R.remaining reader.new) (W.contents writer.old) (W.contents writer.new) (A.contents audit_writer.old) (A.contents audit_writer.new) (R.has_failed reader.new) (W.has_failed writer.new) (A.has_failed audit_writer.new)) }
+{
+    let mut run = Run::open(alloc, *job)?;
+    let Ok(mut intake) = Intake::new(alloc, job.turns) else {
+        return Err(OfflineFault::Core(Fault::OutOfMemory));
+    };
+    run.read_stream(&mut intake, reader, writer, audit_writer)?;
+    Ok(run.report())
+}
+
+ghost use Rattle.mediator_core.specs.Filtering.{FiltersAll, FailsToFilter};
+
 /// Filters one stream for one subscriber: reads the messages of an exporter to the end of the stream, and
 /// writes the subscriber's messages, message by message, with the audit of what was kept back.
 ///
@@ -130,11 +159,9 @@ pub fn offline<R: Source, W: Sink, A: Sink>(
     ensures fails { IfErr result (λ e. FailsOnly e false false (R.has_failed reader.new) (W.has_failed writer.new) (A.has_failed audit_writer.new)) }
     // Where it stopped, by what cause, and what was written by then.
     ensures err { IfErr result (λ e. Halts e job.entry.now (R.remaining reader.old) (R.remaining reader.new) (W.contents writer.old) (W.contents writer.new) (A.contents audit_writer.old) (A.contents audit_writer.new) (R.has_failed reader.new) (W.has_failed writer.new) (A.has_failed audit_writer.new)) }
+    // The same, said of all ports at once.
+    ensures filters { IfOk result (λ report. FiltersAll job.entry.now report (record { left = R.remaining reader.old; written = W.contents writer.old; audited = A.contents audit_writer.old; reader_failed = R.has_failed reader.old; writer_failed = W.has_failed writer.old; audit_failed = A.has_failed audit_writer.old }) (record { left = R.remaining reader.new; written = W.contents writer.new; audited = A.contents audit_writer.new; reader_failed = R.has_failed reader.new; writer_failed = W.has_failed writer.new; audit_failed = A.has_failed audit_writer.new })) }
+    ensures stops { IfErr result (λ e. FailsToFilter e job.entry.now (record { left = R.remaining reader.old; written = W.contents writer.old; audited = A.contents audit_writer.old; reader_failed = R.has_failed reader.old; writer_failed = W.has_failed writer.old; audit_failed = A.has_failed audit_writer.old }) (record { left = R.remaining reader.new; written = W.contents writer.new; audited = A.contents audit_writer.new; reader_failed = R.has_failed reader.new; writer_failed = W.has_failed writer.new; audit_failed = A.has_failed audit_writer.new })) }
 {
-    let mut run = Run::open(alloc, *job)?;
-    let Ok(mut intake) = Intake::new(alloc, job.turns) else {
-        return Err(OfflineFault::Core(Fault::OutOfMemory));
-    };
-    run.read_stream(&mut intake, reader, writer, audit_writer)?;
-    Ok(run.report())
+    run_through(alloc, job, reader, writer, audit_writer)
 }

@@ -20,12 +20,15 @@
 //! that is due for the messages before the one in hand: after Write exactly the first `sent` octets of what is due,
 //! for want of memory at most a front of the message in hand more, after Cut the audit's line of the cut as well. No
 //! refusal stands before an earlier one: of a job the policy is judged, then room for it, the name, and room for the
-//! rest; of a message its octets, then the journal, and then the audit, whose room is told. A device that has failed
+//! rest; of a message its octets, then the history's room, and then the audit's, whose room is told. A device that has failed
 //! is the one that the fault names (`sound`, `fails`). However a run ends, it has read no more octets than
 //! `turns` reads of 65,536 give.
 //!
+//! Both are said twice: of all ports at once, with what is due as a relation (`filters`, `stops`; `specs/Filtering`), and
+//! port by port, for callers that hold some of them (`ok`, `err`; `specs/Reading`).
+//!
 //! Where it answers `Ok`, or a fault after it began to read, the job was one to accept: its text spells a policy
-//! without aggregates, its name is one, and the journal has room for both. The laws are those above.
+//! without aggregates, its name is one, and a history has room for both. The laws are those above.
 #![tactic(auto)]
 
 mod delivery;
