@@ -153,8 +153,11 @@ faulty w d i k job given mid left held holds aheld aholds so (inr now) = record 
   taken = Consumes-trans given mid left so.octets now.piece so.taken now.is_piece.read;
   stops = (
     omega (arith, so.few, now.is_piece.few, now.turn, length-append so.octets now.piece),
-    (so.messages ++ [], done_of d job (so.octets ++ now.piece) (so.messages ++ []) (Some w) [] held holds aheld aholds (subst (λ ms. IsRunning d job ms held holds aheld aholds) (sym (append-nil so.messages)) so.running)
-        (emptied w (so.octets ++ now.piece) (so.messages ++ []) k.framing.pending (subst (λ x. IsFramed (so.octets ++ now.piece) (so.messages ++ []) x k.framing.pending) now.fault_is (now.goes_on.after so.octets so.messages so.framed)))),
+    (
+      so.messages ++ [],
+      done_of d job (so.octets ++ now.piece) (so.messages ++ []) (Some w) [] held holds aheld aholds (subst (λ ms. IsRunning d job ms held holds aheld aholds) (sym (append-nil so.messages)) so.running)
+          (emptied w (so.octets ++ now.piece) (so.messages ++ []) k.framing.pending (subst (λ x. IsFramed (so.octets ++ now.piece) (so.messages ++ []) x k.framing.pending) now.fault_is (now.goes_on.after so.octets so.messages so.framed))),
+    ),
   );
 }
 

@@ -91,7 +91,7 @@ same_cuts d h octets so =
     ap (λ n. cuts_before d.state.engine.limits h (Message 1 n octets) (waiting_of d.state.engine)) so.messages
     ∙ ap (λ limits. cuts_before limits h (next_message h octets) (waiting_of d.state.engine)) so.limited.limits
     ∙ cuts_alone stream_limits h (next_message h octets) (waiting_of d.state.engine) (λ sub. 0) (served_alone h so.alone so.serving)
-        (none_waits h d.state.engine.limits (at d.state.engine.subscriptions 1) (so.state.stands.subscriptions 1) so.place)
+    (none_waits h d.state.engine.limits (at d.state.engine.subscriptions 1) (so.state.stands.subscriptions 1) so.place)
 
 pub same_entries : (d : Run) (h : List Entry) (octets : List ℕ) → Stands d h (end_of h) → with_cuts d.state.engine h 1 d.messages octets ≡ cuts_by h octets ++ next_message h octets ∷ []
 same_entries d h octets so =

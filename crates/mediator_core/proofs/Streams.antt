@@ -75,4 +75,3 @@ done_of d job octets messages fault pending held holds aheld aholds r framed = r
 
 pub emptied : (w : FrameError) (octets : List ℕ) (messages : List (List ℕ)) (pending : List ℕ) → IsFramed octets messages (Some w) pending → IsFramed octets messages (Some w) []
 emptied w octets messages pending framed = subst (IsFramed octets messages (Some w)) framed.ends.0 framed
-

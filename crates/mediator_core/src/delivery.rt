@@ -45,7 +45,10 @@ impl<'a> Run<'a> {
         ensures now_below { self.old.job.now < 2 ^ 32 }
         ensures err { IfErr result (λ e. e ≡ Core OutOfMemory) }
     {
-        Ok(self.state.pull(SUBSCRIPTION, self.job.now, self.job.target)?)
+        Ok(
+            self.state
+                .pull(SUBSCRIPTION, self.job.now, self.job.target)?,
+        )
     }
 
     /// Writes a message, and counts its octets.

@@ -7,7 +7,7 @@ use Rattle.mediator_core.proofs.Streams.{runs_on, none_handled, one_handled, one
 use Rattle.mediator_core.proofs.run.Run.handle_all.Goals as goal
 
 pub handle-requires : goal.handle-requires
-handle-requires g c = record { running = runs_on c.args.self.now c.messages.self c.messages.invariant.0.done (g.W.Sink.contents c.args.writer.now) (g.W.Sink.contents c.messages.writer) (g.A.Sink.contents c.args.audit_writer.now) (g.A.Sink.contents c.messages.audit_writer)  c.requires.running c.messages.invariant.0.handled }
+handle-requires g c = record { running = runs_on c.args.self.now c.messages.self c.messages.invariant.0.done (g.W.Sink.contents c.args.writer.now) (g.W.Sink.contents c.messages.writer) (g.A.Sink.contents c.args.audit_writer.now) (g.A.Sink.contents c.messages.audit_writer) c.requires.running c.messages.invariant.0.handled }
 
 pub returns-in_err-handle-clause-err : goal.returns-in_err-handle-clause-err
 returns-in_err-handle-clause-err g c =
