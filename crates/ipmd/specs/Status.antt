@@ -5,12 +5,13 @@ use Rattle.std.specs.Io.KnownBytes.{Appends}
 use Rattle.ipmd_command_line.specs.declared.fault.CommandLineFault.{CommandLineFault}
 use Rattle.ipmd_command_line.specs.declared.fault.CommandLineFault.TheVariants as command
 use Rattle.policy_text.specs.FaultTexts.{text_of_kind}
-use Rattle.mediator_core.specs.FaultTexts.{text_of_fault, text_of_framing}
+use Rattle.mediator_state.specs.FaultTexts.{text_of_fault}
+use Rattle.message_intake.specs.Texts.{text_of_framing}
 use Rattle.policy_text.specs.declared.fault.FaultKind.{FaultKind}
 use Rattle.policy_text.specs.declared.fault.FaultKind.TheVariants as kind
 use Rattle.policy_text.specs.declared.fault.PolicyFault.{PolicyFault}
-use Rattle.mediator_core.specs.declared.fault.Fault.{Fault}
-use Rattle.mediator_core.specs.declared.fault.Fault.TheVariants as core
+use Rattle.mediator_state.specs.declared.fault.Fault.{Fault}
+use Rattle.mediator_state.specs.declared.fault.Fault.TheVariants as core
 use Rattle.mediator_core.specs.declared.job.OfflineFault.{OfflineFault}
 use Rattle.mediator_core.specs.declared.job.OfflineFault.TheVariants as offline
 use Rattle.ipmd.specs.declared.fault.ProgramFault.{ProgramFault}
@@ -69,10 +70,7 @@ policy_fault_of fault kind.TooMany = Policy fault
 abbrev pub core_fault_of : Fault → ProgramFault
 core_fault_of (core.Policy why) = policy_fault_of why why.kind
 core_fault_of core.OutOfMemory = OutOfMemory
-core_fault_of core.BadName = Core core.BadName
-core_fault_of (core.Malformed why) = Core (core.Malformed why)
-core_fault_of core.JournalFull = Core core.JournalFull
-core_fault_of (core.AuditFull need room) = Core (core.AuditFull need room)
+core_fault_of why = Core why
 
 -- why a stream was not filtered to its end
 abbrev pub offline_fault_of : OfflineFault → ProgramFault

@@ -1,12 +1,9 @@
 -- Which device has failed where a run stops.
 use Rattle.std.proofs.Common.{◌≡◌, Bool, false, List, ℕ, Option, refl, ap, ◌∙◌}
-use Rattle.ipfix_message.specs.declared.frame_error.FrameError.{FrameError}
-use Rattle.ipfix_message.specs.declared.frame_error.FrameError.TheVariants as frame
-use Rattle.mediator_core.specs.declared.desk.Desk.{Desk}
-use Rattle.mediator_core.specs.declared.fault.Fault.TheVariants as fault
+use Rattle.mediator_core.specs.declared.run.Run.{Run}
+use Rattle.mediator_state.specs.declared.fault.Fault.TheVariants as fault
 use Rattle.mediator_core.specs.declared.job.OfflineFault.{OfflineFault}
-use Rattle.mediator_core.specs.declared.job.OfflineFault.TheVariants.{Read, Write, Framing, Turns, Core, Cut, AuditWrite}
-use Rattle.mediator_core.specs.Faults.{stream_refusal}
+use Rattle.mediator_core.specs.declared.job.OfflineFault.TheVariants.{Write, Core, AuditWrite}
 use Rattle.mediator_core.specs.Failing.{writer_after, audit_after, FailsOnly}
 use Rattle.mediator_core.specs.Recording.{StopsLines}
 use Rattle.mediator_core.specs.Pulling.{StopsDelivery, FailsDelivery}
@@ -26,37 +23,13 @@ lines_only e x had w audit_had a is cause fails same = rw is (only x cause fails
     only : (y : OfflineFault) → StopsLines y a → a ≡ audit_after y audit_had → FailsOnly y had audit_had false w a
     only AuditWrite c f = record { reader = refl; writer = same; audit = f }
     only (Core fault.OutOfMemory) c f = record { reader = refl; writer = same; audit = f }
-    only (Core (fault.Policy why)) c f = absurd c
-    only (Core fault.BadName) c f = absurd c
-    only (Core (fault.Malformed why)) c f = absurd c
-    only (Core fault.JournalFull) c f = absurd c
-    only (Core (fault.AuditFull need room)) c f = absurd c
-    only Read c f = absurd c
-    only (Write sent) c f = absurd c
-    only (Framing why) c f = absurd c
-    only Turns c f = absurd c
-    only Cut c f = absurd c
+    only _ c f = absurd c
 
 -- of a delivery, the writer alone
-pub delivery_only : (e x : OfflineFault) (d : Desk) (held holds : Option (List ℕ)) (had w audit_had : Bool) → e ≡ x → FailsDelivery x d held holds w → w ≡ writer_after x had → FailsOnly e had audit_had false w audit_had
+pub delivery_only : (e x : OfflineFault) (d : Run) (held holds : Option (List ℕ)) (had w audit_had : Bool) → e ≡ x → FailsDelivery x d held holds w → w ≡ writer_after x had → FailsOnly e had audit_had false w audit_had
 delivery_only e x d held holds had w audit_had is delivery fails = rw is (only x delivery.stops fails)
   where
     only : (y : OfflineFault) → StopsDelivery y d held holds w delivery.messages → w ≡ writer_after y had → FailsOnly y had audit_had false w audit_had
     only (Write sent) s f = record { reader = refl; writer = f; audit = refl }
     only (Core fault.OutOfMemory) s f = record { reader = refl; writer = f; audit = refl }
-    only (Core (fault.Policy why)) s f = absurd s
-    only (Core fault.BadName) s f = absurd s
-    only (Core (fault.Malformed why)) s f = absurd s
-    only (Core fault.JournalFull) s f = absurd s
-    only (Core (fault.AuditFull need room)) s f = absurd s
-    only Read s f = absurd s
-    only (Framing why) s f = absurd s
-    only Turns s f = absurd s
-    only Cut s f = absurd s
-    only AuditWrite s f = absurd s
-
--- of the framing, none
-pub framing_only : (v : FrameError) (e : OfflineFault) (had w audit_had a : Bool) → e ≡ stream_refusal v → w ≡ had → a ≡ audit_had → FailsOnly e had audit_had false w a
-framing_only frame.BadVersion e had w audit_had a is same audit_same = rw is (record { reader = refl; writer = same; audit = audit_same })
-framing_only frame.BadLength e had w audit_had a is same audit_same = rw is (record { reader = refl; writer = same; audit = audit_same })
-framing_only frame.OutOfMemory e had w audit_had a is same audit_same = rw is (record { reader = refl; writer = same; audit = audit_same })
+    only _ s f = absurd s

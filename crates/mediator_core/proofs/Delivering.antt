@@ -8,30 +8,38 @@ use Rattle.ipfix_template.specs.DataRecord.{DataRecord}
 use Rattle.subscriber_stream.specs.Shapes.{shapes_of, is_among, id_of}
 use Rattle.subscriber_stream.specs.Parts.{Part, Announcement, Entry, parts, parts_at, records_in}
 use Rattle.subscriber_stream.specs.Message.{run_length, taken, next_message, built, place_after}
-use Rattle.subscriber_stream.specs.Standing.{StandsAt}
-use Rattle.subscriber_stream.specs.Calls.{Gives}
 use Rattle.stream_meaning.specs.Served.{AreStreamable}
 use Rattle.stream_meaning.proofs.Tables.{empty, AreKnown, after_parts}
 use Rattle.stream_meaning.proofs.Sets.{known_split}
 use Rattle.stream_meaning.proofs.Steps.{run_fits}
 use Rattle.stream_meaning.proofs.Listed.{parts_known}
 use Rattle.octet_devices.specs.Written.{WritesFront}
-use Rattle.ipfix_session.specs.Standing.{StandsFor}
-use Rattle.disclosure_audit.specs.Queue.{StandsIn}
+use Rattle.subscriber_stream.specs.declared.limits.Limits.{Limits}
+use Rattle.mediator_history.specs.Subscriptions.{is_live}
+use Rattle.mediator_history.proofs.EntryLaws.{served_is_live}
+use Rattle.live_subscriptions.specs.declared.subscription.Subscription.{Subscription}
+use Rattle.live_subscriptions.specs.Table as table
+use Rattle.mediator_state.specs.Standing.{IsLiveAs}
+use Rattle.mediator_state.specs.Seen.{place_in, place_of}
+use Rattle.mediator_state.specs.Calls as calls
+use Rattle.mediator_state.specs.Calls.{StandsFor}
 use Rattle.sequences.specs.Before.{each_after}
 use Rattle.event_journal.specs.declared.entry.Entry.{Entry as HistoryEntry}
-use Rattle.mediator_history.specs.Sessions.{messages_of}
 use Rattle.mediator_history.specs.Auditing.{audit_list}
 use Rattle.mediator_history.specs.Disclosed.{disclosed}
 use Rattle.subscriber_stream.proofs.CallLaws.{run_some}
 use Rattle.stream_meaning.proofs.Runs.{some_message}
 use Rattle.std.proofs.lemmas.Option.{same_Some}
 use Rattle.sequences.proofs.ListLaws.{take-add-append, concat_push}
-use Rattle.mediator_core.specs.declared.desk.Desk.{Desk}
-use Rattle.mediator_core.specs.Desks.{Stands, Small}
-use Rattle.mediator_core.specs.Steps.{end_of}
+use Rattle.mediator_core.specs.declared.run.Run.{Run}
+use Rattle.mediator_core.specs.Runs.{tells, audit_drained, Stands, Small, IsServing, SameButState, KeepsAudit}
+use Rattle.mediator_core.specs.HandsOut.{HandsOut}
+use Rattle.mediator_core.proofs.Receiving.{within_end}
+use Rattle.mediator_core.specs.Offline.{end_of}
 use Rattle.mediator_core.specs.declared.job.OfflineFault.{OfflineFault}
-use Rattle.mediator_core.specs.Pulling.{HandsOut, IsDelivering, SameElse, StopsWriting, Delivers, StopsDelivery, FailsDelivery}
+use Rattle.mediator_core.specs.declared.job.OfflineFault.TheVariants.{Core}
+use Rattle.mediator_state.specs.declared.fault.Fault.TheVariants as fault
+use Rattle.mediator_core.specs.Pulling.{IsDelivering, Pulls, StopsWriting, Delivers, StopsDelivery, FailsDelivery}
 
 -- ---- a message is pulled
 
@@ -106,176 +114,199 @@ pub hands-snoc : (records : List DataRecord) (now target p q : ℕ) (ms : List (
 hands-snoc records now target p q [] m hands is = (subst (λ x. built records x now target ≡ Some m) (sym hands) is, ap (λ x. place_after records x target) hands)
 hands-snoc records now target p q (n ∷ ms) m hands is = (hands.0, hands-snoc records now target (place_after records p target) q ms m hands.1 is)
 
--- ---- a desk that pulls
+-- ---- a run that pulls
 
-pub stands_on : (d e : Desk) (h : List HistoryEntry) (p q : ℕ) → Stands d h p → SameElse d e → e.stream.limits ≡ d.stream.limits → StandsAt e.stream.standing (disclosed 1 h) q → Stands e h q
-stands_on d e h p q so same limits at = record {
-  policy = same.policy ∙ so.policy;
-  name = ap (λ job. job.name.now) same.job ∙ so.name;
+pub stands_on : (d e : Run) (h : List HistoryEntry) (p q : ℕ) → Stands d h p → SameButState d e → StandsFor tells e.state h → place_of e.state.engine 1 ≡ q → Stands e h q
+stands_on d e h p q so same state here = record {
+  state = state;
+  place = here;
   serving = so.serving;
   alone = so.alone;
-  session = subst (λ s. StandsFor s (messages_of 1 h)) (sym same.session) so.session;
-  stream = at;
-  limits = limits ∙ so.limits;
-  audit = subst (λ a. StandsIn a.standing (audit_list h)) (sym same.audit) so.audit;
-  audit_limit = ap (λ a. a.limit) same.audit ∙ so.audit_limit;
-  entries = same.entries ∙ so.entries;
-  octets = same.octets ∙ so.octets;
+  opened = so.opened;
+  limited = record { limits = same.limits ∙ so.limited.limits; audit = same.audit_limit ∙ so.limited.audit; journal = same.journal ∙ so.limited.journal };
+  messages = same.messages ∙ so.messages;
+  counted = so.counted;
   records = same.records ∙ so.records;
 }
 
--- where a desk has come to, from place p on
-pub record IsAt (old d : Desk) (h : List HistoryEntry) (p : ℕ) (messages : List (List ℕ)) : Type 0 where
+-- the parts that wait for the subscription
+abbrev pub parts_in : Option Subscription → List Part
+parts_in None = []
+parts_in (Some s) = s.stream.standing.waiting
+
+abbrev pub parts_waiting : Run → List Part
+parts_waiting d = parts_in (table.at d.state.engine.subscriptions 1)
+
+parts_behind : (h : List HistoryEntry) (limits : Limits) (o : Option Subscription) → IsLiveAs h limits 1 o → is_live 1 h ≡ true → parts_in o ≡ drop (place_in o) (parts (disclosed 1 h))
+parts_behind h limits None is live = absurd (no (sym is ∙ live))
+  where
+    no : false ≡ true → ⊥
+    no e = absurd cc
+parts_behind h limits (Some s) is live = is.stream.waiting
+
+waits_behind : (d : Run) (h : List HistoryEntry) (p : ℕ) → Stands d h p → parts_waiting d ≡ drop p (parts (disclosed 1 h))
+waits_behind d h p so =
+    parts_behind h d.state.engine.limits (table.at d.state.engine.subscriptions 1) (so.state.stands.subscriptions 1) (served_is_live 1 h so.serving)
+    ∙ ap (λ n. drop n (parts (disclosed 1 h))) so.place
+
+-- what the state answers to a pull is what the run does
+pub pulls_of : (d e : Run) (m : Option (List ℕ)) → SameButState d e → ((h : List HistoryEntry) → StandsFor tells d.state h → calls.Pulls tells d.state h 1 d.job.now d.job.target m e.state) → Pulls d m e
+pulls_of d e m same got = record {
+  message = λ h p so. (got h so.state).message ∙ ap (λ q. built (disclosed 1 h) q d.job.now d.job.target) so.place;
+  stands = λ h p so.
+      stands_on d e h p (place_after (disclosed 1 h) p d.job.target) so same (got h so.state).stands ((got h so.state).moved ∙ ap (λ q. place_after (disclosed 1 h) q d.job.target) so.place);
+}
+
+-- the same history and the same entries drained: the same entries wait
+pub audit_kept : (d e : Run) (h : List HistoryEntry) → StandsFor tells d.state h → StandsFor tells e.state h → audit_drained e ≡ audit_drained d → KeepsAudit d e
+audit_kept d e h so then same = record { drained = same; waiting = then.stands.audit.waiting ∙ ap (λ n. drop n (audit_list h)) same ∙ sym so.stands.audit.waiting }
+
+-- where a run has come to, from place p on
+pub record IsAt (old d : Run) (h : List HistoryEntry) (p : ℕ) (messages : List (List ℕ)) : Type 0 where
   pub place : ℕ
   pub hands : HandsOut (disclosed 1 h) old.job.now old.job.target p messages place
   pub stands : Stands d h place
   pub few : old.sent ≤ 65535 * p → d.sent ≤ 65535 * place
 
 -- these messages were pulled and written
-pub record IsPulling (old d : Desk) (held holds : Option (List ℕ)) : Type 0 where
+pub record IsPulling (old d : Run) (held holds : Option (List ℕ)) : Type 0 where
   pub messages : List (List ℕ)
   pub job : d.job ≡ old.job
-  pub audit : d.audit ≡ old.audit
+  pub audit : KeepsAudit old d
   pub sent : d.sent ≡ old.sent + length (concat messages)
   pub written : Appends held holds (concat messages)
   pub handed : (h : List HistoryEntry) (p : ℕ) → Stands old h p → Small h → IsAt old d h p messages
 
-pub pulling_starts : (d : Desk) (held : Option (List ℕ)) → IsPulling d d held held
+pub pulling_starts : (d : Run) (held : Option (List ℕ)) → IsPulling d d held held
 pulling_starts d held = record {
   messages = [];
   job = refl;
-  audit = refl;
+  audit = record { drained = refl; waiting = refl };
   sent = omega arith;
   written = Appends-nil held;
   handed = λ h p so small. record { place = p; hands = refl; stands = so; few = λ le. le };
 }
 
 pub streamable_of : (h : List HistoryEntry) → Small h → AreStreamable (disclosed 1 h)
-streamable_of h small = record { each = small.streamable; shapes = small.shapes }
-
--- one message more was pulled and written
-pub pulling_goes_on : (old d e : Desk) (held holds writes : Option (List ℕ)) (m : List ℕ) → IsPulling old d held holds → d.job.target < 2 ^ 16 → SameElse d e → e.stream.limits ≡ d.stream.limits
-    → Gives d.stream.standing d.job.now d.job.target (Some m) e.stream.standing → Appends holds writes m → e.sent ≡ d.sent + length m → IsPulling old e held writes
-pulling_goes_on old d e held holds writes m so below same limits gives writing counting = record {
-  messages = so.messages ++ m ∷ [];
-  job = same.job ∙ so.job;
-  audit = same.audit ∙ so.audit;
-  sent = omega (arith, so.sent, counting, ap length (concat_push so.messages m), length-append (concat so.messages) m);
-  written = subst (Appends held writes) (sym (concat_push so.messages m)) (Appends-trans held holds writes (concat so.messages) m so.written writing);
-  handed = λ h p start small. next h p start small (so.handed h p start small);
-}
-  where
-    next : (h : List HistoryEntry) (p : ℕ) → Stands old h p → Small h → IsAt old d h p so.messages → IsAt old e h p (so.messages ++ m ∷ [])
-    next h p start small at = record {
-      place = place_after (disclosed 1 h) at.place d.job.target;
-      hands = subst (λ target. HandsOut (disclosed 1 h) old.job.now old.job.target p (so.messages ++ m ∷ []) (place_after (disclosed 1 h) at.place target)) (sym (ap (λ j. j.target) so.job))
-          (hands-snoc (disclosed 1 h) old.job.now old.job.target p at.place so.messages m at.hands is);
-      stands = stands_on d e h at.place (place_after (disclosed 1 h) at.place d.job.target) at.stands same limits (gives.stands (disclosed 1 h) at.place at.stands.stream);
-      few = λ le. omega (arith, at.few le, counting, found.short, found.goes_on);
-    }
-      where
-        is : built (disclosed 1 h) at.place old.job.now old.job.target ≡ Some m
-        is = ap (λ j. built (disclosed 1 h) at.place j.now j.target) (sym so.job) ∙ sym (gives.answers (disclosed 1 h) at.place at.stands.stream)
-
-        found : IsPulled (disclosed 1 h) d.job.now d.job.target at.place m
-        found = pulled (disclosed 1 h) d.job.now d.job.target at.place m (streamable_of h small) below (sym (gives.answers (disclosed 1 h) at.place at.stands.stream))
-
--- nothing waits: all was written
-pub pulling_ends : (old d e : Desk) (held holds : Option (List ℕ)) → IsPulling old d held holds → SameElse d e → e.stream.limits ≡ d.stream.limits → e.sent ≡ d.sent
-    → Gives d.stream.standing d.job.now d.job.target None e.stream.standing → Delivers old e held holds
-pulling_ends old d e held holds so same limits sent gives = record {
-  job = same.job ∙ so.job;
-  audit = same.audit ∙ so.audit;
-  messages = so.messages;
-  handed = λ h p start small. next h p start small (so.handed h p start small);
-  written = so.written;
-  sent = sent ∙ so.sent;
-  few = λ p le h start small. few p le h start small (so.handed h p start small);
-}
-  where
-    end : (h : List HistoryEntry) (p : ℕ) → IsAt old d h p so.messages → (q : ℕ) → built (disclosed 1 h) q d.job.now d.job.target ≡ None → q ≤ end_of h → q ≡ end_of h
-    end h p at q is le = at_end (disclosed 1 h) d.job.now d.job.target q is le
-
-    next : (h : List HistoryEntry) (p : ℕ) → Stands old h p → Small h → IsAt old d h p so.messages → HandsOut (disclosed 1 h) old.job.now old.job.target p so.messages (end_of h) × Stands e h (end_of h)
-    next h p start small at =
-        let q = end h p at at.place (sym (gives.answers (disclosed 1 h) at.place at.stands.stream)) at.stands.stream.within in (
-          subst (HandsOut (disclosed 1 h) old.job.now old.job.target p so.messages) q at.hands,
-          subst (Stands e h) (after ∙ q) (stands_on d e h at.place (place_after (disclosed 1 h) at.place d.job.target) at.stands same limits (gives.stands (disclosed 1 h) at.place at.stands.stream)),
-        )
-      where
-        after : place_after (disclosed 1 h) at.place d.job.target ≡ at.place
-        after = stays (disclosed 1 h) d.job.now d.job.target at.place (sym (gives.answers (disclosed 1 h) at.place at.stands.stream)) at.stands.stream.within
-
-    few : (p : ℕ) → old.sent ≤ 65535 * p → (h : List HistoryEntry) → Stands old h p → Small h → IsAt old d h p so.messages → e.sent ≤ 65535 * end_of h
-    few p le h start small at = omega (arith, sent, at.few le, end h p at at.place (sym (gives.answers (disclosed 1 h) at.place at.stands.stream)) at.stands.stream.within)
-
--- ---- the turn of the loop, in its two steps
-
-same_then : (d e f : Desk) → SameElse d e → SameElse e f → SameElse d f
-same_then d e f a b = record {
-  job = b.job ∙ a.job;
-  policy = b.policy ∙ a.policy;
-  session = b.session ∙ a.session;
-  audit = b.audit ∙ a.audit;
-  entries = b.entries ∙ a.entries;
-  octets = b.octets ∙ a.octets;
-  records = b.records ∙ a.records;
-}
+streamable_of h small = small.streamable
 
 -- what a pull answers, and what it leaves
-pub record Pulled (d e : Desk) (answer : Option (List ℕ)) : Type 0 where
-  pub same : SameElse d e
+pub record Pulled (d e : Run) (answer : Option (List ℕ)) : Type 0 where
+  pub same : SameButState d e
   pub sent : e.sent ≡ d.sent
-  pub limits : e.stream.limits ≡ d.stream.limits
-  pub gives : Gives d.stream.standing d.job.now d.job.target answer e.stream.standing
+  pub audit : KeepsAudit d e
+  pub pulls : Pulls d answer e
   pub below : d.job.target < 2 ^ 16
 
-pub turn : (old d e f : Desk) (held holds writes : Option (List ℕ)) (m : List ℕ) → IsPulling old d held holds → Pulled d e (Some m) → SameElse e f → f.stream ≡ e.stream
+audit_on : (d e f : Run) → KeepsAudit d e → KeepsAudit e f → KeepsAudit d f
+audit_on d e f a b = record { drained = b.drained ∙ a.drained; waiting = b.waiting ∙ a.waiting }
+
+-- a message is written: the state stays
+written_on : (e f : Run) (h : List HistoryEntry) (p : ℕ) → SameButState e f → f.state ≡ e.state → Stands e h p → Stands f h p
+written_on e f h p same state so = stands_on e f h p p so same (subst (λ s. StandsFor tells s h) (sym state) so.state) (ap (λ s. place_of s.engine 1) state ∙ so.place)
+
+-- one message more was pulled and written
+pub turn : (old d e f : Run) (held holds writes : Option (List ℕ)) (m : List ℕ) → IsPulling old d held holds → Pulled d e (Some m) → SameButState e f → f.state ≡ e.state
     → Appends holds writes m → f.sent ≡ e.sent + length m → IsPulling old f held writes
-turn old d e f held holds writes m so p same stream writing counting =
-    pulling_goes_on old d f held holds writes m so p.below (same_then d e f p.same same) (ap (λ s. s.limits) stream ∙ p.limits)
-    (subst (λ s. Gives d.stream.standing d.job.now d.job.target (Some m) s.standing) (sym stream) p.gives) writing (counting ∙ ap (λ n. n + length m) p.sent)
-
-pub turn_ends : (old d e : Desk) (held holds : Option (List ℕ)) → IsPulling old d held holds → Pulled d e None → Delivers old e held holds
-turn_ends old d e held holds so p = pulling_ends old d e held holds so p.same p.limits p.sent p.gives
-
--- a message is short, and what was sent before it is little
-pub turn_fits : (old d e : Desk) (held holds : Option (List ℕ)) (m : List ℕ) → IsDelivering old → IsPulling old d held holds → Pulled d e (Some m) → e.sent + length m < 2 ^ 64
-turn_fits old d e held holds m start so p = fits (so.handed start.history start.place start.stands start.small)
+turn old d e f held holds writes m so p same state writing counting = record {
+  messages = so.messages ++ m ∷ [];
+  job = same.job ∙ p.same.job ∙ so.job;
+  audit = audit_on old e f (audit_on old d e so.audit p.audit) (record { drained = ap (λ s. s.engine.audit.standing.drained) state; waiting = ap (λ s. s.engine.audit.standing.entries) state });
+  sent = omega (arith, so.sent, p.sent, counting, ap length (concat_push so.messages m), length-append (concat so.messages) m);
+  written = subst (Appends held writes) (sym (concat_push so.messages m)) (Appends-trans held holds writes (concat so.messages) m so.written writing);
+  handed = λ h q start small. next h q start small (so.handed h q start small);
+}
   where
-    fits : IsAt old d start.history start.place so.messages → e.sent + length m < 2 ^ 64
-    fits at = omega (arith, p.sent, at.few start.sent, at.stands.stream.within, found.short, parts_few (disclosed 1 start.history), start.small.listed, start.small.records, start.small.octets)
+    next : (h : List HistoryEntry) (q : ℕ) → Stands old h q → Small h → IsAt old d h q so.messages → IsAt old f h q (so.messages ++ m ∷ [])
+    next h q start small at = record {
+      place = place_after (disclosed 1 h) at.place d.job.target;
+      hands = subst (λ target. HandsOut (disclosed 1 h) old.job.now old.job.target q (so.messages ++ m ∷ []) (place_after (disclosed 1 h) at.place target)) (sym (ap (λ j. j.target) so.job))
+          (hands-snoc (disclosed 1 h) old.job.now old.job.target q at.place so.messages m at.hands is);
+      stands = written_on e f h (place_after (disclosed 1 h) at.place d.job.target) same state (p.pulls.stands h at.place at.stands);
+      few = λ le. omega (arith, at.few le, p.sent, counting, found.short, found.goes_on);
+    }
       where
-        found : IsPulled (disclosed 1 start.history) d.job.now d.job.target at.place m
-        found = pulled (disclosed 1 start.history) d.job.now d.job.target at.place m (streamable_of start.history start.small) p.below (sym (p.gives.answers (disclosed 1 start.history) at.place at.stands.stream))
+        here : built (disclosed 1 h) at.place d.job.now d.job.target ≡ Some m
+        here = sym (p.pulls.message h at.place at.stands)
 
--- each turn leaves fewer parts
-pub turn_smaller : (old d e f : Desk) (held holds : Option (List ℕ)) (m : List ℕ) → IsDelivering old → IsPulling old d held holds → Pulled d e (Some m) → f.stream ≡ e.stream
-    → length f.stream.standing.waiting < length d.stream.standing.waiting
-turn_smaller old d e f held holds m start so p stream = less (so.handed start.history start.place start.stands start.small)
+        is : built (disclosed 1 h) at.place old.job.now old.job.target ≡ Some m
+        is = ap (λ j. built (disclosed 1 h) at.place j.now j.target) (sym so.job) ∙ here
+
+        found : IsPulled (disclosed 1 h) d.job.now d.job.target at.place m
+        found = pulled (disclosed 1 h) d.job.now d.job.target at.place m small.streamable p.below here
+
+-- nothing waits: all was written
+pub turn_ends : (old d e : Run) (held holds : Option (List ℕ)) → IsPulling old d held holds → Pulled d e None → Delivers old e held holds
+turn_ends old d e held holds so p = record {
+  job = p.same.job ∙ so.job;
+  audit = audit_on old d e so.audit p.audit;
+  messages = so.messages;
+  handed = λ h q start small. next h q start small (so.handed h q start small);
+  written = so.written;
+  sent = p.sent ∙ so.sent;
+  few = λ q le h start small. few q le h start small (so.handed h q start small);
+}
   where
-    less : IsAt old d start.history start.place so.messages → length f.stream.standing.waiting < length d.stream.standing.waiting
-    less at = omega (
-      arith,
-      ap (λ s. length s.standing.waiting) stream,
-      ap length at.stands.stream.waiting,
-      ap length after.waiting,
-      after.within,
-      found.goes_on,
-      length-drop at.place (parts (disclosed 1 start.history)),
-      length-drop (place_after (disclosed 1 start.history) at.place d.job.target) (parts (disclosed 1 start.history)),
+    end : (h : List HistoryEntry) (q : ℕ) (at : IsAt old d h q so.messages) → at.place ≡ end_of h
+    end h q at = at_end (disclosed 1 h) d.job.now d.job.target at.place (sym (p.pulls.message h at.place at.stands)) (within_end d h at.place at.stands)
+
+    next : (h : List HistoryEntry) (q : ℕ) → Stands old h q → Small h → IsAt old d h q so.messages → HandsOut (disclosed 1 h) old.job.now old.job.target q so.messages (end_of h) × Stands e h (end_of h)
+    next h q start small at = (
+      subst (HandsOut (disclosed 1 h) old.job.now old.job.target q so.messages) (end h q at) at.hands,
+      subst (Stands e h) (after ∙ end h q at) (p.pulls.stands h at.place at.stands),
     )
       where
-        after : StandsAt e.stream.standing (disclosed 1 start.history) (place_after (disclosed 1 start.history) at.place d.job.target)
-        after = p.gives.stands (disclosed 1 start.history) at.place at.stands.stream
+        after : place_after (disclosed 1 h) at.place d.job.target ≡ at.place
+        after = stays (disclosed 1 h) d.job.now d.job.target at.place (sym (p.pulls.message h at.place at.stands)) (within_end d h at.place at.stands)
 
-        found : IsPulled (disclosed 1 start.history) d.job.now d.job.target at.place m
-        found = pulled (disclosed 1 start.history) d.job.now d.job.target at.place m (streamable_of start.history start.small) p.below (sym (p.gives.answers (disclosed 1 start.history) at.place at.stands.stream))
+    few : (q : ℕ) → old.sent ≤ 65535 * q → (h : List HistoryEntry) → Stands old h q → Small h → IsAt old d h q so.messages → e.sent ≤ 65535 * end_of h
+    few q le h start small at = omega (arith, p.sent, at.few le, end h q at)
+
+-- where the run of a turn stands, and the message of that place
+record IsTurn (old d : Run) (start : IsDelivering old) (messages : List (List ℕ)) (m : List ℕ) : Type 0 where
+  at : IsAt old d start.history start.place messages
+  here : built (disclosed 1 start.history) at.place d.job.now d.job.target ≡ Some m
+  found : IsPulled (disclosed 1 start.history) d.job.now d.job.target at.place m
+
+turn_at : (old d e : Run) (held holds : Option (List ℕ)) (m : List ℕ) (start : IsDelivering old) (so : IsPulling old d held holds) → Pulled d e (Some m) → IsTurn old d start so.messages m
+turn_at old d e held holds m start so p =
+    let at = so.handed start.history start.place start.stands start.small in
+    let here = sym (p.pulls.message start.history at.place at.stands) in
+    record { at = at; here = here; found = pulled (disclosed 1 start.history) d.job.now d.job.target at.place m start.small.streamable p.below here }
+
+-- a message is short, and what was sent before it is little
+pub turn_fits : (old d e : Run) (held holds : Option (List ℕ)) (m : List ℕ) → IsDelivering old → IsPulling old d held holds → Pulled d e (Some m) → e.sent + length m < 2 ^ 64
+turn_fits old d e held holds m start so p =
+    let t = turn_at old d e held holds m start so p in
+    omega (arith, p.sent, t.at.few start.sent, within_end d start.history t.at.place t.at.stands, t.found.short, parts_few (disclosed 1 start.history), start.small.listed, start.small.entries)
+
+pub turn_serves : (old d : Run) (held holds : Option (List ℕ)) → IsDelivering old → IsPulling old d held holds → IsServing d
+turn_serves old d held holds start so =
+    let at = so.handed start.history start.place start.stands start.small in
+    record { history = start.history; place = at.place; stands = at.stands }
+
+-- each turn leaves fewer parts
+pub turn_smaller : (old d e f : Run) (held holds : Option (List ℕ)) (m : List ℕ) → IsDelivering old → IsPulling old d held holds → Pulled d e (Some m) → f.state ≡ e.state
+    → length (parts_waiting f) < length (parts_waiting d)
+turn_smaller old d e f held holds m start so p state =
+    let t = turn_at old d e held holds m start so p in
+    let h = start.history in
+    let q = place_after (disclosed 1 h) t.at.place d.job.target in
+    omega (
+      arith,
+      ap (λ s. length (parts_in (table.at s.engine.subscriptions 1))) state,
+      ap length (waits_behind d h t.at.place t.at.stands),
+      ap length (waits_behind e h q (p.pulls.stands h t.at.place t.at.stands)),
+      within_end e h q (p.pulls.stands h t.at.place t.at.stands),
+      t.found.goes_on,
+      length-drop t.at.place (parts (disclosed 1 h)),
+      length-drop q (parts (disclosed 1 h)),
+    )
 
 -- the writer failed at a message
-pub turn_fails : (old d e : Desk) (held holds writes : Option (List ℕ)) (m : List ℕ) (fault : OfflineFault) (failed : Bool) → IsDelivering old → IsPulling old d held holds → Pulled d e (Some m)
-    → StopsWriting fault e holds writes m failed → FailsDelivery fault old held writes failed
-turn_fails old d e held holds writes m fault failed start so p stops = record {
+pub turn_fails : (old d e : Run) (held holds writes : Option (List ℕ)) (m : List ℕ) (e' : OfflineFault) (failed : Bool) → IsDelivering old → IsPulling old d held holds → Pulled d e (Some m)
+    → StopsWriting e' e holds writes m failed → FailsDelivery e' old held writes failed
+turn_fails old d e held holds writes m e' failed start so p stops = record {
   messages = so.messages ++ m ∷ [];
   handed = λ h q begin small. next h q begin small (so.handed h q begin small);
   stops = subst (λ x. StopsDelivery x old held writes failed (so.messages ++ m ∷ [])) (sym stops.is) (length (concat so.messages) + stops.sent, (omega (arith, p.sent, so.sent)), front);
@@ -285,7 +316,7 @@ turn_fails old d e held holds writes m fault failed start so p stops = record {
     next h q begin small at = (
       place_after (disclosed 1 h) at.place old.job.target,
       hands-snoc (disclosed 1 h) old.job.now old.job.target q at.place so.messages m at.hands
-          (ap (λ j. built (disclosed 1 h) at.place j.now j.target) (sym so.job) ∙ sym (p.gives.answers (disclosed 1 h) at.place at.stands.stream)),
+          (ap (λ j. built (disclosed 1 h) at.place j.now j.target) (sym so.job) ∙ sym (p.pulls.message h at.place at.stands)),
     )
 
     front : WritesFront held writes (concat (so.messages ++ m ∷ [])) (length (concat so.messages) + stops.sent) failed
@@ -294,6 +325,14 @@ turn_fails old d e held holds writes m fault failed start so p stops = record {
       written = subst (Appends held writes) (sym (take-add-append (concat so.messages) m stops.sent)) (Appends-trans held holds writes (concat so.messages) (take stops.sent m) so.written stops.front.written);
       failed = stops.front.failed;
     })
+
+-- memory ran out at a pull
+pub memory_fails : (old d : Run) (held holds : Option (List ℕ)) (e : OfflineFault) (failed : Bool) → e ≡ Core fault.OutOfMemory → IsPulling old d held holds → FailsDelivery e old held holds failed
+memory_fails old d held holds e failed is so = rw is (record {
+  messages = so.messages;
+  handed = λ h q begin small. let at = so.handed h q begin small in (at.place, at.hands);
+  stops = so.written;
+})
 
 pub some_same : (o : Option (List ℕ)) (a b : List ℕ) → o ≡ Some a → b ≡ a → o ≡ Some b
 some_same o a b is same = is ∙ ap some_message (sym same)

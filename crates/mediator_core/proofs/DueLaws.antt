@@ -11,7 +11,7 @@ use Rattle.event_journal.specs.declared.entry.Entry.{Entry}
 use Rattle.mediator_history.specs.Disclosed.{given_at, disclosed}
 use Rattle.mediator_core.specs.declared.job.OfflineJob.{OfflineJob}
 use Rattle.mediator_core.specs.Offline.{cuts_by, next_message as next_entry, history_of, disclosed_by, and_then, pulled, due_by, due}
-use Rattle.mediator_core.specs.Pulling.{HandsOut}
+use Rattle.mediator_core.specs.HandsOut.{HandsOut}
 use Rattle.mediator_core.specs.Due.{end_by, AreDue}
 use Rattle.mediator_core.proofs.Delivering.{at_end}
 use Rattle.mediator_core.proofs.InHand.{history_more, handed_all}

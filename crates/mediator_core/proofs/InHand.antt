@@ -26,23 +26,27 @@ use Rattle.mediator_history.specs.Disclosed.{given_at, disclosed}
 use Rattle.mediator_history.proofs.HistoryLaws.{disclosed-push, is_served-cut}
 use Rattle.mediator_history.specs.Auditing.{audit_at, audit_list}
 use Rattle.mediator_history.specs.Sessions.{messages_of}
-use Rattle.ipfix_session.specs.Standing.{StandsFor}
-use Rattle.subscriber_stream.specs.Standing.{StandsAt}
-use Rattle.std.proofs.Math.Seq.{drop-append_seam}
+use Rattle.mediator_state.specs.Calls.{StandsFor}
 use Rattle.sequences.proofs.ListLaws.{take-add-append}
-use Rattle.mediator_core.specs.declared.desk.Desk.{Desk}
+use Rattle.mediator_core.specs.declared.run.Run.{Run}
 use Rattle.mediator_core.specs.declared.job.OfflineJob.{OfflineJob}
-use Rattle.mediator_core.specs.Recording.{lines_of, KeepsDesk, WritesSome, WritesOn, StopsLines}
+use Rattle.mediator_core.specs.Lines.{lines_of, WritesSome, WritesOn}
+use Rattle.mediator_core.specs.Recording.{Records, StopsLines}
 use Rattle.mediator_core.specs.Offline.{started, after_message, history_of, disclosed_by, and_then, pulled as pulled_list, pulled_to_end, due_by, due, audit_due, cuts_by, next_message as next_entry}
-use Rattle.mediator_core.specs.Desks.{Stands, Small}
-use Rattle.mediator_core.specs.Steps.{end_of, Accepts, Receives, NamesRoom, RefusesMessage}
-use Rattle.mediator_core.specs.Pulling.{HandsOut, Delivers, StopsDelivery, FailsDelivery}
-use Rattle.mediator_core.specs.Running.{AreAccepted, IsRunning, WritesInHand, StopsAt}
-use Rattle.mediator_core.specs.declared.fault.Fault.{Fault}
-use Rattle.mediator_core.specs.declared.fault.Fault.TheVariants as fault
+use Rattle.mediator_core.specs.Runs.{tells, audit_waiting, audit_drained, HasHistory, Stands, Small}
+use Rattle.mediator_core.specs.Offline.{end_of}
+use Rattle.mediator_core.specs.Steps.{HasDelivered, Receives}
+use Rattle.mediator_core.specs.Accepting.{Accepts, RefusesMessage}
+use Rattle.mediator_core.specs.HandsOut.{HandsOut}
+use Rattle.mediator_core.specs.Pulling.{IsDelivering, Delivers, StopsDelivery, FailsDelivery}
+use Rattle.mediator_core.specs.Stopping.{AreAccepted, WritesInHand, StopsAt}
+use Rattle.mediator_core.specs.Running.{IsRunning, Runs}
+use Rattle.mediator_state.specs.declared.fault.Fault.{Fault}
+use Rattle.mediator_state.specs.declared.fault.Fault.TheVariants as fault
 use Rattle.mediator_core.specs.declared.job.OfflineFault.{OfflineFault}
-use Rattle.mediator_core.specs.declared.job.OfflineFault.TheVariants.{Read, Write, Framing, Turns, Core, Cut, AuditWrite}
-use Rattle.mediator_core.proofs.Delivering.{pulled, streamable_of}
+use Rattle.mediator_core.specs.declared.job.OfflineFault.TheVariants.{Write, Core, Cut, AuditWrite}
+use Rattle.mediator_core.proofs.Delivering.{pulled, streamable_of, stands_on}
+use Rattle.mediator_core.proofs.Receiving.{waits_added, within_end}
 
 -- ---- one message more
 
@@ -134,32 +138,10 @@ handed_run so_far records now target p q (m ∷ messages) n t so hands =
     subst (λ ms. AreHandedOut ms records q) (append_assoc so_far (m ∷ []) messages)
     (handed_run (so_far ++ m ∷ []) records now target (place_after records p target) q messages n t (handed_answer so_far (Some m) records p now target n t so (sym hands.0)) hands.1)
 
--- ---- the audit of a desk
+-- ---- the audit of a run
 
--- all entries were drained
-drained_all : (d : Desk) (all : List AuditEntry) → StandsIn d.audit.standing all → d.audit.standing.entries ≡ [] → d.audit.standing.drained ≡ length all
-drained_all d all so quiet = omega (arith, so.within, ap length so.waiting, ap length quiet, length-drop d.audit.standing.drained all)
-
--- what waits after a message is what it adds
-pub waits_added : (d e : Desk) (all more : List AuditEntry) → StandsIn d.audit.standing all → d.audit.standing.entries ≡ [] → e.audit.standing.drained ≡ d.audit.standing.drained
-    → StandsIn e.audit.standing (all ++ more) → e.audit.standing.entries ≡ more
-waits_added d e all more so quiet same then = then.waiting ∙ ap (λ n. drop n (all ++ more)) (same ∙ drained_all d all so quiet) ∙ drop-append_seam all more
-
-pub recorded_on : (d e : Desk) (h : List Entry) (p : ℕ) → Stands d h p → KeepsDesk d e → StandsIn e.audit.standing (audit_list h) → e.audit.limit ≡ d.audit.limit → Stands e h p
-recorded_on d e h p so same audit limit = record {
-  policy = same.policy ∙ so.policy;
-  name = ap (λ job. job.name.now) same.job ∙ so.name;
-  serving = so.serving;
-  alone = so.alone;
-  session = subst (λ s. StandsFor s (messages_of 1 h)) (sym same.session) so.session;
-  stream = subst (λ s. StandsAt s.standing (disclosed 1 h) p) (sym same.stream) so.stream;
-  limits = ap (λ s. s.limits) same.stream ∙ so.limits;
-  audit = audit;
-  audit_limit = limit ∙ so.audit_limit;
-  entries = same.entries ∙ so.entries;
-  octets = same.octets ∙ so.octets;
-  records = same.records ∙ so.records;
-}
+pub recorded_on : (d e : Run) (h : List Entry) (p : ℕ) → Stands d h p → Records d e → Stands e h p
+recorded_on d e h p so r = stands_on d e h p p so r.same (r.stands h so.state) (r.place ∙ so.place)
 
 -- ---- messages that are accepted
 
@@ -169,13 +151,13 @@ accepted_more job before [] octets so here = (subst (λ ms. Accepts (history_of 
 accepted_more job before (m ∷ messages) octets so here =
     (so.0, accepted_more job (before ++ m ∷ []) messages octets so.1 (subst (λ ms. Accepts (history_of job ms) octets × (cuts_by (history_of job ms) octets ≡ [])) (sym (append_assoc before (m ∷ []) messages)) here))
 
--- what is known of a desk that received a message, which cut nobody
-pub record Received (d : Desk) (job : OfflineJob) (messages : List (List ℕ)) (octets : List ℕ) : Type 0 where
+-- what is known of a run that received a message, which cut nobody
+pub record Received (d : Run) (job : OfflineJob) (messages : List (List ℕ)) (octets : List ℕ) : Type 0 where
   pub uncut : cuts_by (history_of job messages) octets ≡ []
   pub stands : Stands d (history_of job (messages ++ octets ∷ [])) (end_of (history_of job messages))
   pub small : Small (history_of job (messages ++ octets ∷ []))
 
-received : (d1 d2 : Desk) (job : OfflineJob) (messages : List (List ℕ)) (octets : List ℕ) (held holds aheld aholds : Option (List ℕ)) → IsRunning d1 job messages held holds aheld aholds
+received : (d1 d2 : Run) (job : OfflineJob) (messages : List (List ℕ)) (octets : List ℕ) (held holds aheld aholds : Option (List ℕ)) → IsRunning d1 job messages held holds aheld aholds
     → Receives d1 octets false d2 → Received d2 job messages octets
 received d1 d2 job messages octets held holds aheld aholds r receives =
     let on = receives.goes_on (history_of job messages) r.stands r.small refl in
@@ -186,15 +168,15 @@ received d1 d2 job messages octets held holds aheld aholds r receives =
     }
 
 -- no more messages are handed out for it than there are parts
-few_in_hand : (d : Desk) (job : OfflineJob) (messages : List (List ℕ)) (octets : List ℕ) (q : ℕ) (handed : List (List ℕ)) → Received d job messages octets → job.target < 2 ^ 16
+few_in_hand : (d : Run) (job : OfflineJob) (messages : List (List ℕ)) (octets : List ℕ) (q : ℕ) (handed : List (List ℕ)) → Received d job messages octets → job.target < 2 ^ 16
     → HandsOut (disclosed_by job (messages ++ octets ∷ [])) job.now job.target (end_of (history_of job messages)) handed q → length handed ≤ length (parts (disclosed_by job (messages ++ octets ∷ [])))
 few_in_hand d job messages octets q handed on low hands =
-    omega (arith, handed_few (disclosed_by job (messages ++ octets ∷ [])) job.now job.target (end_of (history_of job messages)) q handed (streamable_of (history_of job (messages ++ octets ∷ [])) on.small) low on.stands.stream.within hands)
+    omega (arith, handed_few (disclosed_by job (messages ++ octets ∷ [])) job.now job.target (end_of (history_of job messages)) q handed (streamable_of (history_of job (messages ++ octets ∷ [])) on.small) low (within_end d (history_of job (messages ++ octets ∷ [])) (end_of (history_of job messages)) on.stands) hands)
 
 -- ---- a message that was accepted, and was delivered
 
 -- what is known after receive and deliver
-pub record IsDelivered (d1 d2 d3 : Desk) (octets : List ℕ) (holds writes : Option (List ℕ)) : Type 0 where
+pub record IsDelivered (d1 d2 d3 : Run) (octets : List ℕ) (holds writes : Option (List ℕ)) : Type 0 where
   pub receives : Receives d1 octets false d2
   pub job : d2.job ≡ d1.job
   pub sent : d2.sent ≡ d1.sent
@@ -203,7 +185,7 @@ pub record IsDelivered (d1 d2 d3 : Desk) (octets : List ℕ) (holds writes : Opt
   pub delivers : Delivers d2 d3 holds writes
 
 -- what that makes of a run
-pub record Delivered (d1 d3 : Desk) (job : OfflineJob) (messages : List (List ℕ)) (octets : List ℕ) (held writes : Option (List ℕ)) : Type 0 where
+pub record Delivered (d1 d3 : Run) (job : OfflineJob) (messages : List (List ℕ)) (octets : List ℕ) (held writes : Option (List ℕ)) : Type 0 where
   pub accepts : Accepts (history_of job messages) octets
   pub uncut : cuts_by (history_of job messages) octets ≡ []
   pub stands : Stands d3 (history_of job (messages ++ octets ∷ [])) (end_of (history_of job (messages ++ octets ∷ [])))
@@ -214,10 +196,10 @@ pub record Delivered (d1 d3 : Desk) (job : OfflineJob) (messages : List (List �
   pub written : Appends held writes (concat (due job (messages ++ octets ∷ [])))
   pub added : List AuditEntry
   pub adds : audit_list (history_of job (messages ++ octets ∷ [])) ≡ audit_list (history_of job messages) ++ added
-  pub waits : d3.audit.standing.entries ≡ added
+  pub waits : (audit_waiting d3) ≡ added
   pub handed : AreHandedOut (due job (messages ++ octets ∷ [])) (disclosed_by job (messages ++ octets ∷ [])) (end_of (history_of job (messages ++ octets ∷ [])))
 
-pub delivered : (d1 d2 d3 : Desk) (job : OfflineJob) (messages : List (List ℕ)) (octets : List ℕ) (held holds writes aheld aholds : Option (List ℕ)) → IsDelivered d1 d2 d3 octets holds writes
+pub delivered : (d1 d2 d3 : Run) (job : OfflineJob) (messages : List (List ℕ)) (octets : List ℕ) (held holds writes aheld aholds : Option (List ℕ)) → IsDelivered d1 d2 d3 octets holds writes
     → IsRunning d1 job messages held holds aheld aholds → Delivered d1 d3 job messages octets held writes
 delivered d1 d2 d3 job messages octets held holds writes aheld aholds k r = record {
   accepts = k.receives.accepts h r.stands r.small;
@@ -230,8 +212,8 @@ delivered d1 d2 d3 job messages octets held holds writes aheld aholds k r = reco
   written = subst (Appends held writes) (sym whole) (Appends-trans held holds writes (concat (due job messages)) (concat k.delivers.messages) r.written k.delivers.written);
   added = more.0;
   adds = more.1;
-  waits = waits_added d1 d3 (audit_list h) more.0 r.stands.audit r.quiet (ap (λ a. a.standing.drained) k.delivers.audit ∙ k.receives.drained)
-      (subst (StandsIn d3.audit.standing) more.1 del.1.audit);
+  waits = waits_added d1 d3 (audit_list h) more.0 r.stands.state.stands.audit r.quiet (k.delivers.audit.drained ∙ k.receives.drained)
+      (subst (StandsIn d3.state.engine.audit.standing) more.1 del.1.state.stands.audit);
   handed = subst (λ ms. AreHandedOut ms shown last) (sym (due_more job messages octets ∙ ap (λ ms. due job messages ++ ms) by))
       (handed_run (due job messages) shown job.now job.target (end_of h) last k.delivers.messages now_below below
       (subst (λ l. AreHandedOut (due job messages) l (end_of h)) (sym listed) (handed_given (due job messages) (disclosed 1 h) (given_at 1 h (next_entry h octets)) (end_of h) r.handed)) hands);
@@ -277,20 +259,19 @@ delivered d1 d2 d3 job messages octets held holds writes aheld aholds k r = reco
     whole = ap concat (due_more job messages octets ∙ ap (λ ms. due job messages ++ ms) by) ∙ concat-append (due job messages) k.delivers.messages
 
 -- then recorded: the run goes on
-pub handled : (d1 d3 d4 : Desk) (job : OfflineJob) (messages : List (List ℕ)) (octets : List ℕ) (held holds writes aheld aholds awrites : Option (List ℕ)) → IsRunning d1 job messages held holds aheld aholds
-    → Delivered d1 d3 job messages octets held writes → KeepsDesk d3 d4 → Appends aholds awrites (lines_of d3.audit.standing.entries)
-    → ((all : List AuditEntry) → StandsIn d3.audit.standing all → StandsIn d4.audit.standing all) → d4.audit.standing.entries ≡ [] → d4.audit.limit ≡ d3.audit.limit
+pub handled : (d1 d3 d4 : Run) (job : OfflineJob) (messages : List (List ℕ)) (octets : List ℕ) (held holds writes aheld aholds awrites : Option (List ℕ)) → IsRunning d1 job messages held holds aheld aholds
+    → Delivered d1 d3 job messages octets held writes → Records d3 d4 → Appends aholds awrites (lines_of (audit_waiting d3))
     → IsRunning d4 job (messages ++ octets ∷ []) held writes aheld awrites
-handled d1 d3 d4 job messages octets held holds writes aheld aholds awrites r k same lines drains empty limit = record {
-  job_is = same.job ∙ k.job_is;
+handled d1 d3 d4 job messages octets held holds writes aheld aholds awrites r k records lines = record {
+  job_is = records.same.job ∙ k.job_is;
   job_accepted = r.job_accepted;
-  stands = recorded_on d3 d4 (history_of job (messages ++ octets ∷ [])) (end_of (history_of job (messages ++ octets ∷ []))) k.stands same (drains (audit_list (history_of job (messages ++ octets ∷ []))) k.stands.audit) limit;
+  stands = recorded_on d3 d4 (history_of job (messages ++ octets ∷ [])) (end_of (history_of job (messages ++ octets ∷ []))) k.stands records;
   small = k.small;
-  quiet = empty;
-  sent = same.sent ∙ k.sent;
-  few = omega (arith, same.sent, k.few);
+  quiet = records.quiet;
+  sent = records.sent ∙ k.sent;
+  few = omega (arith, records.sent, k.few);
   written = k.written;
-  audited = lines_added job messages octets k.added d3.audit.standing.entries aheld aholds awrites k.adds k.waits r.audited lines;
+  audited = lines_added job messages octets k.added (audit_waiting d3) aheld aholds awrites k.adds k.waits r.audited lines;
   accepted = accepted_more job [] messages octets r.accepted (k.accepts, k.uncut);
   handed = k.handed;
 }
@@ -301,7 +282,7 @@ none_more : (messages : List (List ℕ)) → concat (messages ++ []) ≡ concat 
 none_more messages = ap concat (append-nil messages)
 
 -- nothing of the message in hand was written
-pub nothing_in_hand : (d : Desk) (job : OfflineJob) (messages : List (List ℕ)) (octets : List ℕ) (held holds aheld aholds : Option (List ℕ)) → IsRunning d job messages held holds aheld aholds
+pub nothing_in_hand : (d : Run) (job : OfflineJob) (messages : List (List ℕ)) (octets : List ℕ) (held holds aheld aholds : Option (List ℕ)) → IsRunning d job messages held holds aheld aholds
     → WritesInHand job messages octets held holds aheld aholds
 nothing_in_hand d job messages octets held holds aheld aholds r =
     let more = audit_more job messages octets in
@@ -314,39 +295,29 @@ nothing_in_hand d job messages octets held holds aheld aholds r =
           (some_after aheld aholds aholds (audit_due job messages) (lines_of more.0) r.audited (record { count = 0; within = omega arith; written = Appends-nil aholds }));
     }
 
-pub stops_refused : (f : Fault) (d : Desk) (job : OfflineJob) (messages : List (List ℕ)) (octets : List ℕ) (held holds aheld aholds : Option (List ℕ)) (failed afailed : Bool) → IsRunning d job messages held holds aheld aholds
-    → RefusesMessage f (history_of job messages) octets → NamesRoom f d → StopsAt (Core f) job messages octets held holds aheld aholds failed afailed
-stops_refused fault.OutOfMemory d job messages octets held holds aheld aholds failed afailed r refuses names = nothing_in_hand d job messages octets held holds aheld aholds r
-stops_refused (fault.Malformed why) d job messages octets held holds aheld aholds failed afailed r refuses names = (refuses, record { written = r.written; audited = r.audited })
-stops_refused fault.JournalFull d job messages octets held holds aheld aholds failed afailed r refuses names = (refuses, record { written = r.written; audited = r.audited })
-stops_refused (fault.AuditFull need room) d job messages octets held holds aheld aholds failed afailed r refuses names = (refuses, omega (arith, names, ap length r.quiet, r.stands.audit_limit), record { written = r.written; audited = r.audited })
-stops_refused (fault.Policy why) d job messages octets held holds aheld aholds failed afailed r refuses names = absurd refuses
-stops_refused fault.BadName d job messages octets held holds aheld aholds failed afailed r refuses names = absurd refuses
+pub stops_refused : (f : Fault) (d : Run) (job : OfflineJob) (messages : List (List ℕ)) (octets : List ℕ) (held holds aheld aholds : Option (List ℕ)) (failed afailed : Bool) → IsRunning d job messages held holds aheld aholds
+    → RefusesMessage f (history_of job messages) octets → StopsAt (Core f) job messages octets held holds aheld aholds failed afailed
+stops_refused fault.OutOfMemory d job messages octets held holds aheld aholds failed afailed r refuses = nothing_in_hand d job messages octets held holds aheld aholds r
+stops_refused (fault.Malformed why) d job messages octets held holds aheld aholds failed afailed r refuses = (refuses, record { written = r.written; audited = r.audited })
+stops_refused fault.JournalFull d job messages octets held holds aheld aholds failed afailed r refuses = (refuses, record { written = r.written; audited = r.audited })
+stops_refused (fault.AuditFull need room) d job messages octets held holds aheld aholds failed afailed r refuses = (refuses, record { written = r.written; audited = r.audited })
+stops_refused _ d job messages octets held holds aheld aholds failed afailed r refuses = absurd refuses
 
 -- lines stop where the audit fails, or for want of memory
 by_lines : (P : OfflineFault → Type 0) (failed : Bool) → (failed ≡ true → P AuditWrite) → P (Core fault.OutOfMemory) → (e : OfflineFault) → StopsLines e failed → P e
 by_lines P failed audit memory AuditWrite cause = audit cause
 by_lines P failed audit memory (Core fault.OutOfMemory) cause = memory
-by_lines P failed audit memory (Core (fault.Policy why)) cause = absurd cause
-by_lines P failed audit memory (Core fault.BadName) cause = absurd cause
-by_lines P failed audit memory (Core (fault.Malformed why)) cause = absurd cause
-by_lines P failed audit memory (Core fault.JournalFull) cause = absurd cause
-by_lines P failed audit memory (Core (fault.AuditFull need room)) cause = absurd cause
-by_lines P failed audit memory Read cause = absurd cause
-by_lines P failed audit memory (Write sent) cause = absurd cause
-by_lines P failed audit memory (Framing why) cause = absurd cause
-by_lines P failed audit memory Turns cause = absurd cause
-by_lines P failed audit memory Cut cause = absurd cause
+by_lines P failed audit memory _ cause = absurd cause
 
 -- the message was delivered, and its lines stop
-pub stops_recording : (f : OfflineFault) (d1 d3 : Desk) (job : OfflineJob) (messages : List (List ℕ)) (octets : List ℕ) (held holds writes aheld aholds awrites : Option (List ℕ)) (failed afailed : Bool)
-    → IsRunning d1 job messages held holds aheld aholds → Delivered d1 d3 job messages octets held writes → StopsLines f afailed → WritesSome aholds awrites (lines_of d3.audit.standing.entries)
+pub stops_recording : (f : OfflineFault) (d1 d3 : Run) (job : OfflineJob) (messages : List (List ℕ)) (octets : List ℕ) (held holds writes aheld aholds awrites : Option (List ℕ)) (failed afailed : Bool)
+    → IsRunning d1 job messages held holds aheld aholds → Delivered d1 d3 job messages octets held writes → StopsLines f afailed → WritesSome aholds awrites (lines_of (audit_waiting d3))
     → StopsAt f job messages octets held writes aheld awrites failed afailed
 stops_recording f d1 d3 job messages octets held holds writes aheld aholds awrites failed afailed r k cause some =
     by_lines (λ e. StopsAt e job messages octets held writes aheld awrites failed afailed) afailed (λ cause. (k.accepts, k.written, lines, cause)) memory f cause
   where
     lines : WritesOn aheld awrites (audit_due job messages) (audit_due job (messages ++ octets ∷ []))
-    lines = lines_begun job messages octets k.added d3.audit.standing.entries aheld aholds awrites k.adds k.waits r.audited some
+    lines = lines_begun job messages octets k.added (audit_waiting d3) aheld aholds awrites k.adds k.waits r.audited some
 
     memory : WritesInHand job messages octets held writes aheld awrites
     memory = record {
@@ -358,7 +329,7 @@ stops_recording f d1 d3 job messages octets held holds writes aheld aholds awrit
     }
 
 -- the message was accepted, and its delivery stops
-pub stops_delivering : (f : OfflineFault) (d1 d2 : Desk) (job : OfflineJob) (messages : List (List ℕ)) (octets : List ℕ) (held holds writes aheld aholds : Option (List ℕ)) (failed afailed : Bool)
+pub stops_delivering : (f : OfflineFault) (d1 d2 : Run) (job : OfflineJob) (messages : List (List ℕ)) (octets : List ℕ) (held holds writes aheld aholds : Option (List ℕ)) (failed afailed : Bool)
     → IsRunning d1 job messages held holds aheld aholds → Receives d1 octets false d2 → d2.job ≡ d1.job → d2.sent ≡ d1.sent → d2.job.target < 2 ^ 16 → FailsDelivery f d2 holds writes failed
     → StopsAt f job messages octets held writes aheld aholds failed afailed
 stops_delivering f d1 d2 job messages octets held holds writes aheld aholds failed afailed r receives same sent_same low fails = by f fails.stops
@@ -408,16 +379,7 @@ stops_delivering f d1 d2 job messages octets held holds writes aheld aholds fail
     by : (g : OfflineFault) → StopsDelivery g d2 holds writes failed fails.messages → StopsAt g job messages octets held writes aheld aholds failed afailed
     by (Write sent) s = (receives.accepts (history_of job messages) r.stands r.small, writes_front s.0 sent s.1 s.2, r.audited)
     by (Core fault.OutOfMemory) s = memory s
-    by (Core (fault.Policy why)) s = absurd s
-    by (Core fault.BadName) s = absurd s
-    by (Core (fault.Malformed why)) s = absurd s
-    by (Core fault.JournalFull) s = absurd s
-    by (Core (fault.AuditFull need room)) s = absurd s
-    by Read s = absurd s
-    by (Framing why) s = absurd s
-    by Turns s = absurd s
-    by Cut s = absurd s
-    by AuditWrite s = absurd s
+    by _ s = absurd s
 
 -- ---- a message that cuts the subscription
 
@@ -436,15 +398,15 @@ disclosed_cut h octets cut =
     ∙ append-nil (disclosed 1 h)
 
 -- what is known after a cut
-pub record WasCut (d1 d2 : Desk) (job : OfflineJob) (messages : List (List ℕ)) (octets : List ℕ) : Type 0 where
+pub record WasCut (d1 d2 : Run) (job : OfflineJob) (messages : List (List ℕ)) (octets : List ℕ) : Type 0 where
   pub accepts : Accepts (history_of job messages) octets
   pub cut : cuts_by (history_of job messages) octets ≡ CutEntry 1 ∷ []
   pub no_more : due job (messages ++ octets ∷ []) ≡ due job messages
   pub added : List AuditEntry
   pub adds : audit_list (history_of job (messages ++ octets ∷ [])) ≡ audit_list (history_of job messages) ++ added
-  pub waits : d2.audit.standing.entries ≡ added
+  pub waits : (audit_waiting d2) ≡ added
 
-pub was_cut_at : (d1 d2 : Desk) (job : OfflineJob) (messages : List (List ℕ)) (octets : List ℕ) (held holds aheld aholds : Option (List ℕ)) → IsRunning d1 job messages held holds aheld aholds
+pub was_cut_at : (d1 d2 : Run) (job : OfflineJob) (messages : List (List ℕ)) (octets : List ℕ) (held holds aheld aholds : Option (List ℕ)) → IsRunning d1 job messages held holds aheld aholds
     → Receives d1 octets true d2 → WasCut d1 d2 job messages octets
 was_cut_at d1 d2 job messages octets held holds aheld aholds r receives = record {
   accepts = receives.accepts h r.stands r.small;
@@ -452,7 +414,7 @@ was_cut_at d1 d2 job messages octets held holds aheld aholds r receives = record
   no_more = due_more job messages octets ∙ ap (λ ms. due job messages ++ ms) by ∙ append-nil (due job messages);
   added = more.0;
   adds = more.1;
-  waits = waits_added d1 d2 (audit_list h) more.0 r.stands.audit r.quiet receives.drained (subst (StandsIn d2.audit.standing) (ap audit_list (sym e) ∙ more.1) on.1);
+  waits = waits_added d1 d2 (audit_list h) more.0 r.stands.state.stands.audit r.quiet receives.drained (subst (StandsIn d2.state.engine.audit.standing) (ap audit_list (sym e) ∙ more.1) on.1.stands.audit);
 }
   where
     h : List Entry
@@ -461,7 +423,7 @@ was_cut_at d1 d2 job messages octets held holds aheld aholds r receives = record
     e : history_of job (messages ++ octets ∷ []) ≡ after_message h octets
     e = history_more job messages octets
 
-    on : (cuts_by h octets ≡ CutEntry 1 ∷ []) × StandsIn d2.audit.standing (audit_list (after_message h octets))
+    on : (cuts_by h octets ≡ CutEntry 1 ∷ []) × StandsFor tells d2.state (after_message h octets)
     on = receives.cuts h r.stands r.small refl
 
     more : (added : List AuditEntry) × (audit_list (history_of job (messages ++ octets ∷ [])) ≡ audit_list (history_of job messages) ++ added)
@@ -471,24 +433,54 @@ was_cut_at d1 d2 job messages octets held holds aheld aholds r receives = record
     by = ap (λ l. pulled_to_end l (end_of h) job.now job.target) (ap (disclosed 1) e ∙ disclosed_cut h octets on.0)
         ∙ pulled-ended (length (parts (disclosed 1 h))) (disclosed 1 h) (end_of h) job.now job.target (ended (disclosed 1 h) job.now job.target)
 
-pub stops_cut : (d1 d2 : Desk) (job : OfflineJob) (messages : List (List ℕ)) (octets : List ℕ) (held holds aheld aholds awrites : Option (List ℕ)) (failed afailed : Bool) → IsRunning d1 job messages held holds aheld aholds
-    → WasCut d1 d2 job messages octets → Appends aholds awrites (lines_of d2.audit.standing.entries) → StopsAt Cut job messages octets held holds aheld awrites failed afailed
+pub stops_cut : (d1 d2 : Run) (job : OfflineJob) (messages : List (List ℕ)) (octets : List ℕ) (held holds aheld aholds awrites : Option (List ℕ)) (failed afailed : Bool) → IsRunning d1 job messages held holds aheld aholds
+    → WasCut d1 d2 job messages octets → Appends aholds awrites (lines_of (audit_waiting d2)) → StopsAt Cut job messages octets held holds aheld awrites failed afailed
 stops_cut d1 d2 job messages octets held holds aheld aholds awrites failed afailed r k lines = (
   k.accepts,
   k.cut,
   r.written,
-  lines_added job messages octets k.added d2.audit.standing.entries aheld aholds awrites k.adds k.waits r.audited lines,
+  lines_added job messages octets k.added (audit_waiting d2) aheld aholds awrites k.adds k.waits r.audited lines,
 )
 
-pub stops_cut_recording : (f : OfflineFault) (d1 d2 : Desk) (job : OfflineJob) (messages : List (List ℕ)) (octets : List ℕ) (held holds aheld aholds awrites : Option (List ℕ)) (failed afailed : Bool)
-    → IsRunning d1 job messages held holds aheld aholds → WasCut d1 d2 job messages octets → StopsLines f afailed → WritesSome aholds awrites (lines_of d2.audit.standing.entries)
+pub stops_cut_recording : (f : OfflineFault) (d1 d2 : Run) (job : OfflineJob) (messages : List (List ℕ)) (octets : List ℕ) (held holds aheld aholds awrites : Option (List ℕ)) (failed afailed : Bool)
+    → IsRunning d1 job messages held holds aheld aholds → WasCut d1 d2 job messages octets → StopsLines f afailed → WritesSome aholds awrites (lines_of (audit_waiting d2))
     → StopsAt f job messages octets held holds aheld awrites failed afailed
 stops_cut_recording f d1 d2 job messages octets held holds aheld aholds awrites failed afailed r k cause some =
     by_lines (λ e. StopsAt e job messages octets held holds aheld awrites failed afailed) afailed
     (λ cause. (k.accepts, subst (λ ms. Appends held holds (concat ms)) (sym k.no_more) r.written, lines, cause)) memory f cause
   where
     lines : WritesOn aheld awrites (audit_due job messages) (audit_due job (messages ++ octets ∷ []))
-    lines = lines_begun job messages octets k.added d2.audit.standing.entries aheld aholds awrites k.adds k.waits r.audited some
+    lines = lines_begun job messages octets k.added (audit_waiting d2) aheld aholds awrites k.adds k.waits r.audited some
 
     memory : WritesInHand job messages octets held holds aheld awrites
     memory = record { handed = []; others = due_by job messages octets; front = refl; written = subst (Appends held holds) (sym (none_more (due job messages))) r.written; audited = lines }
+
+-- ---- where the steps of a message stand
+
+pub ready : (d : Run) (holds aholds : Option (List ℕ)) → Runs d holds aholds → HasDelivered d
+ready d holds aholds r = record { history = history_of r.job r.messages; stands = r.running.stands; small = r.running.small; quiet = r.running.quiet }
+
+pub cut_history : (d1 d2 : Run) (octets : List ℕ) (holds aholds : Option (List ℕ)) → Runs d1 holds aholds → Receives d1 octets true d2 → HasHistory d2
+cut_history d1 d2 octets holds aholds r receives = record {
+  history = after_message (history_of r.job r.messages) octets;
+  state = (receives.cuts (history_of r.job r.messages) r.running.stands r.running.small refl).1;
+}
+
+pub delivering : (d1 d2 : Run) (octets : List ℕ) (holds aholds : Option (List ℕ)) → Runs d1 holds aholds → Receives d1 octets false d2 → d2.sent ≡ d1.sent → IsDelivering d2
+delivering d1 d2 octets holds aholds r receives same =
+    let on = receives.goes_on (history_of r.job r.messages) r.running.stands r.running.small refl in
+    record {
+      history = after_message (history_of r.job r.messages) octets;
+      place = end_of (history_of r.job r.messages);
+      stands = on.1;
+      small = on.2;
+      sent = omega (arith, same, r.running.few);
+    }
+
+pub delivered_history : (d1 d2 d3 : Run) (octets : List ℕ) (holds writes aholds : Option (List ℕ)) → Runs d1 holds aholds → Receives d1 octets false d2 → Delivers d2 d3 holds writes → HasHistory d3
+delivered_history d1 d2 d3 octets holds writes aholds r receives delivers =
+    let on = receives.goes_on (history_of r.job r.messages) r.running.stands r.running.small refl in
+    record {
+      history = after_message (history_of r.job r.messages) octets;
+      state = (delivers.handed (after_message (history_of r.job r.messages) octets) (end_of (history_of r.job r.messages)) on.1 on.2).1.state;
+    }

@@ -1,14 +1,13 @@
-pub mod ShareSteps
 pub mod Messages
 pub mod Receiving
-pub mod Sizes
-pub mod Received
 pub mod Delivering
 pub mod Lines
 pub mod Blaming
 pub mod InHand
 pub mod Streams
 pub mod Ends
+pub mod Opened
 pub mod DueLaws
+pub mod Restated
 pub mod PlainLaws
 pub mod Framed

@@ -9,7 +9,7 @@ use Rattle.mediator_history.proofs.HistoryLaws.{flat_map-push}
 use Rattle.disclosure_audit.specs.declared.entry.AuditEntry.{AuditEntry}
 use Rattle.disclosure_audit.specs.Lines.{line_of}
 use Rattle.sequences.proofs.ListLaws.{take-add-append}
-use Rattle.mediator_core.specs.Recording.{lines_of, WritesSome}
+use Rattle.mediator_core.specs.Lines.{lines_of, WritesSome}
 
 lines_so_far : (entries : List AuditEntry) (i : ℕ) (e : AuditEntry) → i < length entries → e ≡ get_or entries i e → lines_of (take (i + 1) entries) ≡ lines_of (take i entries) ++ line_of e
 lines_so_far entries i e within at = ap lines_of (take_more entries i e within ∙ ap (λ x. take i entries ++ x ∷ []) (sym at)) ∙ flat_map-push line_of (take i entries) e

@@ -7,7 +7,7 @@ use Rattle.event_journal.specs.declared.entry.Entry.TheVariants.{Message}
 use Rattle.mediator_history.specs.Sessions.{message_in, messages_of}
 use Rattle.mediator_core.specs.declared.job.OfflineJob.{OfflineJob}
 use Rattle.mediator_core.specs.Offline.{started, next_message, history_of}
-use Rattle.mediator_core.specs.Running.{AreAccepted}
+use Rattle.mediator_core.specs.Stopping.{AreAccepted}
 use Rattle.mediator_core.specs.PlainHistory.{entries_from, plain_history}
 use Rattle.mediator_core.proofs.InHand.{history_more}
 

@@ -1,232 +1,132 @@
--- A desk that takes a message, or cuts its subscription.
-use Rattle.std.proofs.Common.{◌≡◌, ℕ, ◌+◌, ◌≤◌, ◌^◌, Bool, true, false, List, [], ◌∷◌, ◌++◌, length, drop, Result, Ok, Err, refl, sym, ap, ◌∙◌, subst, arith, append-nil, append_assoc, length-append}
+-- A message that a run accepts, or refuses.
+use Rattle.std.proofs.Common.{◌≡◌, ℕ, ◌+◌, ◌≤◌, ◌<◌, ◌^◌, ◌⊎◌, inl, inr, Bool, true, false, List, [], ◌∷◌, ◌++◌, length, drop, map, Option, Some, None, Result, Ok, Err, refl, sym, ap, ◌∙◌, subst, arith, append_assoc, append-nil, length-append}
 use Rattle.std.specs.Result.{IsErr, IsErrAnd, IfErr}
-use Rattle.std.specs.Prelude.{filter, nat_lt, nat_le, ◌&&◌, ◌||◌}
-use Rattle.std.specs.List.{flat_map, AllByRecursion, enumerate_from}
-use Rattle.std.proofs.lemmas.Bool.{le-ltb, ltb-false, le-leb}
-use Rattle.std.proofs.lemmas.List.{nil_from_length, drop_all, length_push, length-map}
+use Rattle.std.specs.Prelude.{filter, nat_lt, take, OnOk}
+use Rattle.std.specs.List.{flat_map, enumerate_from}
+use Rattle.std.proofs.lemmas.Bool.{ltb-true, ltb-false}
+use Rattle.std.proofs.lemmas.List.{drop_all, take_all, length_push, length-map, length-drop}
+use Rattle.std.proofs.Math.Seq.{drop-append_seam}
 use Rattle.std.proofs.lemmas.List.Concat.{flat_map-cons}
-use Rattle.std.proofs.lemmas.List.Sums.{sum_by-cons}
 use Rattle.std.proofs.lemmas.List.FromFn.{length-enumerate_from}
+use Rattle.sequences.proofs.BeforeLaws.{last_of-push}
 use Rattle.ipfix_template.specs.DataRecord.{DataRecord}
 use Rattle.ipfix_session.specs.Meaning.{Meaning, meaning_of, domain_of}
-use Rattle.ipfix_session.specs.Standing.{StandsFor}
-use Rattle.ipfix_session.specs.Answers.{Fails}
-use Rattle.ipfix_session.specs.declared.read_error.ReadError.{ReadError}
-use Rattle.ipfix_session.specs.declared.read_error.ReadError.TheVariants as read
-use Rattle.policy_text.specs.declared.rule.Rule.{Rule}
-use Rattle.flow_anonymize.specs.Outcome.{Outcome, Passes, Aggregates, Withholds}
-use Rattle.flow_anonymize.specs.Disclosed.{disclosure_of}
 use Rattle.subscriber_stream.specs.declared.limits.Limits.{Limits}
-use Rattle.subscriber_stream.specs.Shapes.{shapes_of}
 use Rattle.subscriber_stream.specs.Parts.{parts, records_in}
-use Rattle.subscriber_stream.specs.Standing.{StandsAt, FitsLimits}
-use Rattle.stream_meaning.specs.Served.{IsStreamable}
+use Rattle.flow_anonymize.specs.Outcome.{Outcome, Passes, Aggregates, Withholds}
 use Rattle.disclosure_audit.specs.declared.entry.AuditEntry.{AuditEntry}
 use Rattle.disclosure_audit.specs.declared.entry.What.TheVariants.{Cut as CutOff}
-use Rattle.disclosure_audit.specs.Queue.{StandsIn, Takes}
+use Rattle.disclosure_audit.specs.Queue.{StandsIn}
 use Rattle.event_journal.specs.declared.entry.Entry.{Entry}
 use Rattle.event_journal.specs.declared.entry.Entry.TheVariants.{Message, Cut}
-use Rattle.event_journal.specs.Sizes.{entry_octets, history_octets}
-use Rattle.mediator_history.specs.Sessions.{messages_of}
-use Rattle.mediator_history.specs.Subscriptions.{policy_in_force, is_served, subscribed_in, served}
+use Rattle.event_journal.specs.Room.{Limits as Journaled, HasRoomAfter}
+use Rattle.event_journal.specs.Sizes.{history_octets}
+use Rattle.mediator_history.specs.Sessions.{messages_of, is_open, opens}
+use Rattle.mediator_history.specs.Subscriptions.{is_live, is_served, subscribed_in, served}
 use Rattle.mediator_history.specs.Accepted.{Accepted, records_meant, records_at, accepted_as, accepted_at, accepted}
-use Rattle.mediator_history.specs.Disclosed.{passed, given_at, disclosed}
-use Rattle.mediator_history.specs.Auditing.{audit_of, audit_at, audit_list, audit_entry}
-use Rattle.mediator_history.specs.Cuts.{overflows}
-use Rattle.mediator_history.proofs.HistoryLaws.{flat_map-push, is_served-cut, policy-message, name-message, is_served-message, subscribed-message, messages-message, accepted-push, disclosed-push, audit-push, octets-push}
+use Rattle.mediator_history.specs.Disclosed.{outcome_for, given_at, disclosed}
+use Rattle.mediator_history.specs.Auditing.{audit_of, audit_at, audit_list, audit_entry, kept_back, removed_of}
+use Rattle.mediator_history.specs.Cuts.{overflows, is_cut_by, cuts_before}
+use Rattle.mediator_history.proofs.HistoryLaws.{flat_map-push, is_served-cut, is_served-message, subscribed-message, messages-message, accepted-push, audit-push, octets-push}
 use Rattle.mediator_history.proofs.Counts.{few_records}
-use Rattle.sequences.proofs.ListLaws.{AllByRecursion-append}
-use Rattle.mediator_core.specs.declared.desk.Desk.{Desk}
-use Rattle.mediator_core.specs.Shares.{given, noted, notes_from}
-use Rattle.mediator_core.specs.declared.fault.Fault.{Fault}
-use Rattle.mediator_core.specs.declared.fault.Fault.TheVariants as fault
-use Rattle.mediator_core.specs.Faults.{refusal_of}
-use Rattle.mediator_core.specs.Offline.{stream_limits, has_journal_room, next_message, cuts_by, after_message}
-use Rattle.mediator_core.specs.Desks.{Stands, Small}
-use Rattle.mediator_core.specs.Steps.{end_of, Accepts, Counts, HandsOver, LacksRoom, NamesRoom, RefusesMessage}
-use Rattle.mediator_core.proofs.Messages.{filter-none, served_alone, given_message, audit_message, cuts_none, cuts_one}
+use Rattle.mediator_history.proofs.EntryLaws.{served_is_live}
+use Rattle.live_subscriptions.specs.declared.subscription.Subscription.{Subscription}
+use Rattle.live_subscriptions.specs.Table.{at}
+use Rattle.mediator_state.specs.declared.fault.Fault.{Fault}
+use Rattle.mediator_state.specs.declared.fault.Fault.TheVariants as fault
+use Rattle.mediator_state.specs.declared.receipt.Receipt.{Receipt}
+use Rattle.mediator_state.specs.Standing.{IsLiveAs}
+use Rattle.mediator_state.specs.Seen.{place_in, waiting_in, waiting_of, place_of, IsUntouched}
+use Rattle.mediator_state.specs.Calls as calls
+use Rattle.mediator_state.specs.Calls.{StandsFor, with_cuts, RefusesReceive}
+use Rattle.mediator_core.specs.declared.run.Run.{Run}
+use Rattle.mediator_core.specs.Offline.{stream_limits, audit_limit, journal_limits, next_message, cuts_by, after_message}
+use Rattle.mediator_core.specs.Runs.{tells, audit_waiting, audit_drained, IsLimited, Stands, Small}
+use Rattle.mediator_core.specs.Offline.{end_of}
+use Rattle.mediator_core.specs.Steps.{HasDelivered, Receives, Refuses}
+use Rattle.mediator_core.specs.Accepting.{Accepts, RefusesMessage}
+use Rattle.mediator_core.proofs.Messages.{served_alone, filter-none, cuts_none, cuts_one}
 
-nothing_waits : (records : List DataRecord) → length (records_in (drop (length (parts records)) (parts records))) ≡ 0
-nothing_waits records = ap (λ ps. length (records_in ps)) (drop_all (length (parts records)) (parts records) (omega arith))
+-- ---- the faults of the parts
 
--- where there is room, nothing overflows
-pub fits_not_over : (listed more : List DataRecord) → FitsLimits stream_limits listed (length (parts listed)) more → overflows stream_limits listed 0 more ≡ false
-fits_not_over listed more fits =
-    ap (λ b. nat_lt 0 (length more) && (b || nat_lt 65280 (length (shapes_of (listed ++ more))))) (le-ltb 65536 (0 + length more) (omega (arith, fits.queue, nothing_waits listed)))
-    ∙ ap (λ b. nat_lt 0 (length more) && b) (le-ltb 65280 (length (shapes_of (listed ++ more))) fits.shapes)
-    ∙ and_false (nat_lt 0 (length more))
+-- what is known of an error that was handed on
+pub err_gives : {X E : Type 0} {P Q : E → Type 0} (r : Result X E) → IsErr r × IsErrAnd r P → ((e : E) → P e → Q e) → IfErr r Q
+err_gives (Ok x) known f = tt
+err_gives (Err e) known f = f e known.1
+
+-- ---- where the subscription stands
+
+place_within : (h : List Entry) (limits : Limits) (o : Option Subscription) → IsLiveAs h limits 1 o → is_live 1 h ≡ true → place_in o ≤ end_of h
+place_within h limits None is live = absurd (no is live)
   where
-    and_false : (b : Bool) → (b && false) ≡ false
-    and_false true = refl
-    and_false false = refl
+    no : is_live 1 h ≡ false → is_live 1 h ≡ true → ⊥
+    no a b = off (sym a ∙ b) where
+      off : false ≡ true → ⊥
+      off e = absurd cc
+place_within h limits (Some s) is live = is.stream.within
 
--- where there is none, something does
-pub over_not_fits : (listed more : List DataRecord) → length (shapes_of listed) ≤ 65280 → (FitsLimits stream_limits listed (length (parts listed)) more → ⊥) → overflows stream_limits listed 0 more ≡ true
-over_not_fits listed more shapes none = first (nat_lt 0 (length more)) refl
+pub within_end : (d : Run) (h : List Entry) (p : ℕ) → Stands d h p → p ≤ end_of h
+within_end d h p so = subst (λ q. q ≤ end_of h) so.place
+    (place_within h d.state.engine.limits (at d.state.engine.subscriptions 1) (so.state.stands.subscriptions 1) (served_is_live 1 h so.serving))
+
+none_waits : (h : List Entry) (limits : Limits) (o : Option Subscription) → IsLiveAs h limits 1 o → place_in o ≡ end_of h → waiting_in o ≡ 0
+none_waits h limits None is here = refl
+none_waits h limits (Some s) is here =
+    ap (λ ps. length (records_in ps)) (is.stream.waiting ∙ ap (λ n. drop n (parts (disclosed 1 h))) here ∙ drop_all (end_of h) (parts (disclosed 1 h)) (omega arith))
+
+pub small_of : (d : Run) (h : List Entry) (p : ℕ) → Stands d h p → length h ≤ 100000000 → history_octets h ≤ 2 ^ 40 → length (accepted h) ≤ history_octets h → Small h
+small_of d h p so entries octets records = record { entries = entries; octets = octets; records = records; listed = so.state.stands.small.listed 1; streamable = so.state.stands.small.streamable 1 }
+
+-- ---- whom a message cuts
+
+cuts_alone : (limits : Limits) (h : List Entry) (entry : Entry) (w v : ℕ → ℕ) → served h ≡ 1 ∷ [] → w 1 ≡ v 1 → cuts_before limits h entry w ≡ cuts_before limits h entry v
+cuts_alone limits h entry w v alone same =
+    ap (λ subs. map Cut (filter (is_cut_by limits h entry w) subs)) alone
+    ∙ ap (λ n. map Cut (filter (λ (sub : ℕ). overflows limits (disclosed sub h) n (given_at sub h entry)) (1 ∷ []))) same
+    ∙ sym (ap (λ subs. map Cut (filter (is_cut_by limits h entry v) subs)) alone)
+
+-- where all was handed out, a message makes the cuts that it makes where nothing waits
+pub same_cuts : (d : Run) (h : List Entry) (octets : List ℕ) → Stands d h (end_of h) → cuts_before d.state.engine.limits h (Message 1 d.messages octets) (waiting_of d.state.engine) ≡ cuts_by h octets
+same_cuts d h octets so =
+    ap (λ n. cuts_before d.state.engine.limits h (Message 1 n octets) (waiting_of d.state.engine)) so.messages
+    ∙ ap (λ limits. cuts_before limits h (next_message h octets) (waiting_of d.state.engine)) so.limited.limits
+    ∙ cuts_alone stream_limits h (next_message h octets) (waiting_of d.state.engine) (λ sub. 0) (served_alone h so.alone so.serving)
+    (none_waits h d.state.engine.limits (at d.state.engine.subscriptions 1) (so.state.stands.subscriptions 1) so.place)
+
+pub same_entries : (d : Run) (h : List Entry) (octets : List ℕ) → Stands d h (end_of h) → with_cuts d.state.engine h 1 d.messages octets ≡ cuts_by h octets ++ next_message h octets ∷ []
+same_entries d h octets so =
+    ap (λ (cuts : List Entry). cuts ++ Message 1 d.messages octets ∷ []) (same_cuts d h octets so)
+    ∙ ap (λ n. cuts_by h octets ++ Message 1 n octets ∷ []) so.messages
+
+one_or_none : (h : List Entry) (octets : List ℕ) → served h ≡ 1 ∷ [] → (cuts_by h octets ≡ []) ⊎ (cuts_by h octets ≡ Cut 1 ∷ [])
+one_or_none h octets alone = by (is_cut_by stream_limits h (next_message h octets) (λ sub. 0) 1) refl where
+  by : (b : Bool) → is_cut_by stream_limits h (next_message h octets) (λ sub. 0) 1 ≡ b → (cuts_by h octets ≡ []) ⊎ (cuts_by h octets ≡ Cut 1 ∷ [])
+  by true is = inr (cuts_one h octets alone is)
+  by false is = inl (cuts_none h octets alone is)
+
+-- ---- what a message adds to the audit
+
+few_each : {X A : Type 0} (f : X → List A) → ((x : X) → length (f x) ≤ 1) → (xs : List X) → length (flat_map f xs) ≤ length xs
+few_each f few [] = omega arith
+few_each f few (x ∷ xs) = rw (flat_map-cons f x xs) (omega (arith, length-append (f x) (flat_map f xs), few x, few_each f few xs))
+
+noted-few : (before : List Entry) (a : Accepted) (o : Outcome) → length (map (audit_entry a.position a.index 1) (kept_back o)) ≤ 1
+noted-few before a (Passes kept []) = omega arith
+noted-few before a (Passes kept (field ∷ fields)) = omega arith
+noted-few before a (Aggregates rule definition) = omega arith
+noted-few before a (Withholds rule reason) = omega arith
+
+accepted-many : (h : List Entry) (octets : List ℕ) → length (accepted_at h (next_message h octets)) ≡ length (records_meant (meaning_of (messages_of 1 h) octets))
+accepted-many h octets =
+    length-map (enumerate_from 0 (records_at h (next_message h octets))) (accepted_as (length h) 1 (domain_of octets))
+    ∙ length-enumerate_from 0 (records_at h (next_message h octets))
+
+pub noted_few : (h : List Entry) (octets : List ℕ) → served h ≡ 1 ∷ [] → length (audit_at h (next_message h octets)) ≤ length octets
+noted_few h octets alone =
+    omega (arith, few_each (λ a. flat_map (audit_of h a) (served h)) each (accepted_at h (next_message h octets)), accepted-many h octets, few_records (messages_of 1 h) octets)
   where
-    third : nat_lt 0 (length more) ≡ true → nat_lt 65536 (0 + length more) ≡ false → (b : Bool) → nat_lt 65280 (length (shapes_of (listed ++ more))) ≡ b → overflows stream_limits listed 0 more ≡ true
-    third e f true g = rw e (rw f (rw g refl))
-    third e f false g = absurd (none (record { queue = omega (arith, nothing_waits listed, ltb-false 65536 (0 + length more) f); shapes = ltb-false 65280 (length (shapes_of (listed ++ more))) g }))
-
-    second : nat_lt 0 (length more) ≡ true → (b : Bool) → nat_lt 65536 (0 + length more) ≡ b → overflows stream_limits listed 0 more ≡ true
-    second e true f = rw e (rw f refl)
-    second e false f = third e f (nat_lt 65280 (length (shapes_of (listed ++ more)))) refl
-
-    empty : more ≡ [] → FitsLimits stream_limits listed (length (parts listed)) more
-    empty e = rw e (record { queue = omega (arith, nothing_waits listed); shapes = omega (arith, shapes, ap (λ l. length (shapes_of l)) (append-nil listed)) })
-
-    first : (b : Bool) → nat_lt 0 (length more) ≡ b → overflows stream_limits listed 0 more ≡ true
-    first true e = second e (nat_lt 65536 (0 + length more)) refl
-    first false e = absurd (none (empty (nil_from_length more (omega (arith, ltb-false 0 (length more) e)))))
-
--- ---- how many
-
-pub given-few : (name : List ℕ) (domain : ℕ) (rules : List Rule) (records : List DataRecord) → length (given name domain rules records) ≤ length records
-given-few name domain rules [] = omega arith
-given-few name domain rules (r ∷ records) =
-    omega (arith, given-few name domain rules records, one (disclosure_of name domain r rules), length-append (passed (disclosure_of name domain r rules)) (given name domain rules records), ap length (flat_map-cons (λ x. passed (disclosure_of name domain x rules)) r records))
-  where
-    one : (o : Outcome) → length (passed o) ≤ 1
-    one (Passes kept removed) = omega arith
-    one (Aggregates rule definition) = omega arith
-    one (Withholds rule reason) = omega arith
-
-noted-few : (position index : ℕ) (o : Outcome) → length (noted position index o) ≤ 1
-noted-few position index (Passes kept []) = omega arith
-noted-few position index (Passes kept (field ∷ fields)) = omega arith
-noted-few position index (Aggregates rule definition) = omega arith
-noted-few position index (Withholds rule reason) = omega arith
-
-pub notes-few : (position index : ℕ) (name : List ℕ) (domain : ℕ) (rules : List Rule) (records : List DataRecord) → length (notes_from position index name domain rules records) ≤ length records
-notes-few position index name domain rules [] = omega arith
-notes-few position index name domain rules (r ∷ records) =
-    omega (
-      arith,
-      notes-few position (index + 1) name domain rules records,
-      noted-few position index (disclosure_of name domain r rules),
-      length-append (noted position index (disclosure_of name domain r rules)) (notes_from position (index + 1) name domain rules records),
-      ap length (flat_map-cons (λ p. noted position p.0 (disclosure_of name domain p.1 rules)) (index, r) (enumerate_from (index + 1) records)),
-    )
-
-accepted-many : (h : List Entry) (number : ℕ) (octets : List ℕ) (m : Meaning) → meaning_of (messages_of 1 h) octets ≡ Ok m → length (accepted_at h (Message 1 number octets)) ≡ length m.records
-accepted-many h number octets m means =
-    length-map (enumerate_from 0 (records_at h (Message 1 number octets))) (accepted_as (length h) 1 (domain_of octets))
-    ∙ length-enumerate_from 0 (records_at h (Message 1 number octets))
-    ∙ ap (λ r. length (records_meant r)) means
-
-pub records-few : (h : List Entry) (octets : List ℕ) (m : Meaning) → meaning_of (messages_of 1 h) octets ≡ Ok m → length m.records ≤ length octets
-records-few h octets m means = omega (arith, few_records (messages_of 1 h) octets, ap (λ r. length (records_meant r)) means)
-
--- ---- a message that is taken
-
-pub record TakesMessage (old new : Desk) (h : List Entry) (octets : List ℕ) (m : Meaning) (gives : List DataRecord) (notes : List AuditEntry) : Type 0 where
-  pub means : meaning_of (messages_of 1 h) octets ≡ Ok m
-  pub giving : gives ≡ given old.job.name.now m.header.domain old.policy.rules m.records
-  pub noting : notes ≡ notes_from old.entries 0 old.job.name.now m.header.domain old.policy.rules m.records
-  pub streamable : AllByRecursion IsStreamable gives
-  pub fits : FitsLimits stream_limits (disclosed 1 h) (end_of h) gives
-  pub session : StandsFor new.session (octets ∷ messages_of 1 h)
-  pub job : new.job ≡ old.job
-  pub policy : new.policy ≡ old.policy
-  pub hands : HandsOver old new gives notes
-  pub counts : Counts old new 1 (21 + length octets) (length m.records)
-
-pub taken : (old new : Desk) (h : List Entry) (octets : List ℕ) (m : Meaning) (gives : List DataRecord) (notes : List AuditEntry) → Stands old h (end_of h) → Small h → TakesMessage old new h octets m gives notes
-    → (cuts_by h octets ≡ []) × Stands new (after_message h octets) (end_of h) × Small (after_message h octets)
-taken old new h octets m gives notes so small t = (none, subst (λ x. Stands new x (end_of h)) (sym goes_on) stands, subst Small (sym goes_on) stays)
-  where
-    next : Entry
-    next = next_message h octets
-
-    alone : served h ≡ 1 ∷ []
-    alone = served_alone h so.alone so.serving
-
-    gives_eq : given_at 1 h next ≡ gives
-    gives_eq = given_message h (length (messages_of 1 h)) octets m so.serving t.means
-        ∙ ap (λ name. given name m.header.domain (policy_in_force h).rules m.records) (sym so.name)
-        ∙ ap (λ policy. given old.job.name.now m.header.domain policy.rules m.records) (sym so.policy)
-        ∙ sym t.giving
-
-    notes_eq : audit_at h next ≡ notes
-    notes_eq = audit_message h (length (messages_of 1 h)) octets m alone t.means
-        ∙ ap (λ name. notes_from (length h) 0 name m.header.domain (policy_in_force h).rules m.records) (sym so.name)
-        ∙ ap (λ policy. notes_from (length h) 0 old.job.name.now m.header.domain policy.rules m.records) (sym so.policy)
-        ∙ ap (λ position. notes_from position 0 old.job.name.now m.header.domain old.policy.rules m.records) (sym so.entries)
-        ∙ sym t.noting
-
-    none : cuts_by h octets ≡ []
-    none = cuts_none h octets alone (ap (overflows stream_limits (disclosed 1 h) 0) gives_eq ∙ fits_not_over (disclosed 1 h) gives t.fits)
-
-    goes_on : after_message h octets ≡ h ++ next ∷ []
-    goes_on = ap (λ cuts. h ++ (cuts ++ next ∷ [])) none
-
-    listed : disclosed 1 (h ++ next ∷ []) ≡ disclosed 1 h ++ gives
-    listed = disclosed-push 1 h next ∙ ap (λ g. disclosed 1 h ++ g) gives_eq
-
-    audited : audit_list (h ++ next ∷ []) ≡ audit_list h ++ notes
-    audited = audit-push h next ∙ ap (λ e. audit_list h ++ e) notes_eq
-
-    accepts : length (accepted (h ++ next ∷ [])) ≡ length (accepted h) + length m.records
-    accepts = ap length (accepted-push h next) ∙ length-append (accepted h) (accepted_at h next) ∙ ap (λ n. length (accepted h) + n) (accepted-many h (length (messages_of 1 h)) octets m t.means)
-
-    grows : history_octets (h ++ next ∷ []) ≡ history_octets h + (21 + length octets)
-    grows = octets-push h next
-
-    stands : Stands new (h ++ next ∷ []) (end_of h)
-    stands = record {
-      policy = t.policy ∙ so.policy ∙ sym (policy-message h 1 (length (messages_of 1 h)) octets);
-      name = ap (λ job. job.name.now) t.job ∙ so.name ∙ sym (name-message 1 h 1 (length (messages_of 1 h)) octets);
-      serving = is_served-message 1 h 1 (length (messages_of 1 h)) octets ∙ so.serving;
-      alone = subscribed-message h 1 (length (messages_of 1 h)) octets ∙ so.alone;
-      session = subst (StandsFor new.session) (sym (messages-message h (length (messages_of 1 h)) octets)) t.session;
-      stream = subst (λ l. StandsAt new.stream.standing l (end_of h)) (sym listed) (t.hands.stream.stands (disclosed 1 h) (end_of h) so.stream);
-      limits = t.hands.limits ∙ so.limits;
-      audit = subst (StandsIn new.audit.standing) (sym audited) (t.hands.audit (audit_list h) so.audit);
-      audit_limit = t.hands.audit_limit ∙ so.audit_limit;
-      entries = omega (arith, t.counts.entries, so.entries, length_push h next);
-      octets = omega (arith, t.counts.octets, so.octets, grows);
-      records = omega (arith, t.counts.records, so.records, accepts);
-    }
-
-    stays : Small (h ++ next ∷ [])
-    stays = record {
-      entries = omega (arith, stands.entries, t.counts.entries_fit);
-      octets = omega (arith, stands.octets, t.counts.octets_fit);
-      records = omega (arith, accepts, grows, small.records, records-few h octets m t.means);
-      listed = omega (arith, ap length listed, length-append (disclosed 1 h) gives, accepts, small.listed, ap length t.giving, given-few old.job.name.now m.header.domain old.policy.rules m.records);
-      audited = omega (arith, ap length audited, length-append (audit_list h) notes, accepts, small.audited, ap length t.noting, notes-few old.entries 0 old.job.name.now m.header.domain old.policy.rules m.records);
-      shapes = omega (arith, ap (λ l. length (shapes_of l)) listed, t.fits.shapes);
-      streamable = subst (AllByRecursion IsStreamable) (sym listed) (AllByRecursion-append IsStreamable (disclosed 1 h) gives small.streamable t.streamable);
-    }
-
--- ---- a message that cuts the subscription
-
-pub record CutsBefore (old new : Desk) (h : List Entry) (octets : List ℕ) (m : Meaning) (gives : List DataRecord) : Type 0 where
-  pub means : meaning_of (messages_of 1 h) octets ≡ Ok m
-  pub giving : gives ≡ given old.job.name.now m.header.domain old.policy.rules m.records
-  pub over : FitsLimits stream_limits (disclosed 1 h) (end_of h) gives → ⊥
-  pub audit : Takes old.audit.standing (audit_entry old.entries 0 1 CutOff ∷ []) new.audit.standing
-
--- what a message gives the subscription, by what the desk keeps
-given_by : (old : Desk) (h : List Entry) (octets : List ℕ) (m : Meaning) → Stands old h (end_of h) → meaning_of (messages_of 1 h) octets ≡ Ok m
-    → given_at 1 h (next_message h octets) ≡ given old.job.name.now m.header.domain old.policy.rules m.records
-given_by old h octets m so means =
-    given_message h (length (messages_of 1 h)) octets m so.serving means
-    ∙ ap (λ name. given name m.header.domain (policy_in_force h).rules m.records) (sym so.name)
-    ∙ ap (λ policy. given old.job.name.now m.header.domain policy.rules m.records) (sym so.policy)
-
-pub overflown : (old : Desk) (h : List Entry) (octets : List ℕ) (m : Meaning) (gives : List DataRecord) → Stands old h (end_of h) → Small h → meaning_of (messages_of 1 h) octets ≡ Ok m
-    → gives ≡ given old.job.name.now m.header.domain old.policy.rules m.records → (FitsLimits stream_limits (disclosed 1 h) (end_of h) gives → ⊥) → cuts_by h octets ≡ Cut 1 ∷ []
-overflown old h octets m gives so small means giving over =
-    cuts_one h octets (served_alone h so.alone so.serving)
-    (ap (overflows stream_limits (disclosed 1 h) 0) (given_by old h octets m so means ∙ sym giving) ∙ over_not_fits (disclosed 1 h) gives small.shapes over)
-
-pub fitting : (old : Desk) (h : List Entry) (octets : List ℕ) (m : Meaning) (gives : List DataRecord) → Stands old h (end_of h) → meaning_of (messages_of 1 h) octets ≡ Ok m
-    → gives ≡ given old.job.name.now m.header.domain old.policy.rules m.records → FitsLimits stream_limits (disclosed 1 h) (end_of h) gives → cuts_by h octets ≡ []
-fitting old h octets m gives so means giving fits =
-    cuts_none h octets (served_alone h so.alone so.serving)
-    (ap (overflows stream_limits (disclosed 1 h) 0) (given_by old h octets m so means ∙ sym giving) ∙ fits_not_over (disclosed 1 h) gives fits)
+    each : (a : Accepted) → length (flat_map (audit_of h a) (served h)) ≤ 1
+    each a = rw alone (omega (arith, noted-few h a (outcome_for 1 h a.domain a.flow), length-append (audit_of h a 1) [], ap length (flat_map-cons (audit_of h a) 1 [])))
 
 -- after a cut of the only subscription that is served, a message adds nothing to the audit
 audit_after_cut : (h : List Entry) (octets : List ℕ) (number : ℕ) → flat_map subscribed_in h ≡ 1 ∷ [] → audit_at (h ++ Cut 1 ∷ []) (Message 1 number octets) ≡ []
@@ -251,114 +151,190 @@ audit_of_cut h octets alone cuts =
     ∙ append-nil (audit_list (h ++ Cut 1 ∷ []))
     ∙ audit-push h (Cut 1)
 
-pub was_cut : (old new : Desk) (h : List Entry) (octets : List ℕ) (m : Meaning) (gives : List DataRecord) → Stands old h (end_of h) → Small h → CutsBefore old new h octets m gives
-    → (cuts_by h octets ≡ Cut 1 ∷ []) × StandsIn new.audit.standing (audit_list (after_message h octets))
-was_cut old new h octets m gives so small t =
-    let cuts = overflown old h octets m gives so small t.means t.giving t.over in
-    (cuts, subst (StandsIn new.audit.standing) (sym (audit_of_cut h octets so.alone cuts)) (subst (λ position. StandsIn new.audit.standing (audit_list h ++ audit_entry position 0 1 CutOff ∷ [])) so.entries (t.audit (audit_list h) so.audit)))
+-- ---- a message that is accepted
 
--- ---- room in the journal
+-- what a call of the state gives to a run
+pub record Taken (old new : Run) (octets : List ℕ) (r : Receipt) : Type 0 where
+  pub job : new.job ≡ old.job
+  pub messages : new.messages ≡ old.messages + 1
+  pub records : new.records ≡ old.records + r.records
+  pub untouched : IsUntouched old.state.engine new.state.engine
+  pub journaled : new.state.chronicle.limits ≡ old.state.chronicle.limits
+  pub receives : (h : List Entry) → StandsFor tells old.state h → calls.Receives tells (λ t. t.limits) old.state h 1 old.messages octets r new.state
 
-journal_room : (h more : List Entry) (entries octets m n : ℕ) → entries ≡ length h → octets ≡ history_octets h → m ≡ length more → n ≡ history_octets more
-    → (nat_le (entries + m) 100000000 && nat_le (octets + n) (2 ^ 40)) ≡ has_journal_room h more
-journal_room h more entries octets m n a b c d =
-    ap (λ x. nat_le (x + m) 100000000 && nat_le (octets + n) (2 ^ 40)) a
-    ∙ ap (λ x. nat_le (length h + m) 100000000 && nat_le (x + n) (2 ^ 40)) b
-    ∙ ap (λ x. nat_le (length h + x) 100000000 && nat_le (history_octets h + n) (2 ^ 40)) c
-    ∙ ap (λ x. nat_le (length h + length more) 100000000 && nat_le (history_octets h + x) (2 ^ 40)) d
+accepts_it : (old new : Run) (octets : List ℕ) (r : Receipt) (h : List Entry) → Taken old new octets r → Stands old h (end_of h) → Accepts h octets
+accepts_it old new octets r h t so =
+    let got = t.receives h so.state in
+    record {
+      meaning = got.meaning;
+      means = got.means;
+      room = subst (λ l. HasRoomAfter l h (cuts_by h octets ++ next_message h octets ∷ [])) so.limited.journal (subst (HasRoomAfter old.state.chronicle.limits h) (same_entries old h octets so) got.accepts.room);
+    }
 
-pub room_taken : (old : Desk) (h : List Entry) (octets : List ℕ) → Stands old h (end_of h) → cuts_by h octets ≡ []
-    → (nat_le (old.entries + 1) 100000000 && nat_le (old.octets + (21 + length octets)) (2 ^ 40)) ≡ has_journal_room h (cuts_by h octets ++ next_message h octets ∷ [])
-room_taken old h octets so none =
-    journal_room h (next_message h octets ∷ []) old.entries old.octets 1 (21 + length octets) so.entries so.octets refl (omega (arith, sum_by-cons entry_octets (next_message h octets) []))
-    ∙ ap (λ cuts. has_journal_room h (cuts ++ next_message h octets ∷ [])) (sym none)
+stands_after : (old new : Run) (octets : List ℕ) (r : Receipt) (h : List Entry) → Taken old new octets r → Stands old h (end_of h) → StandsFor tells new.state (after_message h octets)
+stands_after old new octets r h t so = subst (λ more. StandsFor tells new.state (h ++ more)) (same_entries old h octets so) (t.receives h so.state).accepts.stands
 
-pub room_cut : (old : Desk) (h : List Entry) (octets : List ℕ) → Stands old h (end_of h) → cuts_by h octets ≡ Cut 1 ∷ []
-    → (nat_le (old.entries + 2) 100000000 && nat_le (old.octets + (30 + length octets)) (2 ^ 40)) ≡ has_journal_room h (cuts_by h octets ++ next_message h octets ∷ [])
-room_cut old h octets so one =
-    journal_room h (Cut 1 ∷ next_message h octets ∷ []) old.entries old.octets 2 (30 + length octets) so.entries so.octets refl
-    (omega (arith, sum_by-cons entry_octets (Cut 1) (next_message h octets ∷ []), sum_by-cons entry_octets (next_message h octets) []))
-    ∙ ap (λ cuts. has_journal_room h (cuts ++ next_message h octets ∷ [])) (sym one)
+cut_count : (old new : Run) (octets : List ℕ) (r : Receipt) (h : List Entry) → Taken old new octets r → Stands old h (end_of h) → r.cut ≡ length (cuts_by h octets)
+cut_count old new octets r h t so = ap (λ x. x.cut) (t.receives h so.state).receipt ∙ ap length (same_cuts old h octets so)
 
-pub fits_journal : (a b : ℕ) → a ≤ 100000000 → b ≤ 2 ^ 40 → (nat_le a 100000000 && nat_le b (2 ^ 40)) ≡ true
-fits_journal a b p q = ap (λ x. x && nat_le b (2 ^ 40)) (le-leb a 100000000 p) ∙ le-leb b (2 ^ 40) q
+goes_on : (old new : Run) (octets : List ℕ) (r : Receipt) (h : List Entry) → Taken old new octets r → Stands old h (end_of h) → Small h → cuts_by h octets ≡ [] → Stands new (after_message h octets) (end_of h) × Small (after_message h octets)
+goes_on old new octets r h t so small none = (subst (λ x. Stands new x (end_of h)) (sym whole) stands, subst Small (sym whole) stays)
+  where
+    next : Entry
+    next = next_message h octets
+
+    number : ℕ
+    number = length (messages_of 1 h)
+
+    whole : after_message h octets ≡ h ++ next ∷ []
+    whole = ap (λ cuts. h ++ (cuts ++ next ∷ [])) none
+
+    got : calls.Receives tells (λ t. t.limits) old.state h 1 old.messages octets r new.state
+    got = t.receives h so.state
+
+    room : HasRoomAfter journal_limits h (next ∷ [])
+    room = subst (λ cuts. HasRoomAfter journal_limits h (cuts ++ next ∷ [])) none (accepts_it old new octets r h t so).room
+
+    brought : r.records ≡ length (accepted_at h next)
+    brought = ap (λ x. x.records) got.receipt ∙ ap (λ x. length (records_meant x)) (sym got.means) ∙ sym (accepted-many h octets)
+
+    accepts : length (accepted (h ++ next ∷ [])) ≡ length (accepted h) + length (accepted_at h next)
+    accepts = ap length (accepted-push h next) ∙ length-append (accepted h) (accepted_at h next)
+
+    stands : Stands new (h ++ next ∷ []) (end_of h)
+    stands = record {
+      state = subst (StandsFor tells new.state) whole (stands_after old new octets r h t so);
+      place = t.untouched.places 1 ∙ so.place;
+      serving = is_served-message 1 h 1 number octets ∙ so.serving;
+      alone = subscribed-message h 1 number octets ∙ so.alone;
+      opened = last_of-push (opens 1) false h next ∙ so.opened;
+      limited = record { limits = t.untouched.limits ∙ so.limited.limits; audit = t.untouched.audit_limit ∙ so.limited.audit; journal = t.journaled ∙ so.limited.journal };
+      messages = omega (arith, t.messages, so.messages, ap length (messages-message h number octets));
+      counted = omega (arith, so.counted, length_push h next, ap length (messages-message h number octets));
+      records = omega (arith, t.records, so.records, brought, accepts);
+    }
+
+    stays : Small (h ++ next ∷ [])
+    stays = small_of new (h ++ next ∷ []) (end_of h) stands
+        (omega (arith, length_push h next, room.entries_fit))
+        (omega (arith, octets-push h next, room.octets_fit, octets_one))
+        (omega (arith, accepts, octets-push h next, small.records, accepted-many h octets, few_records (messages_of 1 h) octets))
+      where
+        octets_one : history_octets (next ∷ []) ≡ 21 + length octets
+        octets_one = omega (arith, octets-push [] next)
+
+pub received : (old new : Run) (octets : List ℕ) (r : Receipt) → Taken old new octets r → Receives old octets (nat_lt 0 r.cut) new
+received old new octets r t = record {
+  accepts = λ h so small. accepts_it old new octets r h t so;
+  cuts = λ h so small is. (one h so is (one_or_none h octets (served_alone h so.alone so.serving)), stands_after old new octets r h t so);
+  drained = t.untouched.drained;
+  goes_on = λ h so small is.
+      let none = nothing h so is (one_or_none h octets (served_alone h so.alone so.serving)) in
+      let next = goes_on old new octets r h t so small none in
+      (none, next.0, next.1);
+}
+  where
+    one : (h : List Entry) → Stands old h (end_of h) → nat_lt 0 r.cut ≡ true → (cuts_by h octets ≡ []) ⊎ (cuts_by h octets ≡ Cut 1 ∷ []) → cuts_by h octets ≡ Cut 1 ∷ []
+    one h so is (inl none) = absurd (omega (arith, ltb-true 0 r.cut is, cut_count old new octets r h t so, ap length none))
+    one h so is (inr cut) = cut
+
+    nothing : (h : List Entry) → Stands old h (end_of h) → nat_lt 0 r.cut ≡ false → (cuts_by h octets ≡ []) ⊎ (cuts_by h octets ≡ Cut 1 ∷ []) → cuts_by h octets ≡ []
+    nothing h so is (inl none) = none
+    nothing h so is (inr cut) = absurd (omega (arith, ltb-false 0 r.cut is, cut_count old new octets r h t so, ap length cut))
+
+-- what a message brings is no more than its octets
+octets_few : (h : List Entry) (octets : List ℕ) → HasRoomAfter journal_limits h (next_message h octets ∷ []) → length octets < 2 ^ 32
+octets_few h octets room = room.spelled 0 (next_message h octets) (omega arith)
+
+pub records_fit : (old new : Run) (octets : List ℕ) (r : Receipt) → HasDelivered old → ((h : List Entry) → StandsFor tells old.state h → calls.Receives tells (λ t. t.limits) old.state h 1 old.messages octets r new.state) → old.records + r.records < 2 ^ 64
+records_fit old new octets r had receives =
+    omega (arith, had.stands.records, had.small.records, had.small.octets, ap (λ x. x.records) got.receipt, ap (λ x. length (records_meant x)) (sym got.means), few_records (messages_of 1 had.history) octets, long)
+  where
+    got : calls.Receives tells (λ t. t.limits) old.state had.history 1 old.messages octets r new.state
+    got = receives had.history had.stands.state
+
+    room : HasRoomAfter journal_limits had.history (with_cuts old.state.engine had.history 1 old.messages octets)
+    room = subst (λ l. HasRoomAfter l had.history (with_cuts old.state.engine had.history 1 old.messages octets)) had.stands.limited.journal got.accepts.room
+
+    long : length octets ≤ 2 ^ 40
+    long = omega (arith, room.octets_fit, ap history_octets (same_entries old had.history octets had.stands), octets-push (cuts_by had.history octets) (next_message had.history octets))
+
+-- ---- the audit of a run
+
+-- all entries were drained
+drained_all : (d : Run) (all : List AuditEntry) → StandsIn d.state.engine.audit.standing all → audit_waiting d ≡ [] → audit_drained d ≡ length all
+drained_all d all so quiet = omega (arith, so.within, ap length so.waiting, ap length quiet, length-drop (audit_drained d) all)
+
+-- what waits after a message is what it adds
+pub waits_added : (d e : Run) (all more : List AuditEntry) → StandsIn d.state.engine.audit.standing all → audit_waiting d ≡ [] → audit_drained e ≡ audit_drained d
+    → StandsIn e.state.engine.audit.standing (all ++ more) → audit_waiting e ≡ more
+waits_added d e all more so quiet same then = then.waiting ∙ ap (λ n. drop n (all ++ more)) (same ∙ drained_all d all so quiet) ∙ drop-append_seam all more
+
+pub few_noted : (old new : Run) (octets : List ℕ) (r : Receipt) → HasDelivered old → Taken old new octets r → length (audit_waiting new) < 2 ^ 32
+few_noted old new octets r had t = by (one_or_none had.history octets (served_alone had.history had.stands.alone had.stands.serving))
+  where
+    h : List Entry
+    h = had.history
+
+    waits : (more : List AuditEntry) → audit_list (after_message h octets) ≡ audit_list h ++ more → audit_waiting new ≡ more
+    waits more is = waits_added old new (audit_list h) more had.stands.state.stands.audit had.quiet t.untouched.drained
+        (subst (StandsIn new.state.engine.audit.standing) is (stands_after old new octets r h t had.stands).stands.audit)
+
+    by : (cuts_by h octets ≡ []) ⊎ (cuts_by h octets ≡ Cut 1 ∷ []) → length (audit_waiting new) < 2 ^ 32
+    by (inr cut) = omega (arith, ap length (waits (audit_entry (length h) 0 1 CutOff ∷ []) (audit_of_cut h octets had.stands.alone cut)))
+    by (inl none) = omega (
+      arith,
+      ap length (waits (audit_at h (next_message h octets)) (ap (λ cuts. audit_list (h ++ (cuts ++ next_message h octets ∷ []))) none ∙ audit-push h (next_message h octets))),
+      noted_few h octets (served_alone h had.stands.alone had.stands.serving),
+      octets_few h octets (subst (λ cuts. HasRoomAfter journal_limits h (cuts ++ next_message h octets ∷ [])) none (accepts_it old new octets r h t had.stands).room),
+    )
 
 -- ---- refusals
 
-pub refused_taken : (e : Fault) (old : Desk) (h : List Entry) (octets : List ℕ) (m : Meaning) (gives : List DataRecord) (notes : List AuditEntry) → Stands old h (end_of h) → meaning_of (messages_of 1 h) octets ≡ Ok m
-    → gives ≡ given old.job.name.now m.header.domain old.policy.rules m.records → notes ≡ notes_from old.entries 0 old.job.name.now m.header.domain old.policy.rules m.records
-    → FitsLimits stream_limits (disclosed 1 h) (end_of h) gives → LacksRoom e old 1 (21 + length octets) (length notes) → RefusesMessage e h octets
-refused_taken fault.JournalFull old h octets m gives notes so means giving noting fits lacks =
-    (record { meaning = m; means = means }, sym (room_taken old h octets so (fitting old h octets m gives so means giving fits)) ∙ lacks)
-refused_taken (fault.AuditFull need room) old h octets m gives notes so means giving noting fits lacks = (accepts, (notes, audited, lacks.0), lacks.1)
+pub refused : (e : Fault) (old : Run) (octets : List ℕ) → HasDelivered old → ((h : List Entry) → StandsFor tells old.state h → RefusesReceive e old.state.chronicle.limits old.state.engine h 1 old.messages octets) → Refuses e old octets
+refused e old octets had refuses = record { after = λ h so small. by e h so (refuses h so.state) }
   where
-    accepts : Accepts h octets
-    accepts = record { meaning = m; means = means; room = sym (room_taken old h octets so (fitting old h octets m gives so means giving fits)) ∙ lacks.3 }
+    judged : (h : List Entry) → Stands old h (end_of h) → HasRoomAfter old.state.chronicle.limits h (with_cuts old.state.engine h 1 old.messages octets) → HasRoomAfter journal_limits h (cuts_by h octets ++ next_message h octets ∷ [])
+    judged h so room = subst (λ l. HasRoomAfter l h (cuts_by h octets ++ next_message h octets ∷ [])) so.limited.journal (subst (HasRoomAfter old.state.chronicle.limits h) (same_entries old h octets so) room)
 
-    audited : audit_list (after_message h octets) ≡ audit_list h ++ notes
-    audited = ap (λ cuts. audit_list (h ++ (cuts ++ next_message h octets ∷ []))) (fitting old h octets m gives so means giving fits)
-        ∙ audit-push h (next_message h octets)
-        ∙ ap (λ e. audit_list h ++ e) (audit_message h (length (messages_of 1 h)) octets m (served_alone h so.alone so.serving) means
-        ∙ ap (λ name. notes_from (length h) 0 name m.header.domain (policy_in_force h).rules m.records) (sym so.name)
-        ∙ ap (λ policy. notes_from (length h) 0 old.job.name.now m.header.domain policy.rules m.records) (sym so.policy)
-        ∙ ap (λ position. notes_from position 0 old.job.name.now m.header.domain old.policy.rules m.records) (sym so.entries)
-        ∙ sym noting)
-refused_taken fault.OutOfMemory old h octets m gives notes so means giving noting fits lacks = tt
-refused_taken (fault.Malformed why) old h octets m gives notes so means giving noting fits lacks = absurd lacks
-refused_taken (fault.Policy why) old h octets m gives notes so means giving noting fits lacks = absurd lacks
-refused_taken fault.BadName old h octets m gives notes so means giving noting fits lacks = absurd lacks
+    back : (h : List Entry) → Stands old h (end_of h) → HasRoomAfter journal_limits h (cuts_by h octets ++ next_message h octets ∷ []) → HasRoomAfter old.state.chronicle.limits h (with_cuts old.state.engine h 1 old.messages octets)
+    back h so room = subst (HasRoomAfter old.state.chronicle.limits h) (sym (same_entries old h octets so)) (subst (λ l. HasRoomAfter l h (cuts_by h octets ++ next_message h octets ∷ [])) (sym so.limited.journal) room)
 
-pub refused_cut : (e : Fault) (old : Desk) (h : List Entry) (octets : List ℕ) (m : Meaning) (gives : List DataRecord) → Stands old h (end_of h) → Small h → meaning_of (messages_of 1 h) octets ≡ Ok m
-    → gives ≡ given old.job.name.now m.header.domain old.policy.rules m.records
-    → (FitsLimits stream_limits (disclosed 1 h) (end_of h) gives → ⊥) → LacksRoom e old 2 (30 + length octets) 1 → RefusesMessage e h octets
-refused_cut fault.JournalFull old h octets m gives so small means giving over lacks =
-    (record { meaning = m; means = means }, sym (room_cut old h octets so (overflown old h octets m gives so small means giving over)) ∙ lacks)
-refused_cut (fault.AuditFull need room) old h octets m gives so small means giving over lacks = (
-  record { meaning = m; means = means; room = sym (room_cut old h octets so (overflown old h octets m gives so small means giving over)) ∙ lacks.3 },
-  (audit_entry (length h) 0 1 CutOff ∷ [], audit_of_cut h octets so.alone (overflown old h octets m gives so small means giving over), lacks.0),
-  lacks.1,
-)
-refused_cut fault.OutOfMemory old h octets m gives so small means giving over lacks = tt
-refused_cut (fault.Malformed why) old h octets m gives so small means giving over lacks = absurd lacks
-refused_cut (fault.Policy why) old h octets m gives so small means giving over lacks = absurd lacks
-refused_cut fault.BadName old h octets m gives so small means giving over lacks = absurd lacks
+    by : (f : Fault) (h : List Entry) → Stands old h (end_of h) → RefusesReceive f old.state.chronicle.limits old.state.engine h 1 old.messages octets → RefusesMessage f h octets
+    by (fault.Malformed why) h so x = x.1
+    by fault.OutOfMemory h so x = tt
+    by fault.JournalFull h so x = (x.1, λ room. x.2 (back h so room))
+    by (fault.AuditFull need room) h so x = (
+      record { meaning = x.1.meaning; means = x.1.means; room = judged h so x.2 },
+      (x.3.0, ap (λ more. audit_list (h ++ more)) (sym (same_entries old h octets so)) ∙ x.3.1, x.3.2),
+      omega (arith, x.4, ap length had.quiet, so.limited.audit),
+      x.5,
+    )
+    by fault.UnknownSession h so x = absurd (no (sym x ∙ so.opened)) where
+      no : false ≡ true → ⊥
+      no e = absurd cc
+    by (fault.OutOfTurn expected) h so x = absurd (x.2 (so.messages ∙ sym x.1))
+    by _ h so x = absurd x
 
--- ---- the faults of the parts
+-- ---- pulls and drains
 
--- what is known of an error that was handed on
-pub err_gives : {X E : Type 0} {P Q : E → Type 0} (r : Result X E) → IsErr r × IsErrAnd r P → ((e : E) → P e → Q e) → IfErr r Q
-err_gives (Ok x) known f = tt
-err_gives (Err e) known f = f e known.1
+pub pull_memory : (f : Fault) (h : List Entry) → is_live 1 h ≡ true → calls.RefusesPull f h 1 → f ≡ fault.OutOfMemory
+pull_memory fault.UnknownSub h live x = absurd (no (sym x ∙ live))
+  where
+    no : false ≡ true → ⊥
+    no e = absurd cc
+pull_memory fault.OutOfMemory h live x = refl
+pull_memory _ h live x = absurd x
 
-pub refused_read : (w : ReadError) (e : Fault) (h : List Entry) (octets : List ℕ) → e ≡ refusal_of w → Fails w (meaning_of (messages_of 1 h) octets) → RefusesMessage e h octets
-refused_read read.OutOfMemory e h octets is fails = rw is tt
-refused_read (read.Malformed why) e h octets is fails = rw is fails
-refused_read read.RecordOverrun e h octets is fails = rw is fails
+-- all that waits is drained
+pub drained_are : (d : Run) (h : List Entry) (out : List AuditEntry) → StandsFor tells d.state h → length (audit_waiting d) < 2 ^ 32 → out ≡ take 4294967295 (drop (audit_drained d) (audit_list h)) → out ≡ audit_waiting d
+drained_are d h out so few is = is ∙ ap (take 4294967295) (sym so.stands.audit.waiting) ∙ take_all 4294967295 (audit_waiting d) (omega (arith, few))
 
--- the room that is named, where there is none
-pub names_room : (e : Fault) (d : Desk) (m n k : ℕ) → LacksRoom e d m n k → NamesRoom e d
-names_room fault.JournalFull d m n k lacks = tt
-names_room (fault.AuditFull need room) d m n k lacks = lacks.2
-names_room fault.OutOfMemory d m n k lacks = tt
-names_room (fault.Malformed why) d m n k lacks = tt
-names_room (fault.Policy why) d m n k lacks = tt
-names_room fault.BadName d m n k lacks = tt
+pub quiet_after : (d e : Run) (h : List Entry) (out : List AuditEntry) → StandsFor tells d.state h → StandsFor tells e.state h → out ≡ audit_waiting d → audit_drained e ≡ audit_drained d + length out → audit_waiting e ≡ []
+quiet_after d e h out so then is count =
+    then.stands.audit.waiting
+    ∙ drop_all (audit_drained e) (audit_list h) (omega (arith, count, ap length is, ap length so.stands.audit.waiting, length-drop (audit_drained d) (audit_list h), so.stands.audit.within))
 
-pub names_none : (w : ReadError) (e : Fault) (d : Desk) → e ≡ refusal_of w → NamesRoom e d
-names_none read.OutOfMemory e d is = rw is tt
-names_none (read.Malformed why) e d is = rw is tt
-names_none read.RecordOverrun e d is = rw is tt
-
-pub names_memory : (e : Fault) (d : Desk) → e ≡ fault.OutOfMemory → NamesRoom e d
-names_memory e d is = rw is tt
-
-pub refused_memory : (e : Fault) (h : List Entry) (octets : List ℕ) → e ≡ fault.OutOfMemory → RefusesMessage e h octets
-refused_memory e h octets is = rw is tt
-
--- ---- what the calls say, said of the desk's own values
-
-pub fits_same : (limits : Limits) (listed more gives : List DataRecord) (p : ℕ) → limits ≡ stream_limits → more ≡ gives → FitsLimits limits listed p more → FitsLimits stream_limits listed p gives
-fits_same limits listed more gives p a b fits = subst (λ g. FitsLimits stream_limits listed p g) b (subst (λ l. FitsLimits l listed p more) a fits)
-
-pub fits_back : (limits : Limits) (listed more gives : List DataRecord) (p : ℕ) → limits ≡ stream_limits → more ≡ gives → FitsLimits stream_limits listed p gives → FitsLimits limits listed p more
-fits_back limits listed more gives p a b fits = subst (λ g. FitsLimits limits listed p g) (sym b) (subst (λ l. FitsLimits l listed p gives) (sym a) fits)
+pub on_ok : {X E : Type 0} {P : Type 0} (r : Result X E) → P → OnOk r P
+on_ok (Ok x) p = p
+on_ok (Err e) p = tt

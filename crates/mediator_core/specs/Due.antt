@@ -3,7 +3,7 @@ use Rattle.std.specs.Prelude.{◌≡◌, ℕ, List, [], ◌∷◌, ◌++◌, len
 use Rattle.subscriber_stream.specs.Parts.{parts}
 use Rattle.mediator_core.specs.declared.job.OfflineJob.{OfflineJob}
 use Rattle.mediator_core.specs.Offline.{disclosed_by}
-use Rattle.mediator_core.specs.Pulling.{HandsOut}
+use Rattle.mediator_core.specs.HandsOut.{HandsOut}
 
 -- the place behind all parts of what messages disclose
 abbrev pub end_by : OfflineJob → List (List ℕ) → ℕ

@@ -1,15 +1,15 @@
 -- The history of a run over one stream, and what is due for it.
-use Rattle.std.specs.Prelude.{ℕ, zero, suc, ◌+◌, ◌^◌, Bool, nat_le, List, [], ◌∷◌, ◌++◌, length, fold, Option, Some, None, ◌&&◌}
+use Rattle.std.specs.Prelude.{ℕ, zero, suc, ◌^◌, List, [], ◌∷◌, ◌++◌, length, fold, Option, Some, None}
 use Rattle.sequences.specs.Before.{each_with_before}
 use Rattle.ipfix_template.specs.DataRecord.{DataRecord}
 use Rattle.subscriber_stream.specs.declared.limits.Limits.{Limits}
 use Rattle.subscriber_stream.specs.Parts.{parts}
 use Rattle.subscriber_stream.specs.Message.{built, place_after}
-use Rattle.mediator_core.specs.Recording.{lines_of}
+use Rattle.mediator_core.specs.Lines.{lines_of}
 use Rattle.mediator_core.specs.declared.job.OfflineJob.{OfflineJob}
 use Rattle.event_journal.specs.declared.entry.Entry.{Entry}
 use Rattle.event_journal.specs.declared.entry.Entry.TheVariants.{Open, Message, Edit, Subscribe}
-use Rattle.event_journal.specs.Sizes.{history_octets}
+use Rattle.event_journal.specs.Room.{Limits as Journaled}
 use Rattle.mediator_history.specs.Sessions.{messages_of}
 use Rattle.mediator_history.specs.Disclosed.{disclosed}
 use Rattle.mediator_history.specs.Auditing.{audit_list}
@@ -23,9 +23,9 @@ stream_limits = record { queue = 65536; shapes = 65280 }
 abbrev pub audit_limit : ℕ
 audit_limit = 131072
 
--- a journal has at most 100,000,000 entries, of at most 2^40 octets
-abbrev pub has_journal_room : List Entry → List Entry → Bool
-has_journal_room h more = nat_le (length h + length more) 100000000 && nat_le (history_octets h + history_octets more) (2 ^ 40)
+-- a history has at most 100,000,000 entries, of at most 2^40 octets
+abbrev pub journal_limits : Journaled
+journal_limits = record { entries = 100000000; octets = 2 ^ 40 }
 
 -- the policy comes first
 abbrev pub edited : OfflineJob → List Entry
@@ -80,3 +80,7 @@ due job messages = each_with_before (due_by job) messages
 -- the lines that are due in the audit
 abbrev pub audit_due : OfflineJob → List (List ℕ) → List ℕ
 audit_due job messages = lines_of (audit_list (history_of job messages))
+
+-- the place behind all parts of what a history discloses
+abbrev pub end_of : List Entry → ℕ
+end_of h = length (parts (disclosed 1 h))

@@ -5,20 +5,18 @@ use Rattle.std.specs.Io.KnownBytes.{Appends, Consumes, IsAtEnd}
 use Rattle.ipfix_message.specs.declared.frame_error.FrameError.{FrameError}
 use Rattle.ipfix_message.specs.declared.frame_error.FrameError.TheVariants as frame
 use Rattle.ipfix_message.specs.Framing.{IsFramed}
-use Rattle.ipfix_message.specs.FramerState.{FramerState}
 use Rattle.stream_meaning.specs.Means.{Means}
 use Rattle.mediator_history.specs.Accepted.{accepted}
-use Rattle.mediator_core.specs.declared.fault.Fault.{Fault}
-use Rattle.mediator_core.specs.declared.fault.Fault.TheVariants as fault
+use Rattle.mediator_state.specs.declared.fault.Fault.{Fault}
+use Rattle.mediator_state.specs.declared.fault.Fault.TheVariants as fault
 use Rattle.mediator_core.specs.declared.job.OfflineJob.{OfflineJob}
 use Rattle.mediator_core.specs.declared.job.OfflineReport.{OfflineReport}
-use Rattle.mediator_core.specs.declared.job.FramingFault.TheVariants as framing
+use Rattle.message_intake.specs.declared.fault.FramingFault.TheVariants as framing
 use Rattle.mediator_core.specs.declared.job.OfflineFault.{OfflineFault}
 use Rattle.mediator_core.specs.declared.job.OfflineFault.TheVariants.{Read, Write, Framing, Turns, Core, Cut, AuditWrite}
-use Rattle.mediator_core.specs.declared.desk.Desk.{Desk}
 use Rattle.mediator_core.specs.Offline.{history_of, disclosed_by, due, audit_due}
 use Rattle.mediator_core.specs.Opening.{IsAcceptedJob, RefusesJob}
-use Rattle.mediator_core.specs.Running.{AreAccepted, IsRunning, StopsAt}
+use Rattle.mediator_core.specs.Stopping.{AreAccepted, StopsAt}
 
 -- the job was accepted, and these octets are these messages, and then this fault or these octets that are pending; all
 -- messages were accepted, what is due for them was written, and it means what they disclose
@@ -58,51 +56,11 @@ pub record LacksMemory (f : Fault) (job : OfflineJob) (octets : List ℕ) (held 
 abbrev pub StopsIn : OfflineFault → OfflineJob → List ℕ → Option (List ℕ) → Option (List ℕ) → Option (List ℕ) → Option (List ℕ) → Bool → Bool → Type 0
 StopsIn (Framing framing.BadVersion) job octets held holds aheld aholds failed afailed = (messages : List (List ℕ)) × IsDone job octets messages (Some frame.BadVersion) [] held holds aheld aholds
 StopsIn (Framing framing.BadLength) job octets held holds aheld aholds failed afailed = (messages : List (List ℕ)) × IsDone job octets messages (Some frame.BadLength) [] held holds aheld aholds
-StopsIn (Framing framing.CutOff) job octets held holds aheld aholds failed afailed = ⊥
 StopsIn (Core f) job octets held holds aheld aholds failed afailed = StopsInHand (Core f) job octets held holds aheld aholds failed afailed ⊎ LacksMemory f job octets held holds aheld aholds
 StopsIn (Write sent) job octets held holds aheld aholds failed afailed = StopsInHand (Write sent) job octets held holds aheld aholds failed afailed
 StopsIn Cut job octets held holds aheld aholds failed afailed = StopsInHand Cut job octets held holds aheld aholds failed afailed
 StopsIn AuditWrite job octets held holds aheld aholds failed afailed = StopsInHand AuditWrite job octets held holds aheld aholds failed afailed
-StopsIn Read job octets held holds aheld aholds failed afailed = ⊥
-StopsIn Turns job octets held holds aheld aholds failed afailed = ⊥
-
--- a desk and a framer after these octets
-pub record IsReading (d : Desk) (f : FramerState) (job : OfflineJob) (octets : List ℕ) (messages : List (List ℕ)) (held holds aheld aholds : Option (List ℕ)) : Type 0 where
-  pub running : IsRunning d job messages held holds aheld aholds
-  pub framed : IsFramed octets messages None f.pending
-  pub sound : f.fault ≡ None
-
--- a desk that reads somewhere
-pub record Reads (d : Desk) (f : FramerState) (holds aholds : Option (List ℕ)) : Type 0 where
-  pub job : OfflineJob
-  pub octets : List ℕ
-  pub messages : List (List ℕ)
-  pub held : Option (List ℕ)
-  pub aheld : Option (List ℕ)
-  pub reading : IsReading d f job octets messages held holds aheld aholds
-
--- messages in a row were handled
-pub record HandlesAll (old new : Desk) (more : List (List ℕ)) (holds writes aholds awrites : Option (List ℕ)) : Type 0 where
-  pub after : (job : OfflineJob) (messages : List (List ℕ)) (held aheld : Option (List ℕ)) → IsRunning old job messages held holds aheld aholds
-      → IsRunning new job (messages ++ more) held writes aheld awrites
-
--- the run stops at one of them
-pub record StopsAmong (e : OfflineFault) (old : Desk) (more : List (List ℕ)) (holds writes aholds awrites : Option (List ℕ)) (failed afailed : Bool) : Type 0 where
-  pub before : List (List ℕ)
-  pub message : List ℕ
-  pub later : List (List ℕ)
-  pub parts : more ≡ before ++ message ∷ later
-  pub after : (job : OfflineJob) (messages : List (List ℕ)) (held aheld : Option (List ℕ)) → IsRunning old job messages held holds aheld aholds
-      → AreAccepted job [] (messages ++ before) × Means (due job (messages ++ before)) (disclosed_by job (messages ++ before)) × StopsAt e job (messages ++ before) message held writes aheld awrites failed afailed
-
--- a piece more was read
-pub record FeedsOn (old new : Desk) (f g : FramerState) (piece : List ℕ) (holds writes aholds awrites : Option (List ℕ)) : Type 0 where
-  pub after : (job : OfflineJob) (octets : List ℕ) (messages : List (List ℕ)) (held aheld : Option (List ℕ)) → IsReading old f job octets messages held holds aheld aholds
-      → (all : List (List ℕ)) × IsReading new g job (octets ++ piece) all held writes aheld awrites
-
-pub record StopsFeeding (e : OfflineFault) (old : Desk) (f : FramerState) (piece : List ℕ) (holds writes aholds awrites : Option (List ℕ)) (failed afailed : Bool) : Type 0 where
-  pub after : (job : OfflineJob) (octets : List ℕ) (messages : List (List ℕ)) (held aheld : Option (List ℕ)) → IsReading old f job octets messages held holds aheld aholds
-      → StopsIn e job (octets ++ piece) held writes aheld awrites failed afailed
+StopsIn _ job octets held holds aheld aholds failed afailed = ⊥
 
 -- so many reads, each of at most 65,536 octets, may have given these
 abbrev pub AreRead : ℕ → List ℕ → Type 0
@@ -111,25 +69,6 @@ AreRead reads octets = length octets ≤ 65536 * reads
 -- the same, where one of the reads gave none
 abbrev pub AreReadBut : ℕ → List ℕ → Type 0
 AreReadBut reads octets = length octets + 65536 ≤ 65536 * reads
-
--- after so many reads
-pub record IsAfter (d : Desk) (f : FramerState) (job : OfflineJob) (given left held holds aheld aholds : Option (List ℕ)) (reads : ℕ) : Type 0 where
-  pub octets : List ℕ
-  pub messages : List (List ℕ)
-  pub taken : Consumes given left octets
-  pub reading : IsReading d f job octets messages held holds aheld aholds
-  pub many : reads ≤ length octets
-  pub few : AreRead reads octets
-
--- all was read, and all messages were handled
-pub record ReachesEnd (d : Desk) (job : OfflineJob) (given left held holds aheld aholds : Option (List ℕ)) : Type 0 where
-  pub octets : List ℕ
-  pub messages : List (List ℕ)
-  pub taken : Consumes given left octets
-  pub end : IsAtEnd left
-  pub framed : IsFramed octets messages None []
-  pub turns : AreReadBut job.turns octets
-  pub running : IsRunning d job messages held holds aheld aholds
 
 -- octets were read, and the run stops so
 pub record StopsAfter (P : List ℕ → Type 0) (given left : Option (List ℕ)) : Type 0 where
@@ -145,12 +84,7 @@ StopsReading Turns job given left held holds aheld aholds rfailed failed afailed
     StopsAfter (λ octets. (messages : List (List ℕ)) × (pending : List ℕ) × IsDone job octets messages None pending held holds aheld aholds × (job.turns ≤ length octets) × AreRead job.turns octets) given left
 StopsReading (Framing framing.CutOff) job given left held holds aheld aholds rfailed failed afailed =
     StopsAfter (λ octets. (messages : List (List ℕ)) × (pending : List ℕ) × IsDone job octets messages None pending held holds aheld aholds × (0 < length pending) × AreReadBut job.turns octets) given left × IsAtEnd left
-StopsReading (Framing framing.BadVersion) job given left held holds aheld aholds rfailed failed afailed = StopsAfter (λ octets. AreRead job.turns octets × StopsIn (Framing framing.BadVersion) job octets held holds aheld aholds failed afailed) given left
-StopsReading (Framing framing.BadLength) job given left held holds aheld aholds rfailed failed afailed = StopsAfter (λ octets. AreRead job.turns octets × StopsIn (Framing framing.BadLength) job octets held holds aheld aholds failed afailed) given left
-StopsReading (Core f) job given left held holds aheld aholds rfailed failed afailed = StopsAfter (λ octets. AreRead job.turns octets × StopsIn (Core f) job octets held holds aheld aholds failed afailed) given left
-StopsReading (Write sent) job given left held holds aheld aholds rfailed failed afailed = StopsAfter (λ octets. AreRead job.turns octets × StopsIn (Write sent) job octets held holds aheld aholds failed afailed) given left
-StopsReading Cut job given left held holds aheld aholds rfailed failed afailed = StopsAfter (λ octets. AreRead job.turns octets × StopsIn Cut job octets held holds aheld aholds failed afailed) given left
-StopsReading AuditWrite job given left held holds aheld aholds rfailed failed afailed = StopsAfter (λ octets. AreRead job.turns octets × StopsIn AuditWrite job octets held holds aheld aholds failed afailed) given left
+StopsReading e job given left held holds aheld aholds rfailed failed afailed = StopsAfter (λ octets. AreRead job.turns octets × StopsIn e job octets held holds aheld aholds failed afailed) given left
 
 -- ---- a whole run
 

@@ -1,20 +1,18 @@
 //! What waits is written.
 ghost use Rattle.std.specs.Prelude.{◌≡◌, ◌≤◌, ◌<◌, ◌+◌, ◌^◌, length, IfOk, IfErr, OnOk};
 ghost use Rattle.std.specs.Io.KnownBytes.{Appends};
-ghost use Rattle.subscriber_stream.specs.Calls.{Gives};
-ghost use Rattle.mediator_core.specs.declared.fault.Fault.TheVariants.{OutOfMemory};
+ghost use Rattle.mediator_state.specs.declared.fault.Fault.TheVariants.{OutOfMemory};
 ghost use Rattle.mediator_core.specs.declared.job.OfflineFault.TheVariants.{Core};
 ghost use Rattle.mediator_core.specs.Failing.{writer_after};
-ghost use Rattle.mediator_core.specs.Pulling.{IsDelivering, SameElse, StopsWriting, Delivers, FailsDelivery};
+ghost use Rattle.mediator_core.specs.Runs.{IsServing, SameButState, KeepsAudit};
+ghost use Rattle.mediator_core.specs.Pulling.{IsDelivering, Pulls, StopsWriting, Delivers, FailsDelivery};
 
-use crate::desk::Desk;
-use crate::fault::Fault;
 use crate::job::OfflineFault;
+use crate::run::{Run, SUBSCRIPTION};
 use bytes::Bytes;
 use octet_devices::{Sink, write_all};
-use subscriber_stream::PullError;
 
-impl<'a> Desk<'a> {
+impl<'a> Run<'a> {
     /// Pulls and writes the messages of what waits for the subscriber, until nothing waits.
     ///
     /// # Errors
@@ -38,25 +36,26 @@ impl<'a> Desk<'a> {
 
     /// The next message.
     fn pull(&mut self) -> Result<Option<Bytes>, OfflineFault>
-        ensures same { SameElse self.old self.new }
+        requires serving { IsServing self.old }
+        ensures same { SameButState self.old self.new }
         ensures sent { self.new.sent ≡ self.old.sent }
-        ensures limits { self.new.stream.limits ≡ self.old.stream.limits }
-        ensures ok { IfOk result (λ m. Gives self.old.stream.standing self.old.job.now self.old.job.target m self.new.stream.standing) }
+        ensures audit { OnOk result (KeepsAudit self.old self.new) }
+        ensures ok { IfOk result (λ m. Pulls self.old m self.new) }
         ensures below { self.old.job.target < 2 ^ 16 }
         ensures now_below { self.old.job.now < 2 ^ 32 }
         ensures err { IfErr result (λ e. e ≡ Core OutOfMemory) }
     {
-        match self.stream.pull(self.job.now, self.job.target) {
-            Ok(message) => Ok(message),
-            Err(PullError::OutOfMemory) => Err(OfflineFault::Core(Fault::OutOfMemory)),
-        }
+        Ok(
+            self.state
+                .pull(SUBSCRIPTION, self.job.now, self.job.target)?,
+        )
     }
 
     /// Writes a message, and counts its octets.
     fn write<W: Sink>(&mut self, writer: &mut W, message: &[u8]) -> Result<(), OfflineFault>
         requires fits { self.old.sent + length message.now < 2 ^ 64 }
-        ensures same { SameElse self.old self.new }
-        ensures stream { self.new.stream ≡ self.old.stream }
+        ensures same { SameButState self.old self.new }
+        ensures state { self.new.state ≡ self.old.state }
         ensures ok { OnOk result (Appends (W.contents writer.old) (W.contents writer.new) message.now) }
         ensures sent { OnOk result (self.new.sent ≡ self.old.sent + length message.now) }
         ensures stays { OnOk result (W.has_failed writer.new ≡ W.has_failed writer.old) }

@@ -3,27 +3,28 @@ ghost use Rattle.std.specs.Prelude.{◌≡◌, false, IfErr, OnOk};
 ghost use Rattle.mediator_core.specs.Failing.{FailsOnly};
 ghost use Rattle.mediator_core.specs.Running.{Runs, HandlesOn, StopsOn};
 
-use crate::desk::Desk;
 use crate::job::OfflineFault;
+use crate::run::Run;
+use bytes::Bytes;
 use octet_devices::Sink;
 
-impl<'a> Desk<'a> {
+impl<'a> Run<'a> {
     /// Accepts a message, writes what it gives the subscriber, and then what the audit says of it.
     ///
     /// # Errors
     /// The message is refused, or cuts the subscription; or a writer failed, or memory ran out.
     pub(crate) fn handle<W: Sink, A: Sink>(
         &mut self,
-        message: &[u8],
+        message: Bytes,
         writer: &mut W,
         audit_writer: &mut A,
     ) -> Result<(), OfflineFault>
         requires running { Runs self.old (W.contents writer.old) (A.contents audit_writer.old) }
-        ensures ok { OnOk result (HandlesOn self.old self.new message.now (W.contents writer.old) (W.contents writer.new) (A.contents audit_writer.old) (A.contents audit_writer.new)) }
+        ensures ok { OnOk result (HandlesOn self.old self.new message (W.contents writer.old) (W.contents writer.new) (A.contents audit_writer.old) (A.contents audit_writer.new)) }
         ensures stays { OnOk result (W.has_failed writer.new ≡ W.has_failed writer.old) }
         ensures audit_stays { OnOk result (A.has_failed audit_writer.new ≡ A.has_failed audit_writer.old) }
         ensures fails { IfErr result (λ e. FailsOnly e (W.has_failed writer.old) (A.has_failed audit_writer.old) false (W.has_failed writer.new) (A.has_failed audit_writer.new)) }
-        ensures err { IfErr result (λ e. StopsOn e self.old message.now (W.contents writer.old) (W.contents writer.new) (A.contents audit_writer.old) (A.contents audit_writer.new) (W.has_failed writer.new) (A.has_failed audit_writer.new)) }
+        ensures err { IfErr result (λ e. StopsOn e self.old message (W.contents writer.old) (W.contents writer.new) (A.contents audit_writer.old) (A.contents audit_writer.new) (W.has_failed writer.new) (A.has_failed audit_writer.new)) }
     {
         if self.receive(message)? {
             self.record(audit_writer)?;

@@ -1,6 +1,7 @@
 //! What `offline` is asked for, and what it answers.
 
-use crate::fault::Fault;
+use mediator_state::Fault;
+use message_intake::{FramingFault, IntakeFault};
 use std::error::Error;
 use std::fmt::{self, Display, Formatter, Write};
 
@@ -28,34 +29,6 @@ pub struct OfflineReport {
     pub records: u64,
     /// The records that were written.
     pub disclosed: u64,
-}
-
-/// Why octets that were read are no stream of messages (RFC 7011, sections 3.1 and 10.4). Its text is its name.
-#[derive(Clone, Copy, Debug, PartialEq, Eq)]
-pub enum FramingFault {
-    /// A header with another version than 10.
-    BadVersion,
-    /// A header with a length under 16.
-    BadLength,
-    /// The input ends inside a message.
-    CutOff,
-}
-
-impl Error for FramingFault {}
-
-impl Display for FramingFault {
-    ghost use Rattle.std.specs.Prelude.{Option, Some};
-    ghost use Rattle.mediator_core.specs.FaultTexts.{text_of_framing};
-
-    ghost output = { λ fault. Some (text_of_framing fault) };
-
-    fn fmt<W: Write>(&self, f: &mut Formatter<W>) -> fmt::Result {
-        f.write_str(match self {
-            FramingFault::BadVersion => "BadVersion",
-            FramingFault::BadLength => "BadLength",
-            FramingFault::CutOff => "CutOff",
-        })
-    }
 }
 
 /// Why a stream was not read to its end. Its text is its name.
@@ -106,5 +79,21 @@ impl From<Fault> for OfflineFault {
 
     fn from(fault: Fault) -> OfflineFault {
         OfflineFault::Core(fault)
+    }
+}
+
+impl From<IntakeFault> for OfflineFault {
+    ghost use Rattle.std.specs.Prelude.{◌≡◌};
+    ghost use Rattle.mediator_core.specs.Faults.{intake_refusal};
+
+    ghost from_gives = { λ f e. e ≡ intake_refusal f };
+
+    fn from(fault: IntakeFault) -> OfflineFault {
+        match fault {
+            IntakeFault::Read => OfflineFault::Read,
+            IntakeFault::Framing(why) => OfflineFault::Framing(why),
+            IntakeFault::Turns => OfflineFault::Turns,
+            IntakeFault::OutOfMemory => OfflineFault::Core(Fault::OutOfMemory),
+        }
     }
 }

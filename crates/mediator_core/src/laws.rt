@@ -3,7 +3,7 @@ ghost use Rattle.std.specs.Prelude.{◌≡◌, ℕ, List, []};
 ghost use Rattle.mediator_core.specs.declared.job.OfflineJob.{OfflineJob};
 ghost use Rattle.mediator_core.specs.Offline.{history_of, due};
 ghost use Rattle.mediator_core.specs.Due.{AreDue};
-ghost use Rattle.mediator_core.specs.Running.{AreAccepted};
+ghost use Rattle.mediator_core.specs.Stopping.{AreAccepted};
 ghost use Rattle.mediator_core.specs.PlainHistory.{plain_history};
 
 /// What is due for messages that are read one after another is built so: after each of them, messages one

@@ -2,11 +2,9 @@
 //! and writes those of one subscriber, with the audit of what was kept back.
 //!
 //! - `engine`: [`offline`].
-//! - `fault`: [`Fault`], why the core refuses something.
-//! - `job`: [`OfflineJob`], [`OfflineReport`], and [`OfflineFault`] with [`FramingFault`].
-//! - `desk`: one session and one subscription under one policy; `opening`, `handling`, `delivery` and `recording`
-//!   say what is done with a message.
-//! - `share`: what a message gives to the subscription, and what the audit says of it.
+//! - `job`: [`OfflineJob`], [`OfflineReport`], and [`OfflineFault`].
+//! - `run`: the state of a mediator with one session and one subscription; `handling`, `delivery` and `recording` say
+//!   what is done with a message.
 //! - [`laws`]: over the definitions that the contract of [`offline`] cites, with no code behind them:
 //!   [`due_is_built`], that what is due are the messages that are built one after another, and
 //!   [`accepted_messages_are_the_history`], that the history of a run has its messages alone.
@@ -22,29 +20,30 @@
 //! that is due for the messages before the one in hand: after Write exactly the first `sent` octets of what is due,
 //! for want of memory at most a front of the message in hand more, after Cut the audit's line of the cut as well. No
 //! refusal stands before an earlier one: of a job the policy is judged, then room for it, the name, and room for the
-//! rest; of a message its octets, then the journal, and then the audit, whose room is told. A device that has failed
+//! rest; of a message its octets, then the history's room, and then the audit's, whose room is told. A device that has failed
 //! is the one that the fault names (`sound`, `fails`). However a run ends, it has read no more octets than
 //! `turns` reads of 65,536 give.
 //!
+//! Both are said twice: of all ports at once, with what is due as a relation (`filters`, `stops`; `specs/Filtering`), and
+//! port by port, for callers that hold some of them (`ok`, `err`; `specs/Reading`).
+//!
 //! Where it answers `Ok`, or a fault after it began to read, the job was one to accept: its text spells a policy
-//! without aggregates, its name is one, and the journal has room for both. The laws are those above.
+//! without aggregates, its name is one, and a history has room for both. The laws are those above.
 #![tactic(auto)]
 
 mod delivery;
-mod desk;
 mod engine;
-mod fault;
 mod handling;
 mod job;
 pub mod laws;
-mod opening;
 mod recording;
-mod share;
+mod run;
 
 pub use engine::offline;
-pub use fault::Fault;
-pub use job::{FramingFault, OfflineFault, OfflineJob, OfflineReport};
+pub use job::{OfflineFault, OfflineJob, OfflineReport};
 pub use laws::{accepted_messages_are_the_history, due_is_built};
+pub use mediator_state::Fault;
+pub use message_intake::FramingFault;
 pub use octet_devices::{Device, Failed, Sink, Source};
 
 #[cfg(test)]

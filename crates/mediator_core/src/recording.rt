@@ -3,12 +3,13 @@ ghost use Rattle.std.specs.Prelude.{◌≡◌, [], IfErr, OnOk, OnErr};
 ghost use Rattle.std.specs.Io.KnownBytes.{Appends};
 ghost use Rattle.disclosure_audit.specs.Lines.{line_of};
 ghost use Rattle.mediator_core.specs.Failing.{audit_after};
-ghost use Rattle.mediator_core.specs.Recording.{lines_of, WritesSome, StopsLines};
+ghost use Rattle.mediator_core.specs.Lines.{lines_of, WritesSome};
+ghost use Rattle.mediator_core.specs.Recording.{StopsLines};
 
-use crate::desk::{AUDIT, Desk};
-use crate::fault::Fault;
 use crate::job::OfflineFault;
+use crate::run::Run;
 use disclosure_audit::{AuditEntry, line};
+use mediator_state::Fault;
 use octet_devices::{Sink, write_all};
 use std::alloc::Global;
 
@@ -54,30 +55,26 @@ fn write_line<A: Sink>(
     }
 }
 
-ghost use Rattle.std.specs.Prelude.{◌+◌, length};
-ghost use Rattle.disclosure_audit.specs.Queue.{Drains};
-ghost use Rattle.mediator_core.specs.Offline.{audit_limit};
-ghost use Rattle.mediator_core.specs.Recording.{KeepsDesk};
+ghost use Rattle.std.specs.Prelude.{◌<◌, ◌^◌, length};
+ghost use Rattle.mediator_core.specs.Runs.{HasHistory, audit_waiting};
+ghost use Rattle.mediator_core.specs.Recording.{Records};
 
-impl<'a> Desk<'a> {
+impl<'a> Run<'a> {
     /// Drains the audit, and writes its lines.
     ///
     /// # Errors
     /// The writer failed, or memory ran out: a front of the lines was written.
     pub(crate) fn record<A: Sink>(&mut self, writer: &mut A) -> Result<(), OfflineFault>
-        requires limit { self.old.audit.limit ≡ audit_limit }
-        ensures same { KeepsDesk self.old self.new }
-        ensures written { OnOk result (Appends (A.contents writer.old) (A.contents writer.new) (lines_of self.old.audit.standing.entries)) }
-        ensures drained { OnOk result (Drains self.old.audit.standing (length self.old.audit.standing.entries) self.old.audit.standing.entries self.new.audit.standing) }
-        ensures empty { OnOk result (self.new.audit.standing.entries ≡ []) }
-        ensures limit { OnOk result (self.new.audit.limit ≡ self.old.audit.limit) }
+        requires known { HasHistory self.old }
+        requires few { length (audit_waiting self.old) < 2 ^ 32 }
+        ensures written { OnOk result (Appends (A.contents writer.old) (A.contents writer.new) (lines_of (audit_waiting self.old))) }
+        ensures drained { OnOk result (Records self.old self.new) }
         ensures stays { OnOk result (A.has_failed writer.new ≡ A.has_failed writer.old) }
         ensures cause { IfErr result (λ e. StopsLines e (A.has_failed writer.new)) }
         ensures fails { IfErr result (λ e. A.has_failed writer.new ≡ audit_after e (A.has_failed writer.old)) }
-        ensures err { OnErr result (WritesSome (A.contents writer.old) (A.contents writer.new) (lines_of self.old.audit.standing.entries)) }
+        ensures err { OnErr result (WritesSome (A.contents writer.old) (A.contents writer.new) (lines_of (audit_waiting self.old))) }
     {
-        let waiting = AUDIT - self.audit.room();
-        let Ok(entries) = self.audit.drain(waiting) else {
+        let Ok(entries) = self.state.drain_audit(u32::MAX) else {
             return Err(OfflineFault::Core(Fault::OutOfMemory));
         };
         write_lines(self.alloc, entries.as_slice(), writer)

@@ -1,25 +1,8 @@
-use Rattle.std.proofs.Common.{false, ◌∙◌, subst}
-use Rattle.mediator_core.proofs.Receiving.{err_gives}
-use Rattle.mediator_core.proofs.Blaming.{only_then}
-use Rattle.mediator_core.specs.Reading.{ReachesEnd}
-use Rattle.mediator_core.proofs.Ends.{finishes, at_least_three}
+use Rattle.mediator_core.proofs.Restated.{ok_gives, err_tells, filters_all, fails_to_filter}
 use Rattle.mediator_core.proofs.engine.offline.Goals as goal
 
-pub report-requires : goal.report-requires
-report-requires g c = at_least_three c.read_stream.new.self c.args.job.now (g.R.Source.remaining c.args.reader.now) (g.R.Source.remaining c.read_stream.new.reader) (g.W.Sink.contents c.args.writer.now) (g.W.Sink.contents c.read_stream.new.writer) (g.A.Sink.contents c.args.audit_writer.now) (g.A.Sink.contents c.read_stream.new.audit_writer) (subst (λ j. ReachesEnd c.read_stream.new.self j (g.R.Source.remaining c.args.reader.now) (g.R.Source.remaining c.read_stream.new.reader) (g.W.Sink.contents c.args.writer.now) (g.W.Sink.contents c.read_stream.new.writer) (g.A.Sink.contents c.args.audit_writer.now) (g.A.Sink.contents c.read_stream.new.audit_writer)) c.in_ok-desk.ensures.ok.job_is c.in_ok-read_stream.ensures.ok)
+pub returns-clause-filters : goal.returns-clause-filters
+returns-clause-filters g c = ok_gives c.run_through.result c.run_through.ensures.ok (λ report f. filters_all (record { left = g.R.Source.remaining c.args.reader.now; written = g.W.Sink.contents c.args.writer.now; audited = g.A.Sink.contents c.args.audit_writer.now; reader_failed = g.R.Source.has_failed c.args.reader.now; writer_failed = g.W.Sink.has_failed c.args.writer.now; audit_failed = g.A.Sink.has_failed c.args.audit_writer.now }) (record { left = g.R.Source.remaining c.run_through.new.reader; written = g.W.Sink.contents c.run_through.new.writer; audited = g.A.Sink.contents c.run_through.new.audit_writer; reader_failed = g.R.Source.has_failed c.run_through.new.reader; writer_failed = g.W.Sink.has_failed c.run_through.new.writer; audit_failed = g.A.Sink.has_failed c.run_through.new.audit_writer }) c.args.job.now report f)
 
-pub returns-clause-ok : goal.returns-clause-ok
-returns-clause-ok g c = finishes c.read_stream.new.self c.args.job.now c.report.result (g.R.Source.remaining c.args.reader.now) (g.R.Source.remaining c.read_stream.new.reader) (g.W.Sink.contents c.args.writer.now) (g.W.Sink.contents c.read_stream.new.writer) (g.A.Sink.contents c.args.audit_writer.now) (g.A.Sink.contents c.read_stream.new.audit_writer) (subst (λ j. ReachesEnd c.read_stream.new.self j (g.R.Source.remaining c.args.reader.now) (g.R.Source.remaining c.read_stream.new.reader) (g.W.Sink.contents c.args.writer.now) (g.W.Sink.contents c.read_stream.new.writer) (g.A.Sink.contents c.args.audit_writer.now) (g.A.Sink.contents c.read_stream.new.audit_writer)) c.in_ok-desk.ensures.ok.job_is c.in_ok-read_stream.ensures.ok)
-    c.report.ensures.messages c.report.ensures.records c.report.ensures.disclosed
-
-pub returns-clause-sound : goal.returns-clause-sound
-returns-clause-sound g c = (c.in_ok-read_stream.ensures.reads, c.in_ok-read_stream.ensures.stays ∙ c.requires.writer, c.in_ok-read_stream.ensures.audit_stays ∙ c.requires.audit)
-
-pub returns-in_err-desk-clause-fails : goal.returns-in_err-desk-clause-fails
-returns-in_err-desk-clause-fails g c =
-    err_gives c.from_residual.result c.from_residual.ensures (λ e is. rw is (record { reader = c.requires.reader; writer = c.requires.writer; audit = c.requires.audit }))
-
-pub returns-in_err-read_stream-clause-fails : goal.returns-in_err-read_stream-clause-fails
-returns-in_err-read_stream-clause-fails g c =
-    err_gives c.from_residual-in_err-read_stream.result c.from_residual-in_err-read_stream.ensures
-    (λ e is. only_then e c.in_err-read_stream.field-0.0 false (g.W.Sink.has_failed c.args.writer.now) false (g.A.Sink.has_failed c.args.audit_writer.now) (g.R.Source.has_failed c.read_stream.new.reader) (g.W.Sink.has_failed c.read_stream.new.writer) (g.A.Sink.has_failed c.read_stream.new.audit_writer) is c.requires.writer c.requires.audit c.in_err-read_stream.ensures.fails)
+pub returns-clause-stops : goal.returns-clause-stops
+returns-clause-stops g c = err_tells c.run_through.result c.run_through.ensures.err (λ e h. fails_to_filter e (record { left = g.R.Source.remaining c.args.reader.now; written = g.W.Sink.contents c.args.writer.now; audited = g.A.Sink.contents c.args.audit_writer.now; reader_failed = g.R.Source.has_failed c.args.reader.now; writer_failed = g.W.Sink.has_failed c.args.writer.now; audit_failed = g.A.Sink.has_failed c.args.audit_writer.now }) (record { left = g.R.Source.remaining c.run_through.new.reader; written = g.W.Sink.contents c.run_through.new.writer; audited = g.A.Sink.contents c.run_through.new.audit_writer; reader_failed = g.R.Source.has_failed c.run_through.new.reader; writer_failed = g.W.Sink.has_failed c.run_through.new.writer; audit_failed = g.A.Sink.has_failed c.run_through.new.audit_writer }) c.args.job.now h)

@@ -1,6 +1,6 @@
 use Rattle.std.proofs.Common.{◌≡◌, take}
 use Rattle.std.specs.Io.KnownBytes.{Appends}
-use Rattle.mediator_core.specs.Recording.{lines_of}
+use Rattle.mediator_core.specs.Lines.{lines_of}
 use Rattle.mediator_core.proofs.recording.write_lines.Given as goal
 
 abbrev pub invariant-lines : goal.invariant-lines
