@@ -3,13 +3,13 @@ use Rattle.std.proofs.Common.{refl, inl, inr, subst, subst₂, ◌∙◌, ℕ, L
 use Rattle.std.specs.List.{concat}
 use Rattle.std.specs.Io.KnownBytes.{Appends, Keeps}
 use Rattle.ipfix_message.specs.Framing.{IsFramed}
-use Rattle.mediator_core.proofs.Framed.{meant_are_cut}
-use Rattle.mediator_core.specs.Offline.{disclosed_by, due}
-use Rattle.mediator_core.specs.Reading.{Finishes, Halts}
-use Rattle.mediator_core.specs.declared.job.OfflineFault.{OfflineFault}
+use Rattle.offline_filter.proofs.Framed.{meant_are_cut}
+use Rattle.offline_filter.specs.Offline.{disclosed_by, due}
+use Rattle.offline_filter.specs.Reading.{Finishes, Halts}
+use Rattle.offline_filter.specs.declared.job.OfflineFault.{OfflineFault}
 use Rattle.std.specs.Prelude.{IfErr, IfOk, IfSome, Result, Ok, Err}
-use Rattle.mediator_core.specs.declared.job.OfflineJob.{OfflineJob}
-use Rattle.mediator_core.specs.declared.job.OfflineReport.{OfflineReport}
+use Rattle.offline_filter.specs.declared.job.OfflineJob.{OfflineJob}
+use Rattle.offline_filter.specs.declared.job.OfflineReport.{OfflineReport}
 use Rattle.std.specs.Borrow.{Bor}
 use Rattle.ipmd_command_line.specs.declared.task.OfflineOptions.{OfflineOptions}
 use Rattle.ipmd.specs.declared.fault.ProgramFault.{ProgramFault}

@@ -9,11 +9,11 @@ use Rattle.clap.specs.declared.error.kind.ErrorKind.{ErrorKind}
 use Rattle.clap.specs.declared.error.kind.ErrorKind.TheVariants.{DisplayVersion}
 use Rattle.policy_text.specs.Policies.{Meaning as PolicyMeaning}
 use Rattle.policy_text.specs.Parsing.{policy_of}
-use Rattle.mediator_core.specs.declared.job.OfflineJob.{OfflineJob}
-use Rattle.mediator_core.specs.declared.job.OfflineReport.{OfflineReport}
-use Rattle.mediator_core.specs.declared.job.OfflineFault.{OfflineFault}
-use Rattle.mediator_core.specs.Offline.{due}
-use Rattle.mediator_core.specs.Reading.{Finishes, Halts}
+use Rattle.offline_filter.specs.declared.job.OfflineJob.{OfflineJob}
+use Rattle.offline_filter.specs.declared.job.OfflineReport.{OfflineReport}
+use Rattle.offline_filter.specs.declared.job.OfflineFault.{OfflineFault}
+use Rattle.offline_filter.specs.Offline.{due}
+use Rattle.offline_filter.specs.Reading.{Finishes, Halts}
 use Rattle.ipmd_command_line.specs.CommandLine.{AsksFor, RefusesWords}
 use Rattle.ipmd_command_line.specs.declared.command_line.TheConstants.{VERSION}
 use Rattle.ipmd_command_line.specs.declared.fault.CommandLineFault.{CommandLineFault}

@@ -12,8 +12,8 @@ use Rattle.policy_text.specs.declared.fault.FaultKind.TheVariants as kind
 use Rattle.policy_text.specs.declared.fault.PolicyFault.{PolicyFault}
 use Rattle.mediator_state.specs.declared.fault.Fault.{Fault}
 use Rattle.mediator_state.specs.declared.fault.Fault.TheVariants as core
-use Rattle.mediator_core.specs.declared.job.OfflineFault.{OfflineFault}
-use Rattle.mediator_core.specs.declared.job.OfflineFault.TheVariants as offline
+use Rattle.offline_filter.specs.declared.job.OfflineFault.{OfflineFault}
+use Rattle.offline_filter.specs.declared.job.OfflineFault.TheVariants as offline
 use Rattle.ipmd.specs.declared.fault.ProgramFault.{ProgramFault}
 use Rattle.ipmd.specs.declared.fault.ProgramFault.TheVariants.{CommandLine, Policy, Hex, Framing, Core, Cut, OutOfMemory, Device}
 

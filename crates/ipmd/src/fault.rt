@@ -2,7 +2,7 @@
 ghost use Rattle.std.specs.Prelude.{◌≡◌};
 
 use ipmd_command_line::CommandLineFault;
-use mediator_core::{Fault, FramingFault, OfflineFault};
+use offline_filter::{Fault, FramingFault, OfflineFault};
 use octet_devices::{Device, Failed, WriteStopped};
 use policy_text::{FaultKind, PolicyFault};
 use std::alloc::{AllocError, AllocFailed};

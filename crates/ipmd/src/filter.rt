@@ -9,7 +9,7 @@ use crate::hex_input::read_hex;
 use crate::output::write_lines;
 use crate::policy_source::policy_text_of;
 use ipmd_command_line::OfflineOptions;
-use mediator_core::{OfflineJob, OfflineReport, offline};
+use offline_filter::{OfflineJob, OfflineReport, offline};
 use octet_devices::Device;
 use std::alloc::Global;
 use std::io::{BufWriter, Read, Write};

@@ -14,7 +14,7 @@
 //!
 //! Proved of `program`: it is safe, and it returns. Its status is 0 only where it did what the words ask for
 //! (`done`): the whole input, as octets or as what its hexadecimal text spells, was filtered with the policy, the
-//! name, the time and the target that the words give, the output got exactly the octets that `mediator_core` says of
+//! name, the time and the target that the words give, the output got exactly the octets that `offline_filter` says of
 //! these messages, with `--hex` a line of digits for each message that is due, and the report counts them; or the
 //! text is a policy, and its counts were written; or help or the version was written. Every other status is that of a
 //! fault with its cause (`fails`): the words ask for nothing that there is, the text has this fault, the mediator
@@ -33,7 +33,7 @@
 #![tactic(auto)]
 
 ghost use Rattle.std.specs.Prelude.{◌≡◌, ◌≢◌, Option, Some, map, IfErr, IfOk};
-ghost use Rattle.mediator_core.specs.declared.job.OfflineReport.{OfflineReport};
+ghost use Rattle.offline_filter.specs.declared.job.OfflineReport.{OfflineReport};
 ghost use Rattle.octet_devices.specs.Device.{device_failed, device_inner};
 ghost use Rattle.ipmd.specs.Runs.{Does, FailsFor, line_of_report, Reports};
 ghost use Rattle.ipmd.specs.Status.{line_of_fault, status_of, Tells};
@@ -54,7 +54,7 @@ use crate::fault::ProgramFault;
 use crate::filter::filter;
 use crate::show::show;
 use ipmd_command_line::{Task, read_command_line};
-use mediator_core::OfflineReport;
+use offline_filter::OfflineReport;
 use octet_devices::Device;
 use std::convert::AsStr;
 use std::env;

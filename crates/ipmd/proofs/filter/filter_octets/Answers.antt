@@ -1,6 +1,6 @@
 use Rattle.std.proofs.Common.{inr, subst}
 use Rattle.octet_devices.specs.Device.{device_failed, device_inner}
-use Rattle.mediator_core.proofs.Receiving.{err_gives}
+use Rattle.offline_filter.proofs.Receiving.{err_gives}
 use Rattle.ipmd.specs.Runs.{EndsOn}
 use Rattle.ipmd.proofs.Inputs.{ran}
 use Rattle.ipmd.proofs.filter.filter_octets.Goals as goal

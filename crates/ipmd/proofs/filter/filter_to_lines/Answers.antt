@@ -1,7 +1,7 @@
 use Rattle.std.proofs.Common.{rules, ◌≡◌, ◌⊎◌, refl, inl, inr, sym, subst}
 use Rattle.std.proofs.lemmas.Result.{IfErr-weaker, IfOk-weaker}
 use Rattle.octet_devices.specs.Device.{device_inner}
-use Rattle.mediator_core.proofs.Receiving.{err_gives}
+use Rattle.offline_filter.proofs.Receiving.{err_gives}
 use Rattle.ipmd.specs.declared.fault.ProgramFault.{ProgramFault}
 use Rattle.ipmd.specs.declared.fault.ProgramFault.TheVariants as fault
 use Rattle.ipmd.proofs.Inputs.{ends_over, fails_lines, finishes_lines, whole_lines}

@@ -1,6 +1,6 @@
 use Rattle.std.proofs.Common.{rules, inl, inr}
 use Rattle.octet_devices.specs.Device.{device_inner}
-use Rattle.mediator_core.proofs.Receiving.{err_gives}
+use Rattle.offline_filter.proofs.Receiving.{err_gives}
 use Rattle.ipmd.proofs.Lines.{some_lines, line_begun}
 use Rattle.ipmd.proofs.output.write_each.Goals as goal
 

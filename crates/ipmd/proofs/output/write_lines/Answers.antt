@@ -1,7 +1,7 @@
 use Rattle.std.proofs.Common.{rules, inr, subst}
 use Rattle.std.specs.Io.KnownBytes.{Appends}
 use Rattle.octet_devices.specs.Device.{device_inner}
-use Rattle.mediator_core.proofs.Receiving.{err_gives}
+use Rattle.offline_filter.proofs.Receiving.{err_gives}
 use Rattle.ipmd.specs.HexText.{lines_of}
 use Rattle.ipmd.proofs.Lines.{all_written}
 use Rattle.ipmd.proofs.output.write_lines.Goals as goal

@@ -1,6 +1,6 @@
 use Rattle.std.proofs.Common.{subst}
 use Rattle.octet_devices.specs.Device.{device_inner}
-use Rattle.mediator_core.proofs.Receiving.{err_gives}
+use Rattle.offline_filter.proofs.Receiving.{err_gives}
 use Rattle.ipmd.specs.HexText.{WritesSome}
 use Rattle.ipmd.proofs.Lines.{all_written}
 use Rattle.ipmd.proofs.output.write_text.Goals as goal
