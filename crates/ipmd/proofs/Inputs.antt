@@ -4,10 +4,10 @@ use Rattle.std.specs.List.{concat}
 use Rattle.std.specs.Io.KnownBytes.{Appends, Keeps}
 use Rattle.ipfix_message.specs.Framing.{IsFramed}
 use Rattle.offline_filter.proofs.Framed.{meant_are_cut}
-use Rattle.offline_filter.specs.Offline.{disclosed_by, due}
-use Rattle.offline_filter.specs.Reading.{Finishes, Halts}
+use Rattle.offline_filter.specs.Offline.{disclosed_by}
+use Rattle.offline_filter.specs.Filtering.{Ports, unfailed, FiltersAll, FailsToFilter}
 use Rattle.offline_filter.specs.declared.job.OfflineFault.{OfflineFault}
-use Rattle.std.specs.Prelude.{IfErr, IfOk, IfSome, Result, Ok, Err}
+use Rattle.std.specs.Prelude.{IfErr, IfOk, IfSome, is_some, Result, Ok, Err}
 use Rattle.offline_filter.specs.declared.job.OfflineJob.{OfflineJob}
 use Rattle.offline_filter.specs.declared.job.OfflineReport.{OfflineReport}
 use Rattle.std.specs.Borrow.{Bor}
@@ -18,16 +18,16 @@ use Rattle.ipmd.specs.Status.{offline_fault_of}
 use Rattle.ipmd.proofs.Lines.{all_written, kept}
 use Rattle.ipmd.specs.Runs.{Asked, FinishesInput, FinishesLines, FinishesOn, IsTextOf, EndsOn, EndsOver, FailsLines, FailsOn, RefusesInput, StopsLines, StopsOn}
 
--- a stream over memory, which was empty, is the messages that are due, and so its lines are theirs
+-- a stream over memory, which was empty, is the messages that were written, and so its lines are theirs
 due_lines : (job : OfflineJob) (report : OfflineReport) (octets stream : List ℕ) (held holds audit_held audit_holds : Option (List ℕ))
-    (done : FinishesOn job report (Some octets) (Some []) (Some stream) audit_held audit_holds) → WritesLines stream held holds → Appends held holds (lines_of (due job done.finishes.messages))
+    (done : FinishesOn job report (Some octets) (Some []) (Some stream) audit_held audit_holds) → WritesLines stream held holds → Appends held holds (lines_of done.filters.done.written)
 due_lines job report octets stream held holds audit_held audit_holds done lines =
     subst (λ ms. Appends held holds (lines_of ms))
-    (meant_are_cut (due job done.finishes.messages) lines.messages (disclosed_by job done.finishes.messages) lines.cut.0 lines.cut.1 done.finishes.done.means
-    (subst (λ s. IsFramed s lines.messages lines.cut.0 lines.cut.1) (joined done.written done.finishes.done.written done.flushed) lines.cut.2))
+    (meant_are_cut done.filters.done.written lines.messages (disclosed_by job done.filters.messages) lines.cut.0 lines.cut.1 done.filters.done.filters.means
+    (subst (λ s. IsFramed s lines.messages lines.cut.0 lines.cut.1) (joined done.after.written done.filters.done.writes.stream done.flushed) lines.cut.2))
     lines.written
   where
-    joined : (written : Option (List ℕ)) → Appends (Some []) written (concat (due job done.finishes.messages)) → Keeps written (Some stream) → stream ≡ concat (due job done.finishes.messages)
+    joined : (written : Option (List ℕ)) → Appends (Some []) written (concat done.filters.done.written) → Keeps written (Some stream) → stream ≡ concat done.filters.done.written
     joined None a k = absurd a
     joined (Some octets) a k = k ∙ a
 
@@ -57,29 +57,14 @@ fails_spelled (Some text) held holds audit_held audit_holds octets job e spelled
 -- ---- a run that ended, by the two clauses of its answer
 
 -- and then the output and the audit were flushed
-pub ran : (job : OfflineJob) (r : Result OfflineReport OfflineFault) (given left held written holds audit_held audited audit_holds : Option (List ℕ)) (rfailed failed afailed : Bool)
-    → IfOk r (λ report. Finishes job report given left held written audit_held audited)
-    → IfErr r (λ fault. Halts fault job given left held written audit_held audited rfailed failed afailed)
-    → Keeps written holds → Keeps audited audit_holds → EndsOn job given held holds audit_held audit_holds
-ran job (Ok report) given left held written holds audit_held audited audit_holds rfailed failed afailed finishes halts flushed audit_flushed =
-    inl (report, record { left = left; written = written; audited = audited; finishes = finishes; flushed = flushed; audit_flushed = audit_flushed })
-ran job (Err fault) given left held written holds audit_held audited audit_holds rfailed failed afailed finishes halts flushed audit_flushed =
-    inr (
-      offline_fault_of fault,
-      record {
-        fault = fault;
-        is = refl;
-        left = left;
-        written = written;
-        audited = audited;
-        reader_failed = rfailed;
-        writer_failed = failed;
-        audit_failed = afailed;
-        halts = halts;
-        flushed = flushed;
-        audit_flushed = audit_flushed;
-      },
-    )
+pub ran : (job : OfflineJob) (r : Result OfflineReport OfflineFault) (given held holds audit_held audit_holds : Option (List ℕ)) (after : Ports)
+    → IfOk r (λ report. FiltersAll job report (unfailed given held audit_held) after)
+    → IfErr r (λ fault. FailsToFilter fault job (unfailed given held audit_held) after)
+    → Keeps after.written holds → Keeps after.audited audit_holds → EndsOn job given held holds audit_held audit_holds
+ran job (Ok report) given held holds audit_held audit_holds after filters fails flushed audit_flushed =
+    inl (report, record { after = after; filters = filters; flushed = flushed; audit_flushed = audit_flushed })
+ran job (Err fault) given held holds audit_held audit_holds after filters fails flushed audit_flushed =
+    inr (offline_fault_of fault, record { fault = fault; is = refl; after = after; fails = fails; flushed = flushed; audit_flushed = audit_flushed })
 
 -- over memory that was empty
 pub ends_over : (job : OfflineJob) (octets stream : List ℕ) (r : Result OfflineReport ProgramFault) (before after audit_held audit_holds : Option (List ℕ)) → before ≡ Some [] → after ≡ Some stream
@@ -106,6 +91,6 @@ abbrev pub asked_for : (options : OfflineOptions) (policy : Bor (List ℕ)) (tex
 asked_for options policy text source is = record {
   text = text;
   source_is = source;
-  job = record { policy = policy; name = options.subscriber; now = options.now; target = options.target; turns = 18446744073709551615 };
-  job_is = record { policy = is; name = refl; now = refl; target = refl; turns = refl };
+  job = record { policy = policy; name = options.subscriber; now = options.now; target = options.target; turns = 18446744073709551615; audit = is_some options.audit };
+  job_is = record { policy = is; name = refl; now = refl; target = refl; turns = refl; audit = refl };
 }

@@ -1,5 +1,5 @@
 -- What a run of the program does, and what its faults mean.
-use Rattle.std.specs.Prelude.{◌≡◌, ◌⊎◌, ◌^◌, ◌-◌, ◌==◌, ℕ, Bool, true, false, List, [], ◌∷◌, ◌++◌, map, length, codes, encode_utf8_all, Option, Some, None, IfSome, Ok, Err, if◌then◌else◌}
+use Rattle.std.specs.Prelude.{◌≡◌, ◌⊎◌, ◌^◌, ◌-◌, ◌==◌, ℕ, Bool, true, false, List, [], ◌∷◌, ◌++◌, map, length, codes, encode_utf8_all, Option, Some, None, is_some, IfSome, Ok, Err, if◌then◌else◌}
 use Rattle.std.specs.Str.{chars}
 use Rattle.std.specs.Fmt.{decimal}
 use Rattle.std.specs.Io.KnownBytes.{Appends, Keeps}
@@ -12,8 +12,7 @@ use Rattle.policy_text.specs.Parsing.{policy_of}
 use Rattle.offline_filter.specs.declared.job.OfflineJob.{OfflineJob}
 use Rattle.offline_filter.specs.declared.job.OfflineReport.{OfflineReport}
 use Rattle.offline_filter.specs.declared.job.OfflineFault.{OfflineFault}
-use Rattle.offline_filter.specs.Offline.{due}
-use Rattle.offline_filter.specs.Reading.{Finishes, Halts}
+use Rattle.offline_filter.specs.Filtering.{Ports, unfailed, FiltersAll, FailsToFilter}
 use Rattle.ipmd_command_line.specs.CommandLine.{AsksFor, RefusesWords}
 use Rattle.ipmd_command_line.specs.declared.command_line.TheConstants.{VERSION}
 use Rattle.ipmd_command_line.specs.declared.fault.CommandLineFault.{CommandLineFault}
@@ -95,13 +94,15 @@ RefusesToShow kind e held holds = ((e ≡ OutOfMemory) × Keeps held holds) ⊎ 
 
 -- ---- offline
 
--- the job that the options ask for, by the policy of this text; an input ends, so it is read as often as can be said
+-- the job that the options ask for, by the policy of this text; an input ends, so it is read as often as can be said; the audit is
+-- asked for where it has a file
 pub record IsJobOf (options : OfflineOptions) (text : List ℕ) (job : OfflineJob) : Type 0 where
   pub policy : job.policy.now ≡ text
   pub name : job.name ≡ options.subscriber
   pub now : job.now ≡ options.now
   pub target : job.target ≡ options.target
   pub turns : job.turns ≡ 2 ^ 64 - 1
+  pub audit : job.audit ≡ is_some options.audit
 
 -- a job that the options ask for
 pub record Asked (options : OfflineOptions) : Type 0 where
@@ -112,18 +113,16 @@ pub record Asked (options : OfflineOptions) : Type 0 where
 
 -- these octets were read to their end and filtered; the output and the audit held so much when all was done, and were flushed
 pub record FinishesOn (job : OfflineJob) (report : OfflineReport) (given held holds audit_held audit_holds : Option (List ℕ)) : Type 0 where
-  pub left : Option (List ℕ)
-  pub written : Option (List ℕ)
-  pub audited : Option (List ℕ)
-  pub finishes : Finishes job report given left held written audit_held audited
-  pub flushed : Keeps written holds
-  pub audit_flushed : Keeps audited audit_holds
+  pub after : Ports
+  pub filters : FiltersAll job report (unfailed given held audit_held) after
+  pub flushed : Keeps after.written holds
+  pub audit_flushed : Keeps after.audited audit_holds
 
 -- the same, and each message that is due was written as a line
 pub record FinishesLines (job : OfflineJob) (report : OfflineReport) (octets : List ℕ) (held holds audit_held audit_holds : Option (List ℕ)) : Type 0 where
   pub stream : List ℕ
   pub finishes : FinishesOn job report (Some octets) (Some []) (Some stream) audit_held audit_holds
-  pub lines : Appends held holds (lines_of (due job finishes.finishes.messages))
+  pub lines : Appends held holds (lines_of finishes.filters.done.written)
 
 -- the same of the octets that a text spells
 abbrev pub FinishesText : OfflineJob → OfflineReport → List ℕ → Option (List ℕ) → Option (List ℕ) → Option (List ℕ) → Option (List ℕ) → Type 0
@@ -144,15 +143,10 @@ Filters options report given held holds =
 pub record StopsOn (e : ProgramFault) (job : OfflineJob) (given held holds audit_held audit_holds : Option (List ℕ)) : Type 0 where
   pub fault : OfflineFault
   pub is : e ≡ offline_fault_of fault
-  pub left : Option (List ℕ)
-  pub written : Option (List ℕ)
-  pub audited : Option (List ℕ)
-  pub reader_failed : Bool
-  pub writer_failed : Bool
-  pub audit_failed : Bool
-  pub halts : Halts fault job given left held written audit_held audited reader_failed writer_failed audit_failed
-  pub flushed : Keeps written holds
-  pub audit_flushed : Keeps audited audit_holds
+  pub after : Ports
+  pub fails : FailsToFilter fault job (unfailed given held audit_held) after
+  pub flushed : Keeps after.written holds
+  pub audit_flushed : Keeps after.audited audit_holds
 
 -- a run over octets ended, by its report or by a fault, and then the output and the audit were flushed, or one of them failed
 abbrev pub EndsOn : OfflineJob → Option (List ℕ) → Option (List ℕ) → Option (List ℕ) → Option (List ℕ) → Option (List ℕ) → Type 0

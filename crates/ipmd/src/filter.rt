@@ -45,6 +45,7 @@ pub fn filter<R: Files + AllocGlobal, I: Read + Drop, O: Write>(
         now: options.now,
         target: options.target,
         turns: ANY_NUMBER_OF_READS,
+        audit: options.audit.is_some(),
     };
     match options.audit {
         Some(path) => {

@@ -27,9 +27,11 @@ use Rattle.offline_filter.specs.declared.run.Run.{Run}
 use Rattle.offline_filter.specs.Offline.{started, history_of, disclosed_by, due, after_message, next_message as next_entry}
 use Rattle.offline_filter.specs.Runs.{IsServing, Stands}
 use Rattle.offline_filter.specs.Offline.{end_of}
-use Rattle.offline_filter.specs.Stopping.{AreAccepted, StopsAt}
+use Rattle.offline_filter.specs.Accepting.{AreAccepted}
+use Rattle.offline_filter.specs.Stopping.{StopsAt}
 use Rattle.offline_filter.specs.Running.{IsOpened, IsRunning, Runs}
-use Rattle.offline_filter.specs.Reading.{IsDone, StopsInHand, AreRead, StopsAfter, StopsReading, Finishes}
+use Rattle.offline_filter.specs.Filtering.{AreRead}
+use Rattle.offline_filter.specs.Reading.{IsDone, StopsInHand, StopsAfter, StopsReading, Finishes}
 use Rattle.offline_filter.specs.Reaching.{HandlesAll, StopsAmong, IsAfter, ReachesEnd}
 use Rattle.offline_filter.proofs.Streams.{done_of, emptied}
 use Rattle.offline_filter.proofs.InHand.{fold-snoc}

@@ -6,7 +6,6 @@ use Rattle.std.specs.Io.KnownBytes.{Appends}
 use Rattle.std.proofs.KnownBytes.{Appends-trans, Appends-nil}
 use Rattle.std.proofs.lemmas.List.{drop_all, take-append-le}
 use Rattle.std.proofs.lemmas.List.Folds.{concat-append}
-use Rattle.std.proofs.lemmas.Grind.{flat_map-append}
 use Rattle.sequences.specs.Before.{each_after}
 use Rattle.sequences.proofs.BeforeLaws.{each_with_before-append, each_with_before-push}
 use Rattle.ipfix_template.specs.DataRecord.{DataRecord}
@@ -23,28 +22,30 @@ use Rattle.event_journal.specs.declared.entry.Entry.TheVariants.{Cut as CutEntry
 use Rattle.event_journal.specs.declared.entry.Entry.TheVariants.{Message}
 use Rattle.mediator_history.specs.Subscriptions.{is_served}
 use Rattle.mediator_history.specs.Disclosed.{given_at, disclosed}
-use Rattle.mediator_history.proofs.HistoryLaws.{disclosed-push, is_served-cut}
+use Rattle.mediator_history.proofs.HistoryLaws.{disclosed-push}
+use Rattle.mediator_history.proofs.SinceLaws.{cut_is_served_no_more, unserved_get_nothing}
 use Rattle.mediator_history.specs.Auditing.{audit_at, audit_list}
 use Rattle.mediator_history.specs.Sessions.{messages_of}
 use Rattle.mediator_state.specs.Calls.{StandsFor}
 use Rattle.sequences.proofs.ListLaws.{take-add-append}
 use Rattle.offline_filter.specs.declared.run.Run.{Run}
 use Rattle.offline_filter.specs.declared.job.OfflineJob.{OfflineJob}
-use Rattle.offline_filter.specs.Lines.{lines_of, WritesSome, WritesOn}
+use Rattle.offline_filter.specs.Lines.{lines_for, WritesSome, WritesOn}
 use Rattle.offline_filter.specs.Recording.{Records, StopsLines}
 use Rattle.offline_filter.specs.Offline.{started, after_message, history_of, disclosed_by, and_then, pulled as pulled_list, pulled_to_end, due_by, due, audit_due, cuts_by, next_message as next_entry}
 use Rattle.offline_filter.specs.Runs.{tells, audit_waiting, audit_drained, HasHistory, Stands, Small}
 use Rattle.offline_filter.specs.Offline.{end_of}
 use Rattle.offline_filter.specs.Steps.{HasDelivered, Receives}
-use Rattle.offline_filter.specs.Accepting.{Accepts, RefusesMessage}
+use Rattle.offline_filter.specs.Accepting.{Accepts, RefusesMessage, AreAccepted}
 use Rattle.offline_filter.specs.HandsOut.{HandsOut}
 use Rattle.offline_filter.specs.Pulling.{IsDelivering, Delivers, StopsDelivery, FailsDelivery}
-use Rattle.offline_filter.specs.Stopping.{AreAccepted, WritesInHand, StopsAt}
+use Rattle.offline_filter.specs.Stopping.{WritesInHand, StopsAt}
 use Rattle.offline_filter.specs.Running.{IsRunning, Runs}
 use Rattle.mediator_state.specs.declared.fault.Fault.{Fault}
 use Rattle.mediator_state.specs.declared.fault.Fault.TheVariants as fault
 use Rattle.offline_filter.specs.declared.job.OfflineFault.{OfflineFault}
 use Rattle.offline_filter.specs.declared.job.OfflineFault.TheVariants.{Write, Core, Cut, AuditWrite}
+use Rattle.offline_filter.proofs.Lines.{lines_for-append}
 use Rattle.offline_filter.proofs.Delivering.{pulled, streamable_of, stands_on}
 use Rattle.offline_filter.proofs.Receiving.{waits_added, within_end}
 
@@ -68,15 +69,15 @@ audit_more job messages octets = (
 )
 
 pub lines_more : (job : OfflineJob) (messages : List (List ℕ)) (octets : List ℕ) (added : List AuditEntry) → audit_list (history_of job (messages ++ octets ∷ [])) ≡ audit_list (history_of job messages) ++ added
-    → audit_due job (messages ++ octets ∷ []) ≡ audit_due job messages ++ lines_of added
-lines_more job messages octets added is = ap lines_of is ∙ flat_map-append _ (audit_list (history_of job messages)) added
+    → audit_due job (messages ++ octets ∷ []) ≡ audit_due job messages ++ lines_for job.audit added
+lines_more job messages octets added is = ap (lines_for job.audit) is ∙ lines_for-append job.audit (audit_list (history_of job messages)) added
 
 -- the lines that it adds were written, which waited
 lines_added : (job : OfflineJob) (messages : List (List ℕ)) (octets : List ℕ) (added waiting : List AuditEntry) (aheld aholds awrites : Option (List ℕ))
     → audit_list (history_of job (messages ++ octets ∷ [])) ≡ audit_list (history_of job messages) ++ added → waiting ≡ added
-    → Appends aheld aholds (audit_due job messages) → Appends aholds awrites (lines_of waiting) → Appends aheld awrites (audit_due job (messages ++ octets ∷ []))
+    → Appends aheld aholds (audit_due job messages) → Appends aholds awrites (lines_for job.audit waiting) → Appends aheld awrites (audit_due job (messages ++ octets ∷ []))
 lines_added job messages octets added waiting aheld aholds awrites adds waits so lines = subst (Appends aheld awrites) (sym (lines_more job messages octets added adds))
-    (Appends-trans aheld aholds awrites (audit_due job messages) (lines_of added) so (subst (λ l. Appends aholds awrites (lines_of l)) waits lines))
+    (Appends-trans aheld aholds awrites (audit_due job messages) (lines_for job.audit added) so (subst (λ l. Appends aholds awrites (lines_for job.audit l)) waits lines))
 
 some_after : (a b c : Option (List ℕ)) (xs ys : List ℕ) → Appends a b xs → WritesSome b c ys → WritesOn a c xs (xs ++ ys)
 some_after a b c xs ys so some = record {
@@ -89,9 +90,9 @@ some_after a b c xs ys so some = record {
 -- a front of them
 lines_begun : (job : OfflineJob) (messages : List (List ℕ)) (octets : List ℕ) (added waiting : List AuditEntry) (aheld aholds awrites : Option (List ℕ))
     → audit_list (history_of job (messages ++ octets ∷ [])) ≡ audit_list (history_of job messages) ++ added → waiting ≡ added
-    → Appends aheld aholds (audit_due job messages) → WritesSome aholds awrites (lines_of waiting) → WritesOn aheld awrites (audit_due job messages) (audit_due job (messages ++ octets ∷ []))
+    → Appends aheld aholds (audit_due job messages) → WritesSome aholds awrites (lines_for job.audit waiting) → WritesOn aheld awrites (audit_due job messages) (audit_due job (messages ++ octets ∷ []))
 lines_begun job messages octets added waiting aheld aholds awrites adds waits so some = subst (WritesOn aheld awrites (audit_due job messages)) (sym (lines_more job messages octets added adds))
-    (some_after aheld aholds awrites (audit_due job messages) (lines_of added) so (subst (λ l. WritesSome aholds awrites (lines_of l)) waits some))
+    (some_after aheld aholds awrites (audit_due job messages) (lines_for job.audit added) so (subst (λ l. WritesSome aholds awrites (lines_for job.audit l)) waits some))
 
 -- ---- messages that were handed out are those that pulls give
 
@@ -260,7 +261,7 @@ delivered d1 d2 d3 job messages octets held holds writes aheld aholds k r = reco
 
 -- then recorded: the run goes on
 pub handled : (d1 d3 d4 : Run) (job : OfflineJob) (messages : List (List ℕ)) (octets : List ℕ) (held holds writes aheld aholds awrites : Option (List ℕ)) → IsRunning d1 job messages held holds aheld aholds
-    → Delivered d1 d3 job messages octets held writes → Records d3 d4 → Appends aholds awrites (lines_of (audit_waiting d3))
+    → Delivered d1 d3 job messages octets held writes → Records d3 d4 → Appends aholds awrites (lines_for d3.job.audit (audit_waiting d3))
     → IsRunning d4 job (messages ++ octets ∷ []) held writes aheld awrites
 handled d1 d3 d4 job messages octets held holds writes aheld aholds awrites r k records lines = record {
   job_is = records.same.job ∙ k.job_is;
@@ -271,7 +272,7 @@ handled d1 d3 d4 job messages octets held holds writes aheld aholds awrites r k 
   sent = records.sent ∙ k.sent;
   few = omega (arith, records.sent, k.few);
   written = k.written;
-  audited = lines_added job messages octets k.added (audit_waiting d3) aheld aholds awrites k.adds k.waits r.audited lines;
+  audited = lines_added job messages octets k.added (audit_waiting d3) aheld aholds awrites k.adds k.waits r.audited (subst (λ j. Appends aholds awrites (lines_for j.audit (audit_waiting d3))) k.job_is lines);
   accepted = accepted_more job [] messages octets r.accepted (k.accepts, k.uncut);
   handed = k.handed;
 }
@@ -292,7 +293,7 @@ nothing_in_hand d job messages octets held holds aheld aholds r =
       front = refl;
       written = subst (Appends held holds) (sym (none_more (due job messages))) r.written;
       audited = subst (WritesOn aheld aholds (audit_due job messages)) (sym (lines_more job messages octets more.0 more.1))
-          (some_after aheld aholds aholds (audit_due job messages) (lines_of more.0) r.audited (record { count = 0; within = omega arith; written = Appends-nil aholds }));
+          (some_after aheld aholds aholds (audit_due job messages) (lines_for job.audit more.0) r.audited (record { count = 0; within = omega arith; written = Appends-nil aholds }));
     }
 
 pub stops_refused : (f : Fault) (d : Run) (job : OfflineJob) (messages : List (List ℕ)) (octets : List ℕ) (held holds aheld aholds : Option (List ℕ)) (failed afailed : Bool) → IsRunning d job messages held holds aheld aholds
@@ -311,13 +312,13 @@ by_lines P failed audit memory _ cause = absurd cause
 
 -- the message was delivered, and its lines stop
 pub stops_recording : (f : OfflineFault) (d1 d3 : Run) (job : OfflineJob) (messages : List (List ℕ)) (octets : List ℕ) (held holds writes aheld aholds awrites : Option (List ℕ)) (failed afailed : Bool)
-    → IsRunning d1 job messages held holds aheld aholds → Delivered d1 d3 job messages octets held writes → StopsLines f afailed → WritesSome aholds awrites (lines_of (audit_waiting d3))
+    → IsRunning d1 job messages held holds aheld aholds → Delivered d1 d3 job messages octets held writes → StopsLines f afailed → WritesSome aholds awrites (lines_for d3.job.audit (audit_waiting d3))
     → StopsAt f job messages octets held writes aheld awrites failed afailed
 stops_recording f d1 d3 job messages octets held holds writes aheld aholds awrites failed afailed r k cause some =
     by_lines (λ e. StopsAt e job messages octets held writes aheld awrites failed afailed) afailed (λ cause. (k.accepts, k.written, lines, cause)) memory f cause
   where
     lines : WritesOn aheld awrites (audit_due job messages) (audit_due job (messages ++ octets ∷ []))
-    lines = lines_begun job messages octets k.added (audit_waiting d3) aheld aholds awrites k.adds k.waits r.audited some
+    lines = lines_begun job messages octets k.added (audit_waiting d3) aheld aholds awrites k.adds k.waits r.audited (subst (λ j. WritesSome aholds awrites (lines_for j.audit (audit_waiting d3))) k.job_is some)
 
     memory : WritesInHand job messages octets held writes aheld awrites
     memory = record {
@@ -383,16 +384,13 @@ stops_delivering f d1 d2 job messages octets held holds writes aheld aholds fail
 
 -- ---- a message that cuts the subscription
 
-given_nothing : (h : List Entry) (number : ℕ) (octets : List ℕ) → is_served 1 h ≡ false → given_at 1 h (Message 1 number octets) ≡ []
-given_nothing h number octets off = rw off refl
-
 -- after its cut nothing is disclosed to it
 disclosed_cut : (h : List Entry) (octets : List ℕ) → cuts_by h octets ≡ CutEntry 1 ∷ [] → disclosed 1 (after_message h octets) ≡ disclosed 1 h
 disclosed_cut h octets cut =
     ap (λ c. disclosed 1 (h ++ (c ++ next_entry h octets ∷ []))) cut
     ∙ ap (disclosed 1) (sym (append_assoc h (CutEntry 1 ∷ []) (next_entry h octets ∷ [])))
     ∙ disclosed-push 1 (h ++ CutEntry 1 ∷ []) (next_entry h octets)
-    ∙ ap (λ g. disclosed 1 (h ++ CutEntry 1 ∷ []) ++ g) (given_nothing (h ++ CutEntry 1 ∷ []) (length (messages_of 1 h)) octets (is_served-cut h))
+    ∙ ap (λ g. disclosed 1 (h ++ CutEntry 1 ∷ []) ++ g) (unserved_get_nothing 1 (h ++ CutEntry 1 ∷ []) (next_entry h octets) (cut_is_served_no_more 1 h))
     ∙ append-nil (disclosed 1 (h ++ CutEntry 1 ∷ []))
     ∙ disclosed-push 1 h (CutEntry 1)
     ∙ append-nil (disclosed 1 h)
@@ -405,16 +403,18 @@ pub record WasCut (d1 d2 : Run) (job : OfflineJob) (messages : List (List ℕ)) 
   pub added : List AuditEntry
   pub adds : audit_list (history_of job (messages ++ octets ∷ [])) ≡ audit_list (history_of job messages) ++ added
   pub waits : (audit_waiting d2) ≡ added
+  pub job_is : d2.job ≡ job
 
 pub was_cut_at : (d1 d2 : Run) (job : OfflineJob) (messages : List (List ℕ)) (octets : List ℕ) (held holds aheld aholds : Option (List ℕ)) → IsRunning d1 job messages held holds aheld aholds
-    → Receives d1 octets true d2 → WasCut d1 d2 job messages octets
-was_cut_at d1 d2 job messages octets held holds aheld aholds r receives = record {
+    → Receives d1 octets true d2 → d2.job ≡ d1.job → WasCut d1 d2 job messages octets
+was_cut_at d1 d2 job messages octets held holds aheld aholds r receives same = record {
   accepts = receives.accepts h r.stands r.small;
   cut = on.0;
   no_more = due_more job messages octets ∙ ap (λ ms. due job messages ++ ms) by ∙ append-nil (due job messages);
   added = more.0;
   adds = more.1;
   waits = waits_added d1 d2 (audit_list h) more.0 r.stands.state.stands.audit r.quiet receives.drained (subst (StandsIn d2.state.engine.audit.standing) (ap audit_list (sym e) ∙ more.1) on.1.stands.audit);
+  job_is = same ∙ r.job_is;
 }
   where
     h : List Entry
@@ -434,23 +434,23 @@ was_cut_at d1 d2 job messages octets held holds aheld aholds r receives = record
         ∙ pulled-ended (length (parts (disclosed 1 h))) (disclosed 1 h) (end_of h) job.now job.target (ended (disclosed 1 h) job.now job.target)
 
 pub stops_cut : (d1 d2 : Run) (job : OfflineJob) (messages : List (List ℕ)) (octets : List ℕ) (held holds aheld aholds awrites : Option (List ℕ)) (failed afailed : Bool) → IsRunning d1 job messages held holds aheld aholds
-    → WasCut d1 d2 job messages octets → Appends aholds awrites (lines_of (audit_waiting d2)) → StopsAt Cut job messages octets held holds aheld awrites failed afailed
+    → WasCut d1 d2 job messages octets → Appends aholds awrites (lines_for d2.job.audit (audit_waiting d2)) → StopsAt Cut job messages octets held holds aheld awrites failed afailed
 stops_cut d1 d2 job messages octets held holds aheld aholds awrites failed afailed r k lines = (
   k.accepts,
   k.cut,
   r.written,
-  lines_added job messages octets k.added (audit_waiting d2) aheld aholds awrites k.adds k.waits r.audited lines,
+  lines_added job messages octets k.added (audit_waiting d2) aheld aholds awrites k.adds k.waits r.audited (subst (λ j. Appends aholds awrites (lines_for j.audit (audit_waiting d2))) k.job_is lines),
 )
 
 pub stops_cut_recording : (f : OfflineFault) (d1 d2 : Run) (job : OfflineJob) (messages : List (List ℕ)) (octets : List ℕ) (held holds aheld aholds awrites : Option (List ℕ)) (failed afailed : Bool)
-    → IsRunning d1 job messages held holds aheld aholds → WasCut d1 d2 job messages octets → StopsLines f afailed → WritesSome aholds awrites (lines_of (audit_waiting d2))
+    → IsRunning d1 job messages held holds aheld aholds → WasCut d1 d2 job messages octets → StopsLines f afailed → WritesSome aholds awrites (lines_for d2.job.audit (audit_waiting d2))
     → StopsAt f job messages octets held holds aheld awrites failed afailed
 stops_cut_recording f d1 d2 job messages octets held holds aheld aholds awrites failed afailed r k cause some =
     by_lines (λ e. StopsAt e job messages octets held holds aheld awrites failed afailed) afailed
     (λ cause. (k.accepts, subst (λ ms. Appends held holds (concat ms)) (sym k.no_more) r.written, lines, cause)) memory f cause
   where
     lines : WritesOn aheld awrites (audit_due job messages) (audit_due job (messages ++ octets ∷ []))
-    lines = lines_begun job messages octets k.added (audit_waiting d2) aheld aholds awrites k.adds k.waits r.audited some
+    lines = lines_begun job messages octets k.added (audit_waiting d2) aheld aholds awrites k.adds k.waits r.audited (subst (λ j. WritesSome aholds awrites (lines_for j.audit (audit_waiting d2))) k.job_is some)
 
     memory : WritesInHand job messages octets held holds aheld awrites
     memory = record { handed = []; others = due_by job messages octets; front = refl; written = subst (Appends held holds) (sym (none_more (due job messages))) r.written; audited = lines }

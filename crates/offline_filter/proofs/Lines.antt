@@ -1,5 +1,5 @@
 -- Lines that are written one after another.
-use Rattle.std.proofs.Common.{◌≡◌, ℕ, ◌+◌, ◌≤◌, ◌<◌, List, [], ◌∷◌, ◌++◌, length, take, drop, Option, sym, ap, ◌∙◌, subst, arith, append_assoc, length-append}
+use Rattle.std.proofs.Common.{◌≡◌, ℕ, ◌+◌, ◌≤◌, ◌<◌, Bool, true, false, List, [], ◌∷◌, ◌++◌, length, take, drop, Option, refl, sym, ap, ◌∙◌, subst, arith, append_assoc, length-append}
 use Rattle.std.specs.Prelude.{get_or, Result, Ok, Err, OnErr}
 use Rattle.std.specs.Io.KnownBytes.{Appends}
 use Rattle.std.proofs.KnownBytes.{Appends-trans}
@@ -9,7 +9,12 @@ use Rattle.mediator_history.proofs.HistoryLaws.{flat_map-push}
 use Rattle.disclosure_audit.specs.declared.entry.AuditEntry.{AuditEntry}
 use Rattle.disclosure_audit.specs.Lines.{line_of}
 use Rattle.sequences.proofs.ListLaws.{take-add-append}
-use Rattle.offline_filter.specs.Lines.{lines_of, WritesSome}
+use Rattle.offline_filter.specs.Lines.{lines_of, lines_for, WritesSome}
+
+-- the lines that are asked for of some entries and of others behind them
+pub lines_for-append : (asked : Bool) (some more : List AuditEntry) → lines_for asked (some ++ more) ≡ lines_for asked some ++ lines_for asked more
+lines_for-append true some more = flat_map-append line_of some more
+lines_for-append false some more = refl
 
 lines_so_far : (entries : List AuditEntry) (i : ℕ) (e : AuditEntry) → i < length entries → e ≡ get_or entries i e → lines_of (take (i + 1) entries) ≡ lines_of (take i entries) ++ line_of e
 lines_so_far entries i e within at = ap lines_of (take_more entries i e within ∙ ap (λ x. take i entries ++ x ∷ []) (sym at)) ∙ flat_map-push line_of (take i entries) e

@@ -7,7 +7,7 @@ use Rattle.event_journal.specs.declared.entry.Entry.TheVariants.{Message}
 use Rattle.mediator_history.specs.Sessions.{message_in, messages_of}
 use Rattle.offline_filter.specs.declared.job.OfflineJob.{OfflineJob}
 use Rattle.offline_filter.specs.Offline.{started, next_message, history_of}
-use Rattle.offline_filter.specs.Stopping.{AreAccepted}
+use Rattle.offline_filter.specs.Accepting.{AreAccepted}
 use Rattle.offline_filter.specs.PlainHistory.{entries_from, plain_history}
 use Rattle.offline_filter.proofs.InHand.{history_more}
 

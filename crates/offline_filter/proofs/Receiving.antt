@@ -27,9 +27,10 @@ use Rattle.mediator_history.specs.Accepted.{Accepted, records_meant, records_at,
 use Rattle.mediator_history.specs.Disclosed.{outcome_for, given_at, disclosed}
 use Rattle.mediator_history.specs.Auditing.{audit_of, audit_at, audit_list, audit_entry, kept_back, removed_of}
 use Rattle.mediator_history.specs.Cuts.{overflows, is_cut_by, cuts_before}
-use Rattle.mediator_history.proofs.HistoryLaws.{flat_map-push, is_served-cut, is_served-message, subscribed-message, messages-message, accepted-push, audit-push, octets-push}
+use Rattle.mediator_history.proofs.HistoryLaws.{flat_map-push, is_served-message, subscribed-message, accepted-push, audit-push, octets-push}
+use Rattle.mediator_history.proofs.SinceLaws.{cut_is_served_no_more}
 use Rattle.mediator_history.proofs.Counts.{few_records}
-use Rattle.mediator_history.proofs.EntryLaws.{served_is_live}
+use Rattle.mediator_history.proofs.EntryLaws.{served_is_live, messages-any}
 use Rattle.live_subscriptions.specs.declared.subscription.Subscription.{Subscription}
 use Rattle.live_subscriptions.specs.Table.{at}
 use Rattle.mediator_state.specs.declared.fault.Fault.{Fault}
@@ -136,7 +137,7 @@ audit_after_cut h octets number alone =
   where
     none : served (h ++ Cut 1 ∷ []) ≡ []
     none = ap (filter (λ sub. is_served sub (h ++ Cut 1 ∷ []))) (flat_map-push subscribed_in h (Cut 1) ∙ append-nil (flat_map subscribed_in h) ∙ alone)
-        ∙ filter-none (λ sub. is_served sub (h ++ Cut 1 ∷ [])) 1 (is_served-cut h)
+        ∙ filter-none (λ sub. is_served sub (h ++ Cut 1 ∷ [])) 1 (cut_is_served_no_more 1 h)
 
     nothing : (others : List Accepted) → flat_map (λ a. flat_map (audit_of (h ++ Cut 1 ∷ []) a) []) others ≡ []
     nothing [] = refl
@@ -152,6 +153,9 @@ audit_of_cut h octets alone cuts =
     ∙ audit-push h (Cut 1)
 
 -- ---- a message that is accepted
+
+messages_more : (h : List Entry) (number : ℕ) (octets : List ℕ) → messages_of 1 (h ++ Message 1 number octets ∷ []) ≡ octets ∷ messages_of 1 h
+messages_more h number octets = messages-any 1 1 number octets h
 
 -- what a call of the state gives to a run
 pub record Taken (old new : Run) (octets : List ℕ) (r : Receipt) : Type 0 where
@@ -209,8 +213,8 @@ goes_on old new octets r h t so small none = (subst (λ x. Stands new x (end_of 
       alone = subscribed-message h 1 number octets ∙ so.alone;
       opened = last_of-push (opens 1) false h next ∙ so.opened;
       limited = record { limits = t.untouched.limits ∙ so.limited.limits; audit = t.untouched.audit_limit ∙ so.limited.audit; journal = t.journaled ∙ so.limited.journal };
-      messages = omega (arith, t.messages, so.messages, ap length (messages-message h number octets));
-      counted = omega (arith, so.counted, length_push h next, ap length (messages-message h number octets));
+      messages = omega (arith, t.messages, so.messages, ap length (messages_more h number octets));
+      counted = omega (arith, so.counted, length_push h next, ap length (messages_more h number octets));
       records = omega (arith, t.records, so.records, brought, accepts);
     }
 

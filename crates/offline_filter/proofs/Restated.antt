@@ -12,7 +12,8 @@ use Rattle.offline_filter.specs.declared.job.OfflineFault.{OfflineFault}
 use Rattle.offline_filter.specs.declared.job.OfflineFault.TheVariants.{Read, Write, Framing, Turns, Core, Cut, AuditWrite}
 use Rattle.offline_filter.specs.Offline.{disclosed_by, due}
 use Rattle.offline_filter.specs.Due.{AreDue}
-use Rattle.offline_filter.specs.Stopping.{AreAccepted, StopsAt}
+use Rattle.offline_filter.specs.Accepting.{AreAccepted}
+use Rattle.offline_filter.specs.Stopping.{StopsAt}
 use Rattle.offline_filter.specs.Reading.{IsDone, StopsInHand, LacksMemory, StopsReading, Finishes, Halts}
 use Rattle.offline_filter.specs.Filtering.{Ports, Filters, IsFiltered, FiltersAll, StopsAtMessage, StopsAtOne, LosesPiece, StopsHere, StopsSomewhere, FailsToFilter}
 use Rattle.offline_filter.proofs.DueLaws.{due_found}

@@ -9,9 +9,10 @@ use Rattle.mediator_history.specs.Auditing.{audit_list}
 use Rattle.mediator_state.specs.declared.fault.Fault.{Fault}
 use Rattle.mediator_state.specs.declared.fault.Fault.TheVariants as fault
 use Rattle.mediator_state.specs.Calls.{HasMeaning}
-use Rattle.offline_filter.specs.Offline.{audit_limit, journal_limits, next_message, cuts_by, after_message}
+use Rattle.offline_filter.specs.declared.job.OfflineJob.{OfflineJob}
+use Rattle.offline_filter.specs.Offline.{audit_limit, journal_limits, next_message, cuts_by, after_message, history_of}
 
--- the message is one of the session, and the history has room for it
+-- the octets can be read as the next message of the session, and the journal has room for the cuts that it makes and for itself
 pub record Accepts (h : List Entry) (octets : List ℕ) : Type 0 where
   pub meaning : Meaning
   pub means : meaning_of (messages_of 1 h) octets ≡ Ok meaning
@@ -26,3 +27,8 @@ RefusesMessage (fault.AuditFull need room) h octets =
     Accepts h octets × ((d : List AuditEntry) × (audit_list (after_message h octets) ≡ audit_list h ++ d) × (need ≡ length d)) × (room ≡ audit_limit) × (room < need)
 RefusesMessage fault.OutOfMemory h octets = Unit {0}
 RefusesMessage _ h octets = ⊥
+
+-- each message is accepted after those before it, and cuts nobody
+abbrev pub AreAccepted : OfflineJob → List (List ℕ) → List (List ℕ) → Type 0
+AreAccepted job before [] = Unit {0}
+AreAccepted job before (octets ∷ messages) = (Accepts (history_of job before) octets × (cuts_by (history_of job before) octets ≡ [])) × AreAccepted job (before ++ octets ∷ []) messages

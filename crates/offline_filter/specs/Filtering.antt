@@ -1,5 +1,5 @@
 -- What `offline` does with its ports: what it read, what it wrote, and where it stops.
-use Rattle.std.specs.Prelude.{◌≡◌, ◌⊎◌, ℕ, ◌<◌, ◌≤◌, Bool, true, List, [], ◌∷◌, ◌++◌, length, Option, Some, None}
+use Rattle.std.specs.Prelude.{◌≡◌, ◌⊎◌, ℕ, ◌+◌, ◌*◌, ◌<◌, ◌≤◌, Bool, true, false, List, [], ◌∷◌, ◌++◌, length, Option, Some, None}
 use Rattle.std.specs.List.{concat}
 use Rattle.std.specs.Io.KnownBytes.{Appends, Consumes, IsAtEnd}
 use Rattle.octet_devices.specs.Written.{WritesFront}
@@ -20,9 +20,7 @@ use Rattle.offline_filter.specs.Lines.{WritesOn}
 use Rattle.offline_filter.specs.Offline.{cuts_by, history_of, disclosed_by, audit_due}
 use Rattle.offline_filter.specs.Due.{AreDue}
 use Rattle.offline_filter.specs.Opening.{IsAcceptedJob, RefusesJob}
-use Rattle.offline_filter.specs.Accepting.{Accepts, RefusesMessage}
-use Rattle.offline_filter.specs.Stopping.{AreAccepted}
-use Rattle.offline_filter.specs.Reading.{AreRead, AreReadBut}
+use Rattle.offline_filter.specs.Accepting.{Accepts, RefusesMessage, AreAccepted}
 
 -- what is seen of a run's ports: what the reader has left, what writer and audit hold, and whether each has failed
 pub record Ports : Type 0 where
@@ -32,6 +30,18 @@ pub record Ports : Type 0 where
   pub reader_failed : Bool
   pub writer_failed : Bool
   pub audit_failed : Bool
+
+-- ports of which none has failed
+abbrev pub unfailed : Option (List ℕ) → Option (List ℕ) → Option (List ℕ) → Ports
+unfailed left written audited = record { left = left; written = written; audited = audited; reader_failed = false; writer_failed = false; audit_failed = false }
+
+-- so many reads, each of at most 65,536 octets, may have given these
+abbrev pub AreRead : ℕ → List ℕ → Type 0
+AreRead reads octets = length octets ≤ 65536 * reads
+
+-- the same, where one of the reads gave none
+abbrev pub AreReadBut : ℕ → List ℕ → Type 0
+AreReadBut reads octets = length octets + 65536 ≤ 65536 * reads
 
 -- the messages are accepted, one after another, and these are due for them; they mean what is disclosed of them
 pub record Filters (job : OfflineJob) (messages written : List (List ℕ)) : Type 0 where

@@ -1,5 +1,5 @@
 -- The lines of audit entries, and what was written of them.
-use Rattle.std.specs.Prelude.{ℕ, ◌≤◌, List, length, take, Option}
+use Rattle.std.specs.Prelude.{ℕ, ◌≤◌, Bool, List, [], length, take, Option, if◌then◌else◌}
 use Rattle.std.specs.List.{flat_map}
 use Rattle.std.specs.Io.KnownBytes.{Appends}
 use Rattle.disclosure_audit.specs.declared.entry.AuditEntry.{AuditEntry}
@@ -8,6 +8,10 @@ use Rattle.disclosure_audit.specs.Lines.{line_of}
 -- the lines of entries, one after another
 abbrev pub lines_of : List AuditEntry → List ℕ
 lines_of entries = flat_map line_of entries
+
+-- none of them where the audit isn't asked for
+abbrev pub lines_for : Bool → List AuditEntry → List ℕ
+lines_for asked entries = if asked then lines_of entries else []
 
 -- a front of these octets was written
 pub record WritesSome (held holds : Option (List ℕ)) (octets : List ℕ) : Type 0 where

@@ -5,7 +5,7 @@ use Rattle.ipfix_template.specs.DataRecord.{DataRecord}
 use Rattle.subscriber_stream.specs.declared.limits.Limits.{Limits}
 use Rattle.subscriber_stream.specs.Parts.{parts}
 use Rattle.subscriber_stream.specs.Message.{built, place_after}
-use Rattle.offline_filter.specs.Lines.{lines_of}
+use Rattle.offline_filter.specs.Lines.{lines_for}
 use Rattle.offline_filter.specs.declared.job.OfflineJob.{OfflineJob}
 use Rattle.event_journal.specs.declared.entry.Entry.{Entry}
 use Rattle.event_journal.specs.declared.entry.Entry.TheVariants.{Open, Message, Edit, Subscribe}
@@ -77,9 +77,9 @@ due_by job before octets =
 abbrev pub due : OfflineJob → List (List ℕ) → List (List ℕ)
 due job messages = each_with_before (due_by job) messages
 
--- the lines that are due in the audit
+-- the lines that are due in the audit: none where it isn't asked for
 abbrev pub audit_due : OfflineJob → List (List ℕ) → List ℕ
-audit_due job messages = lines_of (audit_list (history_of job messages))
+audit_due job messages = lines_for job.audit (audit_list (history_of job messages))
 
 -- the place behind all parts of what a history discloses
 abbrev pub end_of : List Entry → ℕ

@@ -11,9 +11,10 @@ use Rattle.message_intake.specs.declared.fault.FramingFault.TheVariants as frami
 use Rattle.offline_filter.specs.declared.job.OfflineFault.{OfflineFault}
 use Rattle.offline_filter.specs.declared.run.Run.{Run}
 use Rattle.offline_filter.specs.Offline.{disclosed_by, due}
-use Rattle.offline_filter.specs.Stopping.{AreAccepted, StopsAt}
+use Rattle.offline_filter.specs.Accepting.{AreAccepted}
+use Rattle.offline_filter.specs.Stopping.{StopsAt}
 use Rattle.offline_filter.specs.Running.{IsRunning}
-use Rattle.offline_filter.specs.Reading.{AreReadBut}
+use Rattle.offline_filter.specs.Filtering.{AreReadBut}
 
 -- messages in a row were handled
 pub record HandlesAll (old new : Run) (more : List (List ℕ)) (holds writes aholds awrites : Option (List ℕ)) : Type 0 where

@@ -15,8 +15,10 @@ use Rattle.message_intake.specs.declared.fault.FramingFault.TheVariants as frami
 use Rattle.offline_filter.specs.declared.job.OfflineFault.{OfflineFault}
 use Rattle.offline_filter.specs.declared.job.OfflineFault.TheVariants.{Read, Write, Framing, Turns, Core, Cut, AuditWrite}
 use Rattle.offline_filter.specs.Offline.{history_of, disclosed_by, due, audit_due}
+use Rattle.offline_filter.specs.Filtering.{AreRead, AreReadBut}
 use Rattle.offline_filter.specs.Opening.{IsAcceptedJob, RefusesJob}
-use Rattle.offline_filter.specs.Stopping.{AreAccepted, StopsAt}
+use Rattle.offline_filter.specs.Accepting.{AreAccepted}
+use Rattle.offline_filter.specs.Stopping.{StopsAt}
 
 -- the job was accepted, and these octets are these messages, and then this fault or these octets that are pending; all
 -- messages were accepted, what is due for them was written, and it means what they disclose
@@ -61,14 +63,6 @@ StopsIn (Write sent) job octets held holds aheld aholds failed afailed = StopsIn
 StopsIn Cut job octets held holds aheld aholds failed afailed = StopsInHand Cut job octets held holds aheld aholds failed afailed
 StopsIn AuditWrite job octets held holds aheld aholds failed afailed = StopsInHand AuditWrite job octets held holds aheld aholds failed afailed
 StopsIn _ job octets held holds aheld aholds failed afailed = ⊥
-
--- so many reads, each of at most 65,536 octets, may have given these
-abbrev pub AreRead : ℕ → List ℕ → Type 0
-AreRead reads octets = length octets ≤ 65536 * reads
-
--- the same, where one of the reads gave none
-abbrev pub AreReadBut : ℕ → List ℕ → Type 0
-AreReadBut reads octets = length octets + 65536 ≤ 65536 * reads
 
 -- octets were read, and the run stops so
 pub record StopsAfter (P : List ℕ → Type 0) (given left : Option (List ℕ)) : Type 0 where

@@ -11,7 +11,7 @@ use Rattle.offline_filter.specs.Offline.{started, history_of, disclosed_by, due,
 use Rattle.offline_filter.specs.Opening.{IsAcceptedJob}
 use Rattle.offline_filter.specs.Runs.{audit_waiting, Stands, Small}
 use Rattle.offline_filter.specs.Offline.{end_of}
-use Rattle.offline_filter.specs.Stopping.{AreAccepted}
+use Rattle.offline_filter.specs.Accepting.{AreAccepted}
 use Rattle.offline_filter.specs.Stopping.{StopsAt}
 
 -- a run before the first message

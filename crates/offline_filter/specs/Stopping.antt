@@ -1,4 +1,4 @@
--- Messages that are accepted one after another, and where a run stops at one, with what was written by then.
+-- Where a run stops at a message, with what was written by then.
 use Rattle.std.specs.Prelude.{◌≡◌, ℕ, ◌*◌, ◌≤◌, Bool, true, List, [], ◌∷◌, ◌++◌, Option}
 use Rattle.std.specs.List.{concat}
 use Rattle.std.specs.Io.KnownBytes.{Appends}
@@ -11,11 +11,6 @@ use Rattle.offline_filter.specs.declared.job.OfflineFault.TheVariants.{Write, Co
 use Rattle.offline_filter.specs.Lines.{WritesOn}
 use Rattle.offline_filter.specs.Offline.{cuts_by, history_of, due_by, due, audit_due}
 use Rattle.offline_filter.specs.Accepting.{Accepts, RefusesMessage}
-
--- each message is accepted after those before it, and cuts nobody
-abbrev pub AreAccepted : OfflineJob → List (List ℕ) → List (List ℕ) → Type 0
-AreAccepted job before [] = Unit {0}
-AreAccepted job before (octets ∷ messages) = (Accepts (history_of job before) octets × (cuts_by (history_of job before) octets ≡ [])) × AreAccepted job (before ++ octets ∷ []) messages
 
 -- what was written of a message in hand that is refused: nothing, but for want of memory, where whole messages and a front of
 -- the lines may have been

@@ -128,7 +128,7 @@ fn run_through<R: Source, W: Sink, A: Sink>(
     Ok(run.report())
 }
 
-ghost use Rattle.offline_filter.specs.Filtering.{FiltersAll, FailsToFilter};
+ghost use Rattle.offline_filter.specs.Filtering.{unfailed, FiltersAll, FailsToFilter};
 
 /// Filters one stream for one subscriber: reads the messages of an exporter to the end of the stream, and
 /// writes the subscriber's messages, message by message, with the audit of what was kept back.
@@ -153,15 +153,12 @@ pub fn offline<R: Source, W: Sink, A: Sink>(
     requires writer { W.has_failed writer.old ≡ false }
     requires audit { A.has_failed audit_writer.old ≡ false }
     // All was read and accepted, what is due was written, and it means what is disclosed.
-    ensures ok { IfOk result (λ report. Finishes job.entry.now report (R.remaining reader.old) (R.remaining reader.new) (W.contents writer.old) (W.contents writer.new) (A.contents audit_writer.old) (A.contents audit_writer.new)) }
+    ensures filters { IfOk result (λ report. FiltersAll job.entry.now report (unfailed (R.remaining reader.old) (W.contents writer.old) (A.contents audit_writer.old)) (record { left = R.remaining reader.new; written = W.contents writer.new; audited = A.contents audit_writer.new; reader_failed = R.has_failed reader.new; writer_failed = W.has_failed writer.new; audit_failed = A.has_failed audit_writer.new })) }
+    // Where it stopped, by what cause, and what was written by then.
+    ensures stops { IfErr result (λ e. FailsToFilter e job.entry.now (unfailed (R.remaining reader.old) (W.contents writer.old) (A.contents audit_writer.old)) (record { left = R.remaining reader.new; written = W.contents writer.new; audited = A.contents audit_writer.new; reader_failed = R.has_failed reader.new; writer_failed = W.has_failed writer.new; audit_failed = A.has_failed audit_writer.new })) }
     // No device has failed, but the one that the fault names.
     ensures sound { OnOk result ((R.has_failed reader.new ≡ false) × (W.has_failed writer.new ≡ false) × (A.has_failed audit_writer.new ≡ false)) }
     ensures fails { IfErr result (λ e. FailsOnly e false false (R.has_failed reader.new) (W.has_failed writer.new) (A.has_failed audit_writer.new)) }
-    // Where it stopped, by what cause, and what was written by then.
-    ensures err { IfErr result (λ e. Halts e job.entry.now (R.remaining reader.old) (R.remaining reader.new) (W.contents writer.old) (W.contents writer.new) (A.contents audit_writer.old) (A.contents audit_writer.new) (R.has_failed reader.new) (W.has_failed writer.new) (A.has_failed audit_writer.new)) }
-    // The same, said of all ports at once.
-    ensures filters { IfOk result (λ report. FiltersAll job.entry.now report (record { left = R.remaining reader.old; written = W.contents writer.old; audited = A.contents audit_writer.old; reader_failed = R.has_failed reader.old; writer_failed = W.has_failed writer.old; audit_failed = A.has_failed audit_writer.old }) (record { left = R.remaining reader.new; written = W.contents writer.new; audited = A.contents audit_writer.new; reader_failed = R.has_failed reader.new; writer_failed = W.has_failed writer.new; audit_failed = A.has_failed audit_writer.new })) }
-    ensures stops { IfErr result (λ e. FailsToFilter e job.entry.now (record { left = R.remaining reader.old; written = W.contents writer.old; audited = A.contents audit_writer.old; reader_failed = R.has_failed reader.old; writer_failed = W.has_failed writer.old; audit_failed = A.has_failed audit_writer.old }) (record { left = R.remaining reader.new; written = W.contents writer.new; audited = A.contents audit_writer.new; reader_failed = R.has_failed reader.new; writer_failed = W.has_failed writer.new; audit_failed = A.has_failed audit_writer.new })) }
 {
     run_through(alloc, job, reader, writer, audit_writer)
 }

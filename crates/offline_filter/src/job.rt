@@ -18,6 +18,8 @@ pub struct OfflineJob<'a> {
     pub target: u16,
     /// The most reads.
     pub turns: u64,
+    /// Whether the audit is asked for: else no line of it is made, and its writer gets nothing.
+    pub audit: bool,
 }
 
 /// What was done with a whole stream.

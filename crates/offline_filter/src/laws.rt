@@ -3,7 +3,7 @@ ghost use Rattle.std.specs.Prelude.{◌≡◌, ℕ, List, []};
 ghost use Rattle.offline_filter.specs.declared.job.OfflineJob.{OfflineJob};
 ghost use Rattle.offline_filter.specs.Offline.{history_of, due};
 ghost use Rattle.offline_filter.specs.Due.{AreDue};
-ghost use Rattle.offline_filter.specs.Stopping.{AreAccepted};
+ghost use Rattle.offline_filter.specs.Accepting.{AreAccepted};
 ghost use Rattle.offline_filter.specs.PlainHistory.{plain_history};
 
 /// What is due for messages that are read one after another is built so: after each of them, messages one

@@ -56,27 +56,31 @@ fn write_line<A: Sink>(
 }
 
 ghost use Rattle.std.specs.Prelude.{◌<◌, ◌^◌, length};
+ghost use Rattle.offline_filter.specs.Lines.{lines_for};
 ghost use Rattle.offline_filter.specs.Runs.{HasHistory, audit_waiting};
 ghost use Rattle.offline_filter.specs.Recording.{Records};
 
 impl<'a> Run<'a> {
-    /// Drains the audit, and writes its lines.
+    /// Drains the audit, and writes its lines where they are asked for.
     ///
     /// # Errors
     /// The writer failed, or memory ran out: a front of the lines was written.
     pub(crate) fn record<A: Sink>(&mut self, writer: &mut A) -> Result<(), OfflineFault>
         requires known { HasHistory self.old }
         requires few { length (audit_waiting self.old) < 2 ^ 32 }
-        ensures written { OnOk result (Appends (A.contents writer.old) (A.contents writer.new) (lines_of (audit_waiting self.old))) }
+        ensures written { OnOk result (Appends (A.contents writer.old) (A.contents writer.new) (lines_for self.old.job.audit (audit_waiting self.old))) }
         ensures drained { OnOk result (Records self.old self.new) }
         ensures stays { OnOk result (A.has_failed writer.new ≡ A.has_failed writer.old) }
         ensures cause { IfErr result (λ e. StopsLines e (A.has_failed writer.new)) }
         ensures fails { IfErr result (λ e. A.has_failed writer.new ≡ audit_after e (A.has_failed writer.old)) }
-        ensures err { OnErr result (WritesSome (A.contents writer.old) (A.contents writer.new) (lines_of (audit_waiting self.old))) }
+        ensures err { OnErr result (WritesSome (A.contents writer.old) (A.contents writer.new) (lines_for self.old.job.audit (audit_waiting self.old))) }
     {
         let Ok(entries) = self.state.drain_audit(u32::MAX) else {
             return Err(OfflineFault::Core(Fault::OutOfMemory));
         };
+        if !self.job.audit {
+            return Ok(());
+        }
         write_lines(self.alloc, entries.as_slice(), writer)
     }
 }

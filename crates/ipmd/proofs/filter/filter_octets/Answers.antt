@@ -15,8 +15,14 @@ returns-in_err-and-clause-err g c =
     (λ e is. inr (
       is,
       inr (subst (λ input. EndsOn c.args.job.now (g.I.Read.remaining input) held holds audit_held audit_holds) c.new-reader.ensures.inner
-          (ran c.args.job.now c.offline-report.result (g.I.Read.remaining (device_inner c.new-reader.result)) (g.I.Read.remaining (device_inner c.offline-report.new.reader))
-          held (g.O.Write.contents (device_inner c.offline-report.new.writer)) holds audit_held (g.A.Write.contents (device_inner c.offline-report.new.audit_writer)) audit_holds
-          (device_failed c.offline-report.new.reader) (device_failed c.offline-report.new.writer) (device_failed c.offline-report.new.audit_writer)
-          c.offline-report.ensures.ok c.offline-report.ensures.err c.flush.ensures.octets c.flush-2.ensures.octets)),
+          (ran c.args.job.now c.offline-report.result (g.I.Read.remaining (device_inner c.new-reader.result)) held holds audit_held audit_holds
+          (record {
+            left = g.I.Read.remaining (device_inner c.offline-report.new.reader);
+            written = g.O.Write.contents (device_inner c.offline-report.new.writer);
+            audited = g.A.Write.contents (device_inner c.offline-report.new.audit_writer);
+            reader_failed = device_failed c.offline-report.new.reader;
+            writer_failed = device_failed c.offline-report.new.writer;
+            audit_failed = device_failed c.offline-report.new.audit_writer;
+          })
+          c.offline-report.ensures.filters c.offline-report.ensures.stops c.flush.ensures.octets c.flush-2.ensures.octets)),
     ))

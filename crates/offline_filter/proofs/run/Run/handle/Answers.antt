@@ -20,14 +20,14 @@ pub returns-in_err-record-clause-err : goal.returns-in_err-record-clause-err
 returns-in_err-record-clause-err g c =
     err_gives c.from_residual-in_err-record.result c.from_residual-in_err-record.ensures
     (λ e is. record {
-      after = λ job messages held aheld r. stops_cut_recording e c.args.self.now c.receive.new.self job messages c.args.message held (g.W.Sink.contents c.args.writer.now) aheld (g.A.Sink.contents c.args.audit_writer.now) (g.A.Sink.contents c.record.new.writer) (g.W.Sink.has_failed c.args.writer.now) (g.A.Sink.has_failed c.record.new.writer) r (was_cut_at c.args.self.now c.receive.new.self job messages c.args.message held (g.W.Sink.contents c.args.writer.now) aheld (g.A.Sink.contents c.args.audit_writer.now) r (subst (λ b. Receives c.args.self.now c.args.message b c.receive.new.self) c.if-branch.true c.in_ok-receive.ensures.ok))
+      after = λ job messages held aheld r. stops_cut_recording e c.args.self.now c.receive.new.self job messages c.args.message held (g.W.Sink.contents c.args.writer.now) aheld (g.A.Sink.contents c.args.audit_writer.now) (g.A.Sink.contents c.record.new.writer) (g.W.Sink.has_failed c.args.writer.now) (g.A.Sink.has_failed c.record.new.writer) r (was_cut_at c.args.self.now c.receive.new.self job messages c.args.message held (g.W.Sink.contents c.args.writer.now) aheld (g.A.Sink.contents c.args.audit_writer.now) r (subst (λ b. Receives c.args.self.now c.args.message b c.receive.new.self) c.if-branch.true c.in_ok-receive.ensures.ok) c.in_ok-receive.ensures.job)
           (subst (λ x. StopsLines x (g.A.Sink.has_failed c.record.new.writer)) (sym is) c.in_err-record.ensures.cause) c.in_err-record.ensures.err;
     })
 
 pub returns-then-branch-clause-err : goal.returns-then-branch-clause-err
 returns-then-branch-clause-err g c = record {
   after = λ job messages held aheld r.
-      stops_cut c.args.self.now c.receive.new.self job messages c.args.message held (g.W.Sink.contents c.args.writer.now) aheld (g.A.Sink.contents c.args.audit_writer.now) (g.A.Sink.contents c.record.new.writer) (g.W.Sink.has_failed c.args.writer.now) (g.A.Sink.has_failed c.record.new.writer) r (was_cut_at c.args.self.now c.receive.new.self job messages c.args.message held (g.W.Sink.contents c.args.writer.now) aheld (g.A.Sink.contents c.args.audit_writer.now) r (subst (λ b. Receives c.args.self.now c.args.message b c.receive.new.self) c.if-branch.true c.in_ok-receive.ensures.ok)) c.in_ok-record.ensures.written;
+      stops_cut c.args.self.now c.receive.new.self job messages c.args.message held (g.W.Sink.contents c.args.writer.now) aheld (g.A.Sink.contents c.args.audit_writer.now) (g.A.Sink.contents c.record.new.writer) (g.W.Sink.has_failed c.args.writer.now) (g.A.Sink.has_failed c.record.new.writer) r (was_cut_at c.args.self.now c.receive.new.self job messages c.args.message held (g.W.Sink.contents c.args.writer.now) aheld (g.A.Sink.contents c.args.audit_writer.now) r (subst (λ b. Receives c.args.self.now c.args.message b c.receive.new.self) c.if-branch.true c.in_ok-receive.ensures.ok) c.in_ok-receive.ensures.job) c.in_ok-record.ensures.written;
 }
 
 pub returns-in_err-deliver-clause-err : goal.returns-in_err-deliver-clause-err
