@@ -18,7 +18,7 @@ pub record Accepts (h : List Entry) (octets : List ℕ) : Type 0 where
   pub means : meaning_of (messages_of 1 h) octets ≡ Ok meaning
   pub room : HasRoomAfter journal_limits h (cuts_by h octets ++ next_message h octets ∷ [])
 
--- a message is refused so after a history, of which nothing waits in the audit: it is read first, then the history's room is
+-- a message is refused so after a history, of which nothing waits in the audit: it is read first, then the journal's room is
 -- judged, and then the audit's
 abbrev pub RefusesMessage : Fault → List Entry → List ℕ → Type 0
 RefusesMessage (fault.Malformed why) h octets = meaning_of (messages_of 1 h) octets ≡ Err why

@@ -16,9 +16,10 @@ pub mod HandsOut
 pub mod Due
 pub mod Opening
 pub mod Accepting
+pub mod Filtering
+-- what follows no public clause cites: how far a run has come
 pub mod Stopping
 pub mod Reading
-pub mod Filtering
 pub mod Runs
 pub mod Steps
 pub mod Recording

@@ -51,7 +51,7 @@ impl<'a> Run<'a> {
     /// Accepts the policy, the subscription and the session of a run.
     ///
     /// # Errors
-    /// The policy or the name is refused; or the history has no room, or memory ran out.
+    /// The policy or the name is refused; or the journal has no room, or memory ran out.
     pub(crate) fn open(alloc: Global, job: OfflineJob<'a>) -> Result<Run<'a>, Fault>
         ensures ok { IfOk result (λ d. IsOpened d job.entry) }
         ensures err { IfErr result (λ e. RefusesJob e job.entry) }
@@ -74,7 +74,7 @@ impl<'a> Run<'a> {
     /// waits in the audit; or, where there is no room for what it gives, the subscription is cut, and the answer is true.
     ///
     /// # Errors
-    /// The message is malformed; or the history is full, or the audit, or memory.
+    /// The message is malformed; or the journal is full, or the audit, or memory.
     pub(crate) fn receive(&mut self, message: Bytes) -> Result<bool, Fault>
         requires delivered { HasDelivered self.old }
         ensures job { self.new.job ≡ self.old.job }
