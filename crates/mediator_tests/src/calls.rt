@@ -11,53 +11,27 @@ use std::alloc::{AllocError, Global};
 /// The Export Time of what is pulled.
 const NOW: u32 = 0x6553_f13c;
 
-fn open_once<C: Chronicle + Drop>(state: &mut State<C>) -> Result<u64, Fault>
-    requires stands { StandsForSome C.tells state.old }
-    ensures stands { StandsForSome C.tells state.new }
-{
-    state.open()
-}
-
 pub(crate) fn open<C: Chronicle + Drop>(state: &mut State<C>) -> Result<u64, Fault>
     requires stands { StandsForSome C.tells state.old }
     ensures stands { StandsForSome C.tells state.new }
 {
-    match open_once(state) {
-        Err(Fault::OutOfMemory) => open_once(state),
+    match state.open() {
+        Err(Fault::OutOfMemory) => state.open(),
         answer => answer,
     }
-}
-
-fn close_once<C: Chronicle + Drop>(state: &mut State<C>, session: u64) -> Result<(), Fault>
-    requires stands { StandsForSome C.tells state.old }
-    ensures stands { StandsForSome C.tells state.new }
-{
-    state.close(session)
 }
 
 pub(crate) fn close<C: Chronicle + Drop>(state: &mut State<C>, session: u64) -> Result<(), Fault>
     requires stands { StandsForSome C.tells state.old }
     ensures stands { StandsForSome C.tells state.new }
 {
-    match close_once(state, session) {
-        Err(Fault::OutOfMemory) => close_once(state, session),
+    match state.close(session) {
+        Err(Fault::OutOfMemory) => state.close(session),
         answer => answer,
     }
 }
 
-fn receive_once<C: Chronicle + Drop>(
-    state: &mut State<C>,
-    session: u64,
-    number: u64,
-    message: Bytes,
-) -> Result<Receipt, Fault>
-    requires stands { StandsForSome C.tells state.old }
-    ensures stands { StandsForSome C.tells state.new }
-{
-    state.receive(session, number, message)
-}
-
-/// Hands in a message twice at most, each time in octets of its own.
+/// Each time the octets are copied, as they would be handed in from a socket.
 pub(crate) fn receive<C: Chronicle + Drop>(
     alloc: Global,
     state: &mut State<C>,
@@ -68,14 +42,12 @@ pub(crate) fn receive<C: Chronicle + Drop>(
     requires stands { StandsForSome C.tells state.old }
     ensures stands { StandsForSome C.tells state.new }
 {
-    let first = copy(alloc, octets)?;
-    match receive_once(state, session, number, first) {
-        Err(Fault::OutOfMemory) => receive_once(state, session, number, copy(alloc, octets)?),
+    match state.receive(session, number, copy(alloc, octets)?) {
+        Err(Fault::OutOfMemory) => state.receive(session, number, copy(alloc, octets)?),
         answer => answer,
     }
 }
 
-/// Octets, as a socket's reader would hand them in.
 fn copy(alloc: Global, octets: &[u8]) -> Result<Bytes, AllocError> {
     match Bytes::copy_from_slice(alloc, octets) {
         Ok(message) => Ok(message),
@@ -83,66 +55,34 @@ fn copy(alloc: Global, octets: &[u8]) -> Result<Bytes, AllocError> {
     }
 }
 
-fn edit_once<C: Chronicle + Drop>(state: &mut State<C>, text: &str) -> Result<u64, Fault>
-    requires stands { StandsForSome C.tells state.old }
-    ensures stands { StandsForSome C.tells state.new }
-{
-    state.edit(text)
-}
-
 pub(crate) fn edit<C: Chronicle + Drop>(state: &mut State<C>, text: &str) -> Result<u64, Fault>
     requires stands { StandsForSome C.tells state.old }
     ensures stands { StandsForSome C.tells state.new }
 {
-    match edit_once(state, text) {
-        Err(Fault::OutOfMemory) => edit_once(state, text),
+    match state.edit(text) {
+        Err(Fault::OutOfMemory) => state.edit(text),
         answer => answer,
     }
-}
-
-fn subscribe_once<C: Chronicle + Drop>(state: &mut State<C>, name: &str) -> Result<u64, Fault>
-    requires stands { StandsForSome C.tells state.old }
-    ensures stands { StandsForSome C.tells state.new }
-{
-    state.subscribe(name)
 }
 
 pub(crate) fn subscribe<C: Chronicle + Drop>(state: &mut State<C>, name: &str) -> Result<u64, Fault>
     requires stands { StandsForSome C.tells state.old }
     ensures stands { StandsForSome C.tells state.new }
 {
-    match subscribe_once(state, name) {
-        Err(Fault::OutOfMemory) => subscribe_once(state, name),
+    match state.subscribe(name) {
+        Err(Fault::OutOfMemory) => state.subscribe(name),
         answer => answer,
     }
-}
-
-fn unsubscribe_once<C: Chronicle + Drop>(state: &mut State<C>, sub: u64) -> Result<(), Fault>
-    requires stands { StandsForSome C.tells state.old }
-    ensures stands { StandsForSome C.tells state.new }
-{
-    state.unsubscribe(sub)
 }
 
 pub(crate) fn unsubscribe<C: Chronicle + Drop>(state: &mut State<C>, sub: u64) -> Result<(), Fault>
     requires stands { StandsForSome C.tells state.old }
     ensures stands { StandsForSome C.tells state.new }
 {
-    match unsubscribe_once(state, sub) {
-        Err(Fault::OutOfMemory) => unsubscribe_once(state, sub),
+    match state.unsubscribe(sub) {
+        Err(Fault::OutOfMemory) => state.unsubscribe(sub),
         answer => answer,
     }
-}
-
-fn pull_once<C: Chronicle + Drop>(
-    state: &mut State<C>,
-    sub: u64,
-    target: u16,
-) -> Result<Option<Bytes>, Fault>
-    requires stands { StandsForSome C.tells state.old }
-    ensures stands { StandsForSome C.tells state.new }
-{
-    state.pull(sub, NOW, target)
 }
 
 pub(crate) fn pull<C: Chronicle + Drop>(
@@ -153,20 +93,10 @@ pub(crate) fn pull<C: Chronicle + Drop>(
     requires stands { StandsForSome C.tells state.old }
     ensures stands { StandsForSome C.tells state.new }
 {
-    match pull_once(state, sub, target) {
-        Err(Fault::OutOfMemory) => pull_once(state, sub, target),
+    match state.pull(sub, NOW, target) {
+        Err(Fault::OutOfMemory) => state.pull(sub, NOW, target),
         answer => answer,
     }
-}
-
-fn drain_once<C: Chronicle + Drop>(
-    state: &mut State<C>,
-    most: u32,
-) -> Result<Vec<AuditEntry>, AllocError>
-    requires stands { StandsForSome C.tells state.old }
-    ensures stands { StandsForSome C.tells state.new }
-{
-    state.drain_audit(most)
 }
 
 pub(crate) fn drain_audit<C: Chronicle + Drop>(
@@ -176,8 +106,8 @@ pub(crate) fn drain_audit<C: Chronicle + Drop>(
     requires stands { StandsForSome C.tells state.old }
     ensures stands { StandsForSome C.tells state.new }
 {
-    match drain_once(state, most) {
-        Err(_) => drain_once(state, most),
-        answer => answer,
+    match state.drain_audit(most) {
+        Ok(entries) => Ok(entries),
+        Err(_) => state.drain_audit(most),
     }
 }

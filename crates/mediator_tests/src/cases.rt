@@ -125,7 +125,9 @@ const BAD_SET_LENGTH: Fault = Fault::Malformed(ReadError::Malformed(DecodeError:
 
 const NO_WHOLE_HEADER: Fault = Fault::Malformed(ReadError::Malformed(DecodeError::ShortHeader));
 
-const TEMPLATE_OVERRUN: Fault = Fault::Malformed(ReadError::Malformed(DecodeError::TemplateOverrun));
+const TEMPLATE_OVERRUN: Fault = Fault::Malformed(ReadError::Malformed(
+    DecodeError::TemplateOverrun,
+));
 
 const RECORD_OVERRUN: Fault = Fault::Malformed(ReadError::RecordOverrun);
 
@@ -243,7 +245,17 @@ pub(crate) static CASES: &[Case] = &[
         steps: &[
             Step::Accept(1, 0, ONE_RECORD, 4, 1),
             Step::Pull(2, 1400, Ok(Some(DISCLOSED))),
-            Step::Receive(1, 1, THREE_RECORDS, Ok(Receipt { position: 6, records: 3, cut: 1, ..NOTHING })),
+            Step::Receive(
+                1,
+                1,
+                THREE_RECORDS,
+                Ok(Receipt {
+                    position: 6,
+                    records: 3,
+                    cut: 1,
+                    ..NOTHING
+                }),
+            ),
             Step::WasCut(1, 1, 0, 1),
             Step::Served(2, 3, 1, 1),
             Step::Pull(1, 1400, Ok(Some(DISCLOSED))),
@@ -357,7 +369,17 @@ pub(crate) static CASES: &[Case] = &[
         octets: 1_000_000,
         begin: BEGIN,
         steps: &[
-            Step::Receive(1, 0, ONE_RECORD, Ok(Receipt { position: 4, records: 1, cut: 1, ..NOTHING })),
+            Step::Receive(
+                1,
+                0,
+                ONE_RECORD,
+                Ok(Receipt {
+                    position: 4,
+                    records: 1,
+                    cut: 1,
+                    ..NOTHING
+                }),
+            ),
             Step::WasCut(1, 0, 0, 0),
             Step::Audit(10, &["3 0 1 cut\n"]),
         ],
@@ -369,10 +391,20 @@ pub(crate) static CASES: &[Case] = &[
         octets: 1_000_000,
         begin: BEGIN_UNEDITED,
         steps: &[
-            Step::Receive(1, 0, TWO_RECORDS, Err(Fault::AuditFull { need: 2, room: 1 })),
+            Step::Receive(
+                1,
+                0,
+                TWO_RECORDS,
+                Err(Fault::AuditFull { need: 2, room: 1 }),
+            ),
             Step::Audit(10, &[]),
             Step::Accept(1, 0, ONE_RECORD, 2, 1),
-            Step::Receive(1, 1, NEXT_RECORD, Err(Fault::AuditFull { need: 1, room: 0 })),
+            Step::Receive(
+                1,
+                1,
+                NEXT_RECORD,
+                Err(Fault::AuditFull { need: 1, room: 0 }),
+            ),
             Step::Audit(10, &["2 0 1 withheld 0 rule\n"]),
             Step::Accept(1, 1, NEXT_RECORD, 3, 1),
         ],
@@ -399,7 +431,20 @@ pub(crate) static CASES: &[Case] = &[
         begin: BEGIN,
         steps: &[
             Step::Accept(1, 0, ONE_RECORD, 3, 1),
-            Step::Receive(1, 1, ONE_RECORD_NUMBERED_FIVE, Ok(Receipt { position: 4, records: 1, gap: Some(Gap { expected: 1, got: 5 }), ..NOTHING })),
+            Step::Receive(
+                1,
+                1,
+                ONE_RECORD_NUMBERED_FIVE,
+                Ok(Receipt {
+                    position: 4,
+                    records: 1,
+                    gap: Some(Gap {
+                        expected: 1,
+                        got: 5,
+                    }),
+                    ..NOTHING
+                }),
+            ),
             Step::Pull(1, 1400, Ok(Some(TWO_DISCLOSED))),
         ],
     },
@@ -425,7 +470,18 @@ pub(crate) static CASES: &[Case] = &[
         octets: 1_000_000,
         begin: BEGIN,
         steps: &[
-            Step::Receive(1, 0, WITHDRAWN, Ok(Receipt { position: 4, records: 2, cut: 1, skips: ONE_UNKNOWN, ..NOTHING })),
+            Step::Receive(
+                1,
+                0,
+                WITHDRAWN,
+                Ok(Receipt {
+                    position: 4,
+                    records: 2,
+                    cut: 1,
+                    skips: ONE_UNKNOWN,
+                    ..NOTHING
+                }),
+            ),
             Step::Pull(1, 1400, Ok(None)),
             Step::Audit(10, &["3 0 1 cut\n"]),
             Step::Subscribe("acme", Err(Fault::AlreadySubscribed { sub: 1 })),
@@ -481,7 +537,16 @@ pub(crate) static CASES: &[Case] = &[
             Step::Accept(1, 0, ONE_RECORD, 3, 1),
             Step::Close(1, Ok(())),
             Step::Open(Ok(2)),
-            Step::Receive(2, 0, RECORD_ALONE, Ok(Receipt { position: 6, skips: ONE_UNKNOWN, ..NOTHING })),
+            Step::Receive(
+                2,
+                0,
+                RECORD_ALONE,
+                Ok(Receipt {
+                    position: 6,
+                    skips: ONE_UNKNOWN,
+                    ..NOTHING
+                }),
+            ),
         ],
     },
     // And they are its own.
@@ -494,7 +559,16 @@ pub(crate) static CASES: &[Case] = &[
         steps: &[
             Step::Open(Ok(2)),
             Step::Accept(1, 0, ONE_RECORD, 4, 1),
-            Step::Receive(2, 0, RECORD_ALONE, Ok(Receipt { position: 5, skips: ONE_UNKNOWN, ..NOTHING })),
+            Step::Receive(
+                2,
+                0,
+                RECORD_ALONE,
+                Ok(Receipt {
+                    position: 5,
+                    skips: ONE_UNKNOWN,
+                    ..NOTHING
+                }),
+            ),
             Step::Accept(1, 1, NEXT_RECORD, 6, 1),
             Step::Pull(1, 1400, Ok(Some(TWO_DISCLOSED))),
         ],
