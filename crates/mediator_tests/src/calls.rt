@@ -1,0 +1,113 @@
+//! Each call of a state, made again where memory is refused: a refused call changes nothing, so the second one answers as the
+//! first would have.
+ghost use Rattle.mediator_state.specs.Calls.{StandsForSome};
+
+use bytes::Bytes;
+use disclosure_audit::AuditEntry;
+use event_journal::Chronicle;
+use mediator_state::{Fault, Receipt, State};
+use std::alloc::{AllocError, Global};
+
+/// The Export Time of what is pulled.
+const NOW: u32 = 0x6553_f13c;
+
+pub(crate) fn open<C: Chronicle + Drop>(state: &mut State<C>) -> Result<u64, Fault>
+    requires stands { StandsForSome C.tells state.old }
+    ensures stands { StandsForSome C.tells state.new }
+{
+    match state.open() {
+        Err(Fault::OutOfMemory) => state.open(),
+        answer => answer,
+    }
+}
+
+pub(crate) fn close<C: Chronicle + Drop>(state: &mut State<C>, session: u64) -> Result<(), Fault>
+    requires stands { StandsForSome C.tells state.old }
+    ensures stands { StandsForSome C.tells state.new }
+{
+    match state.close(session) {
+        Err(Fault::OutOfMemory) => state.close(session),
+        answer => answer,
+    }
+}
+
+/// Each time the octets are copied, as they would be handed in from a socket.
+pub(crate) fn receive<C: Chronicle + Drop>(
+    alloc: Global,
+    state: &mut State<C>,
+    session: u64,
+    number: u64,
+    octets: &[u8],
+) -> Result<Receipt, Fault>
+    requires stands { StandsForSome C.tells state.old }
+    ensures stands { StandsForSome C.tells state.new }
+{
+    match state.receive(session, number, copy(alloc, octets)?) {
+        Err(Fault::OutOfMemory) => state.receive(session, number, copy(alloc, octets)?),
+        answer => answer,
+    }
+}
+
+fn copy(alloc: Global, octets: &[u8]) -> Result<Bytes, AllocError> {
+    match Bytes::copy_from_slice(alloc, octets) {
+        Ok(message) => Ok(message),
+        Err(_) => Bytes::copy_from_slice(alloc, octets),
+    }
+}
+
+pub(crate) fn edit<C: Chronicle + Drop>(state: &mut State<C>, text: &str) -> Result<u64, Fault>
+    requires stands { StandsForSome C.tells state.old }
+    ensures stands { StandsForSome C.tells state.new }
+{
+    match state.edit(text) {
+        Err(Fault::OutOfMemory) => state.edit(text),
+        answer => answer,
+    }
+}
+
+pub(crate) fn subscribe<C: Chronicle + Drop>(state: &mut State<C>, name: &str) -> Result<u64, Fault>
+    requires stands { StandsForSome C.tells state.old }
+    ensures stands { StandsForSome C.tells state.new }
+{
+    match state.subscribe(name) {
+        Err(Fault::OutOfMemory) => state.subscribe(name),
+        answer => answer,
+    }
+}
+
+pub(crate) fn unsubscribe<C: Chronicle + Drop>(state: &mut State<C>, sub: u64) -> Result<(), Fault>
+    requires stands { StandsForSome C.tells state.old }
+    ensures stands { StandsForSome C.tells state.new }
+{
+    match state.unsubscribe(sub) {
+        Err(Fault::OutOfMemory) => state.unsubscribe(sub),
+        answer => answer,
+    }
+}
+
+pub(crate) fn pull<C: Chronicle + Drop>(
+    state: &mut State<C>,
+    sub: u64,
+    target: u16,
+) -> Result<Option<Bytes>, Fault>
+    requires stands { StandsForSome C.tells state.old }
+    ensures stands { StandsForSome C.tells state.new }
+{
+    match state.pull(sub, NOW, target) {
+        Err(Fault::OutOfMemory) => state.pull(sub, NOW, target),
+        answer => answer,
+    }
+}
+
+pub(crate) fn drain_audit<C: Chronicle + Drop>(
+    state: &mut State<C>,
+    most: u32,
+) -> Result<Vec<AuditEntry>, AllocError>
+    requires stands { StandsForSome C.tells state.old }
+    ensures stands { StandsForSome C.tells state.new }
+{
+    match state.drain_audit(most) {
+        Ok(entries) => Ok(entries),
+        Err(_) => state.drain_audit(most),
+    }
+}

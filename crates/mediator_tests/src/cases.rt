@@ -1,0 +1,576 @@
+//! The worked cases. A row of them is a state's limits, the calls, and what each must answer.
+use crate::octets::{
+    DISCLOSED, EMPTY, FIRST_ALONE, LENGTH_FIFTEEN, LONG_NAME, NAMES, NEXT_RECORD, NEXT_THREE,
+    ONE_RECORD, ONE_RECORD_NUMBERED_FIVE, ONE_RECORD_OF_EIGHT, RECORD_ALONE, SECOND_ALONE,
+    SHORT_HEADER, SHORT_SET, SHORT_TEMPLATE, TEMPLATE_ALONE, THREE_RECORDS, TWO_DISCLOSED,
+    TWO_RECORDS, VERSION_NINE, WITHDRAWN,
+};
+use ipfix_message::DecodeError;
+use ipfix_session::{Gap, ReadError, Skips};
+use mediator_state::{Fault, Limits, Receipt};
+use policy_text::{FaultKind, PolicyFault};
+
+/// A call, and what it must answer.
+pub(crate) enum Step {
+    Open(Result<u64, Fault>),
+    Close(u64, Result<(), Fault>),
+    /// A session's message of a number is accepted at a position, and brings so many records and nothing else.
+    Accept(u64, u64, &'static [u8], u64, u64),
+    /// A session's message of a number.
+    Receive(u64, u64, &'static [u8], Result<Receipt, Fault>),
+    Edit(&'static str, Result<u64, Fault>),
+    Subscribe(&'static str, Result<u64, Fault>),
+    Unsubscribe(u64, Result<(), Fault>),
+    /// A subscription's message of at most so many octets.
+    Pull(u64, u16, Result<Option<&'static [u8]>, Fault>),
+    /// A subscription is served: so many records wait, were handed out, and so many templates are known.
+    Served(u64, u32, u64, u32),
+    /// The same of one that was cut.
+    WasCut(u64, u32, u64, u32),
+    /// No such subscription is live.
+    Gone(u64),
+    /// The lines of the oldest so many entries of the audit.
+    Audit(u32, &'static [&'static str]),
+}
+
+/// Calls in a row, by the name of the case that they work out.
+pub(crate) struct Case {
+    pub(crate) name: &'static str,
+    pub(crate) limits: Limits,
+    /// The most entries and octets of the history.
+    pub(crate) entries: u64,
+    pub(crate) octets: u64,
+    /// What comes first, and then the case.
+    pub(crate) begin: &'static [Step],
+    pub(crate) steps: &'static [Step],
+}
+
+const PASS: &str =
+    "policy 1\nrule for * in * from * to * pass\nrule for * in * from * to * element * keep\n";
+
+const WITHHOLD: &str =
+    "policy 1\nrule for * in * from * to * withhold\nrule for * in * from * to * pass\nrule for * in * from * to * element * keep\n";
+
+/// Domain 8 is withheld from acme, and all else passes.
+const NOT_EIGHT: &str =
+    "policy 1\nrule for acme in 8 from * to * withhold\nrule for * in * from * to * pass\nrule for * in * from * to * element * keep\n";
+
+const AGGREGATES: &str =
+    "policy 1\naggregate web key destinationTransportPort interval 300 grace 60\n";
+
+const HUNDRED: Limits = Limits {
+    queue: 100,
+    shapes: 100,
+    audit: 100,
+};
+
+const ONE_SHAPE: Limits = Limits {
+    queue: 100,
+    shapes: 1,
+    audit: 100,
+};
+
+/// At most three records may wait for a subscription.
+const THREE_RECORDS_WAIT: Limits = Limits {
+    queue: 3,
+    shapes: 100,
+    audit: 100,
+};
+
+const NO_RECORD_WAITS: Limits = Limits {
+    queue: 0,
+    shapes: 100,
+    audit: 100,
+};
+
+/// At most one entry may wait in the audit.
+const ONE_ENTRY_WAITS: Limits = Limits {
+    queue: 100,
+    shapes: 100,
+    audit: 1,
+};
+
+const TWO_ENTRIES_WAIT: Limits = Limits {
+    queue: 100,
+    shapes: 100,
+    audit: 2,
+};
+
+const NO_SKIPS: Skips = Skips {
+    unknown: 0,
+    reserved: 0,
+    refused: 0,
+};
+
+const ONE_UNKNOWN: Skips = Skips {
+    unknown: 1,
+    reserved: 0,
+    refused: 0,
+};
+
+/// What a message answers that brings nothing, as the first entry.
+const NOTHING: Receipt = Receipt {
+    position: 0,
+    records: 0,
+    cut: 0,
+    skips: NO_SKIPS,
+    gap: None,
+};
+
+const BAD_LENGTH: Fault = Fault::Malformed(ReadError::Malformed(DecodeError::BadLength));
+
+const BAD_VERSION: Fault = Fault::Malformed(ReadError::Malformed(DecodeError::BadVersion));
+
+const BAD_SET_LENGTH: Fault = Fault::Malformed(ReadError::Malformed(DecodeError::BadSetLength));
+
+const NO_WHOLE_HEADER: Fault = Fault::Malformed(ReadError::Malformed(DecodeError::ShortHeader));
+
+const TEMPLATE_OVERRUN: Fault = Fault::Malformed(ReadError::Malformed(
+    DecodeError::TemplateOverrun,
+));
+
+const RECORD_OVERRUN: Fault = Fault::Malformed(ReadError::RecordOverrun);
+
+const NO_HEADER: Fault = Fault::Policy(PolicyFault {
+    line: 1,
+    kind: FaultKind::NoHeader,
+});
+
+/// What a policy with aggregates is refused for.
+const NO_AGGREGATES: Fault = Fault::Policy(PolicyFault {
+    line: 1,
+    kind: FaultKind::UnknownWord,
+});
+
+/// A policy that passes everything, acme, and a session: entries 0 to 2.
+const BEGIN: &[Step] = &[
+    Step::Edit(PASS, Ok(1)),
+    Step::Subscribe("acme", Ok(1)),
+    Step::Open(Ok(1)),
+];
+
+/// The same without the policy.
+const BEGIN_UNEDITED: &[Step] = &[Step::Subscribe("acme", Ok(1)), Step::Open(Ok(1))];
+
+/// The same with beta behind acme.
+const BEGIN_TWO: &[Step] = &[
+    Step::Edit(PASS, Ok(1)),
+    Step::Subscribe("acme", Ok(1)),
+    Step::Subscribe("beta", Ok(2)),
+    Step::Open(Ok(1)),
+];
+
+pub(crate) static CASES: &[Case] = &[
+    Case {
+        name: "one_record",
+        limits: HUNDRED,
+        entries: 1000,
+        octets: 1_000_000,
+        begin: BEGIN,
+        steps: &[
+            Step::Served(1, 0, 0, 0),
+            Step::Accept(1, 0, ONE_RECORD, 3, 1),
+            Step::Served(1, 1, 0, 1),
+            Step::Pull(1, 1400, Ok(Some(DISCLOSED))),
+            Step::Pull(1, 1400, Ok(None)),
+            Step::Served(1, 0, 1, 1),
+            Step::Audit(10, &[]),
+        ],
+    },
+    Case {
+        name: "empty_message",
+        limits: HUNDRED,
+        entries: 1000,
+        octets: 1_000_000,
+        begin: BEGIN,
+        steps: &[
+            Step::Accept(1, 0, EMPTY, 3, 0),
+            Step::Pull(1, 1400, Ok(None)),
+        ],
+    },
+    // None of them is counted, and the first good message is at the position that the first bad one would have had.
+    Case {
+        name: "malformed_messages",
+        limits: HUNDRED,
+        entries: 1000,
+        octets: 1_000_000,
+        begin: BEGIN,
+        steps: &[
+            Step::Receive(1, 0, LENGTH_FIFTEEN, Err(BAD_LENGTH)),
+            Step::Receive(1, 0, VERSION_NINE, Err(BAD_VERSION)),
+            Step::Receive(1, 0, SHORT_SET, Err(BAD_SET_LENGTH)),
+            Step::Receive(1, 0, SHORT_HEADER, Err(NO_WHOLE_HEADER)),
+            Step::Receive(1, 0, SHORT_TEMPLATE, Err(TEMPLATE_OVERRUN)),
+            Step::Served(1, 0, 0, 0),
+            Step::Accept(1, 0, ONE_RECORD, 3, 1),
+            Step::Pull(1, 1400, Ok(Some(DISCLOSED))),
+        ],
+    },
+    // The first record of a refused message isn't accepted either.
+    Case {
+        name: "record_overrun",
+        limits: HUNDRED,
+        entries: 1000,
+        octets: 1_000_000,
+        begin: BEGIN,
+        steps: &[
+            Step::Accept(1, 0, NAMES, 3, 0),
+            Step::Receive(1, 1, LONG_NAME, Err(RECORD_OVERRUN)),
+            Step::Served(1, 0, 0, 0),
+            Step::Accept(1, 1, EMPTY, 4, 0),
+        ],
+    },
+    // What was accepted is judged by the policy of its time, and not by that of the pull.
+    Case {
+        name: "edit_between_messages",
+        limits: HUNDRED,
+        entries: 1000,
+        octets: 1_000_000,
+        begin: BEGIN,
+        steps: &[
+            Step::Accept(1, 0, ONE_RECORD, 3, 1),
+            Step::Edit(WITHHOLD, Ok(2)),
+            Step::Accept(1, 1, NEXT_RECORD, 5, 1),
+            Step::Pull(1, 1400, Ok(Some(DISCLOSED))),
+            Step::Pull(1, 1400, Ok(None)),
+            Step::Audit(10, &["5 0 1 withheld 1 rule\n"]),
+        ],
+    },
+    Case {
+        name: "full_queue",
+        limits: THREE_RECORDS_WAIT,
+        entries: 1000,
+        octets: 1_000_000,
+        begin: BEGIN_TWO,
+        steps: &[
+            Step::Accept(1, 0, ONE_RECORD, 4, 1),
+            Step::Pull(2, 1400, Ok(Some(DISCLOSED))),
+            Step::Receive(
+                1,
+                1,
+                THREE_RECORDS,
+                Ok(Receipt {
+                    position: 6,
+                    records: 3,
+                    cut: 1,
+                    ..NOTHING
+                }),
+            ),
+            Step::WasCut(1, 1, 0, 1),
+            Step::Served(2, 3, 1, 1),
+            Step::Pull(1, 1400, Ok(Some(DISCLOSED))),
+            Step::Pull(1, 1400, Ok(None)),
+            Step::Pull(2, 1400, Ok(Some(NEXT_THREE))),
+            Step::Audit(10, &["5 0 1 cut\n"]),
+            Step::WasCut(1, 0, 1, 1),
+            Step::Served(2, 0, 4, 1),
+        ],
+    },
+    Case {
+        name: "small_target",
+        limits: HUNDRED,
+        entries: 1000,
+        octets: 1_000_000,
+        begin: BEGIN,
+        steps: &[
+            Step::Accept(1, 0, TWO_RECORDS, 3, 2),
+            Step::Pull(1, 16, Ok(Some(TEMPLATE_ALONE))),
+            Step::Pull(1, 16, Ok(Some(FIRST_ALONE))),
+            Step::Pull(1, 16, Ok(Some(SECOND_ALONE))),
+            Step::Pull(1, 16, Ok(None)),
+        ],
+    },
+    // What is refused leaves no trace: the message is at the position that the first of them would have had.
+    Case {
+        name: "named_refusals",
+        limits: HUNDRED,
+        entries: 1000,
+        octets: 1_000_000,
+        begin: BEGIN,
+        steps: &[
+            Step::Subscribe("acme", Err(Fault::AlreadySubscribed { sub: 1 })),
+            Step::Subscribe("Acme", Err(Fault::BadName)),
+            Step::Receive(1, 1, ONE_RECORD, Err(Fault::OutOfTurn { expected: 0 })),
+            Step::Receive(9, 0, ONE_RECORD, Err(Fault::UnknownSession)),
+            Step::Close(9, Err(Fault::UnknownSession)),
+            Step::Pull(9, 1400, Err(Fault::UnknownSub)),
+            Step::Unsubscribe(9, Err(Fault::UnknownSub)),
+            Step::Gone(9),
+            Step::Edit("", Err(NO_HEADER)),
+            Step::Edit(AGGREGATES, Err(NO_AGGREGATES)),
+            Step::Accept(1, 0, ONE_RECORD, 3, 1),
+            Step::Pull(1, 1400, Ok(Some(DISCLOSED))),
+        ],
+    },
+    // The first four entries count for 188 octets. With no room left, a call's own refusals still come first.
+    Case {
+        name: "full_limits: entries",
+        limits: HUNDRED,
+        entries: 4,
+        octets: 1_000_000,
+        begin: BEGIN,
+        steps: &[
+            Step::Accept(1, 0, ONE_RECORD, 3, 1),
+            Step::Open(Err(Fault::JournalFull)),
+            Step::Close(1, Err(Fault::JournalFull)),
+            Step::Close(9, Err(Fault::UnknownSession)),
+            Step::Receive(1, 1, NEXT_RECORD, Err(Fault::JournalFull)),
+            Step::Receive(1, 1, SHORT_SET, Err(BAD_SET_LENGTH)),
+            Step::Edit(PASS, Err(Fault::JournalFull)),
+            Step::Edit("", Err(NO_HEADER)),
+            Step::Subscribe("beta", Err(Fault::JournalFull)),
+            Step::Subscribe("Beta", Err(Fault::BadName)),
+            Step::Unsubscribe(1, Err(Fault::JournalFull)),
+            Step::Unsubscribe(9, Err(Fault::UnknownSub)),
+            Step::Pull(1, 1400, Ok(Some(DISCLOSED))),
+        ],
+    },
+    Case {
+        name: "full_limits: as many octets",
+        limits: HUNDRED,
+        entries: 1000,
+        octets: 188,
+        begin: BEGIN,
+        steps: &[
+            Step::Accept(1, 0, ONE_RECORD, 3, 1),
+            Step::Open(Err(Fault::JournalFull)),
+            Step::Pull(1, 1400, Ok(Some(DISCLOSED))),
+        ],
+    },
+    Case {
+        name: "full_limits: an octet less",
+        limits: HUNDRED,
+        entries: 1000,
+        octets: 187,
+        begin: BEGIN,
+        steps: &[
+            Step::Receive(1, 0, ONE_RECORD, Err(Fault::JournalFull)),
+            Step::Open(Ok(2)),
+            Step::Pull(1, 1400, Ok(None)),
+        ],
+    },
+    // A cut wants an entry too.
+    Case {
+        name: "full_limits: no room for a cut",
+        limits: NO_RECORD_WAITS,
+        entries: 4,
+        octets: 1_000_000,
+        begin: BEGIN,
+        steps: &[
+            Step::Receive(1, 0, ONE_RECORD, Err(Fault::JournalFull)),
+            Step::Served(1, 0, 0, 0),
+            Step::Accept(1, 0, EMPTY, 3, 0),
+        ],
+    },
+    Case {
+        name: "full_limits: room for a cut",
+        limits: NO_RECORD_WAITS,
+        entries: 5,
+        octets: 1_000_000,
+        begin: BEGIN,
+        steps: &[
+            Step::Receive(
+                1,
+                0,
+                ONE_RECORD,
+                Ok(Receipt {
+                    position: 4,
+                    records: 1,
+                    cut: 1,
+                    ..NOTHING
+                }),
+            ),
+            Step::WasCut(1, 0, 0, 0),
+            Step::Audit(10, &["3 0 1 cut\n"]),
+        ],
+    },
+    Case {
+        name: "full_limits: the audit",
+        limits: ONE_ENTRY_WAITS,
+        entries: 1000,
+        octets: 1_000_000,
+        begin: BEGIN_UNEDITED,
+        steps: &[
+            Step::Receive(
+                1,
+                0,
+                TWO_RECORDS,
+                Err(Fault::AuditFull { need: 2, room: 1 }),
+            ),
+            Step::Audit(10, &[]),
+            Step::Accept(1, 0, ONE_RECORD, 2, 1),
+            Step::Receive(
+                1,
+                1,
+                NEXT_RECORD,
+                Err(Fault::AuditFull { need: 1, room: 0 }),
+            ),
+            Step::Audit(10, &["2 0 1 withheld 0 rule\n"]),
+            Step::Accept(1, 1, NEXT_RECORD, 3, 1),
+        ],
+    },
+    Case {
+        name: "full_limits: the oldest entries first",
+        limits: TWO_ENTRIES_WAIT,
+        entries: 1000,
+        octets: 1_000_000,
+        begin: BEGIN_UNEDITED,
+        steps: &[
+            Step::Accept(1, 0, TWO_RECORDS, 2, 2),
+            Step::Audit(1, &["2 0 1 withheld 0 rule\n"]),
+            Step::Audit(1, &["2 1 1 withheld 0 rule\n"]),
+            Step::Audit(1, &[]),
+            Step::Pull(1, 1400, Ok(None)),
+        ],
+    },
+    Case {
+        name: "sequence_gap",
+        limits: HUNDRED,
+        entries: 1000,
+        octets: 1_000_000,
+        begin: BEGIN,
+        steps: &[
+            Step::Accept(1, 0, ONE_RECORD, 3, 1),
+            Step::Receive(
+                1,
+                1,
+                ONE_RECORD_NUMBERED_FIVE,
+                Ok(Receipt {
+                    position: 4,
+                    records: 1,
+                    gap: Some(Gap {
+                        expected: 1,
+                        got: 5,
+                    }),
+                    ..NOTHING
+                }),
+            ),
+            Step::Pull(1, 1400, Ok(Some(TWO_DISCLOSED))),
+        ],
+    },
+    Case {
+        name: "closed_session",
+        limits: HUNDRED,
+        entries: 1000,
+        octets: 1_000_000,
+        begin: BEGIN,
+        steps: &[
+            Step::Accept(1, 0, ONE_RECORD, 3, 1),
+            Step::Close(1, Ok(())),
+            Step::Close(1, Err(Fault::UnknownSession)),
+            Step::Receive(1, 1, NEXT_RECORD, Err(Fault::UnknownSession)),
+            Step::Pull(1, 1400, Ok(Some(DISCLOSED))),
+        ],
+    },
+    // A name stays taken until its subscription ends, and its number never comes again.
+    Case {
+        name: "shapes_limit",
+        limits: ONE_SHAPE,
+        entries: 1000,
+        octets: 1_000_000,
+        begin: BEGIN,
+        steps: &[
+            Step::Receive(
+                1,
+                0,
+                WITHDRAWN,
+                Ok(Receipt {
+                    position: 4,
+                    records: 2,
+                    cut: 1,
+                    skips: ONE_UNKNOWN,
+                    ..NOTHING
+                }),
+            ),
+            Step::Pull(1, 1400, Ok(None)),
+            Step::Audit(10, &["3 0 1 cut\n"]),
+            Step::Subscribe("acme", Err(Fault::AlreadySubscribed { sub: 1 })),
+            Step::Unsubscribe(1, Ok(())),
+            Step::Gone(1),
+            Step::Subscribe("acme", Ok(2)),
+            Step::Served(2, 0, 0, 0),
+        ],
+    },
+    // What is withheld leaves no trace in what acme gets, neither a number nor a template.
+    Case {
+        name: "isolation: acme alone",
+        limits: HUNDRED,
+        entries: 1000,
+        octets: 1_000_000,
+        begin: &[
+            Step::Edit(NOT_EIGHT, Ok(1)),
+            Step::Subscribe("acme", Ok(1)),
+            Step::Open(Ok(1)),
+        ],
+        steps: &[
+            Step::Accept(1, 0, ONE_RECORD, 3, 1),
+            Step::Pull(1, 1400, Ok(Some(DISCLOSED))),
+        ],
+    },
+    Case {
+        name: "isolation: beside beta",
+        limits: HUNDRED,
+        entries: 1000,
+        octets: 1_000_000,
+        begin: &[
+            Step::Edit(NOT_EIGHT, Ok(1)),
+            Step::Subscribe("acme", Ok(1)),
+            Step::Subscribe("beta", Ok(2)),
+            Step::Open(Ok(1)),
+        ],
+        steps: &[
+            Step::Accept(1, 0, ONE_RECORD_OF_EIGHT, 4, 1),
+            Step::Accept(1, 1, ONE_RECORD, 5, 1),
+            Step::Pull(1, 1400, Ok(Some(DISCLOSED))),
+            Step::Pull(2, 1400, Ok(Some(TWO_DISCLOSED))),
+            Step::Audit(10, &["4 0 1 withheld 1 rule\n"]),
+        ],
+    },
+    // A session's templates end with it.
+    Case {
+        name: "session_end",
+        limits: HUNDRED,
+        entries: 1000,
+        octets: 1_000_000,
+        begin: BEGIN,
+        steps: &[
+            Step::Accept(1, 0, ONE_RECORD, 3, 1),
+            Step::Close(1, Ok(())),
+            Step::Open(Ok(2)),
+            Step::Receive(
+                2,
+                0,
+                RECORD_ALONE,
+                Ok(Receipt {
+                    position: 6,
+                    skips: ONE_UNKNOWN,
+                    ..NOTHING
+                }),
+            ),
+        ],
+    },
+    // And they are its own.
+    Case {
+        name: "two_sessions",
+        limits: HUNDRED,
+        entries: 1000,
+        octets: 1_000_000,
+        begin: BEGIN,
+        steps: &[
+            Step::Open(Ok(2)),
+            Step::Accept(1, 0, ONE_RECORD, 4, 1),
+            Step::Receive(
+                2,
+                0,
+                RECORD_ALONE,
+                Ok(Receipt {
+                    position: 5,
+                    skips: ONE_UNKNOWN,
+                    ..NOTHING
+                }),
+            ),
+            Step::Accept(1, 1, NEXT_RECORD, 6, 1),
+            Step::Pull(1, 1400, Ok(Some(TWO_DISCLOSED))),
+        ],
+    },
+];

@@ -1,0 +1,16 @@
+//! Tests of the mediator's state over a journal and over a tally, side by side. Nothing else is here, and no crate stands on
+//! it.
+//!
+//! - `cases`: the calls of each worked case, with what they must answer; `octets`: the messages in them.
+//! - `calls`: each call, made again where memory is refused.
+//! - `worked`: the cases, carried out.
+#![tactic(auto)]
+
+#[cfg(test)]
+mod calls;
+#[cfg(test)]
+mod cases;
+#[cfg(test)]
+mod octets;
+#[cfg(test)]
+mod worked;

@@ -1,0 +1,193 @@
+//! The worked cases, carried out over a journal and over a tally: each call answers the same over both.
+ghost use Rattle.std.specs.Prelude.{[], IfOk};
+ghost use Rattle.mediator_state.specs.Calls.{StandsForSome};
+
+use crate::calls;
+use crate::cases::{CASES, Case, Step};
+use bytes::Bytes;
+use disclosure_audit::{AuditEntry, line};
+use event_journal::{Chronicle, Journal, MOST_ENTRIES, MOST_OCTETS, Tally};
+use ipfix_session::Skips;
+use mediator_state::{Fault, Limits, Receipt, State, Status};
+use std::alloc::{AllocError, Global};
+use std::process::Abort;
+use std::test::Fail;
+
+/// A state over a chronicle of no entry.
+fn begin<C: Chronicle + Drop>(
+    rt: &impl Abort,
+    alloc: Global,
+    limits: Limits,
+    chronicle: C,
+) -> Result<State<C>, AllocError>
+    requires empty { C.tells chronicle [] }
+    ensures stands { IfOk result (λ s. StandsForSome C.tells s) }
+{
+    assert!(rt; limits.queue <= 1_000_000);
+    assert!(rt; limits.shapes <= 65_280);
+    assert!(rt; 1 <= limits.audit);
+    assert!(rt; limits.audit <= 10_000_000);
+    State::new(alloc, limits, chronicle)
+}
+
+/// Whether a message is the one that is wanted, or both are none.
+fn is_message(message: &Option<Bytes>, wanted: Option<&[u8]>) -> bool {
+    match (message, wanted) {
+        (Some(octets), Some(due)) => octets.as_slice() == due,
+        (None, None) => true,
+        (Some(_), None) | (None, Some(_)) => false,
+    }
+}
+
+/// Whether a pull answers what is wanted.
+fn is_pull(answer: &Result<Option<Bytes>, Fault>, wanted: &Result<Option<&[u8]>, Fault>) -> bool {
+    match (answer, wanted) {
+        (Ok(message), Ok(due)) => is_message(message, *due),
+        (Err(fault), Err(due)) => fault == due,
+        (Ok(_), Err(_)) | (Err(_), Ok(_)) => false,
+    }
+}
+
+/// A text of an entry, which is made again where memory is refused.
+fn text_of(alloc: Global, entry: &AuditEntry) -> Result<String, AllocError> {
+    match line(alloc, entry) {
+        Ok(text) => Ok(text),
+        Err(_) => line(alloc, entry),
+    }
+}
+
+/// Whether the entries' lines are those that are wanted.
+fn are_lines(alloc: Global, entries: &[AuditEntry], wanted: &[&str]) -> Result<bool, AllocError> {
+    let mut same = entries.len() == wanted.len();
+    for (entry, due) in entries.iter().zip(wanted) {
+        same &= text_of(alloc, entry)?.as_str() == *due;
+    }
+    Ok(same)
+}
+
+/// The receipt of a message that brings so many records and nothing else.
+fn plain(position: u64, records: u64) -> Receipt {
+    Receipt {
+        position,
+        records,
+        cut: 0,
+        skips: Skips {
+            unknown: 0,
+            reserved: 0,
+            refused: 0,
+        },
+        gap: None,
+    }
+}
+
+fn status(queued: u32, handed: u64, shapes: u32, cut: bool) -> Option<Status> {
+    Some(Status {
+        queued,
+        handed,
+        shapes,
+        cut,
+    })
+}
+
+/// Whether a call answers what is wanted.
+fn answers<C: Chronicle + Drop>(
+    alloc: Global,
+    state: &mut State<C>,
+    step: &Step,
+) -> Result<bool, AllocError>
+    requires stands { StandsForSome C.tells state.old }
+    ensures stands { StandsForSome C.tells state.new }
+{
+    match step {
+        Step::Open(due) => Ok(calls::open(state) == *due),
+        Step::Close(session, due) => Ok(calls::close(state, *session) == *due),
+        Step::Accept(session, number, octets, position, records) => {
+            let due = Ok(plain(*position, *records));
+            Ok(calls::receive(alloc, state, *session, *number, octets) == due)
+        }
+        Step::Receive(session, number, octets, due) => {
+            Ok(calls::receive(alloc, state, *session, *number, octets) == *due)
+        }
+        Step::Edit(text, due) => Ok(calls::edit(state, text) == *due),
+        Step::Subscribe(name, due) => Ok(calls::subscribe(state, name) == *due),
+        Step::Unsubscribe(sub, due) => Ok(calls::unsubscribe(state, *sub) == *due),
+        Step::Pull(sub, target, due) => Ok(is_pull(&calls::pull(state, *sub, *target), due)),
+        Step::Served(sub, queued, handed, shapes) => {
+            Ok(state.status(*sub) == status(*queued, *handed, *shapes, false))
+        }
+        Step::WasCut(sub, queued, handed, shapes) => {
+            Ok(state.status(*sub) == status(*queued, *handed, *shapes, true))
+        }
+        Step::Gone(sub) => Ok(state.status(*sub).is_none()),
+        Step::Audit(most, due) => are_lines(alloc, &calls::drain_audit(state, *most)?, due),
+    }
+}
+
+/// That each call answers what is wanted.
+fn expect_steps<C: Chronicle + Drop>(
+    rt: &impl Abort,
+    alloc: Global,
+    name: &str,
+    state: &mut State<C>,
+    steps: &[Step],
+) -> Result<(), AllocError>
+    requires stands { StandsForSome C.tells state.old }
+    ensures stands { StandsForSome C.tells state.new }
+{
+    for (place, step) in steps.iter().enumerate() {
+        let same = answers(alloc, state, step)?;
+        assert!(rt; same, "{name}, call {place}");
+    }
+    Ok(())
+}
+
+/// That a case's calls answer what is wanted over a chronicle of no entry. There are two of them, since a state that is
+/// refused memory keeps neither.
+fn expect_case<C: Chronicle + Drop>(
+    rt: &impl Abort,
+    alloc: Global,
+    case: &Case,
+    first: C,
+    second: C,
+) -> Result<(), AllocError>
+    requires first { C.tells first [] }
+    requires second { C.tells second [] }
+{
+    let mut state = match begin(rt, alloc, case.limits, first) {
+        Ok(state) => state,
+        Err(_) => begin(rt, alloc, case.limits, second)?,
+    };
+    expect_steps(rt, alloc, case.name, &mut state, case.begin)?;
+    expect_steps(rt, alloc, case.name, &mut state, case.steps)
+}
+
+/// That a case's calls answer what is wanted over a journal, and over a tally.
+fn expect_both(rt: &impl Abort, alloc: Global, case: &Case) -> Result<(), AllocError> {
+    let (entries, octets) = (case.entries, case.octets);
+    assert!(rt; 1 <= entries);
+    assert!(rt; entries <= MOST_ENTRIES);
+    assert!(rt; 1 <= octets);
+    assert!(rt; octets <= MOST_OCTETS);
+    expect_case(
+        rt,
+        alloc,
+        case,
+        Journal::new(alloc, entries, octets),
+        Journal::new(alloc, entries, octets),
+    )?;
+    expect_case(
+        rt,
+        alloc,
+        case,
+        Tally::new(entries, octets),
+        Tally::new(entries, octets),
+    )
+}
+
+#[test]
+fn worked_cases(rt: HostRuntime) -> Result<(), Fail> {
+    for case in CASES {
+        expect_both(&rt, rt.alloc(), case)?;
+    }
+    Ok(())
+}
