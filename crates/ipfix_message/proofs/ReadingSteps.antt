@@ -1,13 +1,12 @@
 -- How what stands one after another is read, item by item.
-use Rattle.std.proofs.Common.{◌≡◌, ℕ, true, eqb, List, ◌++◌, length, Option, Some, None, Result, Ok, Err, refl, sym, ap, ◌∙◌}
+use Rattle.std.proofs.Common.{◌≡◌, ℕ, Bool, true, false, eqb, List, ◌++◌, length, Option, Some, None, Result, Ok, Err, MatchBool, refl, sym, ap, ◌∙◌}
 use Rattle.std.proofs.lemmas.List.{append-nil}
 use Rattle.sequences.proofs.SequenceLaws.{with_front-append, read_all-step}
 use Rattle.ipfix_template.specs.Sequence.{Front, End, Fault, Next, with_front, read_on, read_all, TakesSome}
 use Rattle.ipfix_message.specs.declared.header.Header.{Header}
 use Rattle.ipfix_message.specs.declared.decode_error.DecodeError.{DecodeError}
-use Rattle.ipfix_message.specs.declared.decode_error.DecodeError.TheVariants.{ShortHeader, BadVersion, BadLength, BadSetLength, TemplateOverrun, OutOfMemory}
 use Rattle.ipfix_message.specs.declared.item.Item.{Item}
-use Rattle.ipfix_message.specs.Reading.{Fails, set_front}
+use Rattle.ipfix_message.specs.Reading.{Fails, is_memory, set_front}
 use Rattle.std.specs.Borrow.{Bor}
 use Rattle.ipfix_message.specs.Shows.{IsFault, ShowsFront}
 
@@ -38,12 +37,11 @@ fault_is front takes before rest whole fault at e =
     sym e ∙ ap (with_front before) (read_all-step front takes rest ∙ ap (λ f. read_on f (read_all front)) at)
 
 pub faulty : (front : List ℕ → Front Item DecodeError) → TakesSome front → (before : List Item) (rest : List ℕ) (whole : Reading) (fault : DecodeError) → IsFault fault (front rest) → with_front before (read_all front rest) ≡ whole → Fails fault whole
-faulty front takes before rest whole OutOfMemory at e = tt
-faulty front takes before rest whole ShortHeader at e = fault_is front takes before rest whole ShortHeader at e
-faulty front takes before rest whole BadVersion at e = fault_is front takes before rest whole BadVersion at e
-faulty front takes before rest whole BadLength at e = fault_is front takes before rest whole BadLength at e
-faulty front takes before rest whole BadSetLength at e = fault_is front takes before rest whole BadSetLength at e
-faulty front takes before rest whole TemplateOverrun at e = fault_is front takes before rest whole TemplateOverrun at e
+faulty front takes before rest whole fault at e = by_test (is_memory fault) at
+  where
+    by_test : (b : Bool) → MatchBool b (Unit {0}) (front rest ≡ Fault fault) → MatchBool b (Unit {0}) (whole ≡ Err fault)
+    by_test true at = tt
+    by_test false at = fault_is front takes before rest whole fault at e
 
 -- no item at the front
 pub front_ends : (found : Option (Item × Bor (List ℕ))) (front : Front Item DecodeError) → ((x : Item × Bor (List ℕ)) → found ≡ Some x → ⊥) → ShowsFront (Ok found) front → front ≡ End

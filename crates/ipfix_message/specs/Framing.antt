@@ -3,6 +3,7 @@
 use Rattle.std.specs.Prelude.{◌≡◌, ◌≢◌, ℕ, ◌<◌, ◌≤◌, List, [], ◌++◌, length, Option, Some, None}
 use Rattle.std.specs.List.{concat, All}
 use Rattle.sequences.specs.Octets.{number_at}
+use Rattle.ipfix_octets.specs.MessageFormat.{ipfix_version, header_octets}
 use Rattle.ipfix_message.specs.declared.frame_error.FrameError.{FrameError}
 use Rattle.ipfix_message.specs.declared.frame_error.FrameError.TheVariants.{BadVersion, BadLength, OutOfMemory}
 
@@ -14,22 +15,22 @@ version_of octets = number_at 0 2 octets
 abbrev pub length_of : List ℕ → ℕ
 length_of octets = number_at 2 2 octets
 
--- a whole message, no octet less or more: version 10, at least a header, and the length that it says
+-- a whole message, no octet less or more: the version of IPFIX, at least a header, and the length that it says
 pub record IsWhole (octets : List ℕ) : Type 0 where
-  pub version : version_of octets ≡ 10
-  pub least : 16 ≤ length octets
+  pub version : version_of octets ≡ ipfix_version
+  pub least : header_octets ≤ length octets
   pub whole : length_of octets ≡ length octets
 
 -- less than a whole message; what 4 octets of its header say is right
 pub record IsPartial (octets : List ℕ) : Type 0 where
-  pub version : 4 ≤ length octets → version_of octets ≡ 10
-  pub least : 4 ≤ length octets → 16 ≤ length_of octets
+  pub version : 4 ≤ length octets → version_of octets ≡ ipfix_version
+  pub least : 4 ≤ length octets → header_octets ≤ length_of octets
   pub short : 4 ≤ length octets → length octets < length_of octets
 
 -- what stands where a message should is this fault, as 4 octets of its header show; the version is judged first
 abbrev pub IsFaulty : FrameError → List ℕ → Type 0
-IsFaulty BadVersion octets = (4 ≤ length octets) × (version_of octets ≢ 10)
-IsFaulty BadLength octets = (4 ≤ length octets) × (version_of octets ≡ 10) × (length_of octets < 16)
+IsFaulty BadVersion octets = (4 ≤ length octets) × (version_of octets ≢ ipfix_version)
+IsFaulty BadLength octets = (4 ≤ length octets) × (version_of octets ≡ ipfix_version) × (length_of octets < header_octets)
 IsFaulty OutOfMemory octets = ⊥
 
 -- how a stream ends after its whole messages: with no fault, and octets that are pending; or with a fault, and none

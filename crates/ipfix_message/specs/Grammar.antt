@@ -1,6 +1,7 @@
 -- The grammar of messages (RFC 7011, sections 3.1 to 3.4 and 8.1).
 use Rattle.std.specs.Prelude.{◌≡◌, ℕ, zero, suc, ◌+◌, ◌<◌, Bool, true, false, List, [], ◌∷◌, ◌++◌, length, Option, Some, None, MatchBool, nat_lt, ◌==◌}
 use Rattle.ipfix_template.specs.Octets.{IsNumber}
+use Rattle.ipfix_octets.specs.MessageFormat.{ipfix_version, header_octets, set_header_octets, record_header_octets, template_set_id, options_template_set_id, least_template_id}
 use Rattle.ipfix_template.specs.declared.field.FieldSpec.{FieldSpec}
 use Rattle.ipfix_template.specs.declared.template.Template.{Template}
 use Rattle.ipfix_message.specs.declared.header.Header.{Header}
@@ -38,23 +39,23 @@ IsTemplateRecord options octets item =
 
 -- the records of a set of templates, and padding
 abbrev pub AreTemplateRecords : Bool → List ℕ → List Item → Type 0
-AreTemplateRecords options octets [] = length octets < 4
+AreTemplateRecords options octets [] = length octets < record_header_octets
 AreTemplateRecords options octets (item ∷ items) =
     (text rest : List ℕ) × (octets ≡ text ++ rest) × IsTemplateRecord options text item × AreTemplateRecords options rest items
 
 -- the content of a set, which stands at this place of the message
 abbrev pub IsContent : ℕ → ℕ → List ℕ → List Item → Type 0
 IsContent id place content found =
-    MatchBool (id == 2) (AreTemplateRecords false content found)
-    (MatchBool (id == 3) (AreTemplateRecords true content found)
-    (MatchBool (nat_lt id 256) (found ≡ items.Skipped id ∷ [])
+    MatchBool (id == template_set_id) (AreTemplateRecords false content found)
+    (MatchBool (id == options_template_set_id) (AreTemplateRecords true content found)
+    (MatchBool (nat_lt id least_template_id) (found ≡ items.Skipped id ∷ [])
     (found ≡ items.DataSet id place (length content) ∷ [])))
 
 -- a set: ID, length of the whole set, content
 abbrev pub IsSet : ℕ → List ℕ → List Item → Type 0
 IsSet place octets found =
     (a b content : List ℕ) × (id : ℕ) × (octets ≡ a ++ (b ++ content)) × IsNumber 2 a id × IsNumber 2 b (length octets)
-    × IsContent id (place + 4) content found
+    × IsContent id (place + set_header_octets) content found
 
 -- so many sets, one after another, from this place of the message on
 abbrev pub AreSets : ℕ → ℕ → List ℕ → List Item → Type 0
@@ -63,13 +64,13 @@ AreSets (suc n) place octets found =
     (text rest : List ℕ) × (first others : List Item) × (octets ≡ text ++ rest) × (found ≡ first ++ others)
     × IsSet place text first × AreSets n (place + length text) rest others
 
--- version 10, the length of the whole message, export time, sequence number, domain
+-- the version of IPFIX, the length of the whole message, export time, sequence number, domain
 abbrev pub IsHeader : List ℕ → ℕ → Header → Type 0
 IsHeader octets len h =
-    (a b c d e : List ℕ) × (octets ≡ a ++ (b ++ (c ++ (d ++ e)))) × IsNumber 2 a 10 × IsNumber 2 b len
+    (a b c d e : List ℕ) × (octets ≡ a ++ (b ++ (c ++ (d ++ e)))) × IsNumber 2 a ipfix_version × IsNumber 2 b len
     × IsNumber 4 c h.export_time × IsNumber 4 d h.sequence × IsNumber 4 e h.domain
 
 -- the octets are a message with this header and these items
 abbrev pub IsMessage : List ℕ → Header → List Item → Type 0
 IsMessage octets h found =
-    (head body : List ℕ) × (sets : ℕ) × (octets ≡ head ++ body) × IsHeader head (length octets) h × AreSets sets 16 body found
+    (head body : List ℕ) × (sets : ℕ) × (octets ≡ head ++ body) × IsHeader head (length octets) h × AreSets sets header_octets body found

@@ -1,6 +1,8 @@
 pub use Rattle.ipfix_template.specs.Octets
 pub use Rattle.ipfix_template.specs.Sequence
+pub use Rattle.sequences.specs.Results
 pub use Rattle.ipfix_template.specs.Variable
+pub use Rattle.ipfix_template.specs.MessageFormat
 pub use Rattle.ipfix_template.specs.Element
 pub use Rattle.ipfix_template.specs.Kinds
 pub use Rattle.ipfix_template.specs.Template

@@ -2,10 +2,12 @@
 -- which is this project's own rule.
 use Rattle.std.specs.Prelude.{◌≡◌, ℕ, zero, suc, ◌+◌, ◌-◌, Bool, true, false, List, [], ◌∷◌, length, take, drop, Option, Some, None, Result, Ok, Err, nat_lt, ◌==◌, ◌||◌, if◌then◌else◌}
 use Rattle.ipfix_template.specs.Octets.{number_at}
+use Rattle.ipfix_octets.specs.MessageFormat.{ipfix_version, header_octets, set_header_octets, record_header_octets, template_set_id, options_template_set_id, least_template_id}
 use Rattle.ipfix_template.specs.Sequence.{Front, End, Fault, Next, read_all}
 use Rattle.ipfix_template.specs.declared.field.FieldSpec.{FieldSpec}
 use Rattle.ipfix_template.specs.declared.template.Template.{Template}
 use Rattle.sequences.specs.Options.{◌>>=◌}
+use Rattle.sequences.specs.Results.{FailsBut, GivesBut}
 use Rattle.ipfix_message.specs.Records.{bare_item, template_item}
 use Rattle.ipfix_message.specs.declared.header.Header.{Header}
 use Rattle.ipfix_message.specs.declared.decode_error.DecodeError.{DecodeError}
@@ -19,8 +21,8 @@ header_of octets = record { export_time = number_at 4 4 octets; sequence = numbe
 -- version, length, export time, sequence number, domain; the length is that of the whole message
 unfoldable pub read_header : List ℕ → Result Header DecodeError
 read_header octets =
-    if nat_lt (length octets) 16 then Err ShortHeader
-    else if number_at 0 2 octets == 10 then
+    if nat_lt (length octets) header_octets then Err ShortHeader
+    else if number_at 0 2 octets == ipfix_version then
     (if number_at 2 2 octets == length octets then Ok (header_of octets) else Err BadLength)
     else Err BadVersion
 
@@ -60,18 +62,18 @@ found_template options id None = Fault TemplateOverrun
 -- what stands at the front of a set of templates: padding, or a template record
 unfoldable pub template_front : Bool → List ℕ → Front Item DecodeError
 template_front options octets =
-    if nat_lt (length octets) 4 then End
-    else if number_at 2 2 octets == 0 then Next (bare_item options (number_at 0 2 octets) ∷ []) (drop 4 octets)
-    else found_template options (number_at 0 2 octets) (template_at options (number_at 2 2 octets) (drop 4 octets))
+    if nat_lt (length octets) record_header_octets then End
+    else if number_at 2 2 octets == 0 then Next (bare_item options (number_at 0 2 octets) ∷ []) (drop record_header_octets octets)
+    else found_template options (number_at 0 2 octets) (template_at options (number_at 2 2 octets) (drop record_header_octets octets))
 
 -- ---- sets
 
 -- the items of a set of this ID whose content stands at this place of the message
 unfoldable pub set_items : ℕ → ℕ → List ℕ → Result (List Item) DecodeError
 set_items id place content =
-    if id == 2 then read_all (template_front false) content
-    else if id == 3 then read_all (template_front true) content
-    else if nat_lt id 256 then Ok (items.Skipped id ∷ [])
+    if id == template_set_id then read_all (template_front false) content
+    else if id == options_template_set_id then read_all (template_front true) content
+    else if nat_lt id least_template_id then Ok (items.Skipped id ∷ [])
     else Ok (items.DataSet id place (length content) ∷ [])
 
 abbrev pub found_set : Result (List Item) DecodeError → List ℕ → Front Item DecodeError
@@ -82,12 +84,12 @@ found_set (Err e) rest = Fault e
 unfoldable pub set_front : ℕ → List ℕ → Front Item DecodeError
 set_front total octets =
     if length octets == 0 then End
-    else if nat_lt (length octets) 4 then Fault BadSetLength
-    else if nat_lt (number_at 2 2 octets) 4 || nat_lt (length octets) (number_at 2 2 octets) then Fault BadSetLength
-    else found_set (set_items (number_at 0 2 octets) (total - length octets + 4) (take (number_at 2 2 octets - 4) (drop 4 octets))) (drop (number_at 2 2 octets) octets)
+    else if nat_lt (length octets) set_header_octets then Fault BadSetLength
+    else if nat_lt (number_at 2 2 octets) set_header_octets || nat_lt (length octets) (number_at 2 2 octets) then Fault BadSetLength
+    else found_set (set_items (number_at 0 2 octets) (total - length octets + set_header_octets) (take (number_at 2 2 octets - set_header_octets) (drop set_header_octets octets))) (drop (number_at 2 2 octets) octets)
 
 abbrev pub after_header : List ℕ → Result Header DecodeError → Result (List Item) DecodeError
-after_header octets (Ok header) = read_all (set_front (length octets)) (drop 16 octets)
+after_header octets (Ok header) = read_all (set_front (length octets)) (drop header_octets octets)
 after_header octets (Err e) = Err e
 
 -- the items of a message, or its first fault
@@ -96,19 +98,22 @@ items_of octets = after_header octets (read_header octets)
 
 -- ---- what the calls answer
 
--- a fault is the first one; only want of memory is no fault
+-- only want of memory is no fault
+abbrev pub is_memory : DecodeError → Bool
+is_memory OutOfMemory = true
+is_memory ShortHeader = false
+is_memory BadVersion = false
+is_memory BadLength = false
+is_memory BadSetLength = false
+is_memory TemplateOverrun = false
+
+-- a fault is the first one
 abbrev pub Fails : {Y : Type 0} → DecodeError → Result Y DecodeError → Type 0
-Fails OutOfMemory read = Unit {0}
-Fails ShortHeader read = read ≡ Err ShortHeader
-Fails BadVersion read = read ≡ Err BadVersion
-Fails BadLength read = read ≡ Err BadLength
-Fails BadSetLength read = read ≡ Err BadSetLength
-Fails TemplateOverrun read = read ≡ Err TemplateOverrun
+Fails e read = FailsBut is_memory e read
 
 -- what was read is the answer
 abbrev pub Gives : {X Y : Type 0} → (X → Y) → Result X DecodeError → Result Y DecodeError → Type 0
-Gives view (Ok x) read = read ≡ Ok (view x)
-Gives view (Err e) read = Fails e read
+Gives view answer read = GivesBut is_memory view answer read
 
 abbrev pub or_overrun : {Y : Type 0} → Option Y → Result Y DecodeError
 or_overrun (Some y) = Ok y

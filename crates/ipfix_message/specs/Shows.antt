@@ -1,22 +1,17 @@
 -- What a function that reads one item returned, beside what stands at the front.
-use Rattle.std.specs.Prelude.{◌≡◌, ℕ, List, [], ◌∷◌, ◌++◌, Option, Some, None, Result, Ok, Err}
+use Rattle.std.specs.Prelude.{◌≡◌, ℕ, List, [], ◌∷◌, ◌++◌, Option, Some, None, Result, Ok, Err, MatchBool}
 use Rattle.std.specs.Borrow.{Bor}
 use Rattle.std.specs.Global.{Vec}
 use Rattle.ipfix_template.specs.declared.field.FieldSpec.{FieldSpec}
 use Rattle.ipfix_template.specs.declared.template.Template.{Template}
 use Rattle.ipfix_template.specs.Sequence.{Front, End, Fault, Next}
 use Rattle.ipfix_message.specs.declared.decode_error.DecodeError.{DecodeError}
-use Rattle.ipfix_message.specs.declared.decode_error.DecodeError.TheVariants.{ShortHeader, BadVersion, BadLength, BadSetLength, TemplateOverrun, OutOfMemory}
 use Rattle.ipfix_message.specs.declared.item.Item.{Item}
+use Rattle.ipfix_message.specs.Reading.{is_memory}
 
 -- a fault is the one that stands there, and want of memory says nothing of it
 abbrev pub IsFault : DecodeError → Front Item DecodeError → Type 0
-IsFault OutOfMemory front = Unit {0}
-IsFault ShortHeader front = front ≡ Fault ShortHeader
-IsFault BadVersion front = front ≡ Fault BadVersion
-IsFault BadLength front = front ≡ Fault BadLength
-IsFault BadSetLength front = front ≡ Fault BadSetLength
-IsFault TemplateOverrun front = front ≡ Fault TemplateOverrun
+IsFault e front = MatchBool (is_memory e) (Unit {0}) (front ≡ Fault e)
 
 abbrev pub ShowsFront : Result (Option (Item × Bor (List ℕ))) DecodeError → Front Item DecodeError → Type 0
 ShowsFront (Ok None) front = front ≡ End

@@ -1,15 +1,11 @@
 //! The header of a message.
 ghost use Rattle.std.specs.Prelude.{◌≡◌, ◌≤◌, length, OnOk};
+ghost use Rattle.ipfix_octets.specs.MessageFormat.{header_octets};
 ghost use Rattle.ipfix_message.specs.Reading as reading;
 
 use crate::decode_error::DecodeError;
 use crate::octets::{u16_at, u32_at};
-
-/// The octets of a message header (RFC 7011, section 3.1).
-pub const HEADER_OCTETS: usize = 16;
-
-/// The version of IPFIX messages (RFC 7011, section 3.1).
-pub const VERSION: u16 = 10;
+use ipfix_octets::message_format::{HEADER_OCTETS, IPFIX_VERSION};
 
 /// What a message header says beside version and length (RFC 7011, section 3.1).
 #[derive(Clone, Copy, Debug, PartialEq, Eq)]
@@ -30,13 +26,13 @@ pub struct Header {
 #[tactic(auto, unfolding(crate::specs::Reading::read_header))]
 pub fn read_header(octets: &[u8]) -> Result<Header, DecodeError>
     ensures exact { result ≡ reading.read_header octets.now }
-    ensures least { OnOk result (16 ≤ length octets.now) }
+    ensures least { OnOk result (header_octets ≤ length octets.now) }
     ensures most { OnOk result (length octets.now ≤ 65535) }
 {
     if octets.len() < HEADER_OCTETS {
         return Err(DecodeError::ShortHeader);
     }
-    if u16_at(octets, 0) != VERSION {
+    if u16_at(octets, 0) != IPFIX_VERSION {
         return Err(DecodeError::BadVersion);
     }
     if usize::from(u16_at(octets, 2)) != octets.len() {

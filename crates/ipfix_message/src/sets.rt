@@ -1,5 +1,6 @@
 //! The sets of a message, and all that it says.
 ghost use Rattle.std.specs.Prelude.{◌≡◌, ◌<◌, ◌≤◌, length, List, Ok, Err, IsOk, IfOk, IfErr};
+ghost use Rattle.ipfix_octets.specs.MessageFormat.{header_octets};
 ghost use Rattle.ipfix_template.specs.Sequence.{read_all, with_front};
 ghost use Rattle.ipfix_message.specs.declared.item.Item.{Item};
 ghost use Rattle.ipfix_message.specs.declared.header.Header.{Header};
@@ -8,14 +9,14 @@ ghost use Rattle.ipfix_message.specs.Reading.{Gives, template_front, set_items, 
 ghost use Rattle.ipfix_message.specs.Shows.{AddsFront};
 
 use crate::decode_error::DecodeError;
-use crate::header::{HEADER_OCTETS, read_header};
+use crate::header::read_header;
 use crate::item::Item;
 use crate::octets::u16_at;
-use crate::templates::{LEAST_TEMPLATE_ID, OPTIONS_TEMPLATE_SET, TEMPLATE_SET, first_record};
+use crate::templates::first_record;
+use ipfix_octets::message_format::{
+    HEADER_OCTETS, LEAST_TEMPLATE_ID, OPTIONS_TEMPLATE_SET, SET_HEADER_OCTETS, TEMPLATE_SET,
+};
 use std::alloc::Global;
-
-/// The octets of a set header (RFC 7011, section 3.3.2).
-const SET_HEADER: usize = 4;
 
 /// What a message says, in the order of its octets.
 ///
@@ -30,7 +31,7 @@ pub fn items(alloc: Global, octets: &[u8]) -> Result<Vec<Item>, DecodeError>
     ensures exact { Gives (λ v. v.items) result (items_of octets.now) }
     // A fault of the header, and a message without sets, are answered without memory.
     ensures header { IfErr (read_header octets.now) (λ e. result ≡ Err e) }
-    ensures bare { IfOk (read_header octets.now) (λ _. length octets.now ≡ 16 → IsOk result) }
+    ensures bare { IfOk (read_header octets.now) (λ _. length octets.now ≡ header_octets → IsOk result) }
 {
     read_items(alloc, octets)
 }
@@ -39,7 +40,7 @@ pub fn items(alloc: Global, octets: &[u8]) -> Result<Vec<Item>, DecodeError>
 fn read_items(alloc: Global, octets: &[u8]) -> Result<Vec<Item>, DecodeError>
     ensures exact { Gives (λ v. v.items) result (items_of octets.now) }
     ensures header { IfErr (read_header octets.now) (λ e. result ≡ Err e) }
-    ensures bare { IfOk (read_header octets.now) (λ _. length octets.now ≡ 16 → IsOk result) }
+    ensures bare { IfOk (read_header octets.now) (λ _. length octets.now ≡ header_octets → IsOk result) }
 {
     read_header(octets)?;
     let mut items = Vec::new(alloc);
@@ -83,16 +84,16 @@ fn put_set<'a>(
     ensures adds { AddsFront items.old.items items.new.items result (set_front total octets.now) }
     ensures shorter { IfOk result (λ rest. length rest.now < length octets.now) }
 {
-    if octets.len() < SET_HEADER {
+    if octets.len() < SET_HEADER_OCTETS {
         return Err(DecodeError::BadSetLength);
     }
     let id = u16_at(octets, 0);
     let len = usize::from(u16_at(octets, 2));
-    if len < SET_HEADER || octets.len() < len {
+    if len < SET_HEADER_OCTETS || octets.len() < len {
         return Err(DecodeError::BadSetLength);
     }
-    let place = total - octets.len() + SET_HEADER;
-    put_content(alloc, id, place, &octets[SET_HEADER..len], items)?;
+    let place = total - octets.len() + SET_HEADER_OCTETS;
+    put_content(alloc, id, place, &octets[SET_HEADER_OCTETS..len], items)?;
     Ok(octets.split_at(len).1)
 }
 

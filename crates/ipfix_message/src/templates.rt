@@ -9,11 +9,11 @@ use crate::decode_error::DecodeError;
 use crate::item::Item;
 use crate::octets::{u16_at, u32_at};
 use ipfix_element::ElementId;
+use ipfix_octets::message_format::{
+    LEAST_TEMPLATE_ID, OPTIONS_TEMPLATE_SET, RECORD_HEADER_OCTETS, TEMPLATE_SET,
+};
 use ipfix_template::{FieldSpec, Fields, Refused, Template};
 use std::alloc::Global;
-
-/// The octets of a record without fields, and of the head of one with fields (RFC 7011, section 3.4.1).
-const RECORD_HEAD: usize = 4;
 
 /// The octets of a Field Specifier, and of one with an enterprise number (RFC 7011, section 3.2).
 const SPECIFIER: usize = 4;
@@ -22,15 +22,6 @@ const ENTERPRISE_SPECIFIER: usize = 8;
 
 /// The bit of an element number that says: an enterprise number follows (RFC 7011, section 3.2).
 const ENTERPRISE_BIT: u16 = 0x8000;
-
-/// The IDs of the sets that define templates, which as a record's ID withdraw all of them (RFC 7011,
-/// sections 3.3.2 and 8.1).
-pub(crate) const TEMPLATE_SET: u16 = 2;
-
-pub(crate) const OPTIONS_TEMPLATE_SET: u16 = 3;
-
-/// The least ID of a template, and so of a Data Set (RFC 7011, section 3.4.1).
-pub(crate) const LEAST_TEMPLATE_ID: u16 = 256;
 
 /// The Field Specifier at the front, and the octets after it.
 #[tactic(auto, unfolding(crate::specs::Reading::field_at))]
@@ -155,12 +146,12 @@ pub(crate) fn first_record(
 ) -> Result<Option<(Item, &[u8])>, DecodeError>
     ensures { ShowsFront result (template_front options octets.now) }
 {
-    if octets.len() < RECORD_HEAD {
+    if octets.len() < RECORD_HEADER_OCTETS {
         return Ok(None);
     }
     let id = u16_at(octets, 0);
     let count = u16_at(octets, 2);
-    let body = octets.split_at(RECORD_HEAD).1;
+    let body = octets.split_at(RECORD_HEADER_OCTETS).1;
     if count == 0 {
         return Ok(Some((bare(options, id), body)));
     }

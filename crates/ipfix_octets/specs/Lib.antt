@@ -1,3 +1,4 @@
 pub use Rattle.sequences.specs.Octets
 pub use Rattle.sequences.specs.Sequence
 pub mod Variable
+pub mod MessageFormat

@@ -1,4 +1,5 @@
-//! The octets of IPFIX: numbers in network byte order, and values of variable length (RFC 7011).
+//! The octets of IPFIX: numbers in network byte order, values of variable length, and the numbers of the message
+//! format (RFC 7011).
 //!
 //! The crates above read by `be_number` and `read_varlen`, and write values of variable length by `write_varlen`.
 //! Numbers of 2 and 4 octets are written, and read by the Framer, with std's `to_be_bytes` and `from_be_bytes`; all of
@@ -6,6 +7,7 @@
 //!
 //! - [`number`]: `be_number`, `write_be`, and the width `WIDEST`.
 //! - [`variable`]: `read_varlen`, `write_varlen`, `LONGEST_VALUE`, and the law `one_value`.
+//! - [`message_format`]: version, octets of headers, Set IDs and the least template ID; it is constants alone.
 //!
 //! Proved: `be_number` and `write_be` are exact (`value`, `ok`). `read_varlen` answers `None` exactly where no length
 //! and value stand at the front; else it finds the one value whose text stands there, in either form of a length
@@ -13,6 +15,7 @@
 //! leaves the `Vec` as it was (`err`), and none is refused where the `Vec` has room (`full`). Law: `one_value`.
 #![tactic(auto)]
 
+pub mod message_format;
 pub mod number;
 pub mod variable;
 

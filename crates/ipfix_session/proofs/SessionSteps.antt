@@ -12,12 +12,12 @@ use Rattle.ipfix_message.specs.declared.item.Item.{Item}
 use Rattle.ipfix_message.specs.Reading as reading
 use Rattle.ipfix_message.specs.Reading.{header_of, read_header, after_header, items_of}
 use Rattle.sequences.specs.Results.{◌>>=◌}
-use Rattle.sequences.proofs.ResultLaws.{same_Ok}
+use Rattle.sequences.proofs.ResultLaws.{same_Ok, fails_along}
 use Rattle.ipfix_message.proofs.ReadingSteps.{read_head}
 use Rattle.ipfix_session.specs.declared.read.Skips.{Skips}
 use Rattle.ipfix_session.specs.declared.read.Gap.{Gap}
 use Rattle.ipfix_session.specs.declared.read_error.ReadError.{ReadError}
-use Rattle.ipfix_session.specs.declared.read_error.ReadError.TheVariants.{Malformed, RecordOverrun, OutOfMemory}
+use Rattle.ipfix_session.specs.declared.read_error.ReadError.TheVariants.{Malformed}
 use Rattle.ipfix_session.specs.InForce.{template_in_force}
 use Rattle.ipfix_session.specs.Contents.{Contents, contents_after}
 use Rattle.ipfix_session.specs.Meaning.{domain_of, items_or_none, items_of_domain, read_items, contents_of, number_after, next_number, expected_number, gap_between, Meaning, gap_of, meaning_of}
@@ -28,7 +28,7 @@ use Rattle.ipfix_session.specs.ReadAhead.{Ahead, IsReadingOf}
 use Rattle.ipfix_session.specs.declared.domains.Domains.{Domains}
 use Rattle.ipfix_session.specs.Domains.{standing_of, session_of, held_in, Settles}
 use Rattle.ipfix_session.proofs.DomainSteps.{kept-held}
-use Rattle.ipfix_session.specs.Answers.{Fails, Gives, read_fault}
+use Rattle.ipfix_session.specs.Answers.{is_memory, Fails, Gives, read_fault}
 use Rattle.ipfix_session.specs.Settling.{contents_read, afterwards}
 
 -- ---- octets that are no message
@@ -103,9 +103,7 @@ unfolding meaning_of
 means_overrun older message said e is fails = rw (contents_are older message said is, fails) refl
 
 pub found_fault : (held : List (ℕ × Held)) (older : List (List ℕ)) (message : List ℕ) (h : Header) (said : List Item) (e : ReadError) → Found held older message h said → ((done : List Item) → Keeps (kept_of h.domain held).templates done → Fails e (contents_after done message said)) → Fails e (meaning_of older message)
-found_fault held older message h said OutOfMemory found fails = tt
-found_fault held older message h said RecordOverrun found fails = means_overrun older message said RecordOverrun found.items (fails (before older message) (keeps_before held older message h said found))
-found_fault held older message h said (Malformed d) found fails = means_overrun older message said (Malformed d) found.items (fails (before older message) (keeps_before held older message h said found))
+found_fault held older message h said e found fails = fails_along is_memory e (contents_after (before older message) message said) (meaning_of older message) (λ is. means_overrun older message said e found.items is) (fails (before older message) (keeps_before held older message h said found))
 
 abbrev meaning : Header → List DataRecord → Skips → Option Gap → Meaning
 meaning h records skips gap = record { header = h; records = records; skips = skips; gap = gap }

@@ -1,5 +1,6 @@
 -- What `apply` answers.
-use Rattle.std.specs.Prelude.{◌≡◌, Result, Ok, Err}
+use Rattle.std.specs.Prelude.{◌≡◌, Bool, true, false, Result, Ok, Err}
+use Rattle.sequences.specs.Results.{FailsBut, GivesBut}
 use Rattle.ipfix_message.specs.declared.decode_error.DecodeError.{DecodeError}
 use Rattle.ipfix_message.specs.declared.decode_error.DecodeError.TheVariants as decode
 use Rattle.ipfix_session.specs.declared.read.Read.{Read}
@@ -20,11 +21,15 @@ read_fault decode.TemplateOverrun = Malformed decode.TemplateOverrun
 abbrev pub shown : Read → Meaning
 shown r = record { header = r.header; records = r.records.items; skips = r.skips; gap = r.gap }
 
--- a fault is the one that is read; only want of memory says nothing
+-- only want of memory says nothing of the octets
+abbrev pub is_memory : ReadError → Bool
+is_memory OutOfMemory = true
+is_memory (Malformed why) = false
+is_memory RecordOverrun = false
+
+-- a fault is the one that is read
 abbrev pub Fails : {Y : Type 0} → ReadError → Result Y ReadError → Type 0
-Fails OutOfMemory read = Unit {0}
-Fails (Malformed why) read = read ≡ Err (Malformed why)
-Fails RecordOverrun read = read ≡ Err RecordOverrun
+Fails e read = FailsBut is_memory e read
 
 -- a header that is refused is answered by its fault, and by no other
 abbrev pub NamesFault : {X Y : Type 0} → Result X DecodeError → Result Y ReadError → Type 0
@@ -33,5 +38,4 @@ NamesFault (Err fault) answer = answer ≡ Err (read_fault fault)
 
 -- what is read is answered
 abbrev pub Gives : {X Y : Type 0} → (X → Y) → Result X ReadError → Result Y ReadError → Type 0
-Gives view (Ok x) read = read ≡ Ok (view x)
-Gives view (Err e) read = Fails e read
+Gives view answer read = GivesBut is_memory view answer read

@@ -4,6 +4,7 @@ use Rattle.std.specs.Ordering.{nat_cmp}
 use Rattle.std.specs.Map.{lookup}
 use Rattle.std.specs.BTreeMap.{is_at}
 use Rattle.std.specs.List.{AllByRecursion}
+use Rattle.ipfix_octets.specs.MessageFormat.{header_octets, set_header_octets, least_template_id}
 use Rattle.ipfix_template.specs.declared.template.Template.{Template}
 use Rattle.ipfix_template.specs.Template.{IsAccepted, is_options, template_record}
 use Rattle.ipfix_template.specs.DataRecord.{FitsOneMessage}
@@ -18,7 +19,7 @@ at_key key entries = lookup (is_at (nat_cmp key)) entries
 -- a template of which records may be made: it is accepted, and its record fits one message
 pub record IsKeepable (t : Template) : Type 0 where
   pub accepted : IsAccepted t
-  pub fits : FitsOneMessage (template_record 256 (is_options t) t)
+  pub fits : FitsOneMessage (template_record least_template_id (is_options t) t)
 
 -- each ID has the template that is in force after these items, newest first
 abbrev pub AreInForce : (ℕ → Option Template) → List Item → Type 0
@@ -32,7 +33,7 @@ Keeps kept items = AreInForce (λ id. at_key id kept) items
 -- headers of message and set
 abbrev pub StandsIn : ℕ → Item → Type 0
 StandsIn total (Define id t) = IsKeepable t
-StandsIn total (DataSet id start len) = (20 ≤ start) × (start + len ≤ total)
+StandsIn total (DataSet id start len) = (header_octets + set_header_octets ≤ start) × (start + len ≤ total)
 StandsIn total (Withdraw id) = Unit {0}
 StandsIn total (WithdrawAll options) = Unit {0}
 StandsIn total (Refused id why) = Unit {0}

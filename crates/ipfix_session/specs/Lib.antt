@@ -1,6 +1,8 @@
 pub use Rattle.ipfix_message.specs.Octets
 pub use Rattle.ipfix_message.specs.Sequence
+pub use Rattle.ipfix_message.specs.Results
 pub use Rattle.ipfix_message.specs.Variable
+pub use Rattle.ipfix_message.specs.MessageFormat
 pub use Rattle.ipfix_message.specs.Element
 pub use Rattle.ipfix_message.specs.Kinds
 pub use Rattle.ipfix_message.specs.Template

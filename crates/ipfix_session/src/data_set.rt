@@ -1,6 +1,7 @@
 //! The records of a Data Set.
-ghost use Rattle.std.specs.Prelude.{◌≡◌, ◌+◌, ◌≤◌, ◌<◌, length, IfOk, IfSome};
+ghost use Rattle.std.specs.Prelude.{◌≡◌, ◌≤◌, ◌<◌, length, IfOk, IfSome};
 ghost use Rattle.std.specs.Arc.{arc_value};
+ghost use Rattle.ipfix_template.specs.DataRecord.{FitsOneMessage};
 ghost use Rattle.ipfix_template.specs.Shown.{AreWithin, values_shown};
 ghost use Rattle.ipfix_session.specs.Keeping.{IsKeepable};
 ghost use Rattle.ipfix_session.specs.DataSets.{ShowsRecord, AddsRecords, Shortens};
@@ -23,7 +24,7 @@ pub(crate) fn read_set(
     records: &mut Vec<Record>,
 ) -> Result<(), ReadError>
     requires keepable { IsKeepable (arc_value template.now) }
-    requires fits { 20 + length content ≤ 65535 }
+    requires fits { FitsOneMessage content }
     ensures { AddsRecords (arc_value template.now) content records.old.items records.new.items result }
 {
     let mut rest = content;
@@ -40,7 +41,7 @@ fn first_record(
     rest: &mut Bytes,
 ) -> Result<Option<Record>, ReadError>
     requires keepable { IsKeepable (arc_value template.now) }
-    requires fits { 20 + length rest.old ≤ 65535 }
+    requires fits { FitsOneMessage rest.old }
     ensures shown { ShowsRecord (arc_value template.now) rest.old rest.new result }
     ensures shorter { Shortens rest.old rest.new result }
 {

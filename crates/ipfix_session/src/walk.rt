@@ -1,5 +1,6 @@
 //! The items of a message, one after another.
 ghost use Rattle.std.specs.Prelude.{◌≡◌, ◌+◌, ◌-◌, ◌≤◌, ◌<◌, ◌^◌, ◌++◌, ℕ, List, ◌∷◌, length, take, drop, reverse, IfOk, OnOk, None, Some, IsTrue, if◌then◌else◌, ◌==◌};
+ghost use Rattle.ipfix_octets.specs.MessageFormat.{header_octets, set_header_octets};
 ghost use Rattle.ipfix_message.specs.declared.item.Item.{Item};
 ghost use Rattle.ipfix_session.specs.Contents.{set_contents, item_contents, contents_after};
 ghost use Rattle.ipfix_session.specs.Keeping.{Keeps, AreInForce, StandsIn, StandIn};
@@ -118,7 +119,7 @@ fn read_data_set(
     state: &mut Walk,
 ) -> Result<(), ReadError>
     requires few { length message.now ≤ 65535 }
-    requires stands { (20 ≤ start) × (start + len ≤ length message.now) }
+    requires stands { (header_octets + set_header_octets ≤ start) × (start + len ≤ length message.now) }
     requires room { IsCounted state.old.skips (2 ^ 64 - 2) }
     ensures reads { Adds (contents_in state.old) (contents_in state.new)
         (set_contents (after state.old.changes base.now.templates id) (take len (drop start message.now))) result }

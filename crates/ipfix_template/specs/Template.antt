@@ -3,6 +3,7 @@
 use Rattle.std.specs.Prelude.{◌≡◌, ◌<◌, ◌^◌, ℕ, ◌+◌, Bool, true, false, List, ◌++◌, length, Option, Some, None, IfSome, nat_lt, ◌==◌, ◌||◌, if◌then◌else◌}
 use Rattle.std.specs.List.{sum_by, list_all, flat_map, AllByRecursion}
 use Rattle.ipfix_octets.specs.Octets.{be_octets}
+use Rattle.ipfix_octets.specs.MessageFormat.{least_template_id}
 use Rattle.ipfix_element.specs.Kinds.{kind_of, is_allowed_length}
 use Rattle.ipfix_template.specs.declared.field.FieldSpec.{FieldSpec}
 use Rattle.ipfix_template.specs.declared.template.Template.{Template}
@@ -32,7 +33,7 @@ has_bad_scope false t = nat_lt 0 t.scope
 -- the first reason to refuse a template of this ID, of an Options Template Set or of a Template Set
 unfoldable pub refusal_of : ℕ → Bool → Template → Option Refused
 refusal_of id options t =
-    if nat_lt id 256 then Some BadId
+    if nat_lt id least_template_id then Some BadId
     else if list_all has_allowed_length t.fields then
     (if has_bad_scope options t then Some BadScope
     else if shortest_record t == 0 then Some EmptyRecord
@@ -44,7 +45,7 @@ abbrev pub is_options : Template → Bool
 is_options t = nat_lt 0 t.scope
 
 abbrev pub IsAccepted : Template → Type 0
-IsAccepted t = refusal_of 256 (is_options t) t ≡ None
+IsAccepted t = refusal_of least_template_id (is_options t) t ≡ None
 
 -- an element number, its enterprise bit, the field's length, and the enterprise number where the bit is set
 abbrev pub specifier_of : Option ℕ → ℕ → ℕ → List ℕ

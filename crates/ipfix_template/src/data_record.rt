@@ -5,15 +5,19 @@ ghost use Rattle.std.specs.Arc.{arc_value};
 mod parts;
 
 use crate::field::{FieldSpec, Fields};
-use crate::template::{LEAST_TEMPLATE_ID, Template};
+use crate::template::Template;
 use bytes::Bytes;
+use ipfix_octets::message_format::{
+    HEADER_OCTETS, LEAST_TEMPLATE_ID, OPTIONS_RECORD_HEADER_OCTETS, RECORD_HEADER_OCTETS,
+    SET_HEADER_OCTETS,
+};
 use ipfix_octets::variable::LONGEST_VALUE;
 use std::marker::Model;
 use std::sync::Arc;
 
 /// The octets that one message has for a template record or a data record: 65,535 without the headers
 /// of the message and of a set (RFC 7011, sections 3.1 and 3.3.2).
-pub const RECORD_ROOM: usize = 65515;
+pub const RECORD_ROOM: usize = 65535 - HEADER_OCTETS - SET_HEADER_OCTETS;
 
 /// A record's values, in the order of its template's fields. Contracts see the list.
 #[derive(Debug, Drop)]
@@ -63,7 +67,7 @@ impl Values {
 }
 
 /// A Data Record with its template (RFC 7011, section 3.4.3). Its type keeps that the template passes
-/// [`Template::check`] (under the ID 256, as an options template where it has scope fields), that there
+/// [`Template::check`] (under the least ID, as an options template where it has scope fields), that there
 /// is a value that fits for each field, and that template and record each fit one message. Records of
 /// one Data Set share their template.
 #[derive(Drop)]
@@ -137,6 +141,7 @@ impl Record {
 
 ghost use Rattle.ipfix_template.specs.DataRecord.{IsSound};
 ghost use Rattle.std.specs.List.{flat_map};
+ghost use Rattle.ipfix_octets.specs.MessageFormat.{least_template_id};
 ghost use Rattle.ipfix_template.specs.Template.{is_options, specifier, template_record};
 ghost use Rattle.ipfix_template.specs.Values.{fits_field, fit_fields, value_text, record_text};
 
@@ -156,13 +161,13 @@ fn is_record(template: &Template, values: &[Bytes]) -> bool
 /// The octets of the template's record.
 #[tactic(auto, using(crate::proofs::Encoding::octets_of_record))]
 fn template_octets(template: &Template) -> usize
-    ensures { result ≡ length (template_record 256 (is_options template.now) template.now) }
+    ensures { result ≡ length (template_record least_template_id (is_options template.now) template.now) }
 {
     let specifiers = specifier_octets(template.fields.as_slice());
     if template.is_options() {
-        6 + specifiers
+        OPTIONS_RECORD_HEADER_OCTETS + specifiers
     } else {
-        4 + specifiers
+        RECORD_HEADER_OCTETS + specifiers
     }
 }
 

@@ -3,10 +3,8 @@ ghost use Rattle.std.specs.Prelude.{◌≡◌, ◌≤◌, length, Some, None, Ma
 ghost use Rattle.std.specs.List.{list_all, sum_by};
 
 use crate::field::{FieldSpec, Fields};
+use ipfix_octets::message_format::LEAST_TEMPLATE_ID;
 use thiserror::Error;
-
-/// The least ID of a template, and so of a Data Set (RFC 7011, section 3.4.1).
-pub const LEAST_TEMPLATE_ID: u16 = 256;
 
 /// Why a template is refused. Where several reasons stand, the first of this list is named.
 #[derive(Clone, Copy, Debug, PartialEq, Eq, Error)]

@@ -4,7 +4,7 @@ use Rattle.flow_prefix.specs.Reading.{cut_at}
 use Rattle.flow_prefix.proofs.PartsLaws.{slice_split-cut, slice_split-whole}
 use Rattle.sequences.specs.Results.{◌>>=◌}
 use Rattle.policy_text.specs.declared.fault.FaultKind.{FaultKind}
-use Rattle.policy_text.specs.declared.fault.FaultKind.TheVariants.{NoHeader, UnknownWord, BadName, BadNumber, BadPrefix, BadTruncate, UnknownAggregate, DoubleAggregate, BadKey, TooMany, OutOfMemory}
+use Rattle.policy_text.specs.declared.fault.FaultKind.TheVariants.{NoHeader}
 use Rattle.policy_text.specs.declared.fault.PolicyFault.{PolicyFault}
 use Rattle.policy_text.specs.Words.{words_of, lines_of, is_skipped}
 use Rattle.policy_text.specs.Policies.{Meaning, nothing}
@@ -62,17 +62,11 @@ Reports fault read = MatchBool (is_memory fault.kind) (fault.line ≡ 0) (read �
 
 -- a line's fault is that of the text
 pub reports-line : (kind : FaultKind) (n : ℕ) (r : Result (Bool × Meaning) FaultKind) (f : Bool × Meaning → Result Meaning PolicyFault) → Fails kind r → Reports (fault_at n kind) (then_read (at_line n r) f)
-reports-line NoHeader n r f e = ap (λ x. then_read (at_line n x) f) e
-reports-line UnknownWord n r f e = ap (λ x. then_read (at_line n x) f) e
-reports-line BadName n r f e = ap (λ x. then_read (at_line n x) f) e
-reports-line BadNumber n r f e = ap (λ x. then_read (at_line n x) f) e
-reports-line BadPrefix n r f e = ap (λ x. then_read (at_line n x) f) e
-reports-line BadTruncate n r f e = ap (λ x. then_read (at_line n x) f) e
-reports-line UnknownAggregate n r f e = ap (λ x. then_read (at_line n x) f) e
-reports-line DoubleAggregate n r f e = ap (λ x. then_read (at_line n x) f) e
-reports-line BadKey n r f e = ap (λ x. then_read (at_line n x) f) e
-reports-line TooMany n r f e = ap (λ x. then_read (at_line n x) f) e
-reports-line OutOfMemory n r f e = refl
+reports-line kind n r f fails = by_test (is_memory kind) fails
+  where
+    by_test : (b : Bool) → MatchBool b (Unit {0}) (r ≡ Err kind) → MatchBool b (cond b 0 n ≡ 0) (then_read (at_line n r) f ≡ Err (record { line = cond b 0 n; kind = kind }))
+    by_test true e = refl
+    by_test false e = ap (λ x. then_read (at_line n x) f) e
 
 pub Reports-same : (fault : PolicyFault) (r s : Result Meaning PolicyFault) → r ≡ s → Reports fault s → Reports fault r
 Reports-same fault r s e h = by_test (is_memory fault.kind) h

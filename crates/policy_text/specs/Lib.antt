@@ -1,3 +1,4 @@
+pub use Rattle.sequences.specs.Results as Steps
 pub use Rattle.ipfix_element.specs.Element
 pub use Rattle.ipfix_element.specs.Kinds
 pub use Rattle.ipfix_element.specs.Registry

@@ -1,5 +1,6 @@
 -- Results of reading, and what a function returned against them.
 use Rattle.std.specs.Prelude.{◌≡◌, ℕ, Bool, true, false, Option, Some, None, Result, Ok, Err, MatchBool, if◌then◌else◌}
+use Rattle.sequences.specs.Results.{FailsBut, GivesBut}
 use Rattle.policy_text.specs.declared.fault.FaultKind.{FaultKind}
 use Rattle.policy_text.specs.declared.fault.FaultKind.TheVariants.{NoHeader, UnknownWord, BadName, BadNumber, BadPrefix, BadTruncate, UnknownAggregate, DoubleAggregate, BadKey, TooMany, OutOfMemory}
 use Rattle.policy_text.specs.declared.fault.PolicyFault.{PolicyFault}
@@ -24,22 +25,11 @@ is_memory OutOfMemory = true
 
 -- the fault is the one that reading gives, unless memory ran out
 abbrev pub Fails : {Y : Type 0} → FaultKind → Result Y FaultKind → Type 0
-Fails NoHeader read = read ≡ Err NoHeader
-Fails UnknownWord read = read ≡ Err UnknownWord
-Fails BadName read = read ≡ Err BadName
-Fails BadNumber read = read ≡ Err BadNumber
-Fails BadPrefix read = read ≡ Err BadPrefix
-Fails BadTruncate read = read ≡ Err BadTruncate
-Fails UnknownAggregate read = read ≡ Err UnknownAggregate
-Fails DoubleAggregate read = read ≡ Err DoubleAggregate
-Fails BadKey read = read ≡ Err BadKey
-Fails TooMany read = read ≡ Err TooMany
-Fails OutOfMemory read = Unit {0}
+Fails kind read = FailsBut is_memory kind read
 
 -- what a function returned, seen by view, is what reading gives
 abbrev pub Gives : {X Y : Type 0} → (X → Y) → Result X FaultKind → Result Y FaultKind → Type 0
-Gives view (Ok x) read = read ≡ Ok (view x)
-Gives view (Err kind) read = Fails kind read
+Gives view answer read = GivesBut is_memory view answer read
 
 -- the same of a policy's text; where memory ran out the line is 0
 abbrev pub Parses : {X Y : Type 0} → (X → Y) → Result X PolicyFault → Result Y PolicyFault → Type 0

@@ -2,7 +2,8 @@
 //!
 //! - `specs/Octets`: numbers in network byte order.
 //! - `specs/Sequence`: items that stand one after another in octets (`read_all` over a `Front`).
-//! - `specs/Options`, `specs/Results`: steps that may give nothing, or fail, one after another (`>>=`).
+//! - `specs/Options`, `specs/Results`: steps that may give nothing, or fail, one after another (`>>=`); what a
+//!   function returned against what reading gives, where want of memory says nothing (`GivesBut`).
 //! - `specs/Before`: what each entry of a history gives, from the entries before it
 //!   (`each_with_before`), and the last value that something had (`last_of`).
 //! - [`laws`]: a list with one entry more gives what the list gives, and then what this entry gives after all of it

@@ -1,3 +1,4 @@
+pub use Rattle.subscriber_stream.specs.MessageFormat
 pub use Rattle.subscriber_stream.specs.Shapes
 pub use Rattle.subscriber_stream.specs.Parts
 pub use Rattle.subscriber_stream.specs.Message

@@ -1,6 +1,7 @@
 -- What a stream is given, and the messages that it gives.
 use Rattle.std.specs.Prelude.{◌≤◌, ◌<◌, ◌^◌, ℕ, List, [], ◌∷◌, length, map, Option, Some, None}
 use Rattle.std.specs.List.{AllByRecursion, flat_map}
+use Rattle.ipfix_octets.specs.MessageFormat.{least_template_id}
 use Rattle.ipfix_template.specs.Template.{IsWritable, is_options}
 use Rattle.ipfix_template.specs.DataRecord.{DataRecord, IsSound}
 use Rattle.subscriber_stream.specs.Shapes.{shapes_of}
@@ -10,7 +11,7 @@ use Rattle.subscriber_stream.specs.Calls.{Pull, Call, Given, Pulled, pulls_of, o
 -- a sound record, the numbers of whose template fit the octets that they are written in
 pub record IsStreamable (r : DataRecord) : Type 0 where
   pub sound : IsSound r
-  pub writable : IsWritable 256 (is_options r.template) r.template
+  pub writable : IsWritable least_template_id (is_options r.template) r.template
 
 -- records that one stream can announce: there are IDs from 256 to 65,535
 pub record AreStreamable (records : List DataRecord) : Type 0 where

@@ -1,6 +1,7 @@
 //! That records may be streamed, as their types keep it.
 ghost use Rattle.std.specs.Prelude.{◌≡◌, ◌≤◌, length};
 ghost use Rattle.std.specs.List.{AllByRecursion};
+ghost use Rattle.ipfix_octets.specs.MessageFormat.{least_template_id};
 ghost use Rattle.ipfix_template.specs.Template.{is_options, IsAccepted, IsSpecifier, IsWritable};
 ghost use Rattle.ipfix_template.specs.DataRecord.{DataRecord};
 ghost use Rattle.stream_meaning.specs.Served.{IsStreamable};
@@ -26,7 +27,7 @@ pub fn see_record(next: &Record)
 
 fn see_template(template: &Template)
     requires { IsAccepted template.now }
-    ensures { IsWritable 256 (is_options template.now) template.now }
+    ensures { IsWritable least_template_id (is_options template.now) template.now }
 {
     let _scope = template.scope;
     see_fields(template.fields.as_slice());

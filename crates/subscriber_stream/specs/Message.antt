@@ -3,6 +3,7 @@
 use Rattle.std.specs.Prelude.{ℕ, suc, zero, ◌+◌, ◌%◌, ◌^◌, Bool, ◌==◌, nat_le, max, List, [], ◌∷◌, ◌++◌, length, take, drop, Option, Some, None, if◌then◌else◌}
 use Rattle.std.specs.List.{flat_map}
 use Rattle.sequences.specs.Octets.{be_octets}
+use Rattle.ipfix_octets.specs.MessageFormat.{ipfix_version, header_octets, set_header_octets, template_set_id, options_template_set_id}
 use Rattle.ipfix_template.specs.declared.template.Template.{Template}
 use Rattle.ipfix_template.specs.DataRecord.{DataRecord}
 use Rattle.ipfix_template.specs.Template.{is_options, template_record}
@@ -26,9 +27,9 @@ sets_of [] = []
 sets_of (Announcement id shape ∷ ps) = Announces id shape ∷ sets_of ps
 sets_of (Entry id r ∷ ps) = with_record id r (sets_of ps)
 
--- Set ID 2 is a Template Set, 3 an Options Template Set (RFC 7011, section 3.3.2)
+-- the Set ID of the set that announces a template (RFC 7011, section 3.3.2)
 abbrev pub template_set : Template → ℕ
-template_set shape = if is_options shape then 3 else 2
+template_set shape = if is_options shape then options_template_set_id else template_set_id
 
 abbrev pub set_id : Set → ℕ
 set_id (Announces id shape) = template_set shape
@@ -40,7 +41,7 @@ set_content (Brings id rs) = flat_map (λ r. record_text r.template.fields r.val
 
 -- a set's header: its ID, and its length with the header (RFC 7011, section 3.3.2)
 unfoldable pub set_head : ℕ → ℕ → List ℕ
-set_head id octets = be_octets 2 id ++ be_octets 2 (4 + octets)
+set_head id octets = be_octets 2 id ++ be_octets 2 (set_header_octets + octets)
 
 -- the header and the content, without padding
 abbrev pub set_text : Set → List ℕ
@@ -49,9 +50,9 @@ set_text s = set_head (set_id s) (length (set_content s)) ++ set_content s
 unfoldable pub body : List Part → List ℕ
 body ps = flat_map set_text (sets_of ps)
 
--- version 10, length, Export Time, Sequence Number, Observation Domain 0, and the sets
+-- the version of IPFIX, length, Export Time, Sequence Number, Observation Domain 0, and the sets
 unfoldable pub message : ℕ → ℕ → List Part → List ℕ
-message now sequence ps = be_octets 2 10 ++ be_octets 2 (16 + length (body ps)) ++ be_octets 4 now ++ be_octets 4 (sequence % 2 ^ 32) ++ be_octets 4 0 ++ body ps
+message now sequence ps = be_octets 2 ipfix_version ++ be_octets 2 (header_octets + length (body ps)) ++ be_octets 4 now ++ be_octets 4 (sequence % 2 ^ 32) ++ be_octets 4 0 ++ body ps
 
 -- the greatest number up to n that passes, or 0
 abbrev pub last_passing : (ℕ → Bool) → ℕ → ℕ

@@ -3,6 +3,7 @@
 use Rattle.std.specs.Prelude.{ℕ, ◌+◌, Bool, not, List, [], ◌∷◌, ◌++◌, filter, if◌then◌else◌}
 use Rattle.std.specs.List.{list_any, position_or_len}
 use Rattle.sequences.specs.Before.{each_with_before}
+use Rattle.ipfix_octets.specs.MessageFormat.{least_template_id}
 use Rattle.ipfix_template.specs.declared.template.Template.{Template}
 use Rattle.ipfix_template.specs.Equality.{same_template}
 use Rattle.ipfix_template.specs.DataRecord.{DataRecord}
@@ -30,6 +31,6 @@ shapes_of records = each_with_before first_use records
 unfoldable pub shapes_after : List Template → List DataRecord → List Template
 shapes_after shapes records = shapes ++ filter (λ shape. not (is_among shape shapes)) (shapes_of records)
 
--- the ID of a shape: 256 and its place among the shapes, or their number where it is not among them
+-- the ID of a shape: the least one and its place among the shapes, or their number where it is not among them
 abbrev pub id_of : Template → List Template → ℕ
-id_of shape shapes = 256 + position_or_len (same_template shape) shapes
+id_of shape shapes = least_template_id + position_or_len (same_template shape) shapes

@@ -1,5 +1,6 @@
 -- What waits in a stream's queue, and what it adds to a message. A part names its template by the ID alone.
 use Rattle.std.specs.Prelude.{◌≡◌, ◌≤◌, ◌<◌, ℕ, suc, ◌+◌, ◌-◌, Bool, true, false, ◌==◌, nat_le, List, [], ◌∷◌, ◌++◌, length, map, slice_index_or, Option, Some, None, if◌then◌else◌}
+use Rattle.ipfix_octets.specs.MessageFormat.{set_header_octets, least_template_id}
 use Rattle.ipfix_template.specs.declared.template.Template.{Template}
 use Rattle.ipfix_template.specs.Template.{IsAccepted, is_options, template_record}
 use Rattle.ipfix_template.specs.Values.{fit_fields, record_text}
@@ -10,7 +11,7 @@ use Rattle.subscriber_stream.specs.Message.{template_set, set_head}
 
 -- the template of an ID
 abbrev pub shape_at : List Template → ℕ → Template
-shape_at shapes id = slice_index_or shapes (id - 256) (record { fields = []; scope = 0 })
+shape_at shapes id = slice_index_or shapes (id - least_template_id) (record { fields = []; scope = 0 })
 
 abbrev pub part_of : List Template → Waiting → Part
 part_of shapes (Announce id octets) = Announcement id (shape_at shapes id)
@@ -21,16 +22,16 @@ parts_of shapes ws = map (part_of shapes) ws
 
 -- the ID has a template, and the octets are those of the template's record
 pub record IsAnnouncement (shapes : List Template) (id octets : ℕ) : Type 0 where
-  pub low : 256 ≤ id
-  pub known : id < 256 + length shapes
+  pub low : least_template_id ≤ id
+  pub known : id < least_template_id + length shapes
   pub accepted : IsAccepted (shape_at shapes id)
-  pub counted : octets ≡ length (template_record 256 (is_options (shape_at shapes id)) (shape_at shapes id))
+  pub counted : octets ≡ length (template_record least_template_id (is_options (shape_at shapes id)) (shape_at shapes id))
   pub few : octets ≤ 65515
 
 -- the ID has a template that the values fit, and the octets are theirs
 pub record IsEntry (shapes : List Template) (id octets : ℕ) (values : List (List ℕ)) : Type 0 where
-  pub low : 256 ≤ id
-  pub known : id < 256 + length shapes
+  pub low : least_template_id ≤ id
+  pub known : id < least_template_id + length shapes
   pub fit : fit_fields (shape_at shapes id).fields values ≡ true
   pub counted : octets ≡ length (record_text (shape_at shapes id).fields values)
   pub few : octets ≤ 65515
@@ -77,8 +78,8 @@ data_set (Announce id octets) = None
 data_set (Bring id octets values) = Some id
 
 abbrev pub cost : Option ℕ → Waiting → ℕ
-cost last (Announce id octets) = 4 + octets
-cost last (Bring id octets values) = if joins last id then octets else 4 + octets
+cost last (Announce id octets) = set_header_octets + octets
+cost last (Bring id octets values) = if joins last id then octets else set_header_octets + octets
 
 abbrev pub total : Option ℕ → List Waiting → ℕ
 total last [] = 0

@@ -1,13 +1,12 @@
 //! How many parts a message takes.
 ghost use Rattle.std.specs.Prelude.{◌≡◌, ◌≤◌, ◌<◌, ◌+◌, max, take, length, slice_index_or, None};
+ghost use Rattle.ipfix_octets.specs.MessageFormat.{header_octets};
 ghost use Rattle.subscriber_stream.specs.declared.waiting.Waiting.{Waiting};
 ghost use Rattle.subscriber_stream.specs.Waiting.{cost, fits, total};
 
 use crate::waiting::Waiting;
+use ipfix_octets::message_format::HEADER_OCTETS;
 use std::collections::VecDeque;
-
-/// The octets of a message header (RFC 7011, section 3.1).
-pub(crate) const HEADER_OCTETS: usize = 16;
 
 /// The parts that a message takes, and the octets that it has.
 #[derive(Clone, Copy)]
@@ -21,8 +20,8 @@ pub(crate) struct Run {
 pub(crate) fn fitting(queue: &VecDeque<Waiting>, target: u16) -> Run
     requires some { 0 < length queue.now.items }
     requires first { (w : Waiting) → cost None (slice_index_or queue.now.items 0 w) ≤ 65519 }
-    ensures parts { result.parts ≡ max 1 (fits target None 16 queue.now.items) }
-    ensures octets { result.octets ≡ 16 + total None (take result.parts queue.now.items) }
+    ensures parts { result.parts ≡ max 1 (fits target None header_octets queue.now.items) }
+    ensures octets { result.octets ≡ header_octets + total None (take result.parts queue.now.items) }
     ensures within { result.parts ≤ length queue.now.items }
     ensures small { result.octets ≤ 65535 }
 {
@@ -38,8 +37,8 @@ pub(crate) fn fitting(queue: &VecDeque<Waiting>, target: u16) -> Run
 
 /// The longest run of parts from the front whose message is at most `target` octets long; it may be empty.
 fn whole_run(queue: &VecDeque<Waiting>, target: u16) -> Run
-    ensures parts { result.parts ≡ fits target None 16 queue.now.items }
-    ensures octets { result.octets ≡ 16 + total None (take result.parts queue.now.items) }
+    ensures parts { result.parts ≡ fits target None header_octets queue.now.items }
+    ensures octets { result.octets ≡ header_octets + total None (take result.parts queue.now.items) }
     ensures within { result.parts ≤ length queue.now.items }
     ensures small { result.octets ≤ 65535 }
 {

@@ -1,6 +1,7 @@
 //! The stream of one subscriber.
 ghost use Rattle.std.specs.Prelude.{◌≡◌, ◌≤◌, ◌<◌, ◌+◌, ◌*◌, ◌^◌, ◌↔◌, ◌++◌, ℕ, List, [], length, IsTrue, IsNone, IsOk, IfOk, OnOk, OnErr};
 ghost use Rattle.std.specs.VecDeque.{deque_capacity};
+ghost use Rattle.ipfix_octets.specs.MessageFormat.{least_template_id};
 ghost use Rattle.ipfix_template.specs.DataRecord.{DataRecord};
 ghost use Rattle.subscriber_stream.specs.declared.limits.TheConstants.{MOST_SHAPES};
 
@@ -10,8 +11,9 @@ use crate::pull_error::PullError;
 use crate::room::has_shape_room;
 use crate::shape_table::ShapeTable;
 use crate::waiting::{Waiting, put_waiting};
-use crate::writing::{LEAST_TEMPLATE_ID, message_of};
+use crate::writing::message_of;
 use bytes::Bytes;
+use ipfix_octets::message_format::LEAST_TEMPLATE_ID;
 use ipfix_template::Record;
 use std::alloc::{AllocError, Global};
 use std::collections::VecDeque;
@@ -59,7 +61,7 @@ impl Stream {
         ensures value { result ≡ record { standing = at_start; limits = limits; spare = 0 } }
         ensures stands { StandsAt result.standing [] 0 }
         // Each ID from 256 to 65,535 is one that a template can have (RFC 7011, section 3.4.1).
-        ensures ids { 256 + MOST_SHAPES ≡ 2 ^ 16 }
+        ensures ids { least_template_id + MOST_SHAPES ≡ 2 ^ 16 }
     {
         Stream {
             alloc,

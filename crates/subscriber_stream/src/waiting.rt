@@ -2,6 +2,7 @@
 ghost use Rattle.std.specs.Prelude.{◌≡◌, ◌+◌, ◌≤◌, ◌++◌, length};
 ghost use Rattle.std.specs.VecDeque.{deque_capacity};
 
+use ipfix_octets::message_format::SET_HEADER_OCTETS;
 use ipfix_template::Values;
 use std::collections::VecDeque;
 
@@ -21,9 +22,6 @@ pub(crate) enum Waiting {
     },
 }
 
-/// The octets of a set's header (RFC 7011, section 3.3.2).
-pub(crate) const SET_HEADER: usize = 4;
-
 impl Waiting {
     ghost use Rattle.subscriber_stream.specs.Waiting.{cost, data_set};
 
@@ -33,12 +31,12 @@ impl Waiting {
         ensures few { result ≤ 65539 }
     {
         match self {
-            Waiting::Announce { octets, .. } => SET_HEADER + usize::from(*octets),
+            Waiting::Announce { octets, .. } => SET_HEADER_OCTETS + usize::from(*octets),
             Waiting::Bring { id, octets, .. } => {
                 if joins(last, *id) {
                     usize::from(*octets)
                 } else {
-                    SET_HEADER + usize::from(*octets)
+                    SET_HEADER_OCTETS + usize::from(*octets)
                 }
             }
         }

@@ -1,28 +1,20 @@
 //! The octets of a message.
 ghost use Rattle.std.specs.Prelude.{◌≡◌, ◌≤◌, ◌<◌, ◌+◌, ◌^◌, ◌%◌, ◌++◌, length, drop, take, IfOk, OnOk, None};
 ghost use Rattle.sequences.specs.Octets.{be_octets};
+ghost use Rattle.ipfix_octets.specs.MessageFormat.{ipfix_version, header_octets, least_template_id};
 ghost use Rattle.subscriber_stream.specs.Message.{message, set_head, template_set};
 ghost use Rattle.subscriber_stream.specs.Waiting.{AreKept, parts_of, data_set, total, run, piece, pieces};
 
 use crate::fitting::Run;
 use crate::shape_table::ShapeTable;
-use crate::waiting::{SET_HEADER, Waiting, joins};
+use crate::waiting::{Waiting, joins};
 use bytes::Bytes;
+use ipfix_octets::message_format::{
+    IPFIX_VERSION, LEAST_TEMPLATE_ID, OPTIONS_TEMPLATE_SET, SET_HEADER_OCTETS, TEMPLATE_SET,
+};
 use ipfix_template::{Template, encode_template, encode_values};
 use std::alloc::{AllocError, Global};
 use std::collections::VecDeque;
-
-/// The version of IPFIX messages (RFC 7011, section 3.1).
-const VERSION: u16 = 10;
-
-/// The Set ID of a Template Set (RFC 7011, section 3.3.2).
-const TEMPLATE_SET: u16 = 2;
-
-/// The Set ID of an Options Template Set (RFC 7011, section 3.3.2).
-const OPTIONS_TEMPLATE_SET: u16 = 3;
-
-/// The least ID of a template (RFC 7011, section 3.4.1).
-pub(crate) const LEAST_TEMPLATE_ID: u16 = 256;
 
 /// The message of a run of parts, of which the first stand at the front of the queue.
 ///
@@ -38,7 +30,7 @@ pub(crate) fn message_of(
 ) -> Result<Bytes, AllocError>
     requires kept { AreKept shapes.now.shapes queue.now.items }
     requires within { whole.parts ≤ length queue.now.items }
-    requires octets { whole.octets ≡ 16 + total None (take whole.parts queue.now.items) }
+    requires octets { whole.octets ≡ header_octets + total None (take whole.parts queue.now.items) }
     requires fits { whole.octets ≤ 65535 }
     ensures { IfOk result (λ m. m ≡ message now handed (parts_of shapes.now.shapes (take whole.parts queue.now.items))) }
 {
@@ -52,9 +44,9 @@ pub(crate) fn message_of(
 /// (RFC 7011, section 3.1).
 fn put_header(octets: usize, now: u32, sequence: u32, out: &mut Vec<u8>) -> Result<(), AllocError>
     requires { octets ≤ 65535 }
-    ensures { OnOk result (out.new.items ≡ out.old.items ++ (be_octets 2 10 ++ be_octets 2 octets ++ be_octets 4 now ++ be_octets 4 sequence ++ be_octets 4 0)) }
+    ensures { OnOk result (out.new.items ≡ out.old.items ++ (be_octets 2 ipfix_version ++ be_octets 2 octets ++ be_octets 4 now ++ be_octets 4 sequence ++ be_octets 4 0)) }
 {
-    let [a, b] = VERSION.to_be_bytes();
+    let [a, b] = IPFIX_VERSION.to_be_bytes();
     let [c, d] = (octets as u16).to_be_bytes();
     let [e, f, g, h] = now.to_be_bytes();
     let [i, j, k, l] = sequence.to_be_bytes();
@@ -116,8 +108,8 @@ ghost use Rattle.ipfix_template.specs.Template.{refusal_of, is_options, template
 
 /// The template of an ID.
 fn shape_of(shapes: &ShapeTable, id: u16) -> &Template
-    requires low { 256 ≤ id }
-    requires known { id < 256 + length shapes.now.shapes }
+    requires low { least_template_id ≤ id }
+    requires known { id < least_template_id + length shapes.now.shapes }
     ensures { result.now ≡ shape_at shapes.now.shapes id }
 {
     shapes.shape(usize::from(id - LEAST_TEMPLATE_ID))
@@ -146,7 +138,7 @@ fn put_head(id: u16, octets: usize, out: &mut Vec<u8>) -> Result<(), AllocError>
     ensures { OnOk result (out.new.items ≡ out.old.items ++ set_head id octets) }
 {
     let [a, b] = id.to_be_bytes();
-    let [c, d] = ((SET_HEADER + octets) as u16).to_be_bytes();
+    let [c, d] = ((SET_HEADER_OCTETS + octets) as u16).to_be_bytes();
     out.extend_from_slice(&[a, b, c, d])
 }
 

@@ -4,12 +4,7 @@ ghost use Rattle.sequences.specs.Octets.{number_at};
 ghost use Rattle.ipfix_message.specs.Fronts.{IsFront, IsExtent};
 
 use crate::FrameError;
-
-/// The version of IPFIX.
-const IPFIX_VERSION: u16 = 10;
-
-/// The octets of a message header.
-const HEADER_OCTETS: usize = 16;
+use ipfix_octets::message_format::{HEADER_OCTETS, IPFIX_VERSION};
 
 /// The octets at the front of a header that hold its version and its length.
 const JUDGED_OCTETS: usize = 4;

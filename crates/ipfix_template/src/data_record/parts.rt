@@ -7,6 +7,7 @@ use crate::template::Template;
 use std::sync::Arc;
 
 impl Record {
+    ghost use Rattle.ipfix_octets.specs.MessageFormat.{least_template_id};
     ghost use Rattle.ipfix_template.specs.DataRecord.{IsSound};
     ghost use Rattle.ipfix_template.specs.Template.{is_options, template_record};
     ghost use Rattle.ipfix_template.specs.Values.{record_text};
@@ -40,7 +41,7 @@ impl Record {
 
     /// The octets of what `encode_template` appends for the record's template, at most [`RECORD_ROOM`].
     pub fn template_octets(&self) -> usize
-        ensures exact { result ≡ length (template_record 256 (is_options self.now.template) self.now.template) }
+        ensures exact { result ≡ length (template_record least_template_id (is_options self.now.template) self.now.template) }
         ensures fits { result ≤ RECORD_ROOM }
     {
         template_octets(self.template())

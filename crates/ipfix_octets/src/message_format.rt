@@ -1,0 +1,26 @@
+//! The numbers of the message format (RFC 7011, section 3).
+
+/// The Version Number of IPFIX (RFC 7011, section 3.1).
+pub const IPFIX_VERSION: u16 = 10;
+
+/// The octets of a message header (RFC 7011, section 3.1).
+pub const HEADER_OCTETS: usize = 16;
+
+/// The octets of a set header (RFC 7011, section 3.3.2).
+pub const SET_HEADER_OCTETS: usize = 4;
+
+/// The octets of a template record's header: ID and Field Count (RFC 7011, section 3.4.1).
+pub const RECORD_HEADER_OCTETS: usize = 4;
+
+/// The octets of an options template record's header, which has a Scope Field Count too (RFC 7011, section 3.4.2.2).
+pub const OPTIONS_RECORD_HEADER_OCTETS: usize = 6;
+
+/// The Set ID of a Template Set, which as a record's ID withdraws all templates (RFC 7011, sections 3.3.2 and 8.1).
+pub const TEMPLATE_SET: u16 = 2;
+
+/// The Set ID of an Options Template Set, which as a record's ID withdraws all options templates (RFC 7011,
+/// sections 3.3.2 and 8.1).
+pub const OPTIONS_TEMPLATE_SET: u16 = 3;
+
+/// The least ID of a template, and so of a Data Set (RFC 7011, sections 3.3.2 and 3.4.1).
+pub const LEAST_TEMPLATE_ID: u16 = 256;
