@@ -5,6 +5,22 @@
 //! - `transcript`: [`run`], a list of calls on a new mediator, and its [`Transcript`]; [`Call`] and [`Reply`] are calls and
 //!   answers as values (`mediator_calls`).
 //! - `laws`: what never matters to what a subscription is disclosed.
+//!
+//! Proved of each call, by what contracts see of a mediator (its history, the places of its live subscriptions, how many
+//! audit entries were drained, its limits): an accepted call answers what the history says and goes on with just its
+//! entry, behind just the cuts that it makes (`ok`); a refused one changes nothing (`same`), and its fault is the first
+//! cause that stands (`err`). `journal` is the history (`entries`), and every mediator keeps that what is disclosed can be
+//! streamed and that no place or drained count is past its end (`sound`): its type keeps that its state stands for its
+//! journal.
+//!
+//! Proved of [`run`], for every list of calls and any limits that are allowed, without a clock: each reply is that of its
+//! call, one after another from a mediator before any call (`steps`); the history's entries are those of the accepted
+//! calls, in order, beside the cuts (`history`); what a live subscription was handed, with the messages of any further
+//! pulls up to one that gives none, means by RFC 7011 exactly what the history discloses to it, and each Sequence Number
+//! counts the records before it (`disclosed`); of one that ended, a front of that (`front`); the audit entries that were
+//! drained, with those that wait, are the audit list (`audited`); a subscription's answers are built from its pulls, each
+//! with what was disclosed to it by then (`secret`). What is disclosed stays the same where rules that name others are left
+//! out of edits, entries of others out of the history, or where values that are denied change (`laws`).
 #![tactic(auto)]
 
 mod laws;

@@ -1,9 +1,9 @@
-//! Tests of the mediator's state over a journal and over a tally, side by side. Nothing else is here, and no crate stands on
-//! it.
+//! Tests of the mediator's state over a journal and over a tally, side by side, and of a mediator's run. Nothing else is here,
+//! and no crate stands on it.
 //!
 //! - `cases`: the calls of each worked case, with what they must answer; `octets`: the messages in them.
 //! - `calls`: each call, made again where memory is refused.
-//! - `worked`: the cases, carried out.
+//! - `worked`: the cases, carried out; `runs`: the same as lists of calls on a mediator.
 #![tactic(auto)]
 
 #[cfg(test)]
@@ -12,5 +12,7 @@ mod calls;
 mod cases;
 #[cfg(test)]
 mod octets;
+#[cfg(test)]
+mod runs;
 #[cfg(test)]
 mod worked;

@@ -31,7 +31,7 @@ fn begin<C: Chronicle + Drop>(
 }
 
 /// Whether a message is the one that is wanted, or both are none.
-fn is_message(message: &Option<Bytes>, wanted: Option<&[u8]>) -> bool {
+pub(crate) fn is_message(message: &Option<Bytes>, wanted: Option<&[u8]>) -> bool {
     match (message, wanted) {
         (Some(octets), Some(due)) => octets.as_slice() == due,
         (None, None) => true,
@@ -57,7 +57,7 @@ fn text_of(alloc: Global, entry: &AuditEntry) -> Result<String, AllocError> {
 }
 
 /// Whether the entries' lines are those that are wanted.
-fn are_lines(alloc: Global, entries: &[AuditEntry], wanted: &[&str]) -> Result<bool, AllocError> {
+pub(crate) fn are_lines(alloc: Global, entries: &[AuditEntry], wanted: &[&str]) -> Result<bool, AllocError> {
     let mut same = entries.len() == wanted.len();
     for (entry, due) in entries.iter().zip(wanted) {
         same &= text_of(alloc, entry)?.as_str() == *due;
@@ -66,7 +66,7 @@ fn are_lines(alloc: Global, entries: &[AuditEntry], wanted: &[&str]) -> Result<b
 }
 
 /// The receipt of a message that brings so many records and nothing else.
-fn plain(position: u64, records: u64) -> Receipt {
+pub(crate) fn plain(position: u64, records: u64) -> Receipt {
     Receipt {
         position,
         records,
@@ -80,7 +80,7 @@ fn plain(position: u64, records: u64) -> Receipt {
     }
 }
 
-fn status(queued: u32, handed: u64, shapes: u32, cut: bool) -> Option<Status> {
+pub(crate) fn status(queued: u32, handed: u64, shapes: u32, cut: bool) -> Option<Status> {
     Some(Status {
         queued,
         handed,
