@@ -2,8 +2,8 @@
 ghost use Rattle.std.specs.Prelude.{◌≡◌};
 
 use ipmd_command_line::CommandLineFault;
-use offline_filter::{Fault, FramingFault, OfflineFault};
 use octet_devices::{Device, Failed, WriteStopped};
+use offline_filter::{Fault, FramingFault, OfflineFault};
 use policy_text::{FaultKind, PolicyFault};
 use std::alloc::{AllocError, AllocFailed};
 use std::error::Error;
