@@ -1,21 +1,27 @@
 pub use Rattle.event_journal.specs.Sizes
+pub use Rattle.event_journal.specs.Room
+pub use Rattle.ipfix_session.specs.Meaning as SessionMeaning
+pub use Rattle.policy_text.specs.Parsing
+pub use Rattle.subscriber_stream.specs.Parts
+pub use Rattle.subscriber_stream.specs.Message
+pub use Rattle.subscriber_stream.specs.Calls as StreamCalls
+pub use Rattle.stream_meaning.specs.Served
+pub use Rattle.stream_meaning.specs.Means
 pub use Rattle.mediator_history.specs.Sessions
 pub use Rattle.mediator_history.specs.Subscriptions
 pub use Rattle.mediator_history.specs.Accepted
 pub use Rattle.mediator_history.specs.Disclosed
 pub use Rattle.mediator_history.specs.Auditing
 pub use Rattle.mediator_history.specs.Cuts
-pub mod Faults
+pub use Rattle.mediator_state.specs.Planning
+pub use Rattle.mediator_state.specs.Accepting
+pub use Rattle.mediator_state.specs.Calls as StateCalls
 pub mod FaultTexts
-pub mod Failing
-pub mod Shares
-pub mod Recording
-pub mod Offline
-pub mod Opening
-pub mod Desks
-pub mod Steps
-pub mod Pulling
-pub mod Due
-pub mod Running
-pub mod PlainHistory
-pub mod Reading
+pub mod Limited
+pub mod Mediation
+pub mod View
+pub mod Sound
+pub mod Calls
+pub mod Refusals
+pub mod Runs
+pub mod Headline

@@ -1,81 +1,58 @@
-//! Why the core refuses something.
+//! Why a mediator isn't made, and why a status isn't told.
 
-use ipfix_session::ReadError;
-use policy_text::PolicyFault;
-use std::alloc::{AllocError, AllocFailed};
+use std::alloc::AllocError;
 use std::error::Error;
 use std::fmt::{self, Display, Formatter, Write};
 
-/// Why the core refuses something: the first reason that stands, in this order but for those that belong to
-/// other calls. Its text is its name.
+/// Why a mediator, or a run, isn't begun. Its text is its name.
 #[derive(Clone, Copy, Debug, PartialEq, Eq)]
-pub enum Fault {
-    /// The text is no policy that is accepted.
-    Policy(PolicyFault),
-    /// The text is no name.
-    BadName,
-    /// The octets are no message of the session.
-    Malformed(ReadError),
-    /// The journal has no room for what would be accepted.
-    JournalFull,
-    /// The audit needs room for so many entries, and has this room.
-    AuditFull { need: u64, room: u32 },
+pub enum RunFault {
+    /// A limit is out of its range.
+    BadLimits,
     /// Want of memory.
     OutOfMemory,
 }
 
-impl Error for Fault {}
+impl Error for RunFault {}
 
-impl Display for Fault {
+impl Display for RunFault {
     ghost use Rattle.std.specs.Prelude.{Option, Some};
-    ghost use Rattle.mediator_core.specs.FaultTexts.{text_of_fault};
+    ghost use Rattle.mediator_core.specs.FaultTexts.{text_of_run_fault};
 
-    ghost output = { λ fault. Some (text_of_fault fault) };
+    ghost output = { λ fault. Some (text_of_run_fault fault) };
 
     fn fmt<W: Write>(&self, f: &mut Formatter<W>) -> fmt::Result {
         f.write_str(match self {
-            Fault::Policy(_) => "Policy",
-            Fault::BadName => "BadName",
-            Fault::Malformed(_) => "Malformed",
-            Fault::JournalFull => "JournalFull",
-            Fault::AuditFull { .. } => "AuditFull",
-            Fault::OutOfMemory => "OutOfMemory",
+            RunFault::BadLimits => "BadLimits",
+            RunFault::OutOfMemory => "OutOfMemory",
         })
     }
 }
 
-impl From<AllocError> for Fault {
+impl From<AllocError> for RunFault {
     ghost use Rattle.std.specs.Prelude.{◌≡◌};
-    ghost use Rattle.mediator_core.specs.declared.fault.Fault.TheVariants.{OutOfMemory};
+    ghost use Rattle.mediator_core.specs.declared.fault.RunFault.TheVariants.{OutOfMemory};
 
     ghost from_gives = { λ _ e. e ≡ OutOfMemory };
 
-    fn from(_e: AllocError) -> Fault {
-        Fault::OutOfMemory
+    fn from(_e: AllocError) -> RunFault {
+        RunFault::OutOfMemory
     }
 }
 
-impl<T: Drop> From<AllocFailed<T>> for Fault {
-    ghost use Rattle.std.specs.Prelude.{◌≡◌};
-    ghost use Rattle.mediator_core.specs.declared.fault.Fault.TheVariants.{OutOfMemory};
+/// No subscription with this number is live. Its text is its name.
+#[derive(Clone, Copy, Debug, PartialEq, Eq)]
+pub struct UnknownSub;
 
-    ghost from_gives = { λ _ e. e ≡ OutOfMemory };
+impl Error for UnknownSub {}
 
-    fn from(_e: AllocFailed<T>) -> Fault {
-        Fault::OutOfMemory
-    }
-}
+impl Display for UnknownSub {
+    ghost use Rattle.std.specs.Prelude.{Option, Some};
+    ghost use Rattle.mediator_core.specs.FaultTexts.{unknown_sub};
 
-impl From<ReadError> for Fault {
-    ghost use Rattle.mediator_core.specs.Faults.{refusal_of};
-    ghost use Rattle.std.specs.Prelude.{◌≡◌};
+    ghost output = { λ fault. Some unknown_sub };
 
-    ghost from_gives = { λ r e. e ≡ refusal_of r };
-
-    fn from(fault: ReadError) -> Fault {
-        match fault {
-            ReadError::OutOfMemory => Fault::OutOfMemory,
-            ReadError::Malformed(_) | ReadError::RecordOverrun => Fault::Malformed(fault),
-        }
+    fn fmt<W: Write>(&self, f: &mut Formatter<W>) -> fmt::Result {
+        f.write_str("UnknownSub")
     }
 }

@@ -1,51 +1,24 @@
-//! The core of an IPFIX mediator. So far it works on one stream: [`offline`] reads the messages of one exporter,
-//! and writes those of one subscriber, with the audit of what was kept back.
+//! The mediator: IPFIX messages of any number of exporters' sessions in, and for each subscription out again what a policy
+//! discloses to it, with an audit of what was kept back.
 //!
-//! - `engine`: [`offline`].
-//! - `fault`: [`Fault`], why the core refuses something.
-//! - `job`: [`OfflineJob`], [`OfflineReport`], and [`OfflineFault`] with [`FramingFault`].
-//! - `desk`: one session and one subscription under one policy; `opening`, `handling`, `delivery` and `recording`
-//!   say what is done with a message.
-//! - `share`: what a message gives to the subscription, and what the audit says of it.
-//! - [`laws`]: over the definitions that the contract of [`offline`] cites, with no code behind them:
-//!   [`due_is_built`], that what is due are the messages that are built one after another, and
-//!   [`accepted_messages_are_the_history`], that the history of a run has its messages alone.
-//!
-//! Proved of `offline`, over any `Source` and `Sink` that have not failed yet. Where it answers `Ok` (`ok`): the
-//! octets read are whole messages, each was accepted after those before it; what was written are message by message
-//! those built for the records that the policy discloses of them, and they mean exactly these records to whoever
-//! reads them by RFC 7011; the audit has exactly the lines of what was kept back; and the report counts messages,
-//! records and records written.
-//!
-//! Where it answers a fault (`err`), this stands only where its cause does (a device that has failed, a stream that
-//! is faulty or cut off, reads used up, a job or a message refused, a subscriber cut), and what was written is all
-//! that is due for the messages before the one in hand: after Write exactly the first `sent` octets of what is due,
-//! for want of memory at most a front of the message in hand more, after Cut the audit's line of the cut as well. No
-//! refusal stands before an earlier one: of a job the policy is judged, then room for it, the name, and room for the
-//! rest; of a message its octets, then the journal, and then the audit, whose room is told. A device that has failed
-//! is the one that the fault names (`sound`, `fails`). However a run ends, it has read no more octets than
-//! `turns` reads of 65,536 give.
-//!
-//! Where it answers `Ok`, or a fault after it began to read, the job was one to accept: its text spells a policy
-//! without aggregates, its name is one, and the journal has room for both. The laws are those above.
+//! - `mediator`: [`Mediator`], with its calls.
+//! - `call`: [`Call`] and [`Reply`], calls and answers as values; `run`: [`run`], a list of calls on a new mediator, and
+//!   its [`Transcript`].
+//! - `limits`: [`Limits`]. `ids`: [`SessionId`] and [`SubId`].
+//! - `fault`: [`RunFault`] and [`UnknownSub`]; the other refusals are [`Fault`].
 #![tactic(auto)]
 
-mod delivery;
-mod desk;
-mod engine;
+mod call;
 mod fault;
-mod handling;
-mod job;
-pub mod laws;
-mod opening;
-mod recording;
-mod share;
+mod ids;
+mod limits;
+mod mediator;
+mod run;
 
-pub use engine::offline;
-pub use fault::Fault;
-pub use job::{FramingFault, OfflineFault, OfflineJob, OfflineReport};
-pub use laws::{accepted_messages_are_the_history, due_is_built};
-pub use octet_devices::{Device, Failed, Sink, Source};
-
-#[cfg(test)]
-mod tests;
+pub use call::{Call, Reply};
+pub use fault::{RunFault, UnknownSub};
+pub use ids::{SessionId, SubId};
+pub use limits::Limits;
+pub use mediator::Mediator;
+pub use mediator_state::{Fault, Receipt, Status};
+pub use run::{Transcript, run};

@@ -61,6 +61,13 @@ impl<C: Chronicle + Drop> State<C> {
         Ok(State { chronicle, engine })
     }
 
+    /// What keeps its history.
+    pub fn chronicle(&self) -> &C
+        ensures { result.now ≡ self.now.chronicle }
+    {
+        &self.chronicle
+    }
+
     /// Makes room for one entry more.
     ///
     /// # Errors

@@ -1,4 +1,0 @@
-mod Inputs
-mod Lines
-mod Statuses
-mod Telling

@@ -1,9 +1,0 @@
-use Rattle.std.proofs.Common.{◌≡◌, length}
-use Rattle.mediator_core.proofs.Delivering.{IsPulling}
-use Rattle.mediator_core.proofs.desk.Desk.deliver.Given as goal
-
-abbrev pub invariant-pulls : goal.invariant-pulls
-invariant-pulls g l = IsPulling l.fn.self l.self (g.W.Sink.contents l.fn.writer) (g.W.Sink.contents l.writer) × (g.W.Sink.has_failed l.writer ≡ g.W.Sink.has_failed l.fn.writer)
-
-abbrev pub decreases-pulls : goal.decreases-pulls
-decreases-pulls g l = length l.self.stream.standing.waiting

@@ -1,8 +1,0 @@
-use Rattle.std.proofs.Common.{◌≡◌, take}
-use Rattle.mediator_core.specs.Reading.{HandlesAll}
-use Rattle.mediator_core.proofs.desk.Desk.handle_all.Given as goal
-
-abbrev pub invariant-messages : goal.invariant-messages
-invariant-messages g l =
-    HandlesAll l.fn.self l.self (take l.message-index l.messages) (g.W.Sink.contents l.fn.writer) (g.W.Sink.contents l.writer) (g.A.Sink.contents l.fn.audit_writer) (g.A.Sink.contents l.audit_writer)
-    × (g.W.Sink.has_failed l.writer ≡ g.W.Sink.has_failed l.fn.writer) × (g.A.Sink.has_failed l.audit_writer ≡ g.A.Sink.has_failed l.fn.audit_writer)

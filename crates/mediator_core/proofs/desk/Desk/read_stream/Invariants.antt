@@ -1,9 +1,0 @@
-use Rattle.std.proofs.Common.{◌≡◌, ◌<◌, ◌≤◌, false, length}
-use Rattle.mediator_core.specs.Reading.{IsAfter}
-use Rattle.mediator_core.proofs.desk.Desk.read_stream.Given as goal
-
-abbrev pub invariant-reads : goal.invariant-reads
-invariant-reads g l =
-    IsAfter l.self l.framer l.fn.self.job (g.R.Source.remaining l.fn.reader) (g.R.Source.remaining l.reader) (g.W.Sink.contents l.fn.writer) (g.W.Sink.contents l.writer) (g.A.Sink.contents l.fn.audit_writer) (g.A.Sink.contents l.audit_writer) l.counter
-    × (0 < length l.buffer.items) × (length l.buffer.items ≤ 65536) × (l.counter ≤ l.fn.self.job.turns)
-    × (g.R.Source.has_failed l.reader ≡ false) × (g.W.Sink.has_failed l.writer ≡ g.W.Sink.has_failed l.fn.writer) × (g.A.Sink.has_failed l.audit_writer ≡ g.A.Sink.has_failed l.fn.audit_writer)

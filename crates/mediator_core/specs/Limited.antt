@@ -1,0 +1,24 @@
+-- Which limits a mediator may have.
+use Rattle.std.specs.Prelude.{ℕ, ◌≤◌}
+use Rattle.event_journal.specs.declared.limits.TheConstants.{MOST_ENTRIES, MOST_OCTETS}
+use Rattle.mediator_core.specs.declared.limits.Limits.{Limits}
+use Rattle.mediator_core.specs.declared.fault.RunFault.{RunFault}
+use Rattle.mediator_core.specs.declared.fault.RunFault.TheVariants.{BadLimits, OutOfMemory}
+
+-- each is at least 1, and at most so much
+pub record AreAllowed (limits : Limits) : Type 0 where
+  pub some_queue : 1 ≤ limits.queue
+  pub most_queue : limits.queue ≤ 1000000
+  pub some_shapes : 1 ≤ limits.shapes
+  pub most_shapes : limits.shapes ≤ 65280
+  pub some_audit : 1 ≤ limits.audit
+  pub most_audit : limits.audit ≤ 10000000
+  pub some_entries : 1 ≤ limits.entries
+  pub most_entries : limits.entries ≤ MOST_ENTRIES
+  pub some_octets : 1 ≤ limits.octets
+  pub most_octets : limits.octets ≤ MOST_OCTETS
+
+-- the limits are out of their ranges, or memory ran out where they aren't
+abbrev pub RefusesLimits : RunFault → Limits → Type 0
+RefusesLimits BadLimits limits = AreAllowed limits → ⊥
+RefusesLimits OutOfMemory limits = AreAllowed limits

@@ -1,0 +1,94 @@
+//! Calls in a row on a new mediator.
+ghost use Rattle.std.specs.Prelude.{◌≡◌, ◌++◌, ◌≤◌, ℕ, List, length, IfOk, IfErr};
+ghost use Rattle.mediator_core.specs.Mediation.{started};
+ghost use Rattle.mediator_core.specs.Limited.{RefusesLimits};
+ghost use Rattle.mediator_core.specs.Runs.{Answers, Runs};
+ghost use Rattle.mediator_core.specs.Headline.{HistoryIsTheCalls, HandedIsDisclosed, HandedIsFront, DrainedIsAudited, IsBuiltFromDisclosed};
+
+use crate::call::{Call, Reply};
+use crate::fault::RunFault;
+use crate::limits::Limits;
+use crate::mediator::Mediator;
+use mediator_state::Fault;
+use std::alloc::Global;
+
+/// What a run leaves: the reply to each call, in order, and the mediator after the last one.
+#[derive(Drop)]
+pub struct Transcript {
+    pub replies: Vec<Reply>,
+    pub mediator: Mediator,
+}
+
+impl Mediator {
+    /// Makes a call that stands as a value.
+    pub fn answer(&mut self, call: Call) -> Reply
+        ensures { Answers self.old call result self.new }
+    {
+        match call {
+            Call::Open => match self.open() {
+                Ok(session) => Reply::Opened(session),
+                Err(fault) => Reply::Refused(fault),
+            },
+            Call::Close { session } => match self.close(session) {
+                Ok(()) => Reply::Closed,
+                Err(fault) => Reply::Refused(fault),
+            },
+            Call::Receive {
+                session,
+                number,
+                message,
+            } => match self.receive(session, number, message) {
+                Ok(receipt) => Reply::Received(receipt),
+                Err(fault) => Reply::Refused(fault),
+            },
+            Call::Edit { text } => match self.edit(text.as_str()) {
+                Ok(edits) => Reply::Edited(edits),
+                Err(fault) => Reply::Refused(fault),
+            },
+            Call::Subscribe { name } => match self.subscribe(name.as_str()) {
+                Ok(sub) => Reply::Subscribed(sub),
+                Err(fault) => Reply::Refused(fault),
+            },
+            Call::Unsubscribe { sub } => match self.unsubscribe(sub) {
+                Ok(()) => Reply::Unsubscribed,
+                Err(fault) => Reply::Refused(fault),
+            },
+            Call::Pull { sub, now, target } => match self.pull(sub, now, target) {
+                Ok(answer) => Reply::Pulled(answer),
+                Err(fault) => Reply::Refused(fault),
+            },
+            Call::Status { sub } => match self.status(sub) {
+                Ok(status) => Reply::Stands(status),
+                Err(_) => Reply::Refused(Fault::UnknownSub),
+            },
+            Call::DrainAudit { most } => match self.drain_audit(most) {
+                Ok(entries) => Reply::Drained(entries),
+                Err(_) => Reply::Refused(Fault::OutOfMemory),
+            },
+        }
+    }
+}
+
+/// Makes these calls on a new mediator, one after another, and answers the reply to each. Want of memory in a call is a
+/// reply of that call; the list of replies is made first.
+///
+/// # Errors
+/// A limit is out of its range, or memory ran out before the first call.
+pub fn run(alloc: Global, limits: Limits, calls: Vec<Call>) -> Result<Transcript, RunFault>
+    ensures steps { IfOk result (λ t. Runs (started limits) calls.items t.replies.items t.mediator) }
+    ensures history { IfOk result (λ t. HistoryIsTheCalls calls.items t.replies.items t.mediator) }
+    ensures disclosed { IfOk result (λ t. HandedIsDisclosed calls.items t.replies.items t.mediator) }
+    ensures front { IfOk result (λ t. HandedIsFront calls.items t.replies.items t.mediator) }
+    ensures audited { IfOk result (λ t. DrainedIsAudited calls.items t.replies.items t.mediator) }
+    ensures secret { IfOk result (λ t. (sub : ℕ) → IsBuiltFromDisclosed sub (started limits) calls.items t.replies.items t.mediator) }
+    ensures err { IfErr result (λ e. RefusesLimits e limits) }
+{
+    let mut mediator = Mediator::new(alloc, limits)?;
+    let mut replies = Vec::with_capacity(alloc, calls.len())?;
+    'calls: for call in calls {
+        let reply = mediator.answer(call);
+        replies.push_reserved(reply);
+    }
+    let _journal = mediator.journal();
+    Ok(Transcript { replies, mediator })
+}
