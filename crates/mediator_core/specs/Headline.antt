@@ -6,8 +6,8 @@ use Rattle.stream_meaning.specs.Means.{Means}
 use Rattle.mediator_history.specs.Subscriptions.{is_live}
 use Rattle.mediator_history.specs.Disclosed.{disclosed}
 use Rattle.mediator_history.specs.Auditing.{audit_list}
-use Rattle.mediator_core.specs.declared.call.Call.{Call}
-use Rattle.mediator_core.specs.declared.call.Reply.{Reply}
+use Rattle.mediator_calls.specs.declared.call.Call.{Call}
+use Rattle.mediator_calls.specs.declared.call.Reply.{Reply}
 use Rattle.mediator_core.specs.Mediation.{Mediation, place_at, noted_at}
 use Rattle.mediator_core.specs.Runs.{entries_of, is_of_call, answers_to, handed_to, GiveUntilNone, MeanFront, drained_by, Ask}
 

@@ -1,3 +1,4 @@
+pub use Rattle.mediator_calls.specs.Limited
 pub use Rattle.event_journal.specs.Sizes
 pub use Rattle.event_journal.specs.Room
 pub use Rattle.ipfix_session.specs.Meaning as SessionMeaning
@@ -16,8 +17,6 @@ pub use Rattle.mediator_history.specs.Cuts
 pub use Rattle.mediator_state.specs.Planning
 pub use Rattle.mediator_state.specs.Accepting
 pub use Rattle.mediator_state.specs.Calls as StateCalls
-pub mod FaultTexts
-pub mod Limited
 pub mod Mediation
 pub mod View
 pub mod Sound
@@ -25,3 +24,4 @@ pub mod Calls
 pub mod Refusals
 pub mod Runs
 pub mod Headline
+pub mod Secrecy

@@ -9,7 +9,7 @@ use Rattle.event_journal.specs.Room.{Limits as Journaled}
 use Rattle.mediator_history.specs.Subscriptions.{is_live, subscribed_in}
 use Rattle.mediator_history.specs.Disclosed.{disclosed}
 use Rattle.mediator_history.specs.Auditing.{audit_list}
-use Rattle.mediator_core.specs.declared.limits.Limits.{Limits}
+use Rattle.mediator_calls.specs.declared.limits.Limits.{Limits}
 
 -- a live subscription, and the place up to which the parts of what is disclosed to it were handed out
 pub record Place : Type 0 where

@@ -11,10 +11,10 @@ use Rattle.event_journal.specs.declared.entry.Entry.TheVariants as entry
 use Rattle.mediator_history.specs.Disclosed.{disclosed}
 use Rattle.mediator_state.specs.declared.fault.Fault.{Fault}
 use Rattle.mediator_state.specs.Calls.{RefusesClose, RefusesEdit, RefusesSubscribe, RefusesUnsubscribe, RefusesPull}
-use Rattle.mediator_core.specs.declared.call.Call.{Call}
-use Rattle.mediator_core.specs.declared.call.Call.TheVariants as call
-use Rattle.mediator_core.specs.declared.call.Reply.{Reply}
-use Rattle.mediator_core.specs.declared.call.Reply.TheVariants as reply
+use Rattle.mediator_calls.specs.declared.call.Call.{Call}
+use Rattle.mediator_calls.specs.declared.call.Call.TheVariants as call
+use Rattle.mediator_calls.specs.declared.call.Reply.{Reply}
+use Rattle.mediator_calls.specs.declared.call.Reply.TheVariants as reply
 use Rattle.mediator_core.specs.Mediation.{Mediation, journal_limits}
 use Rattle.mediator_core.specs.Calls.{Opens, RefusesOpen, Closes, Receives, RefusesReceive, Edits, Subscribes, Unsubscribes, Pulls, IsStatusOf, Drains}
 use Rattle.mediator_core.specs.Refusals.{RefusesStatus, RefusesDrain}

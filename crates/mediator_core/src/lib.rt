@@ -2,23 +2,19 @@
 //! discloses to it, with an audit of what was kept back.
 //!
 //! - `mediator`: [`Mediator`], with its calls.
-//! - `call`: [`Call`] and [`Reply`], calls and answers as values; `run`: [`run`], a list of calls on a new mediator, and
-//!   its [`Transcript`].
-//! - `limits`: [`Limits`]. `ids`: [`SessionId`] and [`SubId`].
-//! - `fault`: [`RunFault`] and [`UnknownSub`]; the other refusals are [`Fault`].
+//! - `run`: [`run`], a list of calls on a new mediator, and its [`Transcript`]; [`Call`] and [`Reply`] are calls and
+//!   answers as values (`mediator_calls`).
+//! - `laws`: what never matters to what a subscription is disclosed.
 #![tactic(auto)]
 
-mod call;
-mod fault;
-mod ids;
-mod limits;
+mod laws;
 mod mediator;
 mod run;
 
-pub use call::{Call, Reply};
-pub use fault::{RunFault, UnknownSub};
-pub use ids::{SessionId, SubId};
-pub use limits::Limits;
+pub use laws::{
+    denied_values_never_matter, entries_of_others_never_matter, rules_of_others_never_matter,
+};
 pub use mediator::Mediator;
+pub use mediator_calls::{Call, Limits, Reply, RunFault, SessionId, SubId, UnknownSub};
 pub use mediator_state::{Fault, Receipt, Status};
 pub use run::{Transcript, run};

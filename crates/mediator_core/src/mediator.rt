@@ -3,16 +3,14 @@ ghost use Rattle.std.specs.Prelude.{◌≡◌, true, false, IfOk, IfErr, OnOk, O
 ghost use Rattle.mediator_history.specs.Subscriptions.{is_live};
 ghost use Rattle.mediator_state.specs.Calls.{RefusesClose, RefusesEdit, RefusesSubscribe, RefusesUnsubscribe, RefusesPull};
 ghost use Rattle.mediator_core.specs.Mediation.{started, journal_limits};
-ghost use Rattle.mediator_core.specs.Limited.{AreAllowed, RefusesLimits};
+ghost use Rattle.mediator_calls.specs.Limited.{AreAllowed, RefusesLimits};
 ghost use Rattle.mediator_core.specs.Sound.{IsSound};
 ghost use Rattle.mediator_core.specs.Calls.{Opens, RefusesOpen, Closes, Receives, RefusesReceive, Edits, Subscribes, Unsubscribes, Pulls, IsStatusOf, Drains};
 
-use crate::fault::{RunFault, UnknownSub};
-use crate::ids::{SessionId, SubId};
-use crate::limits::Limits;
 use bytes::Bytes;
 use disclosure_audit::AuditEntry;
 use event_journal::Journal;
+use mediator_calls::{Limits, RunFault, SessionId, SubId, UnknownSub};
 use mediator_state::{Fault, Receipt, State, Status};
 use std::alloc::{AllocError, Global};
 use std::marker::Model;

@@ -1,14 +1,12 @@
 //! Calls in a row on a new mediator.
 ghost use Rattle.std.specs.Prelude.{◌≡◌, ◌++◌, ◌≤◌, ℕ, List, length, IfOk, IfErr};
 ghost use Rattle.mediator_core.specs.Mediation.{started};
-ghost use Rattle.mediator_core.specs.Limited.{RefusesLimits};
+ghost use Rattle.mediator_calls.specs.Limited.{RefusesLimits};
 ghost use Rattle.mediator_core.specs.Runs.{Answers, Runs};
 ghost use Rattle.mediator_core.specs.Headline.{HistoryIsTheCalls, HandedIsDisclosed, HandedIsFront, DrainedIsAudited, IsBuiltFromDisclosed};
 
-use crate::call::{Call, Reply};
-use crate::fault::RunFault;
-use crate::limits::Limits;
 use crate::mediator::Mediator;
+use mediator_calls::{Call, Limits, Reply, RunFault};
 use mediator_state::Fault;
 use std::alloc::Global;
 

@@ -1,9 +1,9 @@
 -- Which limits a mediator may have.
 use Rattle.std.specs.Prelude.{ℕ, ◌≤◌}
 use Rattle.event_journal.specs.declared.limits.TheConstants.{MOST_ENTRIES, MOST_OCTETS}
-use Rattle.mediator_core.specs.declared.limits.Limits.{Limits}
-use Rattle.mediator_core.specs.declared.fault.RunFault.{RunFault}
-use Rattle.mediator_core.specs.declared.fault.RunFault.TheVariants.{BadLimits, OutOfMemory}
+use Rattle.mediator_calls.specs.declared.limits.Limits.{Limits}
+use Rattle.mediator_calls.specs.declared.fault.RunFault.{RunFault}
+use Rattle.mediator_calls.specs.declared.fault.RunFault.TheVariants.{BadLimits, OutOfMemory}
 
 -- each is at least 1, and at most so much
 pub record AreAllowed (limits : Limits) : Type 0 where

@@ -1,6 +1,6 @@
 //! How much a mediator may hold.
 ghost use Rattle.std.specs.Prelude.{◌↔◌, IsTrue};
-ghost use Rattle.mediator_core.specs.Limited.{AreAllowed};
+ghost use Rattle.mediator_calls.specs.Limited.{AreAllowed};
 
 use event_journal::{MOST_ENTRIES, MOST_OCTETS};
 

@@ -17,7 +17,7 @@ impl Error for RunFault {}
 
 impl Display for RunFault {
     ghost use Rattle.std.specs.Prelude.{Option, Some};
-    ghost use Rattle.mediator_core.specs.FaultTexts.{text_of_run_fault};
+    ghost use Rattle.mediator_calls.specs.FaultTexts.{text_of_run_fault};
 
     ghost output = { λ fault. Some (text_of_run_fault fault) };
 
@@ -31,7 +31,7 @@ impl Display for RunFault {
 
 impl From<AllocError> for RunFault {
     ghost use Rattle.std.specs.Prelude.{◌≡◌};
-    ghost use Rattle.mediator_core.specs.declared.fault.RunFault.TheVariants.{OutOfMemory};
+    ghost use Rattle.mediator_calls.specs.declared.fault.RunFault.TheVariants.{OutOfMemory};
 
     ghost from_gives = { λ _ e. e ≡ OutOfMemory };
 
@@ -48,7 +48,7 @@ impl Error for UnknownSub {}
 
 impl Display for UnknownSub {
     ghost use Rattle.std.specs.Prelude.{Option, Some};
-    ghost use Rattle.mediator_core.specs.FaultTexts.{unknown_sub};
+    ghost use Rattle.mediator_calls.specs.FaultTexts.{unknown_sub};
 
     ghost output = { λ fault. Some unknown_sub };
 

@@ -5,7 +5,7 @@ use bytes::Bytes;
 use disclosure_audit::AuditEntry;
 use mediator_state::{Fault, Receipt, Status};
 
-/// A call of a [`Mediator`](crate::Mediator), with its arguments.
+/// A call of a mediator, with its arguments.
 #[derive(Debug, Drop)]
 pub enum Call {
     /// A session begins.

@@ -1,7 +1,7 @@
 -- What is said of a fault: its name.
 use Rattle.std.specs.Prelude.{ℕ, List, codes}
-use Rattle.mediator_core.specs.declared.fault.RunFault.{RunFault}
-use Rattle.mediator_core.specs.declared.fault.RunFault.TheVariants.{BadLimits, OutOfMemory}
+use Rattle.mediator_calls.specs.declared.fault.RunFault.{RunFault}
+use Rattle.mediator_calls.specs.declared.fault.RunFault.TheVariants.{BadLimits, OutOfMemory}
 
 abbrev pub text_of_run_fault : RunFault → List ℕ
 text_of_run_fault BadLimits = codes "BadLimits"

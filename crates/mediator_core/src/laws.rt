@@ -1,0 +1,19 @@
+//! What never matters to what is disclosed to a subscription: laws over the definitions that [`run`](crate::run) cites. No
+//! code stands behind them.
+ghost use Rattle.mediator_core.specs.Secrecy.{RulesOfOthersNeverMatter, EntriesOfOthersNeverMatter, DeniedValuesNeverMatter};
+
+/// Rules that name another subscriber never matter: where they are left out of any edits, the same is disclosed.
+pub fn rules_of_others_never_matter()
+    ensures { RulesOfOthersNeverMatter }
+{}
+
+/// Entries of other subscriptions never matter: where they are left out of a history, the same is disclosed.
+pub fn entries_of_others_never_matter()
+    ensures { EntriesOfOthersNeverMatter }
+{}
+
+/// What is denied never matters: where a value that the first matching rule removes takes another of its length, or one
+/// that it truncates takes other bits where it is cut off, inside the same prefixes of the rules, the same is disclosed.
+pub fn denied_values_never_matter()
+    ensures { DeniedValuesNeverMatter }
+{}
