@@ -17,7 +17,7 @@ pub struct OfflineOptions<'a> {
     pub now: u32,
     /// How long a written message may be, in octets.
     pub target: u16,
-    /// The file that gets the audit lines; where there is none, they are dropped.
+    /// The file that gets the audit lines; where there is none, none are made.
     pub audit: Option<&'a str>,
     /// Whether input and output are hexadecimal text.
     pub hex: bool,

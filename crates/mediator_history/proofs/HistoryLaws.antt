@@ -1,17 +1,14 @@
 -- What one entry more changes of what a history says, and what it leaves.
 use Rattle.std.proofs.Common.{◌≡◌, ℕ, ◌+◌, false, List, [], ◌∷◌, ◌++◌, ap, ◌∙◌, append-nil}
-use Rattle.std.specs.Prelude.{reverse}
 use Rattle.std.specs.List.{flat_map}
 use Rattle.std.proofs.lemmas.Grind.{flat_map-append}
-use Rattle.std.proofs.lemmas.List.{reverse-append}
 use Rattle.std.proofs.lemmas.List.Concat.{flat_map-cons}
 use Rattle.std.proofs.lemmas.List.Sums.{sum_by_push}
 use Rattle.sequences.proofs.BeforeLaws.{each_with_before-push, last_of-push}
 use Rattle.policy_text.specs.Policies.{nothing as no_policy}
 use Rattle.event_journal.specs.declared.entry.Entry.{Entry}
-use Rattle.event_journal.specs.declared.entry.Entry.TheVariants.{Message, Cut}
+use Rattle.event_journal.specs.declared.entry.Entry.TheVariants.{Message}
 use Rattle.event_journal.specs.Sizes.{entry_octets, history_octets}
-use Rattle.mediator_history.specs.Sessions.{message_in, messages_of}
 use Rattle.mediator_history.specs.Subscriptions.{edited, policy_in_force, named, name_of, switched, is_served, subscribed_in}
 use Rattle.mediator_history.specs.Accepted.{accepted_at, accepted}
 use Rattle.mediator_history.specs.Disclosed.{given_at, disclosed}
@@ -35,12 +32,6 @@ is_served-message sub h session number octets = last_of-push (switched sub) fals
 pub subscribed-message : (h : List Entry) (session number : ℕ) (octets : List ℕ) → flat_map subscribed_in (h ++ Message session number octets ∷ []) ≡ flat_map subscribed_in h
 subscribed-message h session number octets = flat_map-push subscribed_in h (Message session number octets) ∙ append-nil (flat_map subscribed_in h)
 
--- ---- it is the newest of its session
-
-pub messages-message : (h : List Entry) (number : ℕ) (octets : List ℕ) → messages_of 1 (h ++ Message 1 number octets ∷ []) ≡ octets ∷ messages_of 1 h
-messages-message h number octets =
-    ap reverse (flat_map-push (message_in 1) h (Message 1 number octets)) ∙ reverse-append (flat_map (message_in 1) h) (octets ∷ [])
-
 -- ---- each entry adds what it gives
 
 pub accepted-push : (h : List Entry) (e : Entry) → accepted (h ++ e ∷ []) ≡ accepted h ++ accepted_at h e
@@ -54,8 +45,3 @@ audit-push h e = each_with_before-push audit_at h e
 
 pub octets-push : (h : List Entry) (e : Entry) → history_octets (h ++ e ∷ []) ≡ history_octets h + entry_octets e
 octets-push h e = sum_by_push entry_octets h e
-
--- ---- a cut ends what a subscription is served
-
-pub is_served-cut : (h : List Entry) → is_served 1 (h ++ Cut 1 ∷ []) ≡ false
-is_served-cut h = last_of-push (switched 1) false h (Cut 1)

@@ -1,0 +1,4 @@
+mod Inputs
+mod Lines
+mod Statuses
+mod Telling

@@ -1,0 +1,83 @@
+-- What the program says of a fault, and its exit statuses.
+use Rattle.std.specs.Prelude.{◌≡◌, ℕ, Bool, false, List, ◌++◌, codes, Option, Some, None, IfSome}
+use Rattle.std.specs.Fmt.{decimal, with_newline}
+use Rattle.std.specs.Io.KnownBytes.{Appends}
+use Rattle.ipmd_command_line.specs.declared.fault.CommandLineFault.{CommandLineFault}
+use Rattle.ipmd_command_line.specs.declared.fault.CommandLineFault.TheVariants as command
+use Rattle.policy_text.specs.FaultTexts.{text_of_kind}
+use Rattle.mediator_state.specs.FaultTexts.{text_of_fault}
+use Rattle.message_intake.specs.Texts.{text_of_framing}
+use Rattle.policy_text.specs.declared.fault.FaultKind.{FaultKind}
+use Rattle.policy_text.specs.declared.fault.FaultKind.TheVariants as kind
+use Rattle.policy_text.specs.declared.fault.PolicyFault.{PolicyFault}
+use Rattle.mediator_state.specs.declared.fault.Fault.{Fault}
+use Rattle.mediator_state.specs.declared.fault.Fault.TheVariants as core
+use Rattle.offline_filter.specs.declared.job.OfflineFault.{OfflineFault}
+use Rattle.offline_filter.specs.declared.job.OfflineFault.TheVariants as offline
+use Rattle.ipmd.specs.declared.fault.ProgramFault.{ProgramFault}
+use Rattle.ipmd.specs.declared.fault.ProgramFault.TheVariants.{CommandLine, Policy, Hex, Framing, Core, Cut, OutOfMemory, Device}
+
+-- 1: what was read is refused, or memory runs out; 2: the command line is refused; 3: a file or a stream fails
+abbrev pub status_of : ProgramFault → ℕ
+status_of (CommandLine _) = 2
+status_of (Policy _) = 1
+status_of Hex = 1
+status_of (Framing _) = 1
+status_of (Core _) = 1
+status_of Cut = 1
+status_of OutOfMemory = 1
+status_of Device = 3
+
+-- what is said of a fault; of a command line that is the parser's text, which isn't told here
+abbrev pub text_of : ProgramFault → Option (List ℕ)
+text_of (CommandLine _) = None
+text_of (Policy why) = Some (codes "ipmd: policy line " ++ decimal why.line ++ codes ": " ++ text_of_kind why.kind)
+text_of Hex = Some (codes "ipmd: hex")
+text_of (Framing why) = Some (codes "ipmd: framing " ++ text_of_framing why)
+text_of (Core why) = Some (codes "ipmd: " ++ text_of_fault why)
+text_of Cut = Some (codes "ipmd: Cut")
+text_of OutOfMemory = Some (codes "ipmd: OutOfMemory")
+text_of Device = Some (codes "ipmd: device")
+
+-- on a line of its own
+abbrev pub line_of_fault : ProgramFault → Option (List ℕ)
+line_of_fault e = with_newline (text_of e)
+
+-- this was written, unless the device failed
+abbrev pub Tells : Option (List ℕ) → Bool → Option (List ℕ) → Option (List ℕ) → Type 0
+Tells line has_failed held holds = has_failed ≡ false → IfSome line (Appends held holds)
+
+-- a command line that is refused for want of memory isn't at fault
+abbrev pub command_line_fault_of : CommandLineFault → ProgramFault
+command_line_fault_of (command.Refused why) = CommandLine why
+command_line_fault_of command.OutOfMemory = OutOfMemory
+
+-- a policy that is refused for want of memory isn't at fault
+abbrev pub policy_fault_of : PolicyFault → FaultKind → ProgramFault
+policy_fault_of fault kind.OutOfMemory = OutOfMemory
+policy_fault_of fault kind.NoHeader = Policy fault
+policy_fault_of fault kind.UnknownWord = Policy fault
+policy_fault_of fault kind.BadName = Policy fault
+policy_fault_of fault kind.BadNumber = Policy fault
+policy_fault_of fault kind.BadPrefix = Policy fault
+policy_fault_of fault kind.BadTruncate = Policy fault
+policy_fault_of fault kind.UnknownAggregate = Policy fault
+policy_fault_of fault kind.DoubleAggregate = Policy fault
+policy_fault_of fault kind.BadKey = Policy fault
+policy_fault_of fault kind.TooMany = Policy fault
+
+-- what the core refuses
+abbrev pub core_fault_of : Fault → ProgramFault
+core_fault_of (core.Policy why) = policy_fault_of why why.kind
+core_fault_of core.OutOfMemory = OutOfMemory
+core_fault_of why = Core why
+
+-- why a stream was not filtered to its end
+abbrev pub offline_fault_of : OfflineFault → ProgramFault
+offline_fault_of offline.Read = Device
+offline_fault_of (offline.Write sent) = Device
+offline_fault_of offline.Turns = Device
+offline_fault_of offline.AuditWrite = Device
+offline_fault_of (offline.Framing why) = Framing why
+offline_fault_of (offline.Core why) = core_fault_of why
+offline_fault_of offline.Cut = Cut

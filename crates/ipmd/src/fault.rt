@@ -1,0 +1,207 @@
+//! Why a run ends without having done what was asked.
+ghost use Rattle.std.specs.Prelude.{◌≡◌};
+
+use ipmd_command_line::CommandLineFault;
+use offline_filter::{Fault, FramingFault, OfflineFault};
+use octet_devices::{Device, Failed, WriteStopped};
+use policy_text::{FaultKind, PolicyFault};
+use std::alloc::{AllocError, AllocFailed};
+use std::error::Error;
+use std::fmt::{self, Display, Formatter};
+use std::io::{self, ErrorKind, Write};
+
+/// The exit status where the input is refused, or memory runs out.
+const REFUSED: u8 = 1;
+
+/// The exit status of a refused command line.
+const BAD_COMMAND_LINE: u8 = 2;
+
+/// The exit status where a file or a stream fails.
+const DEVICE_FAILED: u8 = 3;
+
+/// Why a run ends without having done what was asked. Its text is what the program says of it.
+#[derive(Debug, Drop)]
+pub enum ProgramFault {
+    /// The command line asks for nothing that there is; the text is the parser's, with its line feeds.
+    CommandLine(clap::Error),
+    /// The text is no policy.
+    Policy(PolicyFault),
+    /// The input is not hexadecimal.
+    Hex,
+    /// The input is no stream of messages.
+    Framing(FramingFault),
+    /// The mediator refused something else.
+    Core(Fault),
+    /// The subscription was cut.
+    Cut,
+    /// Want of memory.
+    OutOfMemory,
+    /// A file can't be opened, read or written, is not text where text is read, or a stream failed.
+    Device,
+}
+
+impl Error for ProgramFault {}
+
+impl Display for ProgramFault {
+    ghost use Rattle.ipmd.specs.Status.{text_of};
+
+    ghost output = { text_of };
+
+    fn fmt<W: fmt::Write>(&self, f: &mut Formatter<W>) -> fmt::Result {
+        match self {
+            ProgramFault::CommandLine(why) => write!(f, "{why}"),
+            ProgramFault::Policy(PolicyFault { line, kind }) => {
+                write!(f, "ipmd: policy line {line}: {kind}")
+            }
+            ProgramFault::Hex => f.write_str("ipmd: hex"),
+            ProgramFault::Framing(why) => write!(f, "ipmd: framing {why}"),
+            ProgramFault::Core(why) => write!(f, "ipmd: {why}"),
+            ProgramFault::Cut => f.write_str("ipmd: Cut"),
+            ProgramFault::OutOfMemory => f.write_str("ipmd: OutOfMemory"),
+            ProgramFault::Device => f.write_str("ipmd: device"),
+        }
+    }
+}
+
+impl ProgramFault {
+    ghost use Rattle.octet_devices.specs.Device.{device_failed, device_inner};
+    ghost use Rattle.ipmd.specs.Status.{line_of_fault, status_of, Tells};
+
+    /// Says the fault on `errors`, and answers its exit status. What can't be written is dropped.
+    pub fn report<E: Write>(self, errors: &mut Device<E>) -> u8
+        ensures status { result ≡ status_of self }
+        ensures told { Tells (line_of_fault self) (device_failed errors.new) (E.contents (device_inner errors.old)) (E.contents (device_inner errors.new)) }
+    {
+        let _ = match self {
+            ProgramFault::CommandLine(_) => write!(errors, "{self}"),
+            _ => writeln!(errors, "{self}"),
+        };
+        self.status()
+    }
+
+    /// The exit status of a run that ends so.
+    fn status(&self) -> u8
+        ensures { result ≡ status_of self.now }
+    {
+        match self {
+            ProgramFault::CommandLine(_) => BAD_COMMAND_LINE,
+            ProgramFault::Policy(_)
+            | ProgramFault::Hex
+            | ProgramFault::Framing(_)
+            | ProgramFault::Core(_)
+            | ProgramFault::Cut
+            | ProgramFault::OutOfMemory => REFUSED,
+            ProgramFault::Device => DEVICE_FAILED,
+        }
+    }
+}
+
+impl From<AllocError> for ProgramFault {
+    ghost use Rattle.std.specs.Prelude.{◌≡◌};
+    ghost use Rattle.ipmd.specs.declared.fault.ProgramFault.TheVariants.{OutOfMemory};
+
+    ghost from_gives = { λ _ e. e ≡ OutOfMemory };
+
+    fn from(_e: AllocError) -> ProgramFault {
+        ProgramFault::OutOfMemory
+    }
+}
+
+impl<T: Drop> From<AllocFailed<T>> for ProgramFault {
+    ghost use Rattle.std.specs.Prelude.{◌≡◌};
+    ghost use Rattle.ipmd.specs.declared.fault.ProgramFault.TheVariants.{OutOfMemory};
+
+    ghost from_gives = { λ _ e. e ≡ OutOfMemory };
+
+    fn from(_e: AllocFailed<T>) -> ProgramFault {
+        ProgramFault::OutOfMemory
+    }
+}
+
+impl From<io::Error> for ProgramFault {
+    ghost use Rattle.std.specs.Prelude.{◌≡◌, ◌≢◌, ◌⊎◌};
+    ghost use Rattle.std.specs.IoError.{error_kind};
+    ghost use Rattle.std.specs.declared.io.ErrorKind.TheVariants as io_error;
+    ghost use Rattle.ipmd.specs.declared.fault.ProgramFault.TheVariants.{OutOfMemory, Device};
+
+    ghost from_gives = { λ x e. ((error_kind x ≡ io_error.OutOfMemory) × (e ≡ OutOfMemory))
+        ⊎ ((error_kind x ≢ io_error.OutOfMemory) × (e ≡ Device)) };
+
+    fn from(error: io::Error) -> ProgramFault {
+        match error.kind() {
+            ErrorKind::OutOfMemory => ProgramFault::OutOfMemory,
+            _ => ProgramFault::Device,
+        }
+    }
+}
+
+impl From<Failed> for ProgramFault {
+    ghost use Rattle.std.specs.Prelude.{◌≡◌};
+    ghost use Rattle.ipmd.specs.declared.fault.ProgramFault.TheVariants.{Device};
+
+    ghost from_gives = { λ _ e. e ≡ Device };
+
+    fn from(_e: Failed) -> ProgramFault {
+        ProgramFault::Device
+    }
+}
+
+impl From<WriteStopped> for ProgramFault {
+    ghost use Rattle.std.specs.Prelude.{◌≡◌};
+    ghost use Rattle.ipmd.specs.declared.fault.ProgramFault.TheVariants.{Device};
+
+    ghost from_gives = { λ _ e. e ≡ Device };
+
+    fn from(_e: WriteStopped) -> ProgramFault {
+        ProgramFault::Device
+    }
+}
+
+impl From<CommandLineFault> for ProgramFault {
+    ghost use Rattle.std.specs.Prelude.{◌≡◌};
+    ghost use Rattle.ipmd.specs.Status.{command_line_fault_of};
+
+    ghost from_gives = { λ f e. e ≡ command_line_fault_of f };
+
+    fn from(fault: CommandLineFault) -> ProgramFault {
+        match fault {
+            CommandLineFault::Refused(why) => ProgramFault::CommandLine(why),
+            CommandLineFault::OutOfMemory => ProgramFault::OutOfMemory,
+        }
+    }
+}
+
+impl From<PolicyFault> for ProgramFault {
+    ghost use Rattle.std.specs.Prelude.{◌≡◌};
+    ghost use Rattle.ipmd.specs.Status.{policy_fault_of};
+
+    ghost from_gives = { λ f e. e ≡ policy_fault_of f f.kind };
+
+    fn from(fault: PolicyFault) -> ProgramFault {
+        match fault.kind {
+            FaultKind::OutOfMemory => ProgramFault::OutOfMemory,
+            _ => ProgramFault::Policy(fault),
+        }
+    }
+}
+
+impl From<OfflineFault> for ProgramFault {
+    ghost use Rattle.std.specs.Prelude.{◌≡◌};
+    ghost use Rattle.ipmd.specs.Status.{offline_fault_of};
+
+    ghost from_gives = { λ f e. e ≡ offline_fault_of f };
+
+    fn from(fault: OfflineFault) -> ProgramFault {
+        match fault {
+            OfflineFault::Read
+            | OfflineFault::Write { .. }
+            | OfflineFault::Turns
+            | OfflineFault::AuditWrite => ProgramFault::Device,
+            OfflineFault::Framing(why) => ProgramFault::Framing(why),
+            OfflineFault::Core(Fault::Policy(why)) => ProgramFault::from(why),
+            OfflineFault::Core(Fault::OutOfMemory) => ProgramFault::OutOfMemory,
+            OfflineFault::Core(why) => ProgramFault::Core(why),
+            OfflineFault::Cut => ProgramFault::Cut,
+        }
+    }
+}

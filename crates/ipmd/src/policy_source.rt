@@ -1,0 +1,29 @@
+ghost use Rattle.std.specs.Prelude.{◌≡◌, ◌⊎◌, IfOk, IfErr, string_bytes};
+ghost use Rattle.ipmd.specs.Runs.{IsTextOf};
+ghost use Rattle.ipmd.specs.declared.fault.ProgramFault.TheVariants.{OutOfMemory, Device};
+
+use crate::fault::ProgramFault;
+use ipmd_command_line::PolicySource;
+use std::fs;
+use std::rt::Files;
+
+/// The text of the policy that comes from there.
+///
+/// # Errors
+/// `Device` where the file can't be opened or read, or isn't UTF-8; `OutOfMemory`.
+pub fn policy_text_of<R: Files + AllocGlobal>(
+    rt: &R,
+    source: PolicySource<'_>,
+) -> Result<String, ProgramFault>
+    ensures text { IfOk result (λ text. IsTextOf source.entry (string_bytes text)) }
+    ensures err { IfErr result (λ e. (e ≡ OutOfMemory) ⊎ (e ≡ Device)) }
+{
+    match source {
+        PolicySource::File(path) => Ok(fs::read_to_string(rt, path)?),
+        PolicySource::Text(text) => Ok(
+            text.chars()
+                .map(|c| if c == ';' { '\n' } else { c })
+                .collect(rt.alloc())?,
+        ),
+    }
+}

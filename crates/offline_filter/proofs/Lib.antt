@@ -1,0 +1,13 @@
+pub mod Messages
+pub mod Receiving
+pub mod Delivering
+pub mod Lines
+pub mod Blaming
+pub mod InHand
+pub mod Streams
+pub mod Ends
+pub mod Opened
+pub mod DueLaws
+pub mod Restated
+pub mod PlainLaws
+pub mod Framed
