@@ -1,9 +1,9 @@
 //! What words ask for.
-ghost use Rattle.std.specs.Prelude.{◌≡◌, false, map, IfErr, IfOk, IfSome, IsSome};
+ghost use Rattle.std.specs.Prelude.{◌≡◌, false, map, codes, option_map, IfErr, IfOk, IfSome, IsSome};
 ghost use Rattle.ipmd_command_line.specs.declared.task.OfflineOptions.{OfflineOptions};
 ghost use Rattle.ipmd_command_line.specs.declared.task.Task.{Task};
 ghost use Rattle.ipmd_command_line.specs.declared.task.PolicySource.{PolicySource};
-ghost use Rattle.clap.specs.Words.{app_of, found_of, rows_of, rule_of, subcommand_rows_of};
+ghost use Rattle.clap.specs.Words.{app_of, first_of, found_of, rows_of, rule_of, subcommand_rows_of};
 ghost use Rattle.ipmd_command_line.specs.CommandLine.{AreOptions, AsksFor, IsCommandIn, IsSource, RefusesWords, check_policy_command, ipmd_command, offline_command, replay_command, valued, with_policy};
 
 use crate::fault::CommandLineFault;
@@ -85,7 +85,7 @@ fn task_of<'a>(matches: &ArgMatches<'a>) -> Option<Task<'a>>
     match matches.subcommand()? {
         (OFFLINE, chosen) => Some(Task::Offline(offline_options(chosen)?)),
         (CHECK_POLICY, chosen) => Some(Task::CheckPolicy(policy_source(chosen)?)),
-        (REPLAY, chosen) => Some(Task::Replay(chosen.get_str(CALLS)?)),
+        (REPLAY, chosen) => Some(Task::Replay(calls_file(chosen)?)),
         _ => None,
     }
 }
@@ -116,6 +116,13 @@ fn policy_source<'a>(chosen: &ArgMatches<'a>) -> Option<PolicySource<'a>>
         (Some(_), Some(_)) => None,
         (None, None) => None,
     }
+}
+
+/// The file of `ipmd replay`.
+fn calls_file<'a>(chosen: &ArgMatches<'a>) -> Option<&'a str>
+    ensures { first_of (codes "calls") (rows_of (found_of chosen.now)) ≡ option_map (λ path. path.now) result }
+{
+    chosen.get_str(CALLS)
 }
 
 /// The command with its subcommands. The words begin after the program's name.
