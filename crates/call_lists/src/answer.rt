@@ -4,7 +4,7 @@ ghost use Rattle.std.specs.Fmt.{decimal};
 ghost use Rattle.std.specs.List.{flat_map};
 ghost use Rattle.hex.specs.Hex.{encode_lower};
 ghost use Rattle.disclosure_audit.specs.Lines.{line_of};
-ghost use Rattle.call_lists.specs.Answers.{answer_text, receipt_text, skips_text, gap_text, pulled_text, status_text, cut_word, drained_text, refusal_text, fault_details, decode_word, read_word};
+ghost use Rattle.call_lists.specs.Answers.{answer_text, answers_text, receipt_text, skips_text, gap_text, pulled_text, status_text, cut_word, drained_text, refusal_text, fault_details, decode_word, read_word};
 
 use bytes::Bytes;
 use disclosure_audit::{AuditEntry, line};
@@ -14,6 +14,21 @@ use mediator_calls::Reply;
 use mediator_state::{Fault, Receipt, Status};
 use std::alloc::{AllocError, Global};
 use std::fmt::Write;
+
+/// The answers of replies, one after another.
+///
+/// # Errors
+/// Want of memory.
+pub fn answers_text(alloc: Global, replies: &[Reply]) -> Result<String, AllocError>
+    ensures { IfOk result (λ text. string_bytes text ≡ answers_text replies.now) }
+{
+    let mut text = String::new(alloc);
+    'replies: for reply in replies {
+        let answer = answer_text(alloc, reply)?;
+        text.push_str(answer.as_str())?;
+    }
+    Ok(text)
+}
 
 /// The lines of a reply: `ok` with what the call gave, or `err` with why it was refused, and behind the count of drained
 /// entries a line for each.

@@ -1,5 +1,6 @@
 -- What a run of the program does, and what its faults mean.
 use Rattle.std.specs.Prelude.{◌≡◌, ◌⊎◌, ◌^◌, ◌-◌, ◌==◌, ℕ, Bool, true, false, List, [], ◌∷◌, ◌++◌, map, length, codes, encode_utf8_all, Option, Some, None, is_some, IfSome, Ok, Err, if◌then◌else◌}
+use Rattle.std.specs.Borrow.{Bor}
 use Rattle.std.specs.Str.{chars}
 use Rattle.std.specs.Fmt.{decimal}
 use Rattle.std.specs.Io.KnownBytes.{Appends, Keeps}
@@ -17,12 +18,13 @@ use Rattle.ipmd_command_line.specs.CommandLine.{AsksFor, RefusesWords}
 use Rattle.ipmd_command_line.specs.declared.command_line.TheConstants.{VERSION}
 use Rattle.ipmd_command_line.specs.declared.fault.CommandLineFault.{CommandLineFault}
 use Rattle.ipmd_command_line.specs.declared.task.OfflineOptions.{OfflineOptions}
-use Rattle.ipmd_command_line.specs.declared.task.Task.TheVariants.{Offline, CheckPolicy, Show}
+use Rattle.ipmd_command_line.specs.declared.task.Task.TheVariants.{Offline, CheckPolicy, Replay, Show}
 use Rattle.ipmd_command_line.specs.declared.task.PolicySource.{PolicySource}
 use Rattle.ipmd_command_line.specs.declared.task.PolicySource.TheVariants.{File, Text}
 use Rattle.ipmd.specs.declared.fault.ProgramFault.{ProgramFault}
-use Rattle.ipmd.specs.declared.fault.ProgramFault.TheVariants.{CommandLine, Policy, Hex, Framing, Core, Cut, OutOfMemory, Device}
+use Rattle.ipmd.specs.declared.fault.ProgramFault.TheVariants.{CommandLine, Policy, Hex, Framing, Core, Cut, Calls, BadLimits, OutOfMemory, Device}
 use Rattle.ipmd.specs.HexText.{SpelledBy, SpellsNothing, lines_of, WritesLines, WritesSome, WritesSomeLines}
+use Rattle.ipmd.specs.Replays.{Replays, RefusesToReplay}
 use Rattle.ipmd.specs.Status.{command_line_fault_of, offline_fault_of, Tells}
 
 -- ---- the policy
@@ -68,6 +70,8 @@ RefusesToCount source Hex held holds = ⊥
 RefusesToCount source (Framing why) held holds = ⊥
 RefusesToCount source (Core why) held holds = ⊥
 RefusesToCount source Cut held holds = ⊥
+RefusesToCount source (Calls n) held holds = ⊥
+RefusesToCount source BadLimits held holds = ⊥
 
 -- ---- help and the version
 
@@ -205,7 +209,8 @@ abbrev pub Does : List (List ℕ) → Option OfflineReport → Option (List ℕ)
 Does words (Some report) given held holds = (options : OfflineOptions) × AsksFor words (Offline options) × Filters options report given held holds
 Does words None given held holds =
     ((source : PolicySource) × AsksFor words (CheckPolicy source) × CountsPolicy source held holds)
-    ⊎ ((shown : Error) × AsksFor words (Show shown) × Shows (kind_of shown) held holds)
+    ⊎ (((path : Bor (List ℕ)) × AsksFor words (Replay path) × Replays held holds)
+    ⊎ ((shown : Error) × AsksFor words (Show shown) × Shows (kind_of shown) held holds))
 
 -- what is said of a stream that was filtered
 abbrev pub line_of_report : OfflineReport → List ℕ
@@ -227,4 +232,5 @@ FailsFor words e given held holds =
     (RefusesCommandLine words e × Keeps held holds)
     ⊎ (((source : PolicySource) × AsksFor words (CheckPolicy source) × RefusesToCount source e held holds)
     ⊎ (((options : OfflineOptions) × AsksFor words (Offline options) × RefusesToFilter options e given held holds)
-    ⊎ ((shown : Error) × AsksFor words (Show shown) × RefusesToShow (kind_of shown) e held holds)))
+    ⊎ (((path : Bor (List ℕ)) × AsksFor words (Replay path) × RefusesToReplay e held holds)
+    ⊎ ((shown : Error) × AsksFor words (Show shown) × RefusesToShow (kind_of shown) e held holds))))
