@@ -24,19 +24,16 @@ use Rattle.ipmd_command_line.specs.declared.task.PolicySource.TheVariants.{File,
 use Rattle.ipmd.specs.declared.fault.ProgramFault.{ProgramFault}
 use Rattle.ipmd.specs.declared.fault.ProgramFault.TheVariants.{CommandLine, Policy, Hex, Framing, Core, Cut, Calls, BadLimits, OutOfMemory, Device}
 use Rattle.ipmd.specs.HexText.{SpelledBy, SpellsNothing, lines_of, WritesLines, WritesSome, WritesSomeLines}
+use Rattle.call_lists.specs.LineEnds.{with_line_ends}
 use Rattle.ipmd.specs.Replays.{Replays, RefusesToReplay}
 use Rattle.ipmd.specs.Status.{command_line_fault_of, offline_fault_of, Tells}
 
 -- ---- the policy
 
--- each semicolon (59) stands for a line feed (10)
-abbrev pub as_line_end : ℕ → ℕ
-as_line_end c = if c == 59 then 10 else c
-
--- the text of a policy; what a file holds isn't told here
+-- the text of a policy, as words with a line feed for each semicolon; what a file holds isn't told here
 abbrev pub IsTextOf : PolicySource → List ℕ → Type 0
 IsTextOf (File path) text = Unit {0}
-IsTextOf (Text words) text = text ≡ encode_utf8_all (map as_line_end (chars words.now))
+IsTextOf (Text words) text = text ≡ with_line_ends words.now
 
 -- ---- check-policy
 
