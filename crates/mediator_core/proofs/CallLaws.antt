@@ -45,6 +45,12 @@ pub if_err_gives : {X E : Type 0} {P Q : E → Type 0} (r : Result X E) → IfEr
 if_err_gives (Ok x) p f = tt
 if_err_gives (Err e) p f = f e p
 
+pub if_ok_at : {X E : Type 0} (P : X → Type 0) (r : Result X E) (x : X) → r ≡ Ok x → P x → IfOk r P
+if_ok_at P r x is p = rw is p
+
+pub if_ok_none : {X E : Type 0} (P : X → Type 0) (r : Result X E) (e : E) → r ≡ Err e → IfOk r P
+if_ok_none P r e is = rw is tt
+
 -- ---- the same mediator
 
 limits_same : (s t : State Kept) → t.engine.limits ≡ s.engine.limits → t.engine.audit.limit ≡ s.engine.audit.limit → t.chronicle.limits ≡ s.chronicle.limits → (view_of t).limits ≡ (view_of s).limits

@@ -272,3 +272,10 @@ drained_at_end (c ∷ calls) (r ∷ replies) old new out run d =
 
 pub drained_is_audited : (limits : Limits) (calls : List Call) (replies : List Reply) (new : Mediation) → Runs (started limits) calls replies new → DrainedIsAudited calls replies new
 drained_is_audited limits calls replies new run = (drained_at_end calls replies (started limits) new [] run (record { whole = refl; within = omega arith })).whole
+
+-- ---- a run in turns
+
+-- no call is left
+pub run_ends : (old now : Mediation) (calls : List Call) (replies : List Reply) (left : List Call) → left ≡ [] → ((later : List Reply) (end : Mediation) → Runs now left later end → Runs old calls (replies ++ later) end) → Runs old calls replies now
+run_ends old now calls replies left none so_far =
+    subst (λ (rs : List Reply). Runs old calls rs now) (append-nil replies) (so_far [] now (subst (λ (cs : List Call). Runs now cs [] now) (sym none) refl))
