@@ -172,8 +172,7 @@ pub refuses_receive : (why : Fault) (s : State Kept) (session number : ℕ) (oct
 refuses_receive fault.JournalFull s session number octets stands r =
     (r.0, r.1, λ room. r.2 (subst (λ (more : List Entry). HasRoomAfter s.chronicle.limits s.chronicle.entries more) (sym (with_cuts_are s stands session number octets)) room))
 refuses_receive (fault.AuditFull need room) s session number octets stands r =
-    let same = with_cuts_are s stands session number octets in
-    (
+    let same = with_cuts_are s stands session number octets in (
       r.0,
       r.1,
       subst (λ (more : List Entry). HasRoomAfter s.chronicle.limits s.chronicle.entries more) same r.2,

@@ -100,7 +100,6 @@ cuts_are s stands entry = ap (λ (subs : List ℕ). map Cut subs) (filter_alike 
   by_view : ℕ → Bool
   by_view sub = is_cut_by (stream_limits (view_of s).limits) s.chronicle.entries entry (waiting_at (view_of s)) sub
 
-
   alike : (sub : ℕ) → is_served sub s.chronicle.entries ≡ true → by_state sub ≡ by_view sub
   alike sub on = rw (waiting_is s stands sub (served_is_live sub s.chronicle.entries on)) refl
 

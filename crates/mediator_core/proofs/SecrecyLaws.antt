@@ -273,9 +273,9 @@ given_alike sub name b c (Message session number octets) seen = by_test (is_serv
       let called : name_of sub b ≡ name = seen.called on in
       ap (λ (x : Bool). given_by octets x (name_of sub b) (policy_in_force b) (messages_of session b)) seen.served
       ∙ ap (λ (t : List DataRecord). cond (is_served sub c) t [])
-          (ap (λ (n : List ℕ). flat_map (pass n (policy_in_force b)) brought) called
-          ∙ flat_map_same (pass name (policy_in_force b)) (pass name (policy_in_force c)) (seen.policies (domain_of octets)) brought
-          ∙ ap (λ (n : List ℕ). flat_map (pass n (policy_in_force c)) brought) (sym called ∙ seen.names))
+      (ap (λ (n : List ℕ). flat_map (pass n (policy_in_force b)) brought) called
+      ∙ flat_map_same (pass name (policy_in_force b)) (pass name (policy_in_force c)) (seen.policies (domain_of octets)) brought
+      ∙ ap (λ (n : List ℕ). flat_map (pass n (policy_in_force c)) brought) (sym called ∙ seen.names))
       ∙ ap (λ (x : List (List ℕ)). given_by octets (is_served sub c) (name_of sub c) (policy_in_force c) x) (ap reverse (seen.messages session))
 given_alike sub name b c _ seen = refl
 
