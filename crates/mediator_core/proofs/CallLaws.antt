@@ -1,6 +1,6 @@
 -- What the calls of a mediator's state say to its callers.
-use Rattle.std.proofs.Common.{◌≡◌, ℕ, ◌+◌, ◌<◌, ◌≤◌, ◌^◌, Bool, true, false, cond, List, [], ◌∷◌, ◌++◌, length, take, drop, Option, Some, None, refl, sym, ap, ◌∙◌, subst, append-nil, arith}
-use Rattle.std.specs.Prelude.{◌≢◌, ◌==◌, unwrap_or}
+use Rattle.std.proofs.Common.{◌≡◌, ℕ, ◌+◌, ◌<◌, ◌≤◌, ◌^◌, Bool, true, false, cond, List, [], ◌∷◌, ◌++◌, length, take, drop, Option, Some, None, Result, Ok, Err, refl, sym, ap, ◌∙◌, subst, append-nil, arith}
+use Rattle.std.specs.Prelude.{◌≢◌, ◌==◌, unwrap_or, OnOk, IfOk, IfErr}
 use Rattle.std.proofs.lemmas.Bool.{false≢true, eq-eqb}
 use Rattle.sequences.proofs.BeforeLaws.{last_of-push}
 use Rattle.ipfix_session.specs.Meaning.{meaning_of}
@@ -28,7 +28,28 @@ use Rattle.mediator_calls.specs.declared.limits.Limits.{Limits}
 use Rattle.mediator_core.specs.Mediation.{Place, Mediation, place_at, noted_at, journal_limits}
 use Rattle.mediator_core.specs.View.{view_of, tells, limits_of, StandsForJournal}
 use Rattle.mediator_core.specs.Calls.{GoesOn, Opens, Closes, with_cuts, Receives, RefusesReceive, Edits, Subscribes, Unsubscribes, Pulls, IsStatusOf, Drains}
-use Rattle.mediator_core.proofs.Places.{place_is, unplaced_at, cuts_are, places_same}
+use Rattle.mediator_core.specs.Sound.{IsSound}
+use Rattle.mediator_core.proofs.Places.{place_is, within, unplaced_at, cuts_are, places_same}
+
+-- ---- results
+
+pub on_ok_gives : {X E P Q : Type 0} (r : Result X E) → OnOk r P → (P → Q) → OnOk r Q
+on_ok_gives (Ok x) p f = f p
+on_ok_gives (Err e) p f = tt
+
+pub if_ok_gives : {X E : Type 0} {P Q : X → Type 0} (r : Result X E) → IfOk r P → ((x : X) → P x → Q x) → IfOk r Q
+if_ok_gives (Ok x) p f = f x p
+if_ok_gives (Err e) p f = tt
+
+pub if_err_gives : {X E : Type 0} {P Q : E → Type 0} (r : Result X E) → IfErr r P → ((e : E) → P e → Q e) → IfErr r Q
+if_err_gives (Ok x) p f = tt
+if_err_gives (Err e) p f = f e p
+
+pub if_ok_at : {X E : Type 0} (P : X → Type 0) (r : Result X E) (x : X) → r ≡ Ok x → P x → IfOk r P
+if_ok_at P r x is p = rw is p
+
+pub if_ok_none : {X E : Type 0} (P : X → Type 0) (r : Result X E) (e : E) → r ≡ Err e → IfOk r P
+if_ok_none P r e is = rw is tt
 
 -- ---- the same mediator
 
@@ -39,7 +60,7 @@ limits_same s t streams audit journal =
     let of_journal : Journaled → Limits = λ l. record { queue = s.engine.limits.queue; shapes = s.engine.limits.shapes; audit = s.engine.audit.limit; entries = l.entries; octets = l.octets } in
     ap of_streams streams ∙ ap of_audit audit ∙ ap of_journal journal
 
-made : List Entry → List Place → ℕ → Limits → Mediation
+abbrev made : List Entry → List Place → ℕ → Limits → Mediation
 made h places drained limits = record { history = h; places = places; drained = drained; limits = limits }
 
 made_same : (h g : List Entry) (ps qs : List Place) (m n : ℕ) (k l : Limits) → g ≡ h → qs ≡ ps → n ≡ m → l ≡ k → made g qs n l ≡ made h ps m k
@@ -151,8 +172,7 @@ pub refuses_receive : (why : Fault) (s : State Kept) (session number : ℕ) (oct
 refuses_receive fault.JournalFull s session number octets stands r =
     (r.0, r.1, λ room. r.2 (subst (λ (more : List Entry). HasRoomAfter s.chronicle.limits s.chronicle.entries more) (sym (with_cuts_are s stands session number octets)) room))
 refuses_receive (fault.AuditFull need room) s session number octets stands r =
-    let same = with_cuts_are s stands session number octets in
-    (
+    let same = with_cuts_are s stands session number octets in (
       r.0,
       r.1,
       subst (λ (more : List Entry). HasRoomAfter s.chronicle.limits s.chronicle.entries more) same r.2,
@@ -198,4 +218,13 @@ drains s t most out stands drained places count streams audit journaled = record
   history = drained.1.told;
   places = λ sub. place_is t (for_journal t s.chronicle.entries drained.1) sub ∙ places sub ∙ sym (place_is s stands sub);
   limits = limits_same s t streams audit journaled;
+}
+
+-- ---- what every mediator keeps
+
+pub is_sound : (s : State Kept) → StandsForJournal s → IsSound (view_of s)
+is_sound s stands = record {
+  streamable = stands.stands.small.streamable;
+  places = within s stands;
+  drained = stands.stands.audit.within;
 }

@@ -167,7 +167,6 @@ silent sub old c r new messages p unanswered unasked h = record {
 refused_holds : (sub : ℕ) (old new : Mediation) (messages : List (List ℕ)) (p : ℕ) → new ≡ old → Holds sub old messages p → Holds sub new messages p
 refused_holds sub old new messages p same h = subst (λ (m : Mediation). Holds sub m messages p) (sym same) h
 
-
 pub holds_after : (sub : ℕ) (old : Mediation) (c : Call) (r : Reply) (new : Mediation) (messages : List (List ℕ)) (p : ℕ) → Answers old c r new → Holds sub old messages p → HoldsAfter sub old c r new messages p
 holds_after sub old call.Open (reply.Opened session) new messages p is h =
     silent sub old call.Open (reply.Opened session) new messages p refl refl (holds_on sub old new (Open session.0 ∷ []) messages p is.goes_on (unswitched sub old.history (Open session.0 ∷ []) (refl, tt)) h)

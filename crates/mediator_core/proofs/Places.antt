@@ -72,6 +72,14 @@ place_is s stands sub =
 pub unplaced_at : (s : State Kept) → StandsForJournal s → (sub : ℕ) → is_live sub s.chronicle.entries ≡ false → place_at (view_of s) sub ≡ 0
 unplaced_at s stands sub off = place_is s stands sub ∙ unplaced s.chronicle.entries s.engine.limits sub (at s.engine.subscriptions sub) (stands.stands.subscriptions sub) off
 
+-- no place is past the end
+ends : (h : List Entry) (limits : Streamed) (sub : ℕ) (o : Option Subscription) → IsLiveAs h limits sub o → place_in o ≤ length (parts (disclosed sub h))
+ends h limits sub None is = omega arith
+ends h limits sub (Some s) is = is.stream.within
+
+pub within : (s : State Kept) → StandsForJournal s → (sub : ℕ) → place_at (view_of s) sub ≤ length (parts (disclosed sub s.chronicle.entries))
+within s stands sub = omega (arith, place_is s stands sub, ends s.chronicle.entries s.engine.limits sub (at s.engine.subscriptions sub) (stands.stands.subscriptions sub))
+
 -- ---- how many records wait
 
 waits : (h : List Entry) (limits : Streamed) (sub : ℕ) (o : Option Subscription) → IsLiveAs h limits sub o → is_live sub h ≡ true → waiting_in o ≡ length (records_in (drop (place_in o) (parts (disclosed sub h))))
@@ -91,7 +99,6 @@ cuts_are s stands entry = ap (λ (subs : List ℕ). map Cut subs) (filter_alike 
 
   by_view : ℕ → Bool
   by_view sub = is_cut_by (stream_limits (view_of s).limits) s.chronicle.entries entry (waiting_at (view_of s)) sub
-
 
   alike : (sub : ℕ) → is_served sub s.chronicle.entries ≡ true → by_state sub ≡ by_view sub
   alike sub on = rw (waiting_is s stands sub (served_is_live sub s.chronicle.entries on)) refl

@@ -1,6 +1,6 @@
 -- What holds of every run, by induction from its front.
 use Rattle.std.proofs.Common.{◌≡◌, ℕ, zero, suc, ◌+◌, ◌<◌, ◌≤◌, Bool, true, false, cond, List, [], ◌∷◌, ◌++◌, length, map, take, drop, Option, Some, None, refl, sym, ap, ◌∙◌, subst, append_assoc, append-nil, arith, length-append, length-take, length-drop}
-use Rattle.std.specs.Prelude.{◌×◌, filter}
+use Rattle.std.specs.Prelude.{filter}
 use Rattle.std.proofs.lemmas.List.{take-append-drop, drop-drop}
 use Rattle.std.proofs.lemmas.List.Elements.{filter-append}
 use Rattle.sequences.specs.Before.{each_after}
@@ -18,7 +18,9 @@ use Rattle.stream_meaning.proofs.Handing.{handed_answer, handed_means, handed_wh
 use Rattle.disclosure_audit.specs.declared.entry.AuditEntry.{AuditEntry}
 use Rattle.event_journal.specs.declared.entry.Entry.{Entry}
 use Rattle.event_journal.specs.declared.entry.Entry.TheVariants.{Message, Cut}
-use Rattle.mediator_history.specs.Subscriptions.{is_live}
+use Rattle.mediator_history.specs.Subscriptions.{is_live, served}
+use Rattle.mediator_history.specs.Cuts.{is_cut_by}
+use Rattle.mediator_state.specs.declared.receipt.Receipt.{Receipt}
 use Rattle.mediator_history.specs.Disclosed.{disclosed}
 use Rattle.mediator_history.specs.Auditing.{audit_at, audit_list}
 use Rattle.mediator_calls.specs.declared.limits.Limits.{Limits}
@@ -26,8 +28,8 @@ use Rattle.mediator_calls.specs.declared.call.Call.{Call}
 use Rattle.mediator_calls.specs.declared.call.Call.TheVariants as call
 use Rattle.mediator_calls.specs.declared.call.Reply.{Reply}
 use Rattle.mediator_calls.specs.declared.call.Reply.TheVariants as reply
-use Rattle.mediator_core.specs.Mediation.{Mediation, started, place_at, noted_at}
-use Rattle.mediator_core.specs.Calls.{GoesOn, Drains}
+use Rattle.mediator_core.specs.Mediation.{Mediation, started, place_at, waiting_at, noted_at, stream_limits}
+use Rattle.mediator_core.specs.Calls.{GoesOn, with_cuts, Receives, Drains}
 use Rattle.mediator_core.specs.Runs.{Answers, Runs, entry_in, entries_of, is_of_call, answer_in, answers_to, handed_to, GiveUntilNone, MeanFront, drained_in, drained_by, asked_in, Ask}
 use Rattle.mediator_core.specs.Headline.{HistoryIsTheCalls, HandedIsDisclosed, HandedIsFront, DrainedIsAudited, IsBuiltFromDisclosed}
 use Rattle.mediator_core.specs.Sound.{IsSound}
@@ -140,10 +142,15 @@ none_added old new same = ap (filter is_of_call) same ∙ sym (append-nil (filte
 refused_adds : (old new : Mediation) → new ≡ old → filter is_of_call new.history ≡ filter is_of_call old.history ++ []
 refused_adds old new same = none_added old new (ap (λ (m : Mediation). m.history) same)
 
+received_entry : (old new : Mediation) (session number : ℕ) (octets : List ℕ) (receipt : Receipt) → Receives old session number octets receipt new → filter is_of_call new.history ≡ filter is_of_call old.history ++ Message session number octets ∷ []
+received_entry old new session number octets receipt is =
+    entries_on old new (with_cuts old session number octets) (Message session number octets ∷ []) is.goes_on
+    (no_call (filter (is_cut_by (stream_limits old.limits) old.history (Message session number octets) (waiting_at old)) (served old.history)) (Message session number octets) refl)
+
 entry_added : (old : Mediation) (c : Call) (r : Reply) (new : Mediation) → Answers old c r new → filter is_of_call new.history ≡ filter is_of_call old.history ++ entry_in c r
 entry_added old call.Open (reply.Opened session) new is = entries_on old new _ _ is.goes_on refl
 entry_added old (call.Close session) reply.Closed new is = entries_on old new _ _ is.goes_on refl
-entry_added old (call.Receive session number message) (reply.Received receipt) new is = entries_on old new _ _ is.goes_on (no_call _ (Message session.0 number message) refl)
+entry_added old (call.Receive session number message) (reply.Received receipt) new is = received_entry old new session.0 number message receipt is
 entry_added old (call.Edit text) (reply.Edited edits) new is = entries_on old new _ _ is.goes_on refl
 entry_added old (call.Subscribe name) (reply.Subscribed sub) new is = entries_on old new _ _ is.goes_on refl
 entry_added old (call.Unsubscribe sub) reply.Unsubscribed new is = entries_on old new _ _ is.goes_on refl
@@ -219,7 +226,7 @@ drained_more old new most more out is d =
     let left : drop new.drained (audit_list new.history) ≡ drop (length (take most waiting)) waiting =
     ap (λ (n : ℕ). drop n (audit_list new.history)) is.drained
     ∙ ap (λ (h : List Entry). drop (old.drained + length more) (audit_list h)) is.history
-    ∙ sym (drop-drop old.drained (length more) (audit_list old.history))
+    ∙ sym (drop-drop (length more) old.drained (audit_list old.history))
     ∙ ap (λ (l : List AuditEntry). drop (length l) waiting) is.entries in
     record {
       whole = append_assoc out more (noted_at new)
@@ -265,3 +272,10 @@ drained_at_end (c ∷ calls) (r ∷ replies) old new out run d =
 
 pub drained_is_audited : (limits : Limits) (calls : List Call) (replies : List Reply) (new : Mediation) → Runs (started limits) calls replies new → DrainedIsAudited calls replies new
 drained_is_audited limits calls replies new run = (drained_at_end calls replies (started limits) new [] run (record { whole = refl; within = omega arith })).whole
+
+-- ---- a run in turns
+
+-- no call is left
+pub run_ends : (old now : Mediation) (calls : List Call) (replies : List Reply) (left : List Call) → left ≡ [] → ((later : List Reply) (end : Mediation) → Runs now left later end → Runs old calls (replies ++ later) end) → Runs old calls replies now
+run_ends old now calls replies left none so_far =
+    subst (λ (rs : List Reply). Runs old calls rs now) (append-nil replies) (so_far [] now (subst (λ (cs : List Call). Runs now cs [] now) (sym none) refl))

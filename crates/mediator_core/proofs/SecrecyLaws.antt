@@ -32,7 +32,7 @@ use Rattle.mediator_core.specs.Secrecy.{EntryByEntry, LeavesOut, IsEditLess, IsS
 -- ---- what a message gives
 
 -- by whether the subscription is served, its name, the policy and the session's earlier messages
-given_by : (octets : List ℕ) → Bool → List ℕ → Policy → List (List ℕ) → List DataRecord
+abbrev given_by : (octets : List ℕ) → Bool → List ℕ → Policy → List (List ℕ) → List DataRecord
 given_by octets on name policy older = cond on (flat_map (λ r. passed (disclosure_of name (domain_of octets) r policy.rules)) (records_meant (meaning_of older octets))) []
 
 given_same : (sub session number : ℕ) (octets : List ℕ) (b c : List Entry) → is_served sub b ≡ is_served sub c → name_of sub b ≡ name_of sub c → policy_in_force b ≡ policy_in_force c → messages_of session b ≡ messages_of session c
@@ -273,9 +273,9 @@ given_alike sub name b c (Message session number octets) seen = by_test (is_serv
       let called : name_of sub b ≡ name = seen.called on in
       ap (λ (x : Bool). given_by octets x (name_of sub b) (policy_in_force b) (messages_of session b)) seen.served
       ∙ ap (λ (t : List DataRecord). cond (is_served sub c) t [])
-          (ap (λ (n : List ℕ). flat_map (pass n (policy_in_force b)) brought) called
-          ∙ flat_map_same (pass name (policy_in_force b)) (pass name (policy_in_force c)) (seen.policies (domain_of octets)) brought
-          ∙ ap (λ (n : List ℕ). flat_map (pass n (policy_in_force c)) brought) (sym called ∙ seen.names))
+      (ap (λ (n : List ℕ). flat_map (pass n (policy_in_force b)) brought) called
+      ∙ flat_map_same (pass name (policy_in_force b)) (pass name (policy_in_force c)) (seen.policies (domain_of octets)) brought
+      ∙ ap (λ (n : List ℕ). flat_map (pass n (policy_in_force c)) brought) (sym called ∙ seen.names))
       ∙ ap (λ (x : List (List ℕ)). given_by octets (is_served sub c) (name_of sub c) (policy_in_force c) x) (ap reverse (seen.messages session))
 given_alike sub name b c _ seen = refl
 

@@ -1,5 +1,5 @@
 -- What is promised of a run.
-use Rattle.std.specs.Prelude.{◌≡◌, ℕ, ◌×◌, true, List, ◌++◌, filter}
+use Rattle.std.specs.Prelude.{◌≡◌, ℕ, true, List, ◌++◌, filter}
 use Rattle.subscriber_stream.specs.Calls.{Pull as Asked, octets_got}
 use Rattle.stream_meaning.specs.Served.{AreInRange, pulls}
 use Rattle.stream_meaning.specs.Means.{Means}

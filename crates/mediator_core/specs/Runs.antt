@@ -1,5 +1,5 @@
 -- Runs: calls with their replies, one after another, and what they say of the history and of what each subscription was handed.
-use Rattle.std.specs.Prelude.{◌≡◌, ℕ, ◌×◌, Bool, true, false, ◌==◌, List, [], ◌∷◌, ◌++◌, Option, Some, None, Result, if◌then◌else◌, string_bytes}
+use Rattle.std.specs.Prelude.{◌≡◌, ℕ, Bool, true, false, ◌==◌, List, [], ◌∷◌, ◌++◌, Option, Some, None, Result, if◌then◌else◌, string_bytes}
 use Rattle.subscriber_stream.specs.Calls.{Pull as Asked}
 use Rattle.ipfix_template.specs.DataRecord.{DataRecord}
 use Rattle.subscriber_stream.specs.Message.{built, place_after}

@@ -2,14 +2,14 @@
 //! discloses to it, with an audit of what was kept back.
 //!
 //! - `mediator`: [`Mediator`], with its calls.
-//! - `run`: [`run`], a list of calls on a new mediator, and its [`Transcript`]; [`Call`] and [`Reply`] are calls and
+//! - `transcript`: [`run`], a list of calls on a new mediator, and its [`Transcript`]; [`Call`] and [`Reply`] are calls and
 //!   answers as values (`mediator_calls`).
 //! - `laws`: what never matters to what a subscription is disclosed.
 #![tactic(auto)]
 
 mod laws;
 mod mediator;
-mod run;
+mod transcript;
 
 pub use laws::{
     denied_values_never_matter, entries_of_others_never_matter, rules_of_others_never_matter,
@@ -17,4 +17,4 @@ pub use laws::{
 pub use mediator::Mediator;
 pub use mediator_calls::{Call, Limits, Reply, RunFault, SessionId, SubId, UnknownSub};
 pub use mediator_state::{Fault, Receipt, Status};
-pub use run::{Transcript, run};
+pub use transcript::{Transcript, run};
