@@ -87,10 +87,10 @@ fails_lines job e octets stream before after held holds audit_held audit_holds e
     inr (inr is, record { stream = stream; ends = ends; lines = whole_lines stream held holds lines })
 
 -- the job of these options by this policy
-abbrev pub asked_for : (options : OfflineOptions) (policy : Bor (List ℕ)) (text : List ℕ) → IsTextOf options.policy text → policy.now ≡ text → Asked options
-asked_for options policy text source is = record {
+abbrev pub asked_for : (options : OfflineOptions) (policy : Bor (List ℕ)) (text : List ℕ) (audit : Bool) → IsTextOf options.policy text → policy.now ≡ text → audit ≡ is_some options.audit → Asked options
+asked_for options policy text audit source is asked = record {
   text = text;
   source_is = source;
-  job = record { policy = policy; name = options.subscriber; now = options.now; target = options.target; turns = 18446744073709551615; audit = is_some options.audit };
-  job_is = record { policy = is; name = refl; now = refl; target = refl; turns = refl; audit = refl };
+  job = record { policy = policy; name = options.subscriber; now = options.now; target = options.target; turns = 18446744073709551615; audit = audit };
+  job_is = record { policy = is; name = refl; now = refl; target = refl; turns = refl; audit = asked };
 }

@@ -1,7 +1,7 @@
 -- The reading of a stream, from its start to its end.
-use Rattle.std.proofs.Common.{◌≡◌, ℕ, ◌+◌, ◌≤◌, ◌<◌, Bool, true, false, List, [], ◌∷◌, ◌++◌, length, take, Option, Some, None, inl, inr, refl, sym, ap, ◌∙◌, subst, arith, append-nil, append_assoc, length-append}
+use Rattle.std.proofs.Common.{◌≡◌, ℕ, ◌+◌, Bool, false, List, [], ◌∷◌, ◌++◌, length, take, Option, Some, None, inl, inr, refl, sym, ap, ◌∙◌, subst, arith, append-nil, append_assoc, length-append}
 use Rattle.std.proofs.lemmas.List.{take_all}
-use Rattle.std.specs.Io.KnownBytes.{Consumes, IsAtEnd}
+use Rattle.std.specs.Io.KnownBytes.{Appends, Consumes}
 use Rattle.std.proofs.KnownBytes.{Appends-nil, Consumes-nil, Consumes-trans}
 use Rattle.ipfix_message.specs.Framing.{IsFramed}
 use Rattle.ipfix_message.specs.declared.frame_error.FrameError.{FrameError}
@@ -33,6 +33,7 @@ use Rattle.offline_filter.specs.Running.{IsOpened, IsRunning, Runs}
 use Rattle.offline_filter.specs.Filtering.{AreRead}
 use Rattle.offline_filter.specs.Reading.{IsDone, StopsInHand, StopsAfter, StopsReading, Finishes}
 use Rattle.offline_filter.specs.Reaching.{HandlesAll, StopsAmong, IsAfter, ReachesEnd}
+use Rattle.offline_filter.proofs.Lines.{lines_for-none}
 use Rattle.offline_filter.proofs.Streams.{done_of, emptied}
 use Rattle.offline_filter.proofs.InHand.{fold-snoc}
 
@@ -59,7 +60,7 @@ running_starts d job held aheld o = record {
   sent = o.sent;
   few = omega (arith, o.sent);
   written = Appends-nil held;
-  audited = Appends-nil aheld;
+  audited = subst (Appends aheld aheld) (sym (lines_for-none job.audit)) (Appends-nil aheld);
   accepted = tt;
   handed = subst (AreHandedOut [] []) (sym parts_none) none_handed_out;
 }

@@ -1,5 +1,5 @@
 -- A message that is handled, in a run over messages.
-use Rattle.std.proofs.Common.{◌≡◌, ℕ, zero, suc, ◌+◌, ◌*◌, ◌≤◌, ◌<◌, ◌^◌, Bool, true, false, List, [], ◌∷◌, ◌++◌, length, take, drop, Option, Some, None, refl, sym, ap, ◌∙◌, subst, arith, append-nil, append_assoc, length-append, length-drop}
+use Rattle.std.proofs.Common.{◌≡◌, ℕ, zero, suc, ◌+◌, ◌*◌, ◌≤◌, ◌<◌, ◌^◌, Bool, true, false, List, [], ◌∷◌, ◌++◌, length, take, Option, Some, None, refl, sym, ap, ◌∙◌, subst, arith, append-nil, append_assoc, length-append}
 use Rattle.std.specs.Prelude.{fold}
 use Rattle.std.specs.List.{concat}
 use Rattle.std.specs.Io.KnownBytes.{Appends}
@@ -19,13 +19,10 @@ use Rattle.disclosure_audit.specs.declared.entry.AuditEntry.{AuditEntry}
 use Rattle.disclosure_audit.specs.Queue.{StandsIn}
 use Rattle.event_journal.specs.declared.entry.Entry.{Entry}
 use Rattle.event_journal.specs.declared.entry.Entry.TheVariants.{Cut as CutEntry}
-use Rattle.event_journal.specs.declared.entry.Entry.TheVariants.{Message}
-use Rattle.mediator_history.specs.Subscriptions.{is_served}
 use Rattle.mediator_history.specs.Disclosed.{given_at, disclosed}
 use Rattle.mediator_history.proofs.HistoryLaws.{disclosed-push}
 use Rattle.mediator_history.proofs.SinceLaws.{cut_is_served_no_more, unserved_get_nothing}
 use Rattle.mediator_history.specs.Auditing.{audit_at, audit_list}
-use Rattle.mediator_history.specs.Sessions.{messages_of}
 use Rattle.mediator_state.specs.Calls.{StandsFor}
 use Rattle.sequences.proofs.ListLaws.{take-add-append}
 use Rattle.offline_filter.specs.declared.run.Run.{Run}
@@ -33,7 +30,7 @@ use Rattle.offline_filter.specs.declared.job.OfflineJob.{OfflineJob}
 use Rattle.offline_filter.specs.Lines.{lines_for, WritesSome, WritesOn}
 use Rattle.offline_filter.specs.Recording.{Records, StopsLines}
 use Rattle.offline_filter.specs.Offline.{started, after_message, history_of, disclosed_by, and_then, pulled as pulled_list, pulled_to_end, due_by, due, audit_due, cuts_by, next_message as next_entry}
-use Rattle.offline_filter.specs.Runs.{tells, audit_waiting, audit_drained, HasHistory, Stands, Small}
+use Rattle.offline_filter.specs.Runs.{tells, audit_waiting, HasHistory, Stands, Small}
 use Rattle.offline_filter.specs.Offline.{end_of}
 use Rattle.offline_filter.specs.Steps.{HasDelivered, Receives}
 use Rattle.offline_filter.specs.Accepting.{Accepts, RefusesMessage, AreAccepted}

@@ -2,7 +2,7 @@
 use Rattle.std.proofs.Common.{◌≡◌, ℕ, ◌+◌, ◌≤◌, ◌<◌, Bool, true, false, List, [], ◌∷◌, ◌++◌, length, take, drop, Option, refl, sym, ap, ◌∙◌, subst, arith, append_assoc, length-append}
 use Rattle.std.specs.Prelude.{get_or, Result, Ok, Err, OnErr}
 use Rattle.std.specs.Io.KnownBytes.{Appends}
-use Rattle.std.proofs.KnownBytes.{Appends-trans}
+use Rattle.std.proofs.KnownBytes.{Appends-nil, Appends-trans}
 use Rattle.std.proofs.lemmas.List.{take_more, take-append-drop, take_all, take-append-le}
 use Rattle.std.proofs.lemmas.Grind.{flat_map-append}
 use Rattle.mediator_history.proofs.HistoryLaws.{flat_map-push}
@@ -10,6 +10,17 @@ use Rattle.disclosure_audit.specs.declared.entry.AuditEntry.{AuditEntry}
 use Rattle.disclosure_audit.specs.Lines.{line_of}
 use Rattle.sequences.proofs.ListLaws.{take-add-append}
 use Rattle.offline_filter.specs.Lines.{lines_of, lines_for, WritesSome}
+
+pub lines_for-asked : (asked : Bool) (entries : List AuditEntry) → asked ≡ true → lines_for asked entries ≡ lines_of entries
+lines_for-asked asked entries is = rw is refl
+
+-- what was not asked for is written where nothing is
+pub unasked : (a : Option (List ℕ)) (asked : Bool) (entries : List AuditEntry) → asked ≡ false → Appends a a (lines_for asked entries)
+unasked a asked entries is = rw is (Appends-nil a)
+
+pub lines_for-none : (asked : Bool) → lines_for asked [] ≡ []
+lines_for-none true = refl
+lines_for-none false = refl
 
 -- the lines that are asked for of some entries and of others behind them
 pub lines_for-append : (asked : Bool) (some more : List AuditEntry) → lines_for asked (some ++ more) ≡ lines_for asked some ++ lines_for asked more

@@ -1,31 +1,28 @@
 -- A run that is opened, or refused.
-use Rattle.std.proofs.Common.{◌≡◌, ℕ, ◌+◌, ◌≤◌, ◌⊎◌, inl, inr, true, false, List, [], ◌∷◌, ◌++◌, length, Option, Some, None, refl, sym, ap, ◌∙◌, subst, arith}
+use Rattle.std.proofs.Common.{◌≡◌, ℕ, inl, inr, true, false, List, [], ◌∷◌, Option, Some, None, refl, sym, ap, ◌∙◌, subst, arith}
 use Rattle.std.specs.List.{All}
 use Rattle.std.proofs.lemmas.List.{drop_all}
 use Rattle.std.proofs.lemmas.List.Elements.{All-nil, All-cons}
-use Rattle.policy_text.specs.Naming.{is_name}
 use Rattle.subscriber_stream.specs.declared.limits.Limits.{Limits}
 use Rattle.event_journal.specs.declared.entry.Entry.{Entry}
 use Rattle.event_journal.specs.declared.entry.Entry.TheVariants.{Open, Edit, Subscribe}
 use Rattle.event_journal.specs.Counted.{Counted}
-use Rattle.event_journal.specs.Room.{Limits as Journaled, HasRoomAfter}
+use Rattle.event_journal.specs.Room.{HasRoomAfter}
 use Rattle.event_journal.specs.Spelled.{IsSpelled}
-use Rattle.event_journal.specs.Sizes.{history_octets}
 use Rattle.mediator_history.proofs.HistoryLaws.{octets-push}
-use Rattle.mediator_history.specs.Subscriptions.{is_live}
 use Rattle.live_subscriptions.specs.declared.subscription.Subscription.{Subscription}
 use Rattle.live_subscriptions.specs.Table.{at}
 use Rattle.mediator_state.specs.declared.state.State.{State}
 use Rattle.mediator_state.specs.declared.fault.Fault.{Fault}
 use Rattle.mediator_state.specs.declared.fault.Fault.TheVariants as fault
 use Rattle.mediator_state.specs.Standing.{IsLiveAs}
-use Rattle.mediator_state.specs.Seen.{place_in, place_of, IsUntouched}
+use Rattle.mediator_state.specs.Seen.{place_in, IsUntouched}
 use Rattle.mediator_state.specs.Calls.{StandsFor, Edits, RefusesEdit, Subscribes, RefusesSubscribe, Opens, LacksRoomAfter, HasPolicy}
 use Rattle.offline_filter.specs.declared.run.Run.{Run}
 use Rattle.offline_filter.specs.declared.job.OfflineJob.{OfflineJob}
 use Rattle.offline_filter.specs.Offline.{edited, started, stream_limits, audit_limit, journal_limits}
-use Rattle.offline_filter.specs.Opening.{IsAcceptedJob, RefusesJob}
-use Rattle.offline_filter.specs.Runs.{tells, audit_waiting, Stands, Small}
+use Rattle.offline_filter.specs.Opening.{RefusesJob}
+use Rattle.offline_filter.specs.Runs.{tells, Stands}
 use Rattle.offline_filter.specs.Running.{IsOpened}
 use Rattle.offline_filter.proofs.Receiving.{small_of}
 

@@ -9,8 +9,7 @@ use Rattle.std.proofs.Math.Seq.{drop-append_seam}
 use Rattle.std.proofs.lemmas.List.Concat.{flat_map-cons}
 use Rattle.std.proofs.lemmas.List.FromFn.{length-enumerate_from}
 use Rattle.sequences.proofs.BeforeLaws.{last_of-push}
-use Rattle.ipfix_template.specs.DataRecord.{DataRecord}
-use Rattle.ipfix_session.specs.Meaning.{Meaning, meaning_of, domain_of}
+use Rattle.ipfix_session.specs.Meaning.{meaning_of, domain_of}
 use Rattle.subscriber_stream.specs.declared.limits.Limits.{Limits}
 use Rattle.subscriber_stream.specs.Parts.{parts, records_in}
 use Rattle.flow_anonymize.specs.Outcome.{Outcome, Passes, Aggregates, Withholds}
@@ -19,13 +18,13 @@ use Rattle.disclosure_audit.specs.declared.entry.What.TheVariants.{Cut as CutOff
 use Rattle.disclosure_audit.specs.Queue.{StandsIn}
 use Rattle.event_journal.specs.declared.entry.Entry.{Entry}
 use Rattle.event_journal.specs.declared.entry.Entry.TheVariants.{Message, Cut}
-use Rattle.event_journal.specs.Room.{Limits as Journaled, HasRoomAfter}
+use Rattle.event_journal.specs.Room.{HasRoomAfter}
 use Rattle.event_journal.specs.Sizes.{history_octets}
-use Rattle.mediator_history.specs.Sessions.{messages_of, is_open, opens}
+use Rattle.mediator_history.specs.Sessions.{messages_of, opens}
 use Rattle.mediator_history.specs.Subscriptions.{is_live, is_served, subscribed_in, served}
 use Rattle.mediator_history.specs.Accepted.{Accepted, records_meant, records_at, accepted_as, accepted_at, accepted}
 use Rattle.mediator_history.specs.Disclosed.{outcome_for, given_at, disclosed}
-use Rattle.mediator_history.specs.Auditing.{audit_of, audit_at, audit_list, audit_entry, kept_back, removed_of}
+use Rattle.mediator_history.specs.Auditing.{audit_of, audit_at, audit_list, audit_entry, kept_back}
 use Rattle.mediator_history.specs.Cuts.{overflows, is_cut_by, cuts_before}
 use Rattle.mediator_history.proofs.HistoryLaws.{flat_map-push, is_served-message, subscribed-message, accepted-push, audit-push, octets-push}
 use Rattle.mediator_history.proofs.SinceLaws.{cut_is_served_no_more}
@@ -41,8 +40,9 @@ use Rattle.mediator_state.specs.Seen.{place_in, waiting_in, waiting_of, place_of
 use Rattle.mediator_state.specs.Calls as calls
 use Rattle.mediator_state.specs.Calls.{StandsFor, with_cuts, RefusesReceive}
 use Rattle.offline_filter.specs.declared.run.Run.{Run}
-use Rattle.offline_filter.specs.Offline.{stream_limits, audit_limit, journal_limits, next_message, cuts_by, after_message}
-use Rattle.offline_filter.specs.Runs.{tells, audit_waiting, audit_drained, IsLimited, Stands, Small}
+use Rattle.offline_filter.specs.Offline.{stream_limits, journal_limits, next_message, cuts_by, after_message}
+use Rattle.offline_filter.specs.Runs.{tells, audit_waiting, audit_drained, HasHistory, SameButState, Stands, Small}
+use Rattle.offline_filter.specs.Recording.{Records}
 use Rattle.offline_filter.specs.Offline.{end_of}
 use Rattle.offline_filter.specs.Steps.{HasDelivered, Receives, Refuses}
 use Rattle.offline_filter.specs.Accepting.{Accepts, RefusesMessage}
@@ -338,6 +338,25 @@ pub quiet_after : (d e : Run) (h : List Entry) (out : List AuditEntry) → Stand
 quiet_after d e h out so then is count =
     then.stands.audit.waiting
     ∙ drop_all (audit_drained e) (audit_list h) (omega (arith, count, ap length is, ap length so.stands.audit.waiting, length-drop (audit_drained d) (audit_list h), so.stands.audit.within))
+
+-- what a call of the state that drains the audit gives to a run
+pub record Drains (d e : Run) (out : List AuditEntry) : Type 0 where
+  pub same : SameButState d e
+  pub sent : e.sent ≡ d.sent
+  pub places : (q : ℕ) → place_of e.state.engine q ≡ place_of d.state.engine q
+  pub oldest : (h : List Entry) → StandsFor tells d.state h → (out ≡ take 4294967295 (drop (audit_drained d) (audit_list h))) × StandsFor tells e.state h
+  pub drained : audit_drained e ≡ audit_drained d + length out
+
+pub recorded : (d e : Run) (out : List AuditEntry) → HasHistory d → length (audit_waiting d) < 2 ^ 32 → Drains d e out → Records d e
+recorded d e out had few drains =
+    let got = drains.oldest had.history had.state in
+    record {
+      same = drains.same;
+      sent = drains.sent;
+      place = drains.places 1;
+      stands = λ h so. (drains.oldest h so).1;
+      quiet = quiet_after d e had.history out had.state got.1 (drained_are d had.history out had.state few got.0) drains.drained;
+    }
 
 pub on_ok : {X E : Type 0} {P : Type 0} (r : Result X E) → P → OnOk r P
 on_ok (Ok x) p = p

@@ -1,5 +1,5 @@
 -- What a run does by the positions of its ports is what it does with its ports.
-use Rattle.std.proofs.Common.{◌≡◌, Bool, List, [], ◌∷◌, ◌++◌, ℕ, Option, None, Some, inl, inr, ◌⊎◌, ap, ◌∙◌, subst}
+use Rattle.std.proofs.Common.{List, [], ◌∷◌, ◌++◌, ℕ, Option, None, inl, inr, ◌⊎◌, ap, ◌∙◌, subst}
 use Rattle.std.specs.Prelude.{Result, Ok, Err, IfOk, IfErr}
 use Rattle.stream_meaning.specs.Means.{Means}
 use Rattle.ipfix_message.specs.declared.frame_error.FrameError.{FrameError}
@@ -15,7 +15,7 @@ use Rattle.offline_filter.specs.Due.{AreDue}
 use Rattle.offline_filter.specs.Accepting.{AreAccepted}
 use Rattle.offline_filter.specs.Stopping.{StopsAt}
 use Rattle.offline_filter.specs.Reading.{IsDone, StopsInHand, LacksMemory, StopsReading, Finishes, Halts}
-use Rattle.offline_filter.specs.Filtering.{Ports, Filters, IsFiltered, FiltersAll, StopsAtMessage, StopsAtOne, LosesPiece, StopsHere, StopsSomewhere, FailsToFilter}
+use Rattle.offline_filter.specs.Filtering.{Ports, Filters, IsFiltered, FiltersAll, StopsAtMessage, StopsAtOne, LosesPiece, StopsSomewhere, FailsToFilter}
 use Rattle.offline_filter.proofs.DueLaws.{due_found}
 use Rattle.offline_filter.proofs.InHand.{due_more}
 

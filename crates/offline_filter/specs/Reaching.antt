@@ -1,13 +1,10 @@
 -- How far a run over a whole stream has come.
-use Rattle.std.specs.Prelude.{◌≡◌, ◌⊎◌, ℕ, ◌+◌, ◌*◌, ◌<◌, ◌≤◌, Bool, List, [], ◌∷◌, ◌++◌, length, Option, None}
+use Rattle.std.specs.Prelude.{◌≡◌, ℕ, ◌+◌, ◌*◌, ◌≤◌, Bool, List, [], ◌∷◌, ◌++◌, length, Option, None}
 use Rattle.std.specs.Io.KnownBytes.{Consumes, IsAtEnd}
-use Rattle.ipfix_message.specs.declared.frame_error.FrameError.TheVariants as frame
 use Rattle.ipfix_message.specs.Framing.{IsFramed}
 use Rattle.message_intake.specs.Intake.{IntakeState}
 use Rattle.stream_meaning.specs.Means.{Means}
-use Rattle.mediator_state.specs.declared.fault.Fault.TheVariants as fault
 use Rattle.offline_filter.specs.declared.job.OfflineJob.{OfflineJob}
-use Rattle.message_intake.specs.declared.fault.FramingFault.TheVariants as framing
 use Rattle.offline_filter.specs.declared.job.OfflineFault.{OfflineFault}
 use Rattle.offline_filter.specs.declared.run.Run.{Run}
 use Rattle.offline_filter.specs.Offline.{disclosed_by, due}

@@ -4,15 +4,9 @@ ghost use Rattle.event_journal.specs.Room.{Limits as Journaled};
 
 use crate::job::OfflineJob;
 use bytes::Bytes;
-use event_journal::Tally;
+use event_journal::{MOST_ENTRIES, MOST_OCTETS, Tally};
 use mediator_state::{Fault, Limits, State};
 use std::alloc::Global;
-
-/// The most entries of a history.
-const MOST_ENTRIES: u64 = 100_000_000;
-
-/// The most octets of a history's entries.
-const MOST_OCTETS: u64 = 1 << 40;
 
 /// How many records may wait for the subscriber, how many templates its records may have, and how many entries may wait in
 /// the audit.

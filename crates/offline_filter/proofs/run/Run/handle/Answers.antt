@@ -5,7 +5,7 @@ use Rattle.offline_filter.specs.Pulling.{FailsDelivery}
 use Rattle.offline_filter.specs.Stopping.{StopsAt}
 use Rattle.offline_filter.proofs.Blaming.{lines_only, delivery_only}
 use Rattle.offline_filter.proofs.Receiving.{err_gives}
-use Rattle.offline_filter.proofs.InHand.{stops_refused, stops_recording, stops_delivering, delivered, handled, was_cut_at, stops_cut, stops_cut_recording, cut_history, delivered_history}
+use Rattle.offline_filter.proofs.InHand.{stops_refused, stops_recording, stops_delivering, delivered, handled, was_cut_at, stops_cut, stops_cut_recording, delivered_history}
 use Rattle.offline_filter.proofs.run.Run.handle.Goals as goal
 
 pub returns-in_err-receive-clause-err : goal.returns-in_err-receive-clause-err

@@ -1,4 +1,4 @@
-use Rattle.std.proofs.Common.{false, refl, sym, ◌∙◌, subst, arith}
+use Rattle.std.proofs.Common.{false, refl, sym, ◌∙◌, subst}
 use Rattle.std.specs.Vec.Iter.{into_iter_items}
 use Rattle.offline_filter.specs.Running.{StopsOn}
 use Rattle.offline_filter.proofs.Blaming.{only_then}

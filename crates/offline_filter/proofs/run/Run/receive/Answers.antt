@@ -1,5 +1,4 @@
 use Rattle.std.proofs.Common.{◌+◌, refl, subst, sym, arith}
-use Rattle.mediator_state.specs.Calls.{RefusesReceive}
 use Rattle.offline_filter.specs.Steps.{Refuses}
 use Rattle.offline_filter.proofs.Receiving.{err_gives, refused, received, records_fit, few_noted}
 use Rattle.offline_filter.proofs.run.Run.receive.Goals as goal
