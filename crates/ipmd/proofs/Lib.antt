@@ -2,3 +2,4 @@ mod Inputs
 mod Lines
 mod Statuses
 mod Telling
+mod Replaying

@@ -1,7 +1,7 @@
 -- A fault's status is never that of a run that was done.
 use Rattle.std.proofs.Common.{arith, ◌≡◌}
 use Rattle.ipmd.specs.declared.fault.ProgramFault.{ProgramFault}
-use Rattle.ipmd.specs.declared.fault.ProgramFault.TheVariants.{CommandLine, Policy, Hex, Framing, Core, Cut, OutOfMemory, Device}
+use Rattle.ipmd.specs.declared.fault.ProgramFault.TheVariants.{CommandLine, Policy, Hex, Framing, Core, Cut, Calls, BadLimits, OutOfMemory, Device}
 use Rattle.ipmd.specs.Status.{status_of}
 
 pub no_fault_is_done : (e : ProgramFault) → status_of e ≡ 0 → ⊥
@@ -11,5 +11,7 @@ no_fault_is_done Hex h = absurd (omega arith)
 no_fault_is_done (Framing why) h = absurd (omega arith)
 no_fault_is_done (Core why) h = absurd (omega arith)
 no_fault_is_done Cut h = absurd (omega arith)
+no_fault_is_done (Calls n) h = absurd (omega arith)
+no_fault_is_done BadLimits h = absurd (omega arith)
 no_fault_is_done OutOfMemory h = absurd (omega arith)
 no_fault_is_done Device h = absurd (omega arith)

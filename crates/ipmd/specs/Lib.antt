@@ -1,3 +1,4 @@
 pub mod Status
 pub mod HexText
+pub mod Replays
 pub mod Runs

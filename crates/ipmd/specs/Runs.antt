@@ -1,6 +1,6 @@
 -- What a run of the program does, and what its faults mean.
-use Rattle.std.specs.Prelude.{◌≡◌, ◌⊎◌, ◌^◌, ◌-◌, ◌==◌, ℕ, Bool, true, false, List, [], ◌∷◌, ◌++◌, map, length, codes, encode_utf8_all, Option, Some, None, is_some, IfSome, Ok, Err, if◌then◌else◌}
-use Rattle.std.specs.Str.{chars}
+use Rattle.std.specs.Prelude.{◌≡◌, ◌⊎◌, ◌^◌, ◌-◌, ℕ, Bool, true, false, List, [], ◌∷◌, ◌++◌, length, codes, Option, Some, None, is_some, IfSome, Ok, Err}
+use Rattle.std.specs.Borrow.{Bor}
 use Rattle.std.specs.Fmt.{decimal}
 use Rattle.std.specs.Io.KnownBytes.{Appends, Keeps}
 use Rattle.clap.specs.Words.{kind_of}
@@ -17,24 +17,22 @@ use Rattle.ipmd_command_line.specs.CommandLine.{AsksFor, RefusesWords}
 use Rattle.ipmd_command_line.specs.declared.command_line.TheConstants.{VERSION}
 use Rattle.ipmd_command_line.specs.declared.fault.CommandLineFault.{CommandLineFault}
 use Rattle.ipmd_command_line.specs.declared.task.OfflineOptions.{OfflineOptions}
-use Rattle.ipmd_command_line.specs.declared.task.Task.TheVariants.{Offline, CheckPolicy, Show}
+use Rattle.ipmd_command_line.specs.declared.task.Task.TheVariants.{Offline, CheckPolicy, Replay, Show}
 use Rattle.ipmd_command_line.specs.declared.task.PolicySource.{PolicySource}
 use Rattle.ipmd_command_line.specs.declared.task.PolicySource.TheVariants.{File, Text}
 use Rattle.ipmd.specs.declared.fault.ProgramFault.{ProgramFault}
-use Rattle.ipmd.specs.declared.fault.ProgramFault.TheVariants.{CommandLine, Policy, Hex, Framing, Core, Cut, OutOfMemory, Device}
+use Rattle.ipmd.specs.declared.fault.ProgramFault.TheVariants.{CommandLine, Policy, Hex, Framing, Core, Cut, Calls, BadLimits, OutOfMemory, Device}
 use Rattle.ipmd.specs.HexText.{SpelledBy, SpellsNothing, lines_of, WritesLines, WritesSome, WritesSomeLines}
+use Rattle.call_lists.specs.LineEnds.{with_line_ends}
+use Rattle.ipmd.specs.Replays.{Replays, RefusesToReplay}
 use Rattle.ipmd.specs.Status.{command_line_fault_of, offline_fault_of, Tells}
 
 -- ---- the policy
 
--- each semicolon (59) stands for a line feed (10)
-abbrev pub as_line_end : ℕ → ℕ
-as_line_end c = if c == 59 then 10 else c
-
--- the text of a policy; what a file holds isn't told here
+-- the text of a policy, as words with a line feed for each semicolon; what a file holds isn't told here
 abbrev pub IsTextOf : PolicySource → List ℕ → Type 0
 IsTextOf (File path) text = Unit {0}
-IsTextOf (Text words) text = text ≡ encode_utf8_all (map as_line_end (chars words.now))
+IsTextOf (Text words) text = text ≡ with_line_ends words.now
 
 -- ---- check-policy
 
@@ -68,6 +66,8 @@ RefusesToCount source Hex held holds = ⊥
 RefusesToCount source (Framing why) held holds = ⊥
 RefusesToCount source (Core why) held holds = ⊥
 RefusesToCount source Cut held holds = ⊥
+RefusesToCount source (Calls n) held holds = ⊥
+RefusesToCount source BadLimits held holds = ⊥
 
 -- ---- help and the version
 
@@ -205,7 +205,8 @@ abbrev pub Does : List (List ℕ) → Option OfflineReport → Option (List ℕ)
 Does words (Some report) given held holds = (options : OfflineOptions) × AsksFor words (Offline options) × Filters options report given held holds
 Does words None given held holds =
     ((source : PolicySource) × AsksFor words (CheckPolicy source) × CountsPolicy source held holds)
-    ⊎ ((shown : Error) × AsksFor words (Show shown) × Shows (kind_of shown) held holds)
+    ⊎ (((path : Bor (List ℕ)) × AsksFor words (Replay path) × Replays held holds)
+    ⊎ ((shown : Error) × AsksFor words (Show shown) × Shows (kind_of shown) held holds))
 
 -- what is said of a stream that was filtered
 abbrev pub line_of_report : OfflineReport → List ℕ
@@ -227,4 +228,5 @@ FailsFor words e given held holds =
     (RefusesCommandLine words e × Keeps held holds)
     ⊎ (((source : PolicySource) × AsksFor words (CheckPolicy source) × RefusesToCount source e held holds)
     ⊎ (((options : OfflineOptions) × AsksFor words (Offline options) × RefusesToFilter options e given held holds)
-    ⊎ ((shown : Error) × AsksFor words (Show shown) × RefusesToShow (kind_of shown) e held holds)))
+    ⊎ (((path : Bor (List ℕ)) × AsksFor words (Replay path) × RefusesToReplay e held holds)
+    ⊎ ((shown : Error) × AsksFor words (Show shown) × RefusesToShow (kind_of shown) e held holds))))

@@ -14,8 +14,12 @@ use Rattle.mediator_state.specs.declared.fault.Fault.{Fault}
 use Rattle.mediator_state.specs.declared.fault.Fault.TheVariants as core
 use Rattle.offline_filter.specs.declared.job.OfflineFault.{OfflineFault}
 use Rattle.offline_filter.specs.declared.job.OfflineFault.TheVariants as offline
+use Rattle.call_lists.specs.declared.fault.CallsFault.{CallsFault}
+use Rattle.call_lists.specs.declared.fault.CallsFault.TheVariants as calls
+use Rattle.mediator_calls.specs.declared.fault.RunFault.{RunFault}
+use Rattle.mediator_calls.specs.declared.fault.RunFault.TheVariants as run
 use Rattle.ipmd.specs.declared.fault.ProgramFault.{ProgramFault}
-use Rattle.ipmd.specs.declared.fault.ProgramFault.TheVariants.{CommandLine, Policy, Hex, Framing, Core, Cut, OutOfMemory, Device}
+use Rattle.ipmd.specs.declared.fault.ProgramFault.TheVariants.{CommandLine, Policy, Hex, Framing, Core, Cut, Calls, BadLimits, OutOfMemory, Device}
 
 -- 1: what was read is refused, or memory runs out; 2: the command line is refused; 3: a file or a stream fails
 abbrev pub status_of : ProgramFault → ℕ
@@ -25,6 +29,8 @@ status_of Hex = 1
 status_of (Framing _) = 1
 status_of (Core _) = 1
 status_of Cut = 1
+status_of (Calls _) = 1
+status_of BadLimits = 1
 status_of OutOfMemory = 1
 status_of Device = 3
 
@@ -36,6 +42,8 @@ text_of Hex = Some (codes "ipmd: hex")
 text_of (Framing why) = Some (codes "ipmd: framing " ++ text_of_framing why)
 text_of (Core why) = Some (codes "ipmd: " ++ text_of_fault why)
 text_of Cut = Some (codes "ipmd: Cut")
+text_of (Calls line) = Some (codes "ipmd: calls line " ++ decimal line)
+text_of BadLimits = Some (codes "ipmd: BadLimits")
 text_of OutOfMemory = Some (codes "ipmd: OutOfMemory")
 text_of Device = Some (codes "ipmd: device")
 
@@ -81,3 +89,13 @@ offline_fault_of offline.AuditWrite = Device
 offline_fault_of (offline.Framing why) = Framing why
 offline_fault_of (offline.Core why) = core_fault_of why
 offline_fault_of offline.Cut = Cut
+
+-- a list of calls that is refused for want of memory isn't at fault
+abbrev pub calls_fault_of : CallsFault → ProgramFault
+calls_fault_of (calls.Line n) = Calls n
+calls_fault_of calls.OutOfMemory = OutOfMemory
+
+-- why a run isn't begun
+abbrev pub run_fault_of : RunFault → ProgramFault
+run_fault_of run.BadLimits = BadLimits
+run_fault_of run.OutOfMemory = OutOfMemory

@@ -1,7 +1,9 @@
 //! Why a run ends without having done what was asked.
 ghost use Rattle.std.specs.Prelude.{◌≡◌};
 
+use call_lists::CallsFault;
 use ipmd_command_line::CommandLineFault;
+use mediator_calls::RunFault;
 use octet_devices::{Device, Failed, WriteStopped};
 use offline_filter::{Fault, FramingFault, OfflineFault};
 use policy_text::{FaultKind, PolicyFault};
@@ -34,6 +36,10 @@ pub enum ProgramFault {
     Core(Fault),
     /// The subscription was cut.
     Cut,
+    /// The line of this number is no call.
+    Calls(usize),
+    /// The limits of a list of calls are out of their ranges.
+    BadLimits,
     /// Want of memory.
     OutOfMemory,
     /// A file can't be opened, read or written, is not text where text is read, or a stream failed.
@@ -57,6 +63,8 @@ impl Display for ProgramFault {
             ProgramFault::Framing(why) => write!(f, "ipmd: framing {why}"),
             ProgramFault::Core(why) => write!(f, "ipmd: {why}"),
             ProgramFault::Cut => f.write_str("ipmd: Cut"),
+            ProgramFault::Calls(line) => write!(f, "ipmd: calls line {line}"),
+            ProgramFault::BadLimits => f.write_str("ipmd: BadLimits"),
             ProgramFault::OutOfMemory => f.write_str("ipmd: OutOfMemory"),
             ProgramFault::Device => f.write_str("ipmd: device"),
         }
@@ -90,6 +98,8 @@ impl ProgramFault {
             | ProgramFault::Framing(_)
             | ProgramFault::Core(_)
             | ProgramFault::Cut
+            | ProgramFault::Calls(_)
+            | ProgramFault::BadLimits
             | ProgramFault::OutOfMemory => REFUSED,
             ProgramFault::Device => DEVICE_FAILED,
         }
@@ -202,6 +212,34 @@ impl From<OfflineFault> for ProgramFault {
             OfflineFault::Core(Fault::OutOfMemory) => ProgramFault::OutOfMemory,
             OfflineFault::Core(why) => ProgramFault::Core(why),
             OfflineFault::Cut => ProgramFault::Cut,
+        }
+    }
+}
+
+impl From<CallsFault> for ProgramFault {
+    ghost use Rattle.std.specs.Prelude.{◌≡◌};
+    ghost use Rattle.ipmd.specs.Status.{calls_fault_of};
+
+    ghost from_gives = { λ f e. e ≡ calls_fault_of f };
+
+    fn from(fault: CallsFault) -> ProgramFault {
+        match fault {
+            CallsFault::Line(line) => ProgramFault::Calls(line),
+            CallsFault::OutOfMemory => ProgramFault::OutOfMemory,
+        }
+    }
+}
+
+impl From<RunFault> for ProgramFault {
+    ghost use Rattle.std.specs.Prelude.{◌≡◌};
+    ghost use Rattle.ipmd.specs.Status.{run_fault_of};
+
+    ghost from_gives = { λ f e. e ≡ run_fault_of f };
+
+    fn from(fault: RunFault) -> ProgramFault {
+        match fault {
+            RunFault::BadLimits => ProgramFault::BadLimits,
+            RunFault::OutOfMemory => ProgramFault::OutOfMemory,
         }
     }
 }

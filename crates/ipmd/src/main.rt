@@ -5,6 +5,7 @@
 //! - `policy_source`: the text of a policy, from where it comes.
 //! - `filter`: `ipmd offline`.
 //! - `check`: `ipmd check-policy`.
+//! - `replay`: `ipmd replay`.
 //! - `show`: the help and the version.
 //! - `hex_input`: a stream as hexadecimal text.
 //! - `output`: what is written, a text or messages as lines of hexadecimal digits.
@@ -45,6 +46,7 @@ mod filter;
 mod hex_input;
 mod output;
 mod policy_source;
+mod replay;
 mod show;
 #[cfg(test)]
 mod tests;
@@ -52,6 +54,7 @@ mod tests;
 use crate::check::check_policy;
 use crate::fault::ProgramFault;
 use crate::filter::filter;
+use crate::replay::replay;
 use crate::show::show;
 use ipmd_command_line::{Task, read_command_line};
 use octet_devices::Device;
@@ -139,6 +142,10 @@ fn run<R: Files + AllocGlobal, S: AsStr, I: Read + Drop, O: Write>(
         Task::Offline(options) => Ok(Some(filter(rt, &options, input, output)?)),
         Task::CheckPolicy(source) => {
             check_policy(rt, source, output)?;
+            Ok(None)
+        }
+        Task::Replay(path) => {
+            replay(rt, path, output)?;
             Ok(None)
         }
         Task::Show(shown) => {

@@ -3,6 +3,7 @@ ghost use Rattle.ipmd.specs.Runs.{IsTextOf};
 ghost use Rattle.ipmd.specs.declared.fault.ProgramFault.TheVariants.{OutOfMemory, Device};
 
 use crate::fault::ProgramFault;
+use call_lists::with_line_ends;
 use ipmd_command_line::PolicySource;
 use std::fs;
 use std::rt::Files;
@@ -20,10 +21,6 @@ pub fn policy_text_of<R: Files + AllocGlobal>(
 {
     match source {
         PolicySource::File(path) => Ok(fs::read_to_string(rt, path)?),
-        PolicySource::Text(text) => Ok(
-            text.chars()
-                .map(|c| if c == ';' { '\n' } else { c })
-                .collect(rt.alloc())?,
-        ),
+        PolicySource::Text(text) => Ok(with_line_ends(rt.alloc(), text)?),
     }
 }

@@ -1,10 +1,10 @@
 //! What words ask for.
-ghost use Rattle.std.specs.Prelude.{◌≡◌, false, map, IfErr, IfOk, IfSome, IsSome};
+ghost use Rattle.std.specs.Prelude.{◌≡◌, false, map, codes, option_map, IfErr, IfOk, IfSome, IsSome};
 ghost use Rattle.ipmd_command_line.specs.declared.task.OfflineOptions.{OfflineOptions};
 ghost use Rattle.ipmd_command_line.specs.declared.task.Task.{Task};
 ghost use Rattle.ipmd_command_line.specs.declared.task.PolicySource.{PolicySource};
-ghost use Rattle.clap.specs.Words.{app_of, found_of, rows_of, rule_of, subcommand_rows_of};
-ghost use Rattle.ipmd_command_line.specs.CommandLine.{AreOptions, AsksFor, IsCommandIn, IsSource, RefusesWords, check_policy_command, ipmd_command, offline_command, valued, with_policy};
+ghost use Rattle.clap.specs.Words.{app_of, first_of, found_of, rows_of, rule_of, subcommand_rows_of};
+ghost use Rattle.ipmd_command_line.specs.CommandLine.{AreOptions, AsksFor, IsCommandIn, IsSource, RefusesWords, check_policy_command, ipmd_command, offline_command, replay_command, valued, with_policy};
 
 use crate::fault::CommandLineFault;
 use crate::help;
@@ -21,6 +21,8 @@ const OFFLINE: &str = "offline";
 
 const CHECK_POLICY: &str = "check-policy";
 
+const REPLAY: &str = "replay";
+
 const POLICY: &str = "policy";
 
 const POLICY_TEXT: &str = "policy-text";
@@ -34,6 +36,8 @@ const TARGET: &str = "target";
 const AUDIT: &str = "audit";
 
 const HEX: &str = "hex";
+
+const CALLS: &str = "calls";
 
 /// What the words after the program's name ask for.
 ///
@@ -81,6 +85,7 @@ fn task_of<'a>(matches: &ArgMatches<'a>) -> Option<Task<'a>>
     match matches.subcommand()? {
         (OFFLINE, chosen) => Some(Task::Offline(offline_options(chosen)?)),
         (CHECK_POLICY, chosen) => Some(Task::CheckPolicy(policy_source(chosen)?)),
+        (REPLAY, chosen) => Some(Task::Replay(calls_file(chosen)?)),
         _ => None,
     }
 }
@@ -113,6 +118,13 @@ fn policy_source<'a>(chosen: &ArgMatches<'a>) -> Option<PolicySource<'a>>
     }
 }
 
+/// The file of `ipmd replay`.
+fn calls_file<'a>(chosen: &ArgMatches<'a>) -> Option<&'a str>
+    ensures { first_of (codes "calls") (rows_of (found_of chosen.now)) ≡ option_map (λ path. path.now) result }
+{
+    chosen.get_str(CALLS)
+}
+
 /// The command with its subcommands. The words begin after the program's name.
 fn whole_command<'a>(alloc: Global) -> Result<Command<'a>, AllocError>
     ensures { IfOk result (λ command. app_of command ≡ ipmd_command) }
@@ -125,7 +137,8 @@ fn whole_command<'a>(alloc: Global) -> Result<Command<'a>, AllocError>
         .after_help(help::COMMANDS)
         .subcommand_required(true)
         .subcommand(offline_command(alloc)?)?
-        .subcommand(check_policy_command(alloc)?)
+        .subcommand(check_policy_command(alloc)?)?
+        .subcommand(replay_command(alloc)?)
 }
 
 fn offline_command<'a>(alloc: Global) -> Result<Command<'a>, AllocError>
@@ -174,6 +187,20 @@ fn check_policy_command<'a>(alloc: Global) -> Result<Command<'a>, AllocError>
             .about("Says whether a text is a policy, and how many rules and aggregates it has")
             .after_help(help::CHECK_POLICY),
     )
+}
+
+fn replay_command<'a>(alloc: Global) -> Result<Command<'a>, AllocError>
+    ensures { IfOk result (λ command. app_of command ≡ replay_command) }
+{
+    Command::new(alloc, REPLAY)
+        .override_usage("ipmd replay --calls <FILE>")
+        .about("Makes a list of calls on a new mediator, and says what each is answered")
+        .after_help(help::REPLAY)
+        .arg(
+            option(alloc, CALLS, "FILE")
+                .required(true)
+                .help("The file with the calls, one a line"),
+        )
 }
 
 /// The command with the two options of which one names the policy.

@@ -4,7 +4,9 @@
 pub const COMMANDS: &str = "\
 Begin with a policy, see that it is one, and filter a stream by it:
   ipmd check-policy --policy policy.txt
-  ipmd offline --policy policy.txt --subscriber acme --audit audit.txt < in.ipfix > out.ipfix";
+  ipmd offline --policy policy.txt --subscriber acme --audit audit.txt < in.ipfix > out.ipfix
+What several subscribers would see, or a change of policy would do, is rehearsed by
+  ipmd replay --calls calls.txt";
 
 /// Below the help of `ipmd offline`.
 pub const OFFLINE: &str = "\
@@ -65,3 +67,53 @@ A rule's line is, in this order of words, with * for any:
 ACTION is pass, withhold, aggregate NAME, or element ELEMENT with keep, remove or truncate BITS.
 
 Exit status: 0 a policy, 1 no policy or out of memory, 2 wrong command line, 3 device.";
+
+/// Below the help of `ipmd replay`.
+pub const REPLAY: &str = "\
+A call a line, words parted by one space, numbers decimal, octets in hexadecimal. Empty lines and
+lines that begin with # are skipped. What each is answered where it is done:
+  open                             ok SESSION
+  close SESSION                    ok
+  receive SESSION NUMBER OCTETS    ok POSITION records R cut C unknown U reserved V refused W,
+                                   and behind it gap EXPECTED GOT where sequence numbers are missing
+  edit POLICY                      ok EDITS; in POLICY each ; stands for a line end
+  subscribe NAME                   ok SUB
+  unsubscribe SUB                  ok
+  pull SUB NOW TARGET              ok OCTETS, or ok none
+  status SUB                       ok QUEUED HANDED SHAPES live, or the same with cut
+  audit MOST                       ok COUNT, and COUNT lines of the audit
+NUMBER counts the messages of a session, from 0; sessions and subscriptions have numbers from 1 on.
+The first line may be `limits QUEUE SHAPES AUDIT ENTRIES OCTETS`; else they are those of
+ipmd offline: 65536 65280 131072 100000000 1099511627776.
+
+A call that is refused changes nothing, and is answered err with its name:
+  err UnknownSession               no session with this number is open
+  err OutOfTurn EXPECTED           the session's next message has the number EXPECTED
+  err Malformed FAULT              the octets are no message
+  err Policy LINE KIND             the text is no policy; see ipmd check-policy --help
+  err BadName                      no name
+  err AlreadySubscribed SUB        a live subscription has this name
+  err UnknownSub                   no live subscription has this number
+  err JournalFull                  the limits ENTRIES or OCTETS leave no room
+  err AuditFull NEED ROOM          the limit AUDIT leaves room for ROOM entries
+  err OutOfMemory                  no memory is left
+
+Example:
+  open
+  edit policy 1;rule for acme in * from * to * pass;rule for acme in * from * to * element * keep
+  subscribe acme
+  pull 1 0 1400
+is answered
+  ok 1
+  ok 1
+  ok 1
+  ok none
+
+What standard error says where no call is answered:
+  ipmd: calls line N   line N asks for nothing that there is
+  ipmd: BadLimits      a limit is 0, or QUEUE is above 1000000, SHAPES above 65280, AUDIT above
+                       10000000, ENTRIES above 100000000 or OCTETS above 1099511627776
+  ipmd: device         the file can't be read or isn't UTF-8, or the output fails
+  ipmd: OutOfMemory    no memory is left
+
+Exit status: 0 each call was answered, 1 refused or out of memory, 2 wrong command line, 3 device.";

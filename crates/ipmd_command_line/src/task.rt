@@ -30,6 +30,8 @@ pub enum Task<'a> {
     Offline(OfflineOptions<'a>),
     /// To say whether a text is a policy.
     CheckPolicy(PolicySource<'a>),
+    /// To make the calls that the file at this path lists.
+    Replay(&'a str),
     /// To show the help or the version.
     Show(clap::Error),
 }

@@ -27,5 +27,7 @@ returns c =
     (ap (λ (a : App). record a { top = record a.top { no_binary_name = true; has_version = true; subcommand_required = true } }) c.new.ensures.app) in
     let offline_local = is_false _ (first_holds _ _ (second_holds _ _ (second_holds _ _ (ap is_plain c.in_ok-offline_command.ensures)))) in
     let check_local = is_false _ (first_holds _ _ (second_holds _ _ (second_holds _ _ (ap is_plain c.in_ok-check_policy_command.ensures)))) in
+    let replay_local = is_false _ (first_holds _ _ (second_holds _ _ (second_holds _ _ (ap is_plain c.in_ok-replay_command.ensures)))) in
     let first = c.in_ok-subcommand.ensures.shape offline_local ∙ ap₂ with_subcommand top (ap (λ (a : App). a.top) c.in_ok-offline_command.ensures) in
-    IfOk-weaker c.subcommand-2.result _ _ (λ r h. h.shape check_local ∙ ap₂ with_subcommand first (ap (λ (a : App). a.top) c.in_ok-check_policy_command.ensures)) c.subcommand-2.ensures
+    let second = c.in_ok-subcommand-2.ensures.shape check_local ∙ ap₂ with_subcommand first (ap (λ (a : App). a.top) c.in_ok-check_policy_command.ensures) in
+    IfOk-weaker c.subcommand-3.result _ _ (λ r h. h.shape replay_local ∙ ap₂ with_subcommand second (ap (λ (a : App). a.top) c.in_ok-replay_command.ensures)) c.subcommand-3.ensures

@@ -1,0 +1,66 @@
+-- What `ipmd replay` does: the calls that a text lists are made on a new mediator, and the answer to each is written.
+use Rattle.std.specs.Prelude.{◌≡◌, ◌⊎◌, ℕ, List, Option, Ok, Err}
+use Rattle.std.specs.Io.KnownBytes.{Appends, Keeps}
+use Rattle.mediator_calls.specs.declared.call.Reply.{Reply}
+use Rattle.mediator_calls.specs.Limited.{AreAllowed}
+use Rattle.call_lists.specs.declared.call_list.CallList.{CallList}
+use Rattle.call_lists.specs.Lists.{asked, list_of}
+use Rattle.call_lists.specs.Answers.{answers_text}
+use Rattle.mediator_core.specs.Mediation.{Mediation, started}
+use Rattle.mediator_core.specs.Runs.{Runs}
+use Rattle.mediator_core.specs.Headline.{HistoryIsTheCalls, HandedIsDisclosed, HandedIsFront, DrainedIsAudited, IsBuiltFromDisclosed}
+use Rattle.ipmd.specs.declared.fault.ProgramFault.{ProgramFault}
+use Rattle.ipmd.specs.declared.fault.ProgramFault.TheVariants.{CommandLine, Policy, Hex, Framing, Core, Cut, Calls, BadLimits, OutOfMemory, Device}
+use Rattle.ipmd.specs.HexText.{WritesSome}
+
+-- These are the replies to the calls that the text lists, made one after another on a new mediator; and all that is promised of a
+-- run holds of them.
+pub record RunsText (text : List ℕ) (replies : List Reply) : Type 0 where
+  pub list : CallList
+  pub read : list_of text ≡ Ok (asked list)
+  pub after : Mediation
+  pub steps : Runs (started list.limits) list.calls.items replies after
+  pub history : HistoryIsTheCalls list.calls.items replies after
+  pub disclosed : HandedIsDisclosed list.calls.items replies after
+  pub front : HandedIsFront list.calls.items replies after
+  pub audited : DrainedIsAudited list.calls.items replies after
+  pub secret : (sub : ℕ) → IsBuiltFromDisclosed sub (started list.limits) list.calls.items replies after
+
+-- the text lists calls whose limits no mediator may have
+pub record HasBadLimits (text : List ℕ) : Type 0 where
+  pub list : CallList
+  pub read : list_of text ≡ Ok (asked list)
+  pub bad : AreAllowed list.limits → ⊥
+
+-- why no call of a text is made: its first line that asks for nothing, its limits, or want of memory
+abbrev pub RefusesText : ProgramFault → List ℕ → Type 0
+RefusesText (Calls n) text = list_of text ≡ Err n
+RefusesText BadLimits text = HasBadLimits text
+RefusesText OutOfMemory text = Unit {0}
+RefusesText (CommandLine e) text = ⊥
+RefusesText (Policy why) text = ⊥
+RefusesText Hex text = ⊥
+RefusesText (Framing why) text = ⊥
+RefusesText (Core why) text = ⊥
+RefusesText Cut text = ⊥
+RefusesText Device text = ⊥
+
+-- the calls of a text were made, and the answers were written; what a file holds isn't told here
+pub record Replays (held holds : Option (List ℕ)) : Type 0 where
+  pub text : List ℕ
+  pub replies : List Reply
+  pub runs : RunsText text replies
+  pub written : Appends held holds (answers_text replies)
+
+-- the same, and a front of the answers was written, or all of them
+pub record BeginsToAnswer (held holds : Option (List ℕ)) : Type 0 where
+  pub text : List ℕ
+  pub replies : List Reply
+  pub runs : RunsText text replies
+  pub written : WritesSome (answers_text replies) held holds
+
+-- why the calls of a file aren't answered: the file can't be read, its text is refused, or memory ran out, and nothing was written;
+-- or the output failed
+abbrev pub RefusesToReplay : ProgramFault → Option (List ℕ) → Option (List ℕ) → Type 0
+RefusesToReplay Device held holds = Keeps held holds ⊎ BeginsToAnswer held holds
+RefusesToReplay e held holds = ((text : List ℕ) × RefusesText e text) × Keeps held holds
