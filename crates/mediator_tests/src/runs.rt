@@ -2,7 +2,9 @@
 use crate::cases::{CASES, Case, Step};
 use crate::worked::{are_lines, is_message, plain, status};
 use bytes::Bytes;
-use mediator_core::{Call, Fault, Limits, Receipt, Reply, RunFault, SessionId, SubId, Transcript, run};
+use mediator_core::{
+    Call, Fault, Limits, Receipt, Reply, RunFault, SessionId, SubId, Transcript, run,
+};
 use std::alloc::{AllocError, Global};
 use std::process::Abort;
 use std::test::Fail;
@@ -133,10 +135,7 @@ fn run_case(alloc: Global, case: &Case) -> Result<Transcript, RunFault> {
 
 /// Whether memory was refused to a call.
 fn wanted_memory(transcript: &Transcript) -> bool {
-    transcript
-        .replies
-        .iter()
-        .any(|reply| matches!(reply, Reply::Refused(Fault::OutOfMemory)))
+    transcript.replies.iter().any(|reply| matches!(reply, Reply::Refused(Fault::OutOfMemory)))
 }
 
 /// A run of a case's calls, made again where memory is refused.

@@ -57,7 +57,11 @@ fn text_of(alloc: Global, entry: &AuditEntry) -> Result<String, AllocError> {
 }
 
 /// Whether the entries' lines are those that are wanted.
-pub(crate) fn are_lines(alloc: Global, entries: &[AuditEntry], wanted: &[&str]) -> Result<bool, AllocError> {
+pub(crate) fn are_lines(
+    alloc: Global,
+    entries: &[AuditEntry],
+    wanted: &[&str],
+) -> Result<bool, AllocError> {
     let mut same = entries.len() == wanted.len();
     for (entry, due) in entries.iter().zip(wanted) {
         same &= text_of(alloc, entry)?.as_str() == *due;
