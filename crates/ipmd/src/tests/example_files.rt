@@ -483,3 +483,75 @@ rule for acme in * from * to * pass # all of it
 ",
     ),
 ];
+
+/// Each list of calls, and the answers to it.
+pub const REPLAYS: [(&str, &str); 2] = [
+    (
+        "# The policy of today, a subscriber and an exporter's session. Each ; of a policy is read as a line end.
+edit policy 1;rule for acme in * from 198.51.100.0/24 to * pass;rule for acme in * from * to 198.51.100.0/24 pass;rule for acme in * from 198.51.100.0/24 to * element sourceIPv4Address keep;rule for acme in * from * to 198.51.100.0/24 element destinationIPv4Address keep;rule for acme in * from * to * element sourceIPv4Address truncate 24;rule for acme in * from * to * element destinationIPv4Address truncate 24;rule for acme in * from * to 198.51.100.0/24 element sourceTransportPort remove;rule for acme in * from * to * element * keep;
+subscribe acme
+open
+
+# Two flows, and what acme gets of them, at the Export Time 1700000060 in at most 1400 octets; then what the audit says.
+receive 1 0 000a00566553f1000000000000000007000200200100000600080004000c000400070002000b0002000400010001000401000026c000024dc6336409c00101bb06000005dcc000024ecb007105c00200351100000050
+pull 1 1700000060 1400
+audit 10
+
+# The same without the rules that keep acme's own addresses, and the same flows once more.
+edit policy 1;rule for acme in * from 198.51.100.0/24 to * pass;rule for acme in * from * to 198.51.100.0/24 pass;rule for acme in * from * to * element sourceIPv4Address truncate 24;rule for acme in * from * to * element destinationIPv4Address truncate 24;rule for acme in * from * to 198.51.100.0/24 element sourceTransportPort remove;rule for acme in * from * to * element * keep;
+receive 1 1 000a00566553f1000000000200000007000200200100000600080004000c000400070002000b0002000400010001000401000026c000024dc6336409c00101bb06000005dcc000024ecb007105c00200351100000050
+pull 1 1700000060 1400
+audit 10
+status 1
+",
+        "ok 1
+ok 1
+ok 1
+ok 3 records 2 cut 0 unknown 0 reserved 0 refused 0
+ok 000a003f6553f13c00000000000000000002001c0100000500080004000c0004000b0002000400010001000401000013c0000200c633640901bb06000005dc
+ok 2
+3 0 1 removed 2:7
+3 1 1 withheld 0 rule
+ok 2
+ok 5 records 2 cut 0 unknown 0 reserved 0 refused 0
+ok 000a00236553f13c000000010000000001000013c0000200c633640001bb06000005dc
+ok 2
+5 0 1 removed 2:5
+5 1 1 withheld 0 rule
+ok 0 2 1 live
+",
+    ),
+    (
+        "# At most one record may wait for a subscription.
+limits 1 10 10 100 100000
+edit policy 1;rule for * in * from * to * pass;rule for * in * from * to * element * keep;
+subscribe slow
+open
+
+# Two flows at once are one too many: the subscription is cut before the message, and gets nothing of it.
+receive 1 0 000a00566553f1000000000000000007000200200100000600080004000c000400070002000b0002000400010001000401000026c000024dc6336409c00101bb06000005dcc000024ecb007105c00200351100000050
+status 1
+audit 10
+
+# It ends and begins again, under the same name, and gets what comes then.
+unsubscribe 1
+subscribe slow
+receive 1 1 000a00256553f10a000000020000000701000015c6336410c00003050050d4310600000fa0
+pull 2 1700000060 1400
+pull 2 1700000061 1400
+",
+        "ok 1
+ok 1
+ok 1
+ok 4 records 2 cut 1 unknown 0 reserved 0 refused 0
+ok 0 0 0 cut
+ok 1
+3 0 1 cut
+ok
+ok 2
+ok 7 records 1 cut 0 unknown 0 reserved 0 refused 0
+ok 000a00456553f13c0000000000000000000200200100000600080004000c000400070002000b0002000400010001000401000015c6336410c00003050050d4310600000fa0
+ok none
+",
+    ),
+];

@@ -1,6 +1,6 @@
-//! The examples of `examples/`: what each command writes, and how each policy with a fault is answered.
+//! The examples of `examples/`: what each command writes, how each policy with a fault is answered, and each list of calls.
 
-use super::example_files::{EXAMPLES, FAULTS};
+use super::example_files::{EXAMPLES, FAULTS, REPLAYS};
 use super::files::{Checked, expect_checked};
 use super::*;
 
@@ -96,6 +96,28 @@ fn expect_faults<R: Files + AllocGlobal + Abort>(
 fn policies_with_faults(rt: HostRuntime) -> Result<(), Fail> {
     let path = scratch_path(&rt, "faulty-policy")?;
     expect_faults(&rt, path.as_str(), &FAULTS)?;
+    fs::remove_file(&rt, path.as_str())?;
+    Ok(())
+}
+
+/// That `replay` answers each list of calls so.
+fn expect_replays<R: Files + AllocGlobal + Abort>(
+    rt: &R,
+    path: &str,
+    replays: &[(&str, &str)],
+) -> Result<(), Fail> {
+    for (calls, answers) in replays {
+        fs::write(rt, path, calls)?;
+        let ran = run_on(rt, &["replay", "--calls", path], "".as_bytes())?;
+        expect_texts(rt, calls, &ran, 0, answers, "")?;
+    }
+    Ok(())
+}
+
+#[test]
+fn lists_of_calls(rt: HostRuntime) -> Result<(), Fail> {
+    let path = scratch_path(&rt, "calls")?;
+    expect_replays(&rt, path.as_str(), &REPLAYS)?;
     fs::remove_file(&rt, path.as_str())?;
     Ok(())
 }
