@@ -107,7 +107,7 @@ fn expect_replays<R: Files + AllocGlobal + Abort>(
     replays: &[(&str, &str)],
 ) -> Result<(), Fail> {
     for (calls, answers) in replays {
-        fs::write(rt, path, calls)?;
+        fs::write(rt, path, *calls)?;
         let ran = run_on(rt, &["replay", "--calls", path], "".as_bytes())?;
         expect_texts(rt, calls, &ran, 0, answers, "")?;
     }
