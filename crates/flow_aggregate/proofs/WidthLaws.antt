@@ -1,7 +1,7 @@
 -- A record's values of an element have 1 octet at least, and at most its full width.
 use Rattle.std.proofs.Common.{◌≡◌, ℕ, zero, suc, ◌+◌, ◌*◌, ◌<◌, ◌≤◌, ◌^◌, Bool, true, false, cond, eqb, List, [], ◌∷◌, length, get_or, Option, Some, None, refl, sym, ap, ◌∙◌, arith}
 use Rattle.std.specs.Prelude.{◌&&◌, ◌==◌, unwrap_or, slice_get, position, nat_le}
-use Rattle.std.specs.List.{list_all}
+use Rattle.std.specs.List.{list_all, AllByRecursion}
 use Rattle.std.proofs.lemmas.Bool.{and_parts, eqb-true, ne_eqb, leb-true}
 use Rattle.std.proofs.lemmas.Option.{get_or_from_slice_get, slice_get-get_or}
 use Rattle.std.proofs.lemmas.List.Quantifiers.{position-Some}
@@ -22,8 +22,11 @@ use Rattle.ipfix_template.specs.Template.{is_variable, has_allowed_length, has_b
 use Rattle.ipfix_template.specs.Values.{fits_field}
 use Rattle.ipfix_template.specs.DataRecord.{DataRecord, IsSound}
 use Rattle.ipfix_template.proofs.Encoding.{fit_fields-at, fit_fields-length}
-use Rattle.flow_aggregate.specs.Values.{is_same_element, first_value, full_width, flow_start_milliseconds, flow_start_seconds}
+use Rattle.flow_aggregate.specs.Values.{is_same_element, first_value, full_width, flow_start_milliseconds, flow_start_seconds, flow_end_milliseconds, octet_delta_count, packet_delta_count, delta_flow_count}
+use Rattle.policy_text.specs.Classes.{is_key_kind}
 use Rattle.flow_aggregate.specs.Widths.{IsWide}
+use Rattle.policy_text.specs.Policies.{Aggregate, IsRanged}
+use Rattle.flow_aggregate.specs.Groups.{HaveWidths, IsSummed}
 
 -- ---- lengths that a kind allows
 
@@ -150,3 +153,35 @@ first_is e r fields values i v sound same_fields same_values at is =
     let place : place_in e r.template.fields ≡ Some i = rw (← same_fields) at in
     let value : slice_get r.values i ≡ Some v = rw (← same_values) (slice_get-get_or values i v within ∙ ap (λ x. Some x) (sym is)) in
     rw place value
+
+-- the kinds of key elements have a full width
+kind_has_width : (kind : Kind) → is_key_kind kind ≡ true → 1 ≤ unwrap_or (full_width_of kind) 0
+unfolding full_width_of
+kind_has_width U8 is = omega arith
+kind_has_width U16 is = omega arith
+kind_has_width U32 is = omega arith
+kind_has_width U64 is = omega arith
+kind_has_width Ipv4 is = omega arith
+kind_has_width Ipv6 is = omega arith
+kind_has_width Mac is = omega arith
+kind_has_width Seconds is = omega arith
+kind_has_width Millis is = omega arith
+kind_has_width Text is = absurd cc
+kind_has_width Octets is = absurd cc
+
+pub key_has_widths : (key : List Element) → AllByRecursion (λ e. is_key_kind (kind_of e) ≡ true) key → HaveWidths key
+unfolding full_width
+key_has_widths [] kinds = tt
+key_has_widths (e ∷ es) kinds = (kind_has_width (kind_of e) kinds.0, key_has_widths es kinds.1)
+
+pub counters_wide : (full_width octet_delta_count ≡ 8) × (full_width packet_delta_count ≡ 8) × (full_width delta_flow_count ≡ 8) × (full_width flow_end_milliseconds ≡ 8)
+unfolding full_width kind_of full_width_of registry
+counters_wide = (refl, refl, refl, refl)
+
+-- ---- definitions
+
+pub summed_from : (a : Aggregate) (name : List ℕ) (key : List Element) (interval grace : ℕ) → key ≡ a.key → interval ≡ a.interval → grace ≡ a.grace
+    → IsRanged (length a.key) a.interval a.grace → AllByRecursion (λ e. is_key_kind (kind_of e) ≡ true) a.key
+    → IsSummed (record { name = name; key = key; interval = interval; grace = grace })
+summed_from a name key interval grace same_key same_interval same_grace ranged kinds =
+    record { ranged = rw (same_key, same_interval, same_grace) ranged; widths = rw same_key (key_has_widths a.key kinds) }

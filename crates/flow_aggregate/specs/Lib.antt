@@ -8,3 +8,6 @@ pub use Rattle.policy_text.specs.Policies
 pub mod Values
 pub mod Widths
 pub mod Placing
+pub mod Sums
+pub mod Groups
+pub mod Closed

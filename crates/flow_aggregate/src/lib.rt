@@ -6,7 +6,12 @@
 //! - `values`: the first value of an element in a record.
 #![tactic(auto)]
 
+mod closed;
+mod definition;
+mod group;
+mod sums;
 mod timing;
 mod values;
 
+pub use closed::ClosedAggregate;
 pub use timing::{Timing, judge_time};

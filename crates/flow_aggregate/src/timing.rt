@@ -2,7 +2,9 @@
 ghost use Rattle.std.specs.Prelude.{◌≡◌, ◌<◌, ◌^◌, IfSome};
 ghost use Rattle.flow_aggregate.specs.Placing.{start_of, has_key, timing_of};
 
-use crate::values::{FLOW_START_MILLISECONDS, FLOW_START_SECONDS, first_number, first_value};
+use crate::values::{
+    FLOW_START_MILLISECONDS, FLOW_START_SECONDS, MILLISECONDS, first_number, first_value,
+};
 use ipfix_element::ElementId;
 use ipfix_template::Record;
 use policy_text::AggregateDef;
@@ -25,8 +27,6 @@ pub enum Timing {
 
 /// The first time that is too late to be a start.
 const NO_TIME: u64 = 1 << 62;
-
-const MILLISECONDS: u64 = 1000;
 
 /// Where the record counts in the aggregate, once the clock was advanced to `closed_to`, in milliseconds since
 /// 1970. An interval counts records until the clock comes to its end and the grace behind it.

@@ -8,9 +8,20 @@ use ipfix_octets::be_number;
 use ipfix_template::{FieldSpec, Record};
 
 // Elements of IANA's registry, by their numbers.
+pub(crate) const OCTET_DELTA_COUNT: u16 = 1;
+
+pub(crate) const PACKET_DELTA_COUNT: u16 = 2;
+
+pub(crate) const DELTA_FLOW_COUNT: u16 = 3;
+
 pub(crate) const FLOW_START_SECONDS: u16 = 150;
 
 pub(crate) const FLOW_START_MILLISECONDS: u16 = 152;
+
+pub(crate) const FLOW_END_MILLISECONDS: u16 = 153;
+
+/// The milliseconds of a second.
+pub(crate) const MILLISECONDS: u64 = 1000;
 
 /// The value of the record's first field of the element.
 pub(crate) fn first_value(flow_record: &Record, element: ElementId) -> Option<&[u8]>
