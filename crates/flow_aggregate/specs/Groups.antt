@@ -19,6 +19,9 @@ pub record Counted : Type 0 where
   pub definition : Aggregate
   pub flow : DataRecord
 
+abbrev pub counted_as : Aggregate → DataRecord → Counted
+counted_as a r = record { definition = a; flow = r }
+
 -- a value at full width: zeros before one of reduced size (RFC 7011, section 6.2)
 abbrev pub widened : ℕ → List ℕ → List ℕ
 widened width value = replicate (width - length value) 0 ++ value

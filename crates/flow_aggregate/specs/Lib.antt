@@ -10,4 +10,7 @@ pub mod Widths
 pub mod Placing
 pub mod Sums
 pub mod Groups
+pub mod GroupOrder
 pub mod Closed
+pub mod Running
+pub mod Adding

@@ -67,6 +67,13 @@ impl Definition {
         })
     }
 
+    /// The octets of its name.
+    pub(crate) fn name(&self) -> &[u8]
+        ensures { result.now ≡ self.now.name }
+    {
+        self.name.as_slice()
+    }
+
     pub(crate) fn key(&self) -> &[ElementId]
         ensures value { result.now ≡ self.now.key }
         ensures sound { IsSummed self.now }

@@ -4,13 +4,16 @@ ghost use Rattle.std.specs.List.{AllByRecursion};
 ghost use Rattle.ipfix_element.specs.Kinds.{kind_of};
 ghost use Rattle.policy_text.specs.Classes.{is_key_kind};
 ghost use Rattle.flow_aggregate.specs.Values.{full_width};
-ghost use Rattle.flow_aggregate.specs.Groups.{wide_value, key_octets, HaveWidths, IsSummed, IsGroup};
+ghost use Rattle.flow_aggregate.specs.Groups.{wide_value, key_octets, group_of, counted_as, IsGroup};
+ghost use Rattle.flow_aggregate.specs.Running.{IsPlaced, is_due};
 
 use crate::definition::Definition;
-use crate::values::first_value;
+use crate::timing::{interval_start, start_of};
+use crate::values::{MILLISECONDS, first_value};
 use bytes::Bytes;
 use ipfix_element::{ElementId, full_width, kind_of};
 use ipfix_template::Record;
+use policy_text::AggregateDef;
 use std::alloc::{AllocError, Global};
 use std::marker::Model;
 
@@ -34,6 +37,37 @@ impl Model for Group {
 }
 
 impl Group {
+    /// The group that a record of the aggregate counts in.
+    ///
+    /// # Errors
+    /// Want of memory.
+    pub(crate) fn of(
+        alloc: Global,
+        definition: &AggregateDef,
+        flow_record: &Record,
+    ) -> Result<Group, AllocError>
+        requires kinds { AllByRecursion (λ e. is_key_kind (kind_of e) ≡ true) definition.now.key }
+        requires placed { IsPlaced definition.now flow_record.now }
+        ensures { IfOk result (λ g. g ≡ group_of (counted_as definition.now flow_record.now)) }
+    {
+        let shared = Definition::of(alloc, definition)?;
+        let key = key_octets(alloc, shared.key(), flow_record)?;
+        let start = start_of(flow_record).unwrap_or(0);
+        Ok(Group {
+            start: interval_start(definition, start),
+            definition: shared,
+            key,
+        })
+    }
+
+    /// Whether an advance of the clock to `t` comes to the end of the interval and the grace behind it.
+    pub(crate) fn is_due(&self, t: u64) -> bool
+        ensures { result ≡ is_due t self.now }
+    {
+        let seconds = self.definition().interval() + self.definition().grace();
+        self.start() + u64::from(seconds) * MILLISECONDS <= t
+    }
+
     /// Where the interval starts.
     pub(crate) fn start(&self) -> u64
         ensures value { result ≡ self.now.start }

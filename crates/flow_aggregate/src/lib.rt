@@ -6,12 +6,17 @@
 //! - `values`: the first value of an element in a record.
 #![tactic(auto)]
 
+mod additions;
 mod closed;
 mod definition;
 mod group;
+mod group_order;
+mod running;
 mod sums;
 mod timing;
 mod values;
 
+pub use additions::Additions;
 pub use closed::ClosedAggregate;
+pub use running::Running;
 pub use timing::{Timing, judge_time};

@@ -1,6 +1,6 @@
 //! In which interval a record counts.
-ghost use Rattle.std.specs.Prelude.{◌≡◌, ◌<◌, ◌^◌, IfSome};
-ghost use Rattle.flow_aggregate.specs.Placing.{start_of, has_key, timing_of};
+ghost use Rattle.std.specs.Prelude.{◌≡◌, ◌≤◌};
+ghost use Rattle.flow_aggregate.specs.Placing.{start_of, interval_start, has_key, timing_of};
 
 use crate::values::{
     FLOW_START_MILLISECONDS, FLOW_START_SECONDS, MILLISECONDS, first_number, first_value,
@@ -43,8 +43,8 @@ pub fn judge_time(definition: &AggregateDef, flow_record: &Record, closed_to: u6
     if !has_key(definition.key(), flow_record) {
         return Timing::NoKey;
     }
+    let start = interval_start(definition, time);
     let width = u64::from(definition.interval()) * MILLISECONDS;
-    let start = time / width * width;
     if start + width + u64::from(definition.grace()) * MILLISECONDS <= closed_to {
         Timing::Late
     } else {
@@ -52,9 +52,20 @@ pub fn judge_time(definition: &AggregateDef, flow_record: &Record, closed_to: u6
     }
 }
 
+/// Where the interval that holds this time starts.
+pub(crate) fn interval_start(definition: &AggregateDef, time: u64) -> u64
+    ensures value { result ≡ interval_start definition.now time }
+    ensures within { result ≤ time }
+{
+    // The range of the interval.
+    let _key = definition.key();
+    let width = u64::from(definition.interval()) * MILLISECONDS;
+    time / width * width
+}
+
 /// When the record's flow started, in milliseconds since 1970.
 #[tactic(auto, unfolding(crate::specs::Placing::start_of))]
-fn start_of(flow_record: &Record) -> Option<u64>
+pub(crate) fn start_of(flow_record: &Record) -> Option<u64>
     ensures { result ≡ start_of flow_record.now }
 {
     match first_number(flow_record, FLOW_START_MILLISECONDS) {
