@@ -1,8 +1,9 @@
 -- What running groups stand for, and what an advance of the clock closes. Both are said of the records that were counted, and
 -- not of the groups that are kept (RFC 7015, section 4.1; the grace and the order are this project's own).
-use Rattle.std.specs.Prelude.{◌≡◌, ℕ, Bool, List, [], ◌∷◌, map, filter, not, Option, Some, None, nat_le, if◌then◌else◌, IsSorted}
+use Rattle.std.specs.Prelude.{◌≡◌, ℕ, Bool, List, [], ◌∷◌, ◌++◌, map, filter, not, Option, Some, None, nat_le, if◌then◌else◌}
 use Rattle.std.specs.List.{IsDistinct}
-use Rattle.std.specs.Map.{lookup}
+use Rattle.std.specs.List.Sorted.{IsSortedByKey}
+use Rattle.std.specs.Map.{lookup, keys_of}
 use Rattle.ipfix_template.specs.DataRecord.{DataRecord}
 use Rattle.policy_text.specs.Policies.{Aggregate}
 use Rattle.flow_aggregate.specs.declared.timing.Timing.TheVariants.{Placed}
@@ -61,15 +62,31 @@ staying t counted = filter (λ c. not (is_due t (group_of c))) counted
 abbrev pub closed_sums : ℕ → List Counted → Group → Option Sums
 closed_sums t counted g = if is_due t g then sums_over (of_group g counted) else None
 
-abbrev pub sums_in : List ClosedAggregate → Group → Option Sums
-sums_in [] g = None
-sums_in (c ∷ closed) g = if same_group g c.group then Some c.sums else sums_in closed g
+-- a closed group with its sums
+abbrev pub pair_of : ClosedAggregate → Group × Sums
+pair_of c = (c.group, c.sums)
 
-abbrev pub groups_in : List ClosedAggregate → List Group
-groups_in closed = map (λ c. c.group) closed
+abbrev pub pairs_of : List ClosedAggregate → List (Group × Sums)
+pairs_of closed = map pair_of closed
+
+abbrev pub sums_in : List ClosedAggregate → Group → Option Sums
+sums_in closed g = lookup (same_group g) (pairs_of closed)
 
 -- the closed groups, each once, in their order, with the sums of their records
 pub record AreClosed (t : ℕ) (counted : List Counted) (closed : List ClosedAggregate) : Type 0 where
-  pub ascend : IsSorted group_cmp (groups_in closed)
-  pub once : IsDistinct same_group (groups_in closed)
+  pub ascend : IsSortedByKey (λ c. c.group) group_cmp closed
+  pub once : IsDistinct same_group (keys_of (pairs_of closed))
   pub sums : (g : Group) → sums_in closed g ≡ closed_sums t counted g
+
+-- ---- what is closed of the entries
+
+abbrev pub closed_one : Group → Sums → ClosedAggregate
+closed_one g s = record { group = g; sums = s }
+
+abbrev pub due_one : ℕ → Group → Option Sums → List ClosedAggregate
+due_one t g None = []
+due_one t g (Some s) = if is_due t g then closed_one g s ∷ [] else []
+
+abbrev pub due_of : ℕ → Entries → List ClosedAggregate
+due_of t [] = []
+due_of t (e ∷ entries) = due_one t e.0 e.1 ++ due_of t entries

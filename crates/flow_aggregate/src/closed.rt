@@ -30,6 +30,20 @@ pub struct ClosedAggregate {
 }
 
 impl ClosedAggregate {
+    ghost use Rattle.flow_aggregate.specs.Running.{closed_one};
+
+    pub(crate) fn new(group: Group, sums: Sums) -> ClosedAggregate
+        ensures { result ≡ closed_one group sums }
+    {
+        ClosedAggregate { group, sums }
+    }
+
+    pub(crate) fn group(&self) -> &Group
+        ensures { result.now ≡ self.now.group }
+    {
+        &self.group
+    }
+
     /// The record of the group: the key's values at full width, where the interval starts and ends, in milliseconds
     /// since 1970, and the octets, packets and flows of its records, in 8 octets each.
     ///

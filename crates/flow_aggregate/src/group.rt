@@ -50,6 +50,8 @@ impl Group {
         requires placed { IsPlaced definition.now flow_record.now }
         ensures { IfOk result (λ g. g ≡ group_of (counted_as definition.now flow_record.now)) }
     {
+        // The values of a record have the lengths that their elements allow.
+        let _template = flow_record.template();
         let shared = Definition::of(alloc, definition)?;
         let key = key_octets(alloc, shared.key(), flow_record)?;
         let start = start_of(flow_record).unwrap_or(0);

@@ -6,17 +6,19 @@ ghost use Rattle.ipfix_element.specs.Kinds.{kind_of};
 ghost use Rattle.policy_text.specs.Classes.{is_key_kind};
 ghost use Rattle.flow_aggregate.specs.declared.additions.Addition.{Addition as OneAddition};
 ghost use Rattle.flow_aggregate.specs.Groups.{Group as OneGroup, Counted, counted_as};
-ghost use Rattle.flow_aggregate.specs.GroupOrder.{same_group};
-ghost use Rattle.flow_aggregate.specs.Running.{sums_at, StandsFor, IsPlaced, is_due, staying, AreClosed};
+ghost use Rattle.flow_aggregate.specs.GroupOrder.{same_group, group_cmp};
+ghost use Rattle.flow_aggregate.specs.Running.{sums_at, StandsFor, IsPlaced, is_due, staying, AreClosed, due_one, due_of};
 ghost use Rattle.flow_aggregate.specs.Adding.{AreFor, group_at, with_one, with_all};
 
 use crate::additions::{Addition, Additions};
+use crate::closed::ClosedAggregate;
 use crate::group::Group;
 use crate::sums::Sums;
 use indexmap::IndexMap;
 use ipfix_template::Record;
 use policy_text::AggregateDef;
 use std::alloc::{AllocError, Global};
+use std::cmp::Ordering;
 use std::marker::Model;
 
 /// Groups that are still open. It keeps their sums and no records, so that its size goes with the groups and
@@ -96,6 +98,38 @@ impl Running {
         self.keep_open(t);
     }
 
+    /// The groups that an advance of the clock to `t` closes: those whose interval's end, and the grace behind it, it
+    /// comes to. They stand in the order of start, interval, grace, name, key and the key's octets.
+    ///
+    /// # Errors
+    /// Want of memory.
+    pub fn closing(&self, t: u64) -> Result<Vec<ClosedAggregate>, AllocError>
+        ensures { IfOk result (λ closed. (counted : List Counted) → StandsFor self.now counted → AreClosed t counted closed.items) }
+    {
+        let mut closed = self.due(t)?;
+        closed.sort_unstable_by(
+            |a: &ClosedAggregate, b: &ClosedAggregate| -> Ordering
+                ensures { result ≡ group_cmp a.now.group b.now.group }
+            { a.group().cmp(b.group()) },
+        );
+        Ok(closed)
+    }
+
+    /// These groups in some order.
+    fn due(&self, t: u64) -> Result<Vec<ClosedAggregate>, AllocError>
+        ensures items { IfOk result (λ due. due.items ≡ due_of t self.now) }
+        ensures unique { IsDistinct same_group (keys_of self.now) }
+    {
+        let mut due = Vec::new(self.alloc);
+        for place in 0..self.groups.len() {
+            let Some((group, sums)) = self.groups.get_index(place) else {
+                unreachable!()
+            };
+            put_due(t, group, sums, &mut due)?;
+        }
+        Ok(due)
+    }
+
     fn keep_open(&mut self, t: u64)
         ensures { self.new ≡ filter (λ e. not (is_due t e.0)) self.old }
     {
@@ -153,4 +187,24 @@ fn with_counters(sums: Option<Sums>, counters: Sums) -> Sums
         },
     };
     before.plus(counters)
+}
+
+/// Appends the group, if records count in it and an advance of the clock to `t` closes it.
+fn put_due(
+    t: u64,
+    group: &Group,
+    sums: &Option<Sums>,
+    due: &mut Vec<ClosedAggregate>,
+) -> Result<(), AllocError>
+    ensures { OnOk result (due.new.items ≡ due.old.items ++ due_one t group.now sums.now) }
+{
+    match *sums {
+        Some(sums) => {
+            if group.is_due(t) {
+                due.push(ClosedAggregate::new(group.share()?, sums))?;
+            }
+            Ok(())
+        }
+        None => Ok(()),
+    }
 }

@@ -1,0 +1,84 @@
+-- The groups that are due are those that an advance closes.
+use Rattle.std.proofs.Common.{◌≡◌, ℕ, Bool, true, false, cond, List, [], ◌∷◌, ◌++◌, map, Option, Some, None, refl, sym, ap, ◌∙◌, subst, append_assoc, append-nil, IsPermutation}
+use Rattle.std.specs.List.{IsDistinct, AllByRecursion}
+use Rattle.std.specs.List.Sorted.{IsSortedByKey}
+use Rattle.std.specs.Map.{lookup, keys_of, IsKeyTest}
+use Rattle.std.proofs.lemmas.List.Sorted.{IsPermutation-map}
+use Rattle.std.proofs.lemmas.Map.Keys.{IsDistinct-IsPermutation}
+use Rattle.indexmap.proofs.MapLemmas.{lookup_permutation}
+use Rattle.flow_aggregate.specs.declared.sums.Sums.{Sums}
+use Rattle.flow_aggregate.specs.declared.closed.ClosedAggregate.{ClosedAggregate}
+use Rattle.flow_aggregate.specs.Groups.{Group, Counted}
+use Rattle.flow_aggregate.specs.GroupOrder.{same_group, group_cmp, same_group-is, same_group-whole}
+use Rattle.flow_aggregate.specs.Running.{Entries, joined, sums_at, of_group, sums_over, StandsFor, is_due, closed_sums, pair_of, pairs_of, sums_in, AreClosed, closed_one, due_one, due_of}
+use Rattle.flow_aggregate.proofs.EntryLaws.{absent}
+
+pub due_more : (t : ℕ) (es : Entries) (e : Group × Option Sums) → due_of t (es ++ e ∷ []) ≡ due_of t es ++ due_one t e.0 e.1
+due_more t [] e = append-nil (due_one t e.0 e.1)
+due_more t (d ∷ es) e = ap (λ rest. due_one t d.0 d.1 ++ rest) (due_more t es e) ∙ sym (append_assoc (due_one t d.0 d.1) (due_of t es) (due_one t e.0 e.1))
+
+-- ---- each once
+
+all_due : (P : Group → Type 0) (t : ℕ) (es : Entries) → AllByRecursion P (keys_of es) → AllByRecursion P (keys_of (pairs_of (due_of t es)))
+all_due P t [] all = tt
+all_due P t (e ∷ es) all = by e.1 (is_due t e.0) (all_due P t es all.1) where
+  by : (s : Option Sums) (due : Bool) → AllByRecursion P (keys_of (pairs_of (due_of t es)))
+      → AllByRecursion P (keys_of (pairs_of (elim s as (λ _. List ClosedAggregate) [ None ↦ [] | Some ↦ λ x. cond due (closed_one e.0 x ∷ []) [] ] ++ due_of t es)))
+  by None due rest = rest
+  by (Some x) true rest = (all.0, rest)
+  by (Some x) false rest = rest
+
+due_once : (t : ℕ) (es : Entries) → IsDistinct same_group (keys_of es) → IsDistinct same_group (keys_of (pairs_of (due_of t es)))
+unfolding IsDistinct
+due_once t [] distinct = tt
+due_once t (e ∷ es) distinct = by e.1 (is_due t e.0) (due_once t es distinct.1) where
+  by : (s : Option Sums) (due : Bool) → IsDistinct same_group (keys_of (pairs_of (due_of t es)))
+      → IsDistinct same_group (keys_of (pairs_of (elim s as (λ _. List ClosedAggregate) [ None ↦ [] | Some ↦ λ x. cond due (closed_one e.0 x ∷ []) [] ] ++ due_of t es)))
+  by None due rest = rest
+  by (Some x) true rest = (all_due (λ y. same_group e.0 y ≡ false) t es distinct.0, rest)
+  by (Some x) false rest = rest
+
+-- ---- their sums
+
+due_look : (t : ℕ) (es : Entries) (g : Group) → IsDistinct same_group (keys_of es) → sums_in (due_of t es) g ≡ cond (is_due t g) (sums_at es g) None
+unfolding IsDistinct
+due_look t [] g distinct = none (is_due t g) where
+  none : (b : Bool) → None ≡ cond b (sums_at [] g) None
+  none true = refl
+  none false = refl
+due_look t (e ∷ es) g distinct = by e.1 (is_due t e.0) (same_group g e.0) refl refl (due_look t es g distinct.1) where
+  absent_from : same_group g e.0 ≡ true → lookup (same_group g) es ≡ None
+  absent_from same = rw (same_group-is g e.0 same) (absent e.0 es distinct.0)
+  by : (s : Option Sums) (due same : Bool) → is_due t e.0 ≡ due → same_group g e.0 ≡ same → sums_in (due_of t es) g ≡ cond (is_due t g) (sums_at es g) None
+      → sums_in (elim s as (λ _. List ClosedAggregate) [ None ↦ [] | Some ↦ λ x. cond due (closed_one e.0 x ∷ []) [] ] ++ due_of t es) g
+      ≡ cond (is_due t g) (joined (cond same (Some s) (lookup (same_group g) es))) None
+  by None due true is-due is-same rest = rest ∙ (rw (absent_from is-same) refl)
+  by None due false is-due is-same rest = rest
+  by (Some x) true true is-due is-same rest =
+      let due : is_due t g ≡ true = rw (same_group-is g e.0 is-same) is-due in
+      rw (is-same, due) refl
+  by (Some x) true false is-due is-same rest = rw is-same rest
+  by (Some x) false true is-due is-same rest =
+      let due : is_due t g ≡ false = rw (same_group-is g e.0 is-same) is-due in
+      rest ∙ (rw due refl)
+  by (Some x) false false is-due is-same rest = rest
+
+-- ---- in their order
+
+key_test : (g : Group) → IsKeyTest same_group (same_group g)
+key_test g x y same = ap (λ h. same_group h y) (same_group-is g x same)
+
+pub are_closed : (t : ℕ) (es : Entries) (due closed : List ClosedAggregate) (cs : List Counted) → IsDistinct same_group (keys_of es) → due ≡ due_of t es
+    → IsPermutation due closed → IsSortedByKey (λ c. c.group) group_cmp closed → StandsFor es cs → AreClosed t cs closed
+are_closed t es due closed cs distinct is moves ascend stands =
+    let pairs = IsPermutation-map pair_of due closed moves in
+    let keys = IsPermutation-map (λ (p : Group × Sums). p.0) (pairs_of due) (pairs_of closed) pairs in
+    let before : IsDistinct same_group (keys_of (pairs_of due)) = rw is (due_once t es distinct) in
+    let once = IsDistinct-IsPermutation same_group same_group-whole.symm (keys_of (pairs_of due)) (keys_of (pairs_of closed)) keys before in
+    record {
+      ascend = ascend;
+      once = once;
+      sums = λ g.
+          lookup_permutation same_group-whole (pairs_of due) (pairs_of closed) pairs once (same_group g) (key_test g)
+          ∙ ap (λ ds. sums_in ds g) is ∙ due_look t es g distinct ∙ ap (λ s. cond (is_due t g) s None) (stands g);
+    }
