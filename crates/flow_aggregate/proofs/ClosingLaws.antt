@@ -11,7 +11,7 @@ use Rattle.flow_aggregate.specs.declared.closed.ClosedAggregate.{ClosedAggregate
 use Rattle.flow_aggregate.specs.Groups.{Group, Counted}
 use Rattle.flow_aggregate.specs.GroupOrder.{same_group, group_cmp, same_group-is, same_group-whole}
 use Rattle.flow_aggregate.specs.Running.{Entries, joined, sums_at, of_group, sums_over, StandsFor, is_due, closed_sums, pair_of, pairs_of, sums_in, AreClosed, closed_one, due_one, due_of}
-use Rattle.flow_aggregate.proofs.EntryLaws.{absent}
+use Rattle.flow_aggregate.proofs.EntryLaws.{absent, same_both}
 
 pub due_more : (t : ℕ) (es : Entries) (e : Group × Option Sums) → due_of t (es ++ e ∷ []) ≡ due_of t es ++ due_one t e.0 e.1
 due_more t [] e = append-nil (due_one t e.0 e.1)
@@ -21,47 +21,52 @@ due_more t (d ∷ es) e = ap (λ rest. due_one t d.0 d.1 ++ rest) (due_more t es
 
 all_due : (P : Group → Type 0) (t : ℕ) (es : Entries) → AllByRecursion P (keys_of es) → AllByRecursion P (keys_of (pairs_of (due_of t es)))
 all_due P t [] all = tt
-all_due P t (e ∷ es) all = by e.1 (is_due t e.0) (all_due P t es all.1) where
-  by : (s : Option Sums) (due : Bool) → AllByRecursion P (keys_of (pairs_of (due_of t es)))
-      → AllByRecursion P (keys_of (pairs_of (elim s as (λ _. List ClosedAggregate) [ None ↦ [] | Some ↦ λ x. cond due (closed_one e.0 x ∷ []) [] ] ++ due_of t es)))
-  by None due rest = rest
-  by (Some x) true rest = (all.0, rest)
-  by (Some x) false rest = rest
+all_due P t (e ∷ es) all = by e.1 (all_due P t es all.1) where
+  by : (s : Option Sums) → AllByRecursion P (keys_of (pairs_of (due_of t es))) → AllByRecursion P (keys_of (pairs_of (due_one t e.0 s ++ due_of t es)))
+  by None rest = rest
+  by (Some x) rest =
+      elim (is_due t e.0) as (λ b. AllByRecursion P (keys_of (pairs_of (cond b (closed_one e.0 x ∷ []) [] ++ due_of t es))))
+      [ true ↦ (all.0, rest) | false ↦ rest ]
 
 due_once : (t : ℕ) (es : Entries) → IsDistinct same_group (keys_of es) → IsDistinct same_group (keys_of (pairs_of (due_of t es)))
 unfolding IsDistinct
 due_once t [] distinct = tt
-due_once t (e ∷ es) distinct = by e.1 (is_due t e.0) (due_once t es distinct.1) where
-  by : (s : Option Sums) (due : Bool) → IsDistinct same_group (keys_of (pairs_of (due_of t es)))
-      → IsDistinct same_group (keys_of (pairs_of (elim s as (λ _. List ClosedAggregate) [ None ↦ [] | Some ↦ λ x. cond due (closed_one e.0 x ∷ []) [] ] ++ due_of t es)))
-  by None due rest = rest
-  by (Some x) true rest = (all_due (λ y. same_group e.0 y ≡ false) t es distinct.0, rest)
-  by (Some x) false rest = rest
+due_once t (e ∷ es) distinct = by e.1 (due_once t es distinct.1) where
+  by : (s : Option Sums) → IsDistinct same_group (keys_of (pairs_of (due_of t es))) → IsDistinct same_group (keys_of (pairs_of (due_one t e.0 s ++ due_of t es)))
+  by None rest = rest
+  by (Some x) rest =
+      elim (is_due t e.0) as (λ b. IsDistinct same_group (keys_of (pairs_of (cond b (closed_one e.0 x ∷ []) [] ++ due_of t es))))
+      [ true ↦ (all_due (λ y. same_group e.0 y ≡ false) t es distinct.0, rest) | false ↦ rest ]
 
 -- ---- their sums
 
 due_look : (t : ℕ) (es : Entries) (g : Group) → IsDistinct same_group (keys_of es) → sums_in (due_of t es) g ≡ cond (is_due t g) (sums_at es g) None
 unfolding IsDistinct
-due_look t [] g distinct = none (is_due t g) where
-  none : (b : Bool) → None ≡ cond b (sums_at [] g) None
-  none true = refl
-  none false = refl
-due_look t (e ∷ es) g distinct = by e.1 (is_due t e.0) (same_group g e.0) refl refl (due_look t es g distinct.1) where
-  absent_from : same_group g e.0 ≡ true → lookup (same_group g) es ≡ None
-  absent_from same = rw (same_group-is g e.0 same) (absent e.0 es distinct.0)
-  by : (s : Option Sums) (due same : Bool) → is_due t e.0 ≡ due → same_group g e.0 ≡ same → sums_in (due_of t es) g ≡ cond (is_due t g) (sums_at es g) None
-      → sums_in (elim s as (λ _. List ClosedAggregate) [ None ↦ [] | Some ↦ λ x. cond due (closed_one e.0 x ∷ []) [] ] ++ due_of t es) g
-      ≡ cond (is_due t g) (joined (cond same (Some s) (lookup (same_group g) es))) None
-  by None due true is-due is-same rest = rest ∙ (rw (absent_from is-same) refl)
-  by None due false is-due is-same rest = rest
-  by (Some x) true true is-due is-same rest =
-      let due : is_due t g ≡ true = rw (same_group-is g e.0 is-same) is-due in
+due_look t [] g distinct = same_both (is_due t g) None
+due_look t (e ∷ es) g distinct = by e.1 (due_look t es g distinct.1) where
+  gone : same_group g e.0 ≡ true → lookup (same_group g) es ≡ None
+  gone is-same = let one = same_group-is g e.0 is-same in rw one (absent e.0 es distinct.0)
+  none : (same : Bool) → same_group g e.0 ≡ same → sums_in (due_of t es) g ≡ cond (is_due t g) (joined (lookup (same_group g) es)) None
+      → sums_in (due_of t es) g ≡ cond (is_due t g) (joined (cond same (Some None) (lookup (same_group g) es))) None
+  none true is-same rest = let nothing = gone is-same in rest ∙ ap (λ (o : Option (Option Sums)). cond (is_due t g) (joined o) None) nothing
+  none false is-same rest = rest
+  found : (x : Sums) (due same : Bool) → is_due t e.0 ≡ due → same_group g e.0 ≡ same → sums_in (due_of t es) g ≡ cond (is_due t g) (joined (lookup (same_group g) es)) None
+      → sums_in (cond due (closed_one e.0 x ∷ []) [] ++ due_of t es) g ≡ cond (is_due t g) (joined (cond same (Some (Some x)) (lookup (same_group g) es))) None
+  found x true true is-due is-same rest =
+      let one = same_group-is g e.0 is-same in
+      let due : is_due t g ≡ true = rw one is-due in
       rw (is-same, due) refl
-  by (Some x) true false is-due is-same rest = rw is-same rest
-  by (Some x) false true is-due is-same rest =
-      let due : is_due t g ≡ false = rw (same_group-is g e.0 is-same) is-due in
-      rest ∙ (rw due refl)
-  by (Some x) false false is-due is-same rest = rest
+  found x true false is-due is-same rest = rw is-same rest
+  found x false true is-due is-same rest =
+      let one = same_group-is g e.0 is-same in
+      let due : is_due t g ≡ false = rw one is-due in
+      let nothing : sums_in (due_of t es) g ≡ None = rw due at rest in
+      rw due nothing
+  found x false false is-due is-same rest = rest
+  by : (s : Option Sums) → sums_in (due_of t es) g ≡ cond (is_due t g) (joined (lookup (same_group g) es)) None
+      → sums_in (due_one t e.0 s ++ due_of t es) g ≡ cond (is_due t g) (joined (cond (same_group g e.0) (Some s) (lookup (same_group g) es))) None
+  by None rest = none (same_group g e.0) refl rest
+  by (Some x) rest = found x (is_due t e.0) (same_group g e.0) refl refl rest
 
 -- ---- in their order
 
@@ -80,5 +85,5 @@ are_closed t es due closed cs distinct is moves ascend stands =
       once = once;
       sums = λ g.
           lookup_permutation same_group-whole (pairs_of due) (pairs_of closed) pairs once (same_group g) (key_test g)
-          ∙ ap (λ ds. sums_in ds g) is ∙ due_look t es g distinct ∙ ap (λ s. cond (is_due t g) s None) (stands g);
+          ∙ ap (λ (ds : List ClosedAggregate). sums_in ds g) is ∙ due_look t es g distinct ∙ ap (λ (s : Option Sums). cond (is_due t g) s None) (stands g);
     }

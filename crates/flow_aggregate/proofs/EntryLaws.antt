@@ -2,7 +2,7 @@
 use Rattle.std.proofs.Common.{◌≡◌, ℕ, zero, suc, ◌+◌, ◌<◌, ◌≤◌, Bool, true, false, cond, not, List, [], ◌∷◌, ◌++◌, length, map, get_or, filter, position, Option, Some, None, refl, sym, ap, ◌∙◌, subst, arith, is_some, slice_get}
 use Rattle.std.specs.Prelude.{unwrap_or, option_map}
 use Rattle.std.specs.List.{IsDistinct, AllByRecursion, position_or_len}
-use Rattle.std.specs.Map.{lookup, keys_of}
+use Rattle.std.specs.Map.{lookup, keys_of, values_of}
 use Rattle.std.proofs.lemmas.List.Quantifiers.{position-Some}
 use Rattle.indexmap.specs.IndexMap.{set_value_at}
 use Rattle.flow_aggregate.specs.declared.sums.Sums.{Sums}
@@ -18,12 +18,17 @@ some_is a b e = cc
 
 pub apart_at : (k g : Group) (es : Entries) (p : ℕ) → AllByRecursion (λ y. same_group k y ≡ false) (keys_of es) → group_at p es ≡ Some g → same_group k g ≡ false
 apart_at k g [] p all at = absurd cc
-apart_at k g (e ∷ es) zero all at = rw (← some_is e.0 g at) all.0
+apart_at k g (e ∷ es) zero all at = let same = some_is e.0 g at in rw (← same) all.0
 apart_at k g (e ∷ es) (suc p) all at = apart_at k g es p all.1 at
 
 pub absent : (k : Group) (es : Entries) → AllByRecursion (λ y. same_group k y ≡ false) (keys_of es) → lookup (same_group k) es ≡ None
 absent k [] all = refl
 absent k (e ∷ es) all = rw all.0 (absent k es all.1)
+
+-- both sides of a test are the same
+pub same_both : {A : Type 0} (b : Bool) (x : A) → x ≡ cond b x x
+same_both true x = refl
+same_both false x = refl
 
 chosen : {A : Type 0} (b : Bool) (w v l : Option A) → cond b w l ≡ cond b w (cond b v l)
 chosen true w v l = refl
@@ -34,13 +39,15 @@ pub set_look : (es : Entries) (p : ℕ) (k g : Group) (w : Option Sums) → IsDi
 unfolding IsDistinct
 set_look [] p k g w distinct at = absurd cc
 set_look (e ∷ es) zero k g w distinct at =
-    rw (← some_is e.0 k at) (chosen (same_group g e.0) (Some w) (Some e.1) (lookup (same_group g) es))
+    let same = some_is e.0 k at in
+    rw (← same) (chosen (same_group g e.0) (Some w) (Some e.1) (lookup (same_group g) es))
 set_look (e ∷ es) (suc p) k g w distinct at =
     let rest = set_look es p k g w distinct.1 at in
     elim (same_group g e.0) as (λ b. same_group g e.0 ≡ b → cond b (Some e.1) (lookup (same_group g) (set_value_at es p w))
     ≡ cond (same_group g k) (Some w) (cond b (Some e.1) (lookup (same_group g) es))) [
       | true ↦ λ is.
-          let apart : same_group g k ≡ false = rw (same_group-is g e.0 is) (apart_at e.0 k es p distinct.0 at) in
+          let one = same_group-is g e.0 is in
+          let apart : same_group g k ≡ false = rw one (apart_at e.0 k es p distinct.0 at) in
           rw apart refl
       | false ↦ λ _. rest
     ] refl
@@ -49,7 +56,8 @@ pub there_is : (es : Entries) (p : ℕ) (k : Group) → IsDistinct same_group (k
 unfolding IsDistinct
 there_is [] p k distinct at = absurd cc
 there_is (e ∷ es) zero k distinct at =
-    let same : same_group k e.0 ≡ true = rw (some_is e.0 k at) (same_group-itself k) in
+    let one = some_is e.0 k at in
+    let same : same_group k e.0 ≡ true = rw one (same_group-itself k) in
     rw same refl
 there_is (e ∷ es) (suc p) k distinct at =
     let apart : same_group k e.0 ≡ false = same_group-whole.symm k e.0 ∙ apart_at e.0 k es p distinct.0 at in
@@ -68,6 +76,12 @@ group_at_set (e ∷ es) zero zero w = refl
 group_at_set (e ∷ es) zero (suc q) w = refl
 group_at_set (e ∷ es) (suc p) zero w = refl
 group_at_set (e ∷ es) (suc p) (suc q) w = group_at_set es p q w
+
+-- a write past the end changes nothing
+pub set_past : (es : Entries) (p : ℕ) (w : Option Sums) → slice_get (values_of es) p ≡ None → set_value_at es p w ≡ es
+set_past [] p w none = refl
+set_past (e ∷ es) zero w none = absurd cc
+set_past (e ∷ es) (suc p) w none = ap (λ (rest : Entries). e ∷ rest) (set_past es p w none)
 
 -- ---- a new group, without records
 
@@ -123,20 +137,20 @@ found_group es k p at =
 
 pub look_kept : (t : ℕ) (es : Entries) (g : Group)
     → lookup (same_group g) (filter (λ e. not (is_due t e.0)) es) ≡ cond (is_due t g) None (lookup (same_group g) es)
-look_kept t [] g = none (is_due t g) where
-  none : (b : Bool) → None ≡ cond b None (lookup (same_group g) [])
-  none true = refl
-  none false = refl
+look_kept t [] g = same_both (is_due t g) None
 look_kept t (e ∷ es) g = by (is_due t e.0) (same_group g e.0) refl refl (look_kept t es g) where
   rest : Entries
   rest = filter (λ e. not (is_due t e.0)) es
   by : (due same : Bool) → is_due t e.0 ≡ due → same_group g e.0 ≡ same → lookup (same_group g) rest ≡ cond (is_due t g) None (lookup (same_group g) es)
       → lookup (same_group g) (cond (not due) (e ∷ rest) rest) ≡ cond (is_due t g) None (cond same (Some e.1) (lookup (same_group g) es))
   by true true is-due is-same after =
-      let due : is_due t g ≡ true = rw (same_group-is g e.0 is-same) is-due in
-      after ∙ (rw due refl)
+      let one = same_group-is g e.0 is-same in
+      let due : is_due t g ≡ true = rw one is-due in
+      let gone : lookup (same_group g) rest ≡ None = rw due at after in
+      rw due gone
   by true false is-due is-same after = after
   by false true is-due is-same after =
-      let due : is_due t g ≡ false = rw (same_group-is g e.0 is-same) is-due in
+      let one = same_group-is g e.0 is-same in
+      let due : is_due t g ≡ false = rw one is-due in
       rw (is-same, due) refl
   by false false is-due is-same after = rw is-same after

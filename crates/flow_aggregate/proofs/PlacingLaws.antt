@@ -13,7 +13,7 @@ use Rattle.flow_aggregate.specs.declared.timing.Timing.{Timing}
 use Rattle.flow_aggregate.specs.declared.timing.Timing.TheVariants.{Placed, NoTime, NoKey, Late}
 use Rattle.flow_aggregate.specs.Values.{first_value, has_value, full_width}
 use Rattle.flow_aggregate.specs.Placing.{start_of, has_key, interval_start, in_interval, timing_at, timing_of}
-use Rattle.flow_aggregate.specs.Groups.{wide_value, key_octets, HaveWidths}
+use Rattle.flow_aggregate.specs.Groups.{wide_value, key_octets, HaveWidths, IsSummed, IsGroup}
 use Rattle.flow_aggregate.specs.Running.{IsPlaced}
 use Rattle.flow_aggregate.proofs.WidthLaws.{first_wide}
 
@@ -58,3 +58,11 @@ key_long (e ∷ es) r sound widths has =
     let rest = key_long es r sound widths.1 parts.1 in
     let all = ap length (flat_map-cons (wide_value r) e es) ∙ length-append (wide_value r e) (flat_map (wide_value r) es) in
     omega (arith, here, rest, all, sum_by-cons full_width e es)
+
+-- the group of a record that is placed
+pub group_found : (a : Aggregate) (r : DataRecord) (d : Aggregate) (start : ℕ) (key : List ℕ) → IsPlaced a r → IsSound r → IsSummed d → d ≡ a
+    → start ≤ unwrap_or (start_of r) 0 → key ≡ key_octets d.key r → IsGroup (record { start = start; definition = d; key = key })
+group_found a r d start key placed sound summed same early is-key =
+    let can = can_count a r placed in
+    let has : has_key d.key r ≡ true = rw same can.key in
+    record { summed = summed; start = omega (arith, early, can.start); key = ap length is-key ∙ key_long d.key r sound summed.widths has }

@@ -13,40 +13,39 @@ use Rattle.flow_aggregate.specs.GroupOrder.{same_group, same_group-is}
 use Rattle.flow_aggregate.specs.Running.{Entries, joined, sums_at, of_group, sums_over, StandsFor, is_due, staying}
 use Rattle.flow_aggregate.specs.Adding.{group_at, AreFor, no_sums, sums_there, with_one, with_all}
 use Rattle.flow_aggregate.proofs.SumLaws.{sums_over_more}
-use Rattle.flow_aggregate.proofs.EntryLaws.{set_look, there_is, keys_set, group_at_set, look_kept}
+use Rattle.flow_aggregate.proofs.EntryLaws.{set_look, there_is, keys_set, group_at_set, look_kept, same_both}
 
 -- ---- the records of a group, and one more
 
 more_of : (g : Group) (cs : List Counted) (c : Counted) → same_group g (group_of c) ≡ true → of_group g (cs ++ c ∷ []) ≡ of_group g cs ++ c ∷ []
-more_of g cs c same = filter-append (λ d. same_group g (group_of d)) cs (c ∷ []) ∙ (rw same refl)
+more_of g cs c same =
+    let all = filter-append (λ (d : Counted). same_group g (group_of d)) cs (c ∷ []) in
+    rw (all, same) refl
 
 none_of : (g : Group) (cs : List Counted) (c : Counted) → same_group g (group_of c) ≡ false → of_group g (cs ++ c ∷ []) ≡ of_group g cs
-none_of g cs c other = filter-append (λ d. same_group g (group_of d)) cs (c ∷ []) ∙ (rw other (append-nil (of_group g cs)))
+none_of g cs c other =
+    let all = filter-append (λ (d : Counted). same_group g (group_of d)) cs (c ∷ []) in
+    rw (all, other) (append-nil (of_group g cs))
 
 -- ---- adding
 
 -- one record more
 added : (es : Entries) (a : Addition) (c : Counted) (before : List Counted) → IsDistinct same_group (keys_of es) → StandsFor es before
     → group_at a.place es ≡ Some (group_of c) → a.counters ≡ counters_of c.flow → StandsFor (with_one es a) (before ++ c ∷ [])
-added es a c before distinct stands at counts g =
-    let k = group_of c in
-    let old = unwrap_or (sums_there a.place es) no_sums in
-    let w : Option Sums = Some (plus old a.counters) in
-    let look = set_look es a.place k g w distinct at in
-    by (same_group g k) refl look
-    where
-      by : (b : Bool) → same_group g (group_of c) ≡ b
-          → lookup (same_group g) (with_one es a) ≡ cond (same_group g (group_of c)) (Some (Some (plus (unwrap_or (sums_there a.place es) no_sums) a.counters))) (lookup (same_group g) es)
-          → joined (lookup (same_group g) (with_one es a)) ≡ sums_over (of_group g (before ++ c ∷ []))
-      by true is look =
-          let same : g ≡ group_of c = same_group-is g (group_of c) is in
-          let there : sums_there a.place es ≡ sums_over (of_group g before) = there_is es a.place (group_of c) distinct at ∙ ap (sums_at es) (sym same) ∙ stands g in
-          ap joined look
-          ∙ (rw (is, there, counts) refl)
-          ∙ sym (sums_over_more (of_group g before) c)
-          ∙ ap sums_over (sym (more_of g before c is))
-      by false is look =
-          ap joined look ∙ (rw is refl) ∙ stands g ∙ ap sums_over (sym (none_of g before c is))
+added es a c before distinct stands at counts g = by (same_group g (group_of c)) refl look where
+  sums : Sums
+  sums = plus (unwrap_or (sums_there a.place es) no_sums) a.counters
+  look : lookup (same_group g) (with_one es a) ≡ cond (same_group g (group_of c)) (Some (Some sums)) (lookup (same_group g) es)
+  look = set_look es a.place (group_of c) g (Some sums) distinct at
+  by : (b : Bool) → same_group g (group_of c) ≡ b → lookup (same_group g) (with_one es a) ≡ cond b (Some (Some sums)) (lookup (same_group g) es)
+      → joined (lookup (same_group g) (with_one es a)) ≡ sums_over (of_group g (before ++ c ∷ []))
+  by true is found =
+      let same : g ≡ group_of c = same_group-is g (group_of c) is in
+      let there : sums_there a.place es ≡ sums_over (of_group g before) = there_is es a.place (group_of c) distinct at ∙ ap (λ (h : Group). sums_at es h) (sym same) ∙ stands g in
+      let summed : sums ≡ plus (unwrap_or (sums_over (of_group g before)) no_sums) (counters_of c.flow) =
+        ap (λ (o : Option Sums). plus (unwrap_or o no_sums) a.counters) there ∙ ap (λ (s : Sums). plus (unwrap_or (sums_over (of_group g before)) no_sums) s) counts in
+      ap joined found ∙ ap (λ (s : Sums). Some s) summed ∙ sym (sums_over_more (of_group g before) c) ∙ ap sums_over (sym (more_of g before c is))
+  by false is found = ap joined found ∙ stands g ∙ ap sums_over (sym (none_of g before c is))
 
 -- what was reserved stays so where groups stay at their places
 pub still_for : (es fs : Entries) (additions : List Addition) (cs : List Counted) → ((p : ℕ) (g : Group) → group_at p es ≡ Some g → group_at p fs ≡ Some g)
@@ -66,33 +65,34 @@ one_more_for es (b ∷ additions) [] a c are at counts = absurd are
 -- all of them
 pub all_added : (additions : List Addition) (cs : List Counted) (es : Entries) (before : List Counted) → IsDistinct same_group (keys_of es) → StandsFor es before
     → AreFor es additions cs → StandsFor (with_all es additions) (before ++ cs)
-all_added [] [] es before distinct stands are = subst (StandsFor es) (sym (append-nil before)) stands
+all_added [] [] es before distinct stands are = subst (λ (cs : List Counted). StandsFor es cs) (sym (append-nil before)) stands
 all_added (a ∷ additions) (c ∷ cs) es before distinct stands are =
     let w : Option Sums = Some (plus (unwrap_or (sums_there a.place es) no_sums) a.counters) in
-    let apart : IsDistinct same_group (keys_of (with_one es a)) = subst (IsDistinct same_group) (sym (keys_set es a.place w)) distinct in
+    let apart : IsDistinct same_group (keys_of (with_one es a)) = subst (λ (ks : List Group). IsDistinct same_group ks) (sym (keys_set es a.place w)) distinct in
     let after = added es a c before distinct stands are.0 are.1 in
     let others = still_for es (with_one es a) additions cs (λ p g at. group_at_set es a.place p w ∙ at) are.2 in
-    subst (StandsFor (with_all (with_one es a) additions)) (append_assoc before (c ∷ []) cs) (all_added additions cs (with_one es a) (before ++ c ∷ []) apart after others)
+    subst (λ (ds : List Counted). StandsFor (with_all (with_one es a) additions) ds) (append_assoc before (c ∷ []) cs) (all_added additions cs (with_one es a) (before ++ c ∷ []) apart after others)
 all_added [] (c ∷ cs) es before distinct stands are = absurd are
 all_added (a ∷ additions) [] es before distinct stands are = absurd are
 
 -- ---- closing
 
 stays_of : (t : ℕ) (cs : List Counted) (g : Group) → of_group g (staying t cs) ≡ cond (is_due t g) [] (of_group g cs)
-stays_of t [] g = none (is_due t g) where
-  none : (b : Bool) → [] ≡ cond b [] (of_group g [])
-  none true = refl
-  none false = refl
+stays_of t [] g = same_both (is_due t g) []
 stays_of t (c ∷ cs) g = by (is_due t (group_of c)) (same_group g (group_of c)) refl refl (stays_of t cs g) where
   by : (due same : Bool) → is_due t (group_of c) ≡ due → same_group g (group_of c) ≡ same → of_group g (staying t cs) ≡ cond (is_due t g) [] (of_group g cs)
       → of_group g (cond (not due) (c ∷ staying t cs) (staying t cs)) ≡ cond (is_due t g) [] (cond same (c ∷ of_group g cs) (of_group g cs))
   by true true is-due is-same after =
-      let due : is_due t g ≡ true = rw (same_group-is g (group_of c) is-same) is-due in
-      after ∙ (rw due refl)
+      let one = same_group-is g (group_of c) is-same in
+      let due : is_due t g ≡ true = rw one is-due in
+      let gone : of_group g (staying t cs) ≡ [] = rw due at after in
+      rw due gone
   by true false is-due is-same after = after
   by false true is-due is-same after =
-      let due : is_due t g ≡ false = rw (same_group-is g (group_of c) is-same) is-due in
-      rw (is-same, due) (ap (λ ds. c ∷ ds) (after ∙ (rw due refl)))
+      let one = same_group-is g (group_of c) is-same in
+      let due : is_due t g ≡ false = rw one is-due in
+      let rest : of_group g (staying t cs) ≡ of_group g cs = rw due at after in
+      rw (is-same, due) (ap (λ (ds : List Counted). c ∷ ds) rest)
   by false false is-due is-same after = rw is-same after
 
 pub stays : (t : ℕ) (es : Entries) (cs : List Counted) → StandsFor es cs → StandsFor (filter (λ e. not (is_due t e.0)) es) (staying t cs)

@@ -18,11 +18,10 @@ one_more f rs r =
     let none : sum_by f [] ≡ 0 = refl in
     omega (arith, all, last, none)
 
-sums_from : ℕ → ℕ → ℕ → Sums
+abbrev sums_from : ℕ → ℕ → ℕ → Sums
 sums_from octets packets flows = record { octets = octets; packets = packets; flows = flows }
 
 from_parts : (s t : Sums) → s.octets ≡ t.octets → s.packets ≡ t.packets → s.flows ≡ t.flows → s ≡ t
-unfolding sums_from
 from_parts s t octets packets flows =
     ap (λ n. sums_from n s.packets s.flows) octets ∙ ap (λ n. sums_from t.octets n s.flows) packets ∙ ap (λ n. sums_from t.octets t.packets n) flows
 

@@ -1,5 +1,6 @@
 -- What was reserved for records that are to be counted.
 use Rattle.std.specs.Prelude.{◌≡◌, ℕ, List, [], ◌∷◌, Option, Some, unwrap_or, option_map, slice_get, fold}
+use Rattle.std.specs.Map.{values_of}
 use Rattle.indexmap.specs.IndexMap.{set_value_at}
 use Rattle.flow_aggregate.specs.declared.sums.Sums.{Sums}
 use Rattle.flow_aggregate.specs.declared.additions.Addition.{Addition}
@@ -25,7 +26,7 @@ abbrev pub no_sums : Sums
 no_sums = record { octets = 0; packets = 0; flows = 0 }
 
 abbrev pub sums_there : ℕ → Entries → Option Sums
-sums_there place entries = joined (option_map (λ e. e.1) (slice_get entries place))
+sums_there place entries = joined (slice_get (values_of entries) place)
 
 abbrev pub with_one : Entries → Addition → Entries
 with_one entries a = set_value_at entries a.place (Some (plus (unwrap_or (sums_there a.place entries) no_sums) a.counters))

@@ -68,7 +68,7 @@ impl Running {
         // No sum changes.
         ensures same { (g : OneGroup) → sums_at self.new g ≡ sums_at self.old g }
         // What was reserved before stays so.
-        ensures kept { (additions : List OneAddition) (counted : List Counted) → AreFor self.old additions counted → AreFor self.new additions counted }
+        ensures kept { (list : List OneAddition) (counted : List Counted) → AreFor self.old list counted → AreFor self.new list counted }
         ensures ok { (counted : List Counted) → AreFor self.old additions.old counted
             → OnOk result (AreFor self.new additions.new (counted ++ counted_as definition.now flow_record.now ∷ [])) }
         ensures err { OnErr result (additions.new ≡ additions.old) }
