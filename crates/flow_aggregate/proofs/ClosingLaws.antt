@@ -1,15 +1,20 @@
 -- The groups that are due are those that an advance closes.
-use Rattle.std.proofs.Common.{◌≡◌, ℕ, Bool, true, false, cond, List, [], ◌∷◌, ◌++◌, map, Option, Some, None, refl, sym, ap, ◌∙◌, subst, append_assoc, append-nil, IsPermutation}
+use Rattle.std.proofs.Common.{◌≡◌, ℕ, Bool, true, false, cond, List, [], ◌∷◌, ◌++◌, map, Option, Some, None, refl, sym, ap, ◌∙◌, subst, append_assoc, append-nil, IsPermutation, Bor}
 use Rattle.std.specs.List.{IsDistinct, AllByRecursion}
-use Rattle.std.specs.List.Sorted.{IsSortedByKey}
+use Rattle.std.specs.List.Sorted.{IsSortedBy, IsSortedByKey}
+use Rattle.std.specs.Cmp.{IsStrictWeakOrder}
+use Rattle.std.specs.Fn.{Mut, Called, ComparesAs}
+use Rattle.std.specs.declared.cmp.Ordering.{Ordering}
+use Rattle.std.specs.Ordering.{is_lt}
+use Rattle.std.proofs.lemmas.Fn.{always_returns_same}
 use Rattle.std.specs.Map.{lookup, keys_of, IsKeyTest}
-use Rattle.std.proofs.lemmas.List.Sorted.{IsPermutation-map}
+use Rattle.std.proofs.lemmas.List.Sorted.{IsPermutation-map, ranks_by}
 use Rattle.std.proofs.lemmas.Map.Keys.{IsDistinct-IsPermutation}
 use Rattle.indexmap.proofs.MapLemmas.{lookup_permutation}
 use Rattle.flow_aggregate.specs.declared.sums.Sums.{Sums}
 use Rattle.flow_aggregate.specs.declared.closed.ClosedAggregate.{ClosedAggregate}
 use Rattle.flow_aggregate.specs.Groups.{Group, Counted}
-use Rattle.flow_aggregate.specs.GroupOrder.{same_group, group_cmp, same_group-is, same_group-whole}
+use Rattle.flow_aggregate.specs.GroupOrder.{same_group, group_cmp, group_total, same_group-is, same_group-whole}
 use Rattle.flow_aggregate.specs.Running.{Entries, joined, sums_at, of_group, sums_over, StandsFor, is_due, closed_sums, pair_of, pairs_of, sums_in, AreClosed, closed_one, due_one, due_of}
 use Rattle.flow_aggregate.proofs.EntryLaws.{absent, same_both}
 
@@ -87,3 +92,12 @@ are_closed t es due closed cs distinct is moves ascend stands =
           lookup_permutation same_group-whole (pairs_of due) (pairs_of closed) pairs once (same_group g) (key_test g)
           ∙ ap (λ (ds : List ClosedAggregate). sums_in ds g) is ∙ due_look t es g distinct ∙ ap (λ (s : Option Sums). cond (is_due t g) s None) (stands g);
     }
+
+-- what was sorted by a closure that compares the groups
+pub ascends : {F : Type 0} {g : Mut F (Bor ClosedAggregate × (Bor ClosedAggregate × Unit {0})) Ordering} {f : F} (xs : List ClosedAggregate)
+    → ((lt : ClosedAggregate → ClosedAggregate → Bool) → IsStrictWeakOrder lt → ComparesAs g lt f → IsSortedBy lt xs)
+    → ((a : Bor ClosedAggregate × (Bor ClosedAggregate × Unit {0})) (r : Ordering) (f' : F) → Called g f a r f' → (r ≡ group_cmp a.0.now.group a.1.0.now.group) × (f' ≡ f))
+    → IsSortedByKey (λ c. c.group) group_cmp xs
+ascends {g = g} {f = f} xs up h =
+    up (λ x y. is_lt (group_cmp x.group y.group)) (ranks_by group_total (λ (c : ClosedAggregate). c.group))
+    (always_returns_same g (λ a r. is_lt r ≡ is_lt (group_cmp a.0.now.group a.1.0.now.group)) f (λ a r f' k. (ap is_lt (h a r f' k).0, (h a r f' k).1)))
