@@ -1,6 +1,8 @@
 -- The groups that are due are those that an advance closes.
-use Rattle.std.proofs.Common.{◌≡◌, ℕ, Bool, true, false, cond, List, [], ◌∷◌, ◌++◌, map, Option, Some, None, refl, sym, ap, ◌∙◌, subst, append_assoc, append-nil, IsPermutation, Bor}
+use Rattle.std.proofs.Common.{◌≡◌, ℕ, ◌+◌, ◌<◌, length, take, get_or, slice_get, Bool, true, false, cond, List, [], ◌∷◌, ◌++◌, map, Option, Some, None, refl, sym, ap, ◌∙◌, subst, append_assoc, append-nil, IsPermutation, Bor}
 use Rattle.std.specs.List.{IsDistinct, AllByRecursion}
+use Rattle.std.proofs.lemmas.List.{take_more}
+use Rattle.std.proofs.lemmas.Option.{get_or_from_slice_get}
 use Rattle.std.specs.List.Sorted.{IsSortedBy, IsSortedByKey}
 use Rattle.std.specs.Cmp.{IsStrictWeakOrder}
 use Rattle.std.specs.Fn.{Mut, Called, ComparesAs}
@@ -21,6 +23,16 @@ use Rattle.flow_aggregate.proofs.EntryLaws.{absent, same_both}
 pub due_more : (t : ℕ) (es : Entries) (e : Group × Option Sums) → due_of t (es ++ e ∷ []) ≡ due_of t es ++ due_one t e.0 e.1
 due_more t [] e = append-nil (due_one t e.0 e.1)
 due_more t (d ∷ es) e = ap (λ rest. due_one t d.0 d.1 ++ rest) (due_more t es e) ∙ sym (append_assoc (due_one t d.0 d.1) (due_of t es) (due_one t e.0 e.1))
+
+pub due_step : (t : ℕ) (es fs : Entries) (i : ℕ) (g : Group) (s : Option Sums) (done after : List ClosedAggregate) → es ≡ fs → i < length es
+    → Some (g, s) ≡ slice_get es i → done ≡ due_of t (take i fs) → after ≡ done ++ due_one t g s → after ≡ due_of t (take (i + 1) fs)
+due_step t es fs i g s done after same within there so_far is =
+    let e : Group × Option Sums = (g, s) in
+    let here : get_or es i e ≡ e = get_or_from_slice_get es i e e (sym there) in
+    let more : take (i + 1) es ≡ take i es ++ e ∷ [] = take_more es i e within ∙ ap (λ (d : Group × Option Sums). take i es ++ d ∷ []) here in
+    let before : done ≡ due_of t (take i es) = rw same so_far in
+    is ∙ ap (λ (ds : List ClosedAggregate). ds ++ due_one t g s) before ∙ sym (due_more t (take i es) e)
+    ∙ ap (λ (ds : Entries). due_of t ds) (sym more) ∙ ap (λ (ds : Entries). due_of t (take (i + 1) ds)) same
 
 -- ---- each once
 

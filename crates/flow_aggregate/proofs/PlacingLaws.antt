@@ -45,8 +45,9 @@ wide_by : (e : Element) (r : DataRecord) (v : Option (List ℕ)) → IsSound r �
 wide_by e r None sound some is there = absurd cc
 wide_by e r (Some v) sound some is there =
     let wide = first_wide e r v sound is some in
-    let all = length-append (replicate (full_width e - length v) 0) v in
-    let zeros : length (replicate (full_width e - length v) 0) ≡ full_width e - length v = length-replicate (full_width e - length v) 0 in
+    let zero_octet : ℕ = 0 in
+    let all = length-append (replicate (full_width e - length v) zero_octet) v in
+    let zeros = length-replicate (full_width e - length v) zero_octet in
     omega (arith, all, zeros, wide.1)
 
 pub key_long : (key : List Element) (r : DataRecord) → IsSound r → HaveWidths key → has_key key r ≡ true → length (key_octets key r) ≡ sum_by full_width key

@@ -1,8 +1,8 @@
 -- What groups stand for after records were added, and after groups were closed.
-use Rattle.std.proofs.Common.{◌≡◌, ℕ, Bool, true, false, cond, not, List, [], ◌∷◌, ◌++◌, map, filter, Option, Some, None, refl, sym, ap, ◌∙◌, subst, append_assoc, append-nil}
-use Rattle.std.specs.Prelude.{unwrap_or, fold}
+use Rattle.std.proofs.Common.{◌≡◌, ℕ, Bool, true, false, cond, not, List, [], ◌∷◌, ◌++◌, map, filter, Result, Ok, Err, OnOk, Option, Some, None, refl, sym, ap, ◌∙◌, subst, append_assoc, append-nil}
+use Rattle.std.specs.Prelude.{unwrap_or, fold, slice_get}
 use Rattle.std.specs.List.{IsDistinct}
-use Rattle.std.specs.Map.{lookup, keys_of}
+use Rattle.std.specs.Map.{lookup, keys_of, values_of}
 use Rattle.std.proofs.lemmas.List.Elements.{filter-append}
 use Rattle.indexmap.specs.IndexMap.{set_value_at}
 use Rattle.flow_aggregate.specs.declared.sums.Sums.{Sums}
@@ -13,7 +13,7 @@ use Rattle.flow_aggregate.specs.GroupOrder.{same_group, same_group-is}
 use Rattle.flow_aggregate.specs.Running.{Entries, joined, sums_at, of_group, sums_over, StandsFor, is_due, staying}
 use Rattle.flow_aggregate.specs.Adding.{group_at, AreFor, no_sums, sums_there, with_one, with_all}
 use Rattle.flow_aggregate.proofs.SumLaws.{sums_over_more}
-use Rattle.flow_aggregate.proofs.EntryLaws.{set_look, there_is, keys_set, group_at_set, look_kept, same_both}
+use Rattle.flow_aggregate.proofs.EntryLaws.{set_look, there_is, keys_set, group_at_set, look_kept, same_both, set_past}
 
 -- ---- the records of a group, and one more
 
@@ -47,18 +47,26 @@ added es a c before distinct stands at counts g = by (same_group g (group_of c))
       ap joined found ∙ ap (λ (s : Sums). Some s) summed ∙ sym (sums_over_more (of_group g before) c) ∙ ap sums_over (sym (more_of g before c is))
   by false is found = ap joined found ∙ stands g ∙ ap sums_over (sym (none_of g before c is))
 
+-- what is written of one more, and where nothing is
+pub one_written : (es fs : Entries) (a : Addition) (sums : Option Sums) (after : Sums) → es ≡ fs → Some sums ≡ slice_get (values_of es) a.place
+    → after ≡ plus (unwrap_or sums no_sums) a.counters → set_value_at es a.place (Some after) ≡ with_one fs a
+one_written es fs a sums after same there is = rw (← same, ← there, is) refl
+
+pub none_written : (es fs : Entries) (a : Addition) → es ≡ fs → None ≡ slice_get (values_of es) a.place → es ≡ with_one fs a
+none_written es fs a same past = rw (← same) (sym (set_past es a.place _ (sym past)))
+
 -- what was reserved stays so where groups stay at their places
 pub still_for : (es fs : Entries) (additions : List Addition) (cs : List Counted) → ((p : ℕ) (g : Group) → group_at p es ≡ Some g → group_at p fs ≡ Some g)
     → AreFor es additions cs → AreFor fs additions cs
 still_for es fs [] [] stays are = tt
-still_for es fs (a ∷ additions) (c ∷ cs) stays are = (stays a.place (group_of c) are.0, (are.1, still_for es fs additions cs stays are.2))
+still_for es fs (a ∷ additions) (c ∷ cs) stays are = (stays a.place (group_of c) are.0, are.1, still_for es fs additions cs stays are.2)
 still_for es fs [] (c ∷ cs) stays are = are
 still_for es fs (a ∷ additions) [] stays are = are
 
 pub one_more_for : (es : Entries) (additions : List Addition) (cs : List Counted) (a : Addition) (c : Counted) → AreFor es additions cs
     → group_at a.place es ≡ Some (group_of c) → a.counters ≡ counters_of c.flow → AreFor es (additions ++ a ∷ []) (cs ++ c ∷ [])
-one_more_for es [] [] a c are at counts = (at, (counts, tt))
-one_more_for es (b ∷ additions) (d ∷ cs) a c are at counts = (are.0, (are.1, one_more_for es additions cs a c are.2 at counts))
+one_more_for es [] [] a c are at counts = (at, counts, tt)
+one_more_for es (b ∷ additions) (d ∷ cs) a c are at counts = (are.0, are.1, one_more_for es additions cs a c are.2 at counts)
 one_more_for es [] (d ∷ cs) a c are at counts = absurd are
 one_more_for es (b ∷ additions) [] a c are at counts = absurd are
 
@@ -100,3 +108,12 @@ stays t es cs stands g = ap joined (look_kept t es g) ∙ by (is_due t g) (stand
   by : (due : Bool) → sums_at es g ≡ sums_over (of_group g cs) → joined (cond due None (lookup (same_group g) es)) ≡ sums_over (cond due [] (of_group g cs))
   by true is = refl
   by false is = is
+
+-- ---- reserving, where the list of additions had room
+
+pub reserved_one : {E : Type 0} (es : Entries) (additions : List Addition) (cs : List Counted) (a : Addition) (c : Counted) (g : Group) (pushed : Result (Unit {0}) E) (after : List Addition)
+    → AreFor es additions cs → g ≡ group_of c → group_at a.place es ≡ Some g → a.counters ≡ counters_of c.flow → OnOk pushed (after ≡ additions ++ a ∷ [])
+    → OnOk pushed (AreFor es after (cs ++ c ∷ []))
+reserved_one es additions cs a c g (Ok x) after are same at counts is =
+    subst (λ (list : List Addition). AreFor es list (cs ++ c ∷ [])) (sym is) (one_more_for es additions cs a c are (at ∙ ap (λ (h : Group). Some h) same) counts)
+reserved_one es additions cs a c g (Err e) after are same at counts is = tt
