@@ -63,10 +63,12 @@ due_look t [] g distinct = same_both (is_due t g) None
 due_look t (e ∷ es) g distinct = by e.1 (due_look t es g distinct.1) where
   gone : same_group g e.0 ≡ true → lookup (same_group g) es ≡ None
   gone is-same = let one = same_group-is g e.0 is-same in rw one (absent e.0 es distinct.0)
+
   none : (same : Bool) → same_group g e.0 ≡ same → sums_in (due_of t es) g ≡ cond (is_due t g) (joined (lookup (same_group g) es)) None
       → sums_in (due_of t es) g ≡ cond (is_due t g) (joined (cond same (Some None) (lookup (same_group g) es))) None
   none true is-same rest = let nothing = gone is-same in rest ∙ ap (λ (o : Option (Option Sums)). cond (is_due t g) (joined o) None) nothing
   none false is-same rest = rest
+
   found : (x : Sums) (due same : Bool) → is_due t e.0 ≡ due → same_group g e.0 ≡ same → sums_in (due_of t es) g ≡ cond (is_due t g) (joined (lookup (same_group g) es)) None
       → sums_in (cond due (closed_one e.0 x ∷ []) [] ++ due_of t es) g ≡ cond (is_due t g) (joined (cond same (Some (Some x)) (lookup (same_group g) es))) None
   found x true true is-due is-same rest =
@@ -80,6 +82,7 @@ due_look t (e ∷ es) g distinct = by e.1 (due_look t es g distinct.1) where
       let nothing : sums_in (due_of t es) g ≡ None = rw due at rest in
       rw due nothing
   found x false false is-due is-same rest = rest
+
   by : (s : Option Sums) → sums_in (due_of t es) g ≡ cond (is_due t g) (joined (lookup (same_group g) es)) None
       → sums_in (due_one t e.0 s ++ due_of t es) g ≡ cond (is_due t g) (joined (cond (same_group g e.0) (Some s) (lookup (same_group g) es))) None
   by None rest = none (same_group g e.0) refl rest

@@ -141,6 +141,7 @@ look_kept t [] g = same_both (is_due t g) None
 look_kept t (e ∷ es) g = by (is_due t e.0) (same_group g e.0) refl refl (look_kept t es g) where
   rest : Entries
   rest = filter (λ e. not (is_due t e.0)) es
+
   by : (due same : Bool) → is_due t e.0 ≡ due → same_group g e.0 ≡ same → lookup (same_group g) rest ≡ cond (is_due t g) None (lookup (same_group g) es)
       → lookup (same_group g) (cond (not due) (e ∷ rest) rest) ≡ cond (is_due t g) None (cond same (Some e.1) (lookup (same_group g) es))
   by true true is-due is-same after =

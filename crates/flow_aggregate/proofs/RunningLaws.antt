@@ -35,15 +35,17 @@ added : (es : Entries) (a : Addition) (c : Counted) (before : List Counted) → 
 added es a c before distinct stands at counts g = by (same_group g (group_of c)) refl look where
   sums : Sums
   sums = plus (unwrap_or (sums_there a.place es) no_sums) a.counters
+
   look : lookup (same_group g) (with_one es a) ≡ cond (same_group g (group_of c)) (Some (Some sums)) (lookup (same_group g) es)
   look = set_look es a.place (group_of c) g (Some sums) distinct at
+
   by : (b : Bool) → same_group g (group_of c) ≡ b → lookup (same_group g) (with_one es a) ≡ cond b (Some (Some sums)) (lookup (same_group g) es)
       → joined (lookup (same_group g) (with_one es a)) ≡ sums_over (of_group g (before ++ c ∷ []))
   by true is found =
       let same : g ≡ group_of c = same_group-is g (group_of c) is in
       let there : sums_there a.place es ≡ sums_over (of_group g before) = there_is es a.place (group_of c) distinct at ∙ ap (λ (h : Group). sums_at es h) (sym same) ∙ stands g in
       let summed : sums ≡ plus (unwrap_or (sums_over (of_group g before)) no_sums) (counters_of c.flow) =
-        ap (λ (o : Option Sums). plus (unwrap_or o no_sums) a.counters) there ∙ ap (λ (s : Sums). plus (unwrap_or (sums_over (of_group g before)) no_sums) s) counts in
+      ap (λ (o : Option Sums). plus (unwrap_or o no_sums) a.counters) there ∙ ap (λ (s : Sums). plus (unwrap_or (sums_over (of_group g before)) no_sums) s) counts in
       ap joined found ∙ ap (λ (s : Sums). Some s) summed ∙ sym (sums_over_more (of_group g before) c) ∙ ap sums_over (sym (more_of g before c is))
   by false is found = ap joined found ∙ stands g ∙ ap sums_over (sym (none_of g before c is))
 

@@ -107,8 +107,10 @@ pub first_wide : (e : Element) (r : DataRecord) (v : List ℕ) → IsSound r →
 first_wide e r v sound is some = by (position test fs) refl is where
   fs : List FieldSpec
   fs = r.template.fields
+
   test : FieldSpec → Bool
   test = λ f. is_same_element e f.element
+
   by : (o : Option ℕ) → position test fs ≡ o → (o >>= slice_get r.values) ≡ Some v → Within (full_width e) (length v)
   by None at is = absurd cc
   by (Some i) at is =

@@ -58,9 +58,10 @@ element_from e f pens numbers =
     ap by_pen pens ∙ ap by_number numbers
 
 element_decides : (e f : Element) → (is_same_element e f ≡ true → e ≡ f) × (e ≡ f → is_same_element e f ≡ true)
-element_decides e f =
-    (λ is. let parts = and_parts (same_pen e.pen f.pen) (e.number == f.number) is in element_from e f (pen_is e.pen f.pen parts.0) (eqb-true e.number f.number parts.1),
-    λ same. ap (λ x. is_same_element e x) (sym same) ∙ and_from (same_pen e.pen e.pen) (e.number == e.number) (pen_same e.pen) (eq-eqb e.number e.number refl))
+element_decides e f = (
+  λ is. let parts = and_parts (same_pen e.pen f.pen) (e.number == f.number) is in element_from e f (pen_is e.pen f.pen parts.0) (eqb-true e.number f.number parts.1),
+  λ same. ap (λ x. is_same_element e x) (sym same) ∙ and_from (same_pen e.pen e.pen) (e.number == e.number) (pen_same e.pen) (eq-eqb e.number e.number refl),
+)
 
 elements_decide : (es fs : List Element) → (same_elements es fs ≡ true → es ≡ fs) × (es ≡ fs → same_elements es fs ≡ true)
 elements_decide es fs = pointwise_decides element_decides es fs

@@ -35,9 +35,9 @@ key_octets key r = flat_map (wide_value r) key
 -- the group that a record counts in
 abbrev pub group_of : Counted → Group
 group_of c = record {
-    start = interval_start c.definition (unwrap_or (start_of c.flow) 0);
-    definition = c.definition;
-    key = key_octets c.definition.key c.flow;
+  start = interval_start c.definition (unwrap_or (start_of c.flow) 0);
+  definition = c.definition;
+  key = key_octets c.definition.key c.flow;
 }
 
 -- elements that have a full width

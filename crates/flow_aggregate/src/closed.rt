@@ -115,11 +115,7 @@ fn put_number_field(number: u16, specs: &mut Vec<FieldSpec>) -> Result<(), Alloc
     put_field(ElementId::registered(number), NUMBER_OCTETS, specs)
 }
 
-fn put_field(
-    element: ElementId,
-    length: u16,
-    specs: &mut Vec<FieldSpec>,
-) -> Result<(), AllocError>
+fn put_field(element: ElementId, length: u16, specs: &mut Vec<FieldSpec>) -> Result<(), AllocError>
     ensures { OnOk result (specs.new.items ≡ specs.old.items ++ field element length ∷ []) }
 {
     specs.push(FieldSpec { element, length })?;
@@ -144,11 +140,7 @@ fn put_key_values(
 }
 
 /// Appends numbers in 8 octets each.
-fn put_numbers(
-    alloc: Global,
-    numbers: &[u64],
-    values: &mut Vec<Bytes>,
-) -> Result<(), AllocError>
+fn put_numbers(alloc: Global, numbers: &[u64], values: &mut Vec<Bytes>) -> Result<(), AllocError>
     ensures { OnOk result (values.new.items ≡ values.old.items ++ number_values numbers.now) }
 {
     for number in numbers {

@@ -128,18 +128,17 @@ pub(crate) fn key_octets(
 }
 
 /// Appends the value of the record's first field of the element, with zeros before it up to full width.
-fn put_wide(
-    element: ElementId,
-    flow_record: &Record,
-    out: &mut Vec<u8>,
-) -> Result<(), AllocError>
+fn put_wide(element: ElementId, flow_record: &Record, out: &mut Vec<u8>) -> Result<(), AllocError>
     ensures { OnOk result (out.new.items ≡ out.old.items ++ wide_value flow_record.now element) }
 {
     let value = match first_value(flow_record, element) {
         Some(value) => value,
         None => &[],
     };
-    put_zeros(usize::from(width_of(element)).saturating_sub(value.len()), out)?;
+    put_zeros(
+        usize::from(width_of(element)).saturating_sub(value.len()),
+        out,
+    )?;
     out.extend_from_slice(value)
 }
 

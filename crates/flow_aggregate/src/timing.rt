@@ -14,9 +14,7 @@ use policy_text::AggregateDef;
 #[derive(Clone, Copy, Debug, PartialEq, Eq)]
 pub enum Timing {
     /// In the interval that starts here, in milliseconds since 1970.
-    Placed {
-        start: u64,
-    },
+    Placed { start: u64 },
     /// It doesn't say when its flow started, or says a time of 2^62 milliseconds or more.
     NoTime,
     /// An element of the aggregate's key is missing.
@@ -81,5 +79,6 @@ pub(crate) fn start_of(flow_record: &Record) -> Option<u64>
 fn has_key(key: &[ElementId], flow_record: &Record) -> bool
     ensures { result ≡ has_key key.now flow_record.now }
 {
-    key.iter().all(|element| first_value(flow_record, *element).is_some())
+    key.iter()
+        .all(|element| first_value(flow_record, *element).is_some())
 }
