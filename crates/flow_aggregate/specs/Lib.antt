@@ -1,0 +1,16 @@
+pub use Rattle.ipfix_octets.specs.Octets
+pub use Rattle.ipfix_element.specs.Element
+pub use Rattle.ipfix_element.specs.Kinds
+pub use Rattle.ipfix_template.specs.Template
+pub use Rattle.ipfix_template.specs.Equality
+pub use Rattle.ipfix_template.specs.DataRecord
+pub use Rattle.policy_text.specs.Policies
+pub mod Values
+pub mod Widths
+pub mod Placing
+pub mod Sums
+pub mod Groups
+pub mod GroupOrder
+pub mod Closed
+pub mod Running
+pub mod Adding

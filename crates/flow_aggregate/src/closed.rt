@@ -1,0 +1,150 @@
+//! Closed groups, and their records.
+ghost use Rattle.std.specs.Prelude.{◌≡◌, ◌≤◌, ◌<◌, ◌++◌, ◌∷◌, [], length, IfOk, OnOk};
+ghost use Rattle.std.specs.Arc.{arc_value};
+ghost use Rattle.std.specs.List.{sum_by};
+ghost use Rattle.flow_aggregate.specs.Values.{registered, full_width};
+ghost use Rattle.flow_aggregate.specs.Groups.{HaveWidths};
+ghost use Rattle.flow_aggregate.specs.Closed.{field, key_fields, sum_fields, closed_template, key_values, number_values, closed_values, closed_record};
+
+use crate::definition::Definition;
+use crate::group::{Group, width_of};
+use crate::sums::Sums;
+use crate::values::{
+    DELTA_FLOW_COUNT, FLOW_END_MILLISECONDS, FLOW_START_MILLISECONDS, MILLISECONDS,
+    OCTET_DELTA_COUNT, PACKET_DELTA_COUNT,
+};
+use bytes::Bytes;
+use ipfix_element::ElementId;
+use ipfix_template::{FieldSpec, Fields, Record, Template, Values};
+use std::alloc::{AllocError, Global};
+use std::sync::Arc;
+
+/// The octets of an interval's ends and of a sum.
+const NUMBER_OCTETS: u16 = 8;
+
+/// A group that is closed: no further record counts in it.
+#[derive(Drop)]
+pub struct ClosedAggregate {
+    group: Group,
+    sums: Sums,
+}
+
+impl ClosedAggregate {
+    ghost use Rattle.flow_aggregate.specs.Running.{closed_one};
+
+    pub(crate) fn new(group: Group, sums: Sums) -> ClosedAggregate
+        ensures { result ≡ closed_one group sums }
+    {
+        ClosedAggregate { group, sums }
+    }
+
+    pub(crate) fn group(&self) -> &Group
+        ensures { result.now ≡ self.now.group }
+    {
+        &self.group
+    }
+
+    /// The record of the group: the key's values at full width, where the interval starts and ends, in milliseconds
+    /// since 1970, and the octets, packets and flows of its records, in 8 octets each.
+    ///
+    /// # Errors
+    /// Want of memory.
+    pub fn record(&self, alloc: Global) -> Result<Record, AllocError>
+        ensures { IfOk result (λ r. r ≡ closed_record self.now.group self.now.sums) }
+    {
+        let template = closed_template(alloc, self.group.definition())?;
+        let values = self.values(alloc)?;
+        Ok(Record::new(template, Values::from_vec(values)))
+    }
+
+    #[tactic(auto, unfolding(crate::specs::Closed::closed_values))]
+    fn values(&self, alloc: Global) -> Result<Vec<Bytes>, AllocError>
+        ensures { IfOk result (λ values. values.items ≡ closed_values self.now.group self.now.sums) }
+    {
+        let definition = self.group.definition();
+        let start = self.group.start();
+        let end = start + u64::from(definition.interval()) * MILLISECONDS;
+        let sums = self.sums;
+        let mut values = Vec::new(alloc);
+        put_key_values(definition.key(), self.group.key(), &mut values)?;
+        let numbers = [start, end, sums.octets, sums.packets, sums.flows];
+        put_numbers(alloc, &numbers, &mut values)?;
+        Ok(values)
+    }
+}
+
+/// The template of an aggregate's records.
+#[tactic(auto, unfolding(crate::specs::Closed::closed_template))]
+fn closed_template(alloc: Global, definition: &Definition) -> Result<Arc<Template>, AllocError>
+    ensures { IfOk result (λ t. arc_value t ≡ closed_template definition.now) }
+{
+    let mut specs = Vec::new(alloc);
+    put_key_fields(definition.key(), &mut specs)?;
+    put_sum_fields(&mut specs)?;
+    let fields = match Fields::from_vec(specs) {
+        Ok(fields) => fields,
+        Err(_) => unreachable!(),
+    };
+    Ok(Arc::new(alloc, Template { fields, scope: 0 })?)
+}
+
+fn put_key_fields(key: &[ElementId], specs: &mut Vec<FieldSpec>) -> Result<(), AllocError>
+    ensures { OnOk result (specs.new.items ≡ specs.old.items ++ key_fields key.now) }
+{
+    for element in key {
+        put_field(*element, width_of(*element), specs)?;
+    }
+    Ok(())
+}
+
+/// The interval's start and end, and the sums.
+fn put_sum_fields(specs: &mut Vec<FieldSpec>) -> Result<(), AllocError>
+    ensures { OnOk result (specs.new.items ≡ specs.old.items ++ sum_fields) }
+{
+    put_number_field(FLOW_START_MILLISECONDS, specs)?;
+    put_number_field(FLOW_END_MILLISECONDS, specs)?;
+    put_number_field(OCTET_DELTA_COUNT, specs)?;
+    put_number_field(PACKET_DELTA_COUNT, specs)?;
+    put_number_field(DELTA_FLOW_COUNT, specs)
+}
+
+fn put_number_field(number: u16, specs: &mut Vec<FieldSpec>) -> Result<(), AllocError>
+    requires { number < 32768 }
+    ensures { OnOk result (specs.new.items ≡ specs.old.items ++ field (registered number) 8 ∷ []) }
+{
+    put_field(ElementId::registered(number), NUMBER_OCTETS, specs)
+}
+
+fn put_field(element: ElementId, length: u16, specs: &mut Vec<FieldSpec>) -> Result<(), AllocError>
+    ensures { OnOk result (specs.new.items ≡ specs.old.items ++ field element length ∷ []) }
+{
+    specs.push(FieldSpec { element, length })?;
+    Ok(())
+}
+
+/// Appends the values of the key's elements, which stay where they are in its octets.
+fn put_key_values(
+    key: &[ElementId],
+    octets: &Bytes,
+    values: &mut Vec<Bytes>,
+) -> Result<(), AllocError>
+    requires { length octets.now ≡ sum_by full_width key.now }
+    ensures { OnOk result (values.new.items ≡ values.old.items ++ key_values key.now octets.now) }
+{
+    let mut rest = octets.clone()?;
+    for element in key {
+        let value = rest.split_to(usize::from(width_of(*element)))?;
+        values.push(value)?;
+    }
+    Ok(())
+}
+
+/// Appends numbers in 8 octets each.
+fn put_numbers(alloc: Global, numbers: &[u64], values: &mut Vec<Bytes>) -> Result<(), AllocError>
+    ensures { OnOk result (values.new.items ≡ values.old.items ++ number_values numbers.now) }
+{
+    for number in numbers {
+        values.push(Bytes::copy_from_slice(alloc, &number.to_be_bytes())?)?;
+    }
+    Ok(())
+}

@@ -1,0 +1,103 @@
+//! An aggregate's definition, as groups keep it.
+ghost use Rattle.std.specs.Prelude.{◌≡◌, ◌≤◌, true, length, IfOk};
+ghost use Rattle.std.specs.List.{AllByRecursion};
+ghost use Rattle.ipfix_element.specs.Kinds.{kind_of};
+ghost use Rattle.policy_text.specs.Classes.{is_key_kind};
+ghost use Rattle.flow_aggregate.specs.Groups.{IsSummed};
+
+use bytes::Bytes;
+use ipfix_element::ElementId;
+use policy_text::AggregateDef;
+use std::alloc::{AllocError, Global};
+use std::marker::Model;
+use std::sync::Arc;
+
+/// An aggregate's definition, which its groups share. Two are one where name, key, interval and grace are equal,
+/// whatever edit brought them.
+#[derive(Drop)]
+pub(crate) struct Definition {
+    interval: u32,
+    grace: u32,
+    name: Bytes,
+    key: Arc<Vec<ElementId>>,
+}
+
+impl Model for Definition {
+    ghost use Rattle.std.specs.Arc.{arc_value};
+    ghost use Rattle.policy_text.specs.Policies.{Aggregate};
+    ghost use Rattle.flow_aggregate.specs.Groups.{IsSummed};
+
+    ghost Value = { Aggregate };
+
+    ghost view = { λ d. record { name = d.name; key = (arc_value d.key).items; interval = d.interval; grace = d.grace } };
+
+    ghost invariant = { λ d. IsSummed (record { name = d.name; key = (arc_value d.key).items; interval = d.interval; grace = d.grace }) };
+}
+
+impl Definition {
+    /// A copy of the definition.
+    ///
+    /// # Errors
+    /// Want of memory.
+    pub(crate) fn of(alloc: Global, definition: &AggregateDef) -> Result<Definition, AllocError>
+        requires { AllByRecursion (λ e. is_key_kind (kind_of e) ≡ true) definition.now.key }
+        ensures { IfOk result (λ d. d ≡ definition.now) }
+    {
+        let key = copy_of(alloc, definition.key())?;
+        Ok(Definition {
+            interval: definition.interval(),
+            grace: definition.grace(),
+            name: Bytes::copy_from_slice(alloc, definition.name().as_bytes())?,
+            key: Arc::new(alloc, key)?,
+        })
+    }
+
+    /// Another hold of it.
+    ///
+    /// # Errors
+    /// Want of memory for the count of its holds.
+    pub(crate) fn share(&self) -> Result<Definition, AllocError>
+        ensures { IfOk result (λ d. d ≡ self.now) }
+    {
+        Ok(Definition {
+            interval: self.interval,
+            grace: self.grace,
+            name: self.name.clone()?,
+            key: self.key.clone()?,
+        })
+    }
+
+    /// The octets of its name.
+    pub(crate) fn name(&self) -> &[u8]
+        ensures { result.now ≡ self.now.name }
+    {
+        self.name.as_slice()
+    }
+
+    pub(crate) fn key(&self) -> &[ElementId]
+        ensures value { result.now ≡ self.now.key }
+        ensures sound { IsSummed self.now }
+    {
+        self.key.as_slice()
+    }
+
+    pub(crate) fn interval(&self) -> u32
+        ensures value { result ≡ self.now.interval }
+        ensures few { result ≤ 86400 }
+    {
+        self.interval
+    }
+
+    pub(crate) fn grace(&self) -> u32
+        ensures value { result ≡ self.now.grace }
+        ensures few { result ≤ 86400 }
+    {
+        self.grace
+    }
+}
+
+fn copy_of(alloc: Global, key: &[ElementId]) -> Result<Vec<ElementId>, AllocError>
+    ensures { IfOk result (λ copy. copy.items ≡ key.now) }
+{
+    key.iter().copied().collect(alloc)
+}

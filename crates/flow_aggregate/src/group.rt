@@ -1,0 +1,160 @@
+//! Groups of records that count together.
+ghost use Rattle.std.specs.Prelude.{◌≡◌, ◌+◌, ◌≤◌, ◌<◌, ◌^◌, ◌++◌, true, length, IfOk, OnOk};
+ghost use Rattle.std.specs.List.{AllByRecursion};
+ghost use Rattle.ipfix_element.specs.Kinds.{kind_of};
+ghost use Rattle.policy_text.specs.Classes.{is_key_kind};
+ghost use Rattle.flow_aggregate.specs.Values.{full_width};
+ghost use Rattle.flow_aggregate.specs.Groups.{wide_value, key_octets, group_of, counted_as, IsGroup};
+ghost use Rattle.flow_aggregate.specs.Running.{IsPlaced, is_due};
+
+use crate::definition::Definition;
+use crate::timing::{interval_start, start_of};
+use crate::values::{MILLISECONDS, first_value};
+use bytes::Bytes;
+use ipfix_element::{ElementId, full_width, kind_of};
+use ipfix_template::Record;
+use policy_text::AggregateDef;
+use std::alloc::{AllocError, Global};
+use std::marker::Model;
+
+/// The records of one aggregate that start in one interval and agree in the key: where the interval starts, in
+/// milliseconds since 1970, the aggregate, and the octets of the key's values, each at full width.
+#[derive(Drop)]
+pub(crate) struct Group {
+    start: u64,
+    definition: Definition,
+    key: Bytes,
+}
+
+impl Model for Group {
+    ghost use Rattle.flow_aggregate.specs.Groups.{Group, IsGroup};
+
+    ghost Value = { Group };
+
+    ghost view = { λ g. record { start = g.start; definition = g.definition; key = g.key } };
+
+    ghost invariant = { λ g. IsGroup (record { start = g.start; definition = g.definition; key = g.key }) };
+}
+
+impl Group {
+    /// The group that a record of the aggregate counts in.
+    ///
+    /// # Errors
+    /// Want of memory.
+    pub(crate) fn of(
+        alloc: Global,
+        definition: &AggregateDef,
+        flow_record: &Record,
+    ) -> Result<Group, AllocError>
+        requires kinds { AllByRecursion (λ e. is_key_kind (kind_of e) ≡ true) definition.now.key }
+        requires placed { IsPlaced definition.now flow_record.now }
+        ensures { IfOk result (λ g. g ≡ group_of (counted_as definition.now flow_record.now)) }
+    {
+        // The values of a record have the lengths that their elements allow.
+        let _template = flow_record.template();
+        let shared = Definition::of(alloc, definition)?;
+        let key = key_octets(alloc, shared.key(), flow_record)?;
+        let start = start_of(flow_record).unwrap_or(0);
+        Ok(Group {
+            start: interval_start(definition, start),
+            definition: shared,
+            key,
+        })
+    }
+
+    /// Whether an advance of the clock to `t` comes to the end of the interval and the grace behind it.
+    pub(crate) fn is_due(&self, t: u64) -> bool
+        ensures { result ≡ is_due t self.now }
+    {
+        let seconds = self.definition().interval() + self.definition().grace();
+        self.start() + u64::from(seconds) * MILLISECONDS <= t
+    }
+
+    /// Where the interval starts.
+    pub(crate) fn start(&self) -> u64
+        ensures value { result ≡ self.now.start }
+        ensures early { result ≤ 2 ^ 62 }
+    {
+        self.start
+    }
+
+    pub(crate) fn definition(&self) -> &Definition
+        ensures value { result.now ≡ self.now.definition }
+        ensures sound { IsGroup self.now }
+    {
+        &self.definition
+    }
+
+    /// The octets of the key's values.
+    pub(crate) fn key(&self) -> &Bytes
+        ensures value { result.now ≡ self.now.key }
+        ensures sound { IsGroup self.now }
+    {
+        &self.key
+    }
+
+    /// Another hold of it.
+    ///
+    /// # Errors
+    /// Want of memory for the count of its holds.
+    pub(crate) fn share(&self) -> Result<Group, AllocError>
+        ensures { IfOk result (λ g. g ≡ self.now) }
+    {
+        Ok(Group {
+            start: self.start,
+            definition: self.definition.share()?,
+            key: self.key.clone()?,
+        })
+    }
+}
+
+/// The octets of the values of the key's elements, each at full width.
+///
+/// # Errors
+/// Want of memory.
+#[tactic(auto, unfolding(crate::specs::Groups::key_octets))]
+pub(crate) fn key_octets(
+    alloc: Global,
+    key: &[ElementId],
+    flow_record: &Record,
+) -> Result<Bytes, AllocError>
+    ensures { IfOk result (λ octets. octets ≡ key_octets key.now flow_record.now) }
+{
+    let mut octets = Vec::new(alloc);
+    for element in key {
+        put_wide(*element, flow_record, &mut octets)?;
+    }
+    Ok(Bytes::from_vec(octets)?)
+}
+
+/// Appends the value of the record's first field of the element, with zeros before it up to full width.
+fn put_wide(element: ElementId, flow_record: &Record, out: &mut Vec<u8>) -> Result<(), AllocError>
+    ensures { OnOk result (out.new.items ≡ out.old.items ++ wide_value flow_record.now element) }
+{
+    let value = match first_value(flow_record, element) {
+        Some(value) => value,
+        None => &[],
+    };
+    put_zeros(
+        usize::from(width_of(element)).saturating_sub(value.len()),
+        out,
+    )?;
+    out.extend_from_slice(value)
+}
+
+/// The octets of a value of the element at full width, and 0 where none is set.
+#[tactic(auto, unfolding(crate::specs::Values::full_width))]
+pub(crate) fn width_of(element: ElementId) -> u16
+    ensures { result ≡ full_width element }
+{
+    full_width(kind_of(element)).unwrap_or(0)
+}
+
+fn put_zeros(count: usize, out: &mut Vec<u8>) -> Result<(), AllocError>
+    ensures { OnOk result (out.new.items ≡ out.old.items ++ Rattle.std.specs.Prelude.replicate count 0) }
+{
+    for done in 0..count {
+        out.push(0)?;
+    }
+    Ok(())
+}

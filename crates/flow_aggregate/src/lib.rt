@@ -1,0 +1,33 @@
+//! Sums over intervals: where a record counts in an aggregate, the sums of the records that count together, and the
+//! record of a group once no more can count in it (RFC 7015: intervals and their distribution by a flow's start in
+//! section 4.1, aggregation by key in section 4.2). It knows no policy, no clock and no subscriber.
+//!
+//! - `timing`: [`judge_time`], and [`Timing`], what it answers.
+//! - `running`: [`Running`], the groups that are still open; it adds records and closes groups.
+//! - `additions`: [`Additions`], what was made ready for records that are to be added.
+//! - `closed`: [`ClosedAggregate`], a closed group with its sums, and its record.
+//! - `group`, `group_order`, `definition`: what groups are, which are one, and their order.
+//! - `sums`, `values`: the counters, and the first value of an element in a record.
+//!
+//! Proved: `judge_time` answers the interval in which a record counts, or the first reason why it counts in none.
+//! `Running::reserve` changes no sum, and leaves what was reserved before; `add_reserved`, which can't fail, makes groups
+//! that stand for some records stand for these and the records that were reserved; `closing` answers the groups of those
+//! records that the advance comes to, each once, in their order, with the sums of their records, capped at 2^64-1
+//! (`AreClosed`, which looks at the records that were added and at no group); after `close` they stand for the others.
+//! `ClosedAggregate::record` is the record of the group and its sums, each value at full width.
+#![tactic(auto)]
+
+mod additions;
+mod closed;
+mod definition;
+mod group;
+mod group_order;
+mod running;
+mod sums;
+mod timing;
+mod values;
+
+pub use additions::Additions;
+pub use closed::ClosedAggregate;
+pub use running::Running;
+pub use timing::{Timing, judge_time};

@@ -1,0 +1,62 @@
+//! The values of a record that aggregates look at.
+ghost use Rattle.std.specs.Prelude.{◌≡◌, ◌<◌, ◌≤◌, ◌^◌, option_map, IfSome};
+ghost use Rattle.flow_aggregate.specs.Values.{registered, is_same_element, first_value, first_number, full_width};
+ghost use Rattle.flow_aggregate.specs.Widths.{IsWide};
+
+use ipfix_element::ElementId;
+use ipfix_octets::be_number;
+use ipfix_template::{FieldSpec, Record};
+
+// Elements of IANA's registry, by their numbers.
+pub(crate) const OCTET_DELTA_COUNT: u16 = 1;
+
+pub(crate) const PACKET_DELTA_COUNT: u16 = 2;
+
+pub(crate) const DELTA_FLOW_COUNT: u16 = 3;
+
+pub(crate) const FLOW_START_SECONDS: u16 = 150;
+
+pub(crate) const FLOW_START_MILLISECONDS: u16 = 152;
+
+pub(crate) const FLOW_END_MILLISECONDS: u16 = 153;
+
+/// The milliseconds of a second.
+pub(crate) const MILLISECONDS: u64 = 1000;
+
+/// The value of the record's first field of the element.
+pub(crate) fn first_value(flow_record: &Record, element: ElementId) -> Option<&[u8]>
+    ensures exact { option_map (λ v. v.now) result ≡ first_value element flow_record.now }
+    ensures wide { IfSome result (λ v. IsWide element v.now) }
+{
+    let fields = flow_record.template().fields.as_slice();
+    let values = flow_record.values().as_slice();
+    let place = place_of(fields, element)?;
+    Some(values[place].as_slice())
+}
+
+/// The place of the first field of the element.
+fn place_of(fields: &[FieldSpec], element: ElementId) -> Option<usize>
+    ensures { result ≡ Rattle.std.specs.Prelude.position (λ f. is_same_element element f.element) fields.now }
+{
+    fields
+        .iter()
+        .position(|field| is_same_element(element, field.element))
+}
+
+fn is_same_element(element: ElementId, other: ElementId) -> bool
+    ensures { result ≡ is_same_element element other }
+{
+    element.pen() == other.pen() && element.number() == other.number()
+}
+
+/// That value as a number, of an element that is one.
+pub(crate) fn first_number(flow_record: &Record, number: u16) -> Option<u64>
+    requires below { number < 32768 }
+    requires some { 1 ≤ full_width (registered number) }
+    requires few { full_width (registered number) ≤ 8 }
+    ensures exact { result ≡ first_number (registered number) flow_record.now }
+    ensures below { IfSome result (λ n. n < 256 ^ full_width (registered number)) }
+{
+    let value = first_value(flow_record, ElementId::registered(number))?;
+    Some(be_number(value))
+}
