@@ -1,3 +1,4 @@
 pub mod CutLaws
 pub mod NumberLaws
 pub mod ListLaws
+pub mod SpaceLaws

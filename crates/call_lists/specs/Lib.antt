@@ -8,5 +8,6 @@ pub mod Sayings
 pub mod LineEnds
 pub mod Lines
 pub mod Lists
+pub mod Grammar
 pub mod Answers
 pub mod FaultTexts
