@@ -4,3 +4,4 @@ pub mod ListLaws
 pub mod SpaceLaws
 pub mod LineLaws
 pub mod LimitLaws
+pub mod TextLaws

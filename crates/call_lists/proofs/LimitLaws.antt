@@ -1,21 +1,19 @@
 -- The line that sets the limits.
-use Rattle.std.proofs.Common.{◌≡◌, ℕ, ◌^◌, ◌<◌, ◌≤◌, Bool, true, false, cond, codes, List, [], ◌∷◌, ◌++◌, Option, Some, None, refl, sym, ap, subst, ◌∙◌, arith, append-nil}
+use Rattle.std.proofs.Common.{◌≡◌, ℕ, ◌≤◌, Bool, true, false, cond, codes, List, ◌∷◌, ◌++◌, Some, None, refl, sym, ap, subst, ◌∙◌, arith}
 use Rattle.std.specs.Str.{bytes_eq}
 use Rattle.std.specs.Fmt.{decimal}
 use Rattle.std.proofs.lemmas.Option.{none-some, same_Some}
 use Rattle.std.proofs.lemmas.Slice.Eq.{bytes_eq-Decides}
-use Rattle.sequences.specs.Options.{◌>>=◌}
-use Rattle.sequences.proofs.ListLaws.{Lacks}
 use Rattle.sequences.proofs.OptionLaws.{bind_some}
 use Rattle.mediator_calls.specs.declared.limits.Limits.{Limits}
 use Rattle.call_lists.specs.declared.verb.Verb.{Verb}
 use Rattle.call_lists.specs.declared.verb.Verb.TheVariants as verb
 use Rattle.call_lists.specs.Sayings.{Saying}
 use Rattle.call_lists.specs.Words.{Word, Left, next_word, next_number, last_number}
-use Rattle.call_lists.specs.Lines.{greatest, call_of, limits_of, limits_behind}
-use Rattle.call_lists.specs.Grammar.{words_text, IsLineOf, SetsLimits}
+use Rattle.call_lists.specs.Lines.{greatest, limits_of, limits_behind}
+use Rattle.call_lists.specs.Grammar.{IsLineOf, SetsLimits}
 use Rattle.call_lists.proofs.SpaceLaws.{behind, IsNext, IsLast, next_word-found, next_word-only, next_number-found, next_number-only, last_number-found, last_number-only}
-use Rattle.call_lists.proofs.LineLaws.{verb_text, verb_lacks, IsNamed, call_of-named, call_of-only}
+use Rattle.call_lists.proofs.LineLaws.{verb_text, verb_lacks, call_of-named, call_of-only}
 
 abbrev name : List ℕ
 name = codes "limits"

@@ -1,6 +1,6 @@
 -- What is read of a line, against the lines of the format.
-use Rattle.std.proofs.Common.{◌≡◌, ◌⊎◌, ℕ, ◌^◌, ◌<◌, ◌≤◌, Bool, true, false, cond, codes, List, [], ◌∷◌, ◌++◌, Option, Some, None, Result, Ok, Err, refl, sym, ap, subst, ◌∙◌, arith, eqb, ⊎_elim, inl, inr, append-nil}
-use Rattle.std.specs.List.{AllPass, AllByRecursion}
+use Rattle.std.proofs.Common.{◌≡◌, ◌⊎◌, ℕ, ◌^◌, ◌<◌, ◌≤◌, Bool, true, false, cond, codes, List, [], ◌∷◌, ◌++◌, Option, Some, None, Result, Ok, Err, refl, sym, ap, subst, ◌∙◌, arith, ⊎_elim, inl, inr, append-nil}
+use Rattle.std.specs.List.{AllByRecursion}
 use Rattle.std.specs.Result.{result_ok}
 use Rattle.std.specs.Str.{bytes_eq}
 use Rattle.std.specs.Fmt.{decimal}
@@ -14,15 +14,14 @@ use Rattle.hex.proofs.HexLemmas.{decode_of-ok}
 use Rattle.sequences.specs.Options.{◌>>=◌}
 use Rattle.sequences.proofs.ListLaws.{Lacks}
 use Rattle.sequences.proofs.OptionLaws.{bind_some}
-use Rattle.mediator_calls.specs.declared.limits.Limits.{Limits}
 use Rattle.call_lists.specs.declared.verb.Verb.{Verb}
 use Rattle.call_lists.specs.declared.verb.Verb.TheVariants as verb
 use Rattle.call_lists.specs.LineEnds.{with_line_ends}
 use Rattle.call_lists.specs.Sayings.{Saying}
 use Rattle.call_lists.specs.Sayings.Saying.{to_open, to_close, to_receive, to_edit, to_subscribe, to_unsubscribe, to_pull, to_tell_status, to_drain_audit}
 use Rattle.call_lists.specs.Words.{Word, Left, next_word, next_number, last_number, last_word, ended}
-use Rattle.call_lists.specs.Lines.{greatest, verb_of, call_by, call_of, receive_of, edit_of, pull_of, limits_of, limits_behind}
-use Rattle.call_lists.specs.Grammar.{words_text, IsWord, IsNumberLine, IsReceiveLine, IsEditLine, IsSubscribeLine, IsPullLine, IsLineOf, SetsLimits}
+use Rattle.call_lists.specs.Lines.{greatest, verb_of, call_by, call_of, receive_of, edit_of, pull_of}
+use Rattle.call_lists.specs.Grammar.{words_text, IsNumberLine, IsReceiveLine, IsEditLine, IsSubscribeLine, IsPullLine, IsLineOf}
 use Rattle.call_lists.proofs.SpaceLaws.{behind, IsNext, IsLast, IsLastWord, next_word-found, next_word-only, next_number-found, next_number-only, ended-found, ended-only, last_number-found, last_number-only, last_word-found, last_word-only, last_word-none}
 
 -- ---- names
@@ -155,9 +154,11 @@ receive_text : (session number : ℕ) (octets digits : List ℕ) (left : Left) �
     → ((octets ≡ []) × (codes "receive" ++ 32 ∷ (decimal session ++ 32 ∷ (decimal number ++ behind left)) ≡ words_text (codes "receive" ∷ decimal session ∷ decimal number ∷ [])))
     ⊎ ((word : Word) × (decode_of word ≡ Ok octets) × (codes "receive" ++ 32 ∷ (decimal session ++ 32 ∷ (decimal number ++ behind left)) ≡ words_text (codes "receive" ∷ decimal session ∷ decimal number ∷ word ∷ [])))
 receive_text session number octets digits left (inl (end, empty)) decoded =
-    inl (same_Ok octets [] (sym decoded ∙ ap decode_of empty ∙ decode_none),
-    ap (λ (l : Left). codes "receive" ++ 32 ∷ (decimal session ++ 32 ∷ (decimal number ++ behind l))) end
-    ∙ ap (λ (t : List ℕ). codes "receive" ++ 32 ∷ (decimal session ++ 32 ∷ t)) (append-nil (decimal number)))
+    inl (
+      same_Ok octets [] (sym decoded ∙ ap decode_of empty ∙ decode_none),
+      ap (λ (l : Left). codes "receive" ++ 32 ∷ (decimal session ++ 32 ∷ (decimal number ++ behind l))) end
+          ∙ ap (λ (t : List ℕ). codes "receive" ++ 32 ∷ (decimal session ++ 32 ∷ t)) (append-nil (decimal number)),
+    )
 receive_text session number octets digits left (inr (word, is)) decoded =
     inr (digits, decoded, ap (λ (l : Left). codes "receive" ++ 32 ∷ (decimal session ++ 32 ∷ (decimal number ++ behind l))) is)
 

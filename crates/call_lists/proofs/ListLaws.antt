@@ -7,7 +7,7 @@ use Rattle.sequences.specs.Options.{◌>>=◌}
 use Rattle.call_lists.specs.Lists.{Asked, nothing, lines_of, is_skipped, step, line_step, then_read, read_lines, list_of}
 
 -- what is read after a line
-abbrev go_on : ℕ → List (List ℕ) → Option (Bool × Asked) → Result Asked ℕ
+abbrev pub go_on : ℕ → List (List ℕ) → Option (Bool × Asked) → Result Asked ℕ
 go_on n others None = Err n
 go_on n others (Some x) = read_lines x.0 x.1 (n + 1) others
 
@@ -20,7 +20,7 @@ skip_or : (b : Bool) (n : ℕ) (others : List (List ℕ)) (started : Bool) (list
 skip_or true n others started list o = refl
 skip_or false n others started list o = not_skipped n others o
 
-read_lines-cons : (started : Bool) (list : Asked) (n : ℕ) (line : List ℕ) (others : List (List ℕ)) → read_lines started list n (line ∷ others) ≡ go_on n others (line_step started list line)
+pub read_lines-cons : (started : Bool) (list : Asked) (n : ℕ) (line : List ℕ) (others : List (List ℕ)) → read_lines started list n (line ∷ others) ≡ go_on n others (line_step started list line)
 unfolding read_lines line_step
 read_lines-cons started list n line others = skip_or (is_skipped line) n others started list (step started list line)
 
@@ -43,7 +43,7 @@ read_lines-turn started next list more n text line after e read = read_lines-cut
 pub read_lines-stop : (started : Bool) (list : Asked) (n : ℕ) (text line after : List ℕ) → cut_at 10 text ≡ Some (line, after) → line_step started list line ≡ None → read_lines started list n (lines_of text) ≡ Err n
 read_lines-stop started list n text line after e read = read_lines-cut started list n text line after e ∙ ap (go_on n (lines_of after)) read
 
-read_lines-nil : (started : Bool) (list : Asked) (n : ℕ) → read_lines started list n [] ≡ Ok list
+pub read_lines-nil : (started : Bool) (list : Asked) (n : ℕ) → read_lines started list n [] ≡ Ok list
 unfolding read_lines
 read_lines-nil started list n = refl
 

@@ -1,5 +1,5 @@
 -- Words between spaces, read and written.
-use Rattle.std.proofs.Common.{◌≡◌, ℕ, suc, ◌+◌, ◌<◌, ◌≤◌, ◌^◌, Bool, true, false, not, List, [], ◌∷◌, ◌++◌, length, take, drop, Option, Some, None, refl, sym, ap, subst, ◌∙◌, arith, eqb, ⊎_elim, inl, inr, append-nil, ◌⊎◌}
+use Rattle.std.proofs.Common.{◌≡◌, ℕ, suc, ◌+◌, ◌<◌, ◌≤◌, ◌^◌, true, false, List, [], ◌∷◌, ◌++◌, length, take, drop, Option, Some, None, refl, sym, ap, subst, ◌∙◌, arith, eqb, ⊎_elim, inl, inr, append-nil, ◌⊎◌}
 use Rattle.std.specs.List.{position_or_len}
 use Rattle.std.specs.Char.{digit_value}
 use Rattle.std.specs.Fmt.{decimal}
@@ -8,10 +8,9 @@ use Rattle.std.proofs.lemmas.List.{take_all}
 use Rattle.std.proofs.lemmas.Option.{none-some, same_Some, some_pair_parts}
 use Rattle.std.proofs.lemmas.Bool.{lt-ltb, le-ltb, cases_lt, cases_Bool, ne_eqb}
 use Rattle.std.proofs.lemmas.Fmt.{decimal_is_IsNumeral}
-use Rattle.sequences.specs.Options.{◌>>=◌}
 use Rattle.sequences.proofs.ListLaws.{Lacks}
 use Rattle.sequences.proofs.OptionLaws.{bind_some}
-use Rattle.numerals.specs.Numerals.{IsNumber, number_of}
+use Rattle.numerals.specs.Numerals.{number_of}
 use Rattle.numerals.proofs.NumeralLaws.{number_of-found, number_of-only}
 use Rattle.flow_prefix.specs.Reading.{cut_at}
 use Rattle.flow_prefix.proofs.CutLaws.{cut_at-middle, cut_at-text}

@@ -1,14 +1,16 @@
 -- Which texts are lists of calls, in the words of the format. A call is a line of words with one space between, numbers decimal without
 -- leading zeros, octets hexadecimal of either case.
-use Rattle.std.specs.Prelude.{◌≡◌, ◌⊎◌, ℕ, ◌+◌, ◌-◌, ◌≤◌, Bool, true, false, List, [], ◌∷◌, length, take, codes, Ok, Err}
+use Rattle.std.specs.Prelude.{◌≡◌, ◌⊎◌, ℕ, ◌-◌, ◌≤◌, true, false, List, [], ◌∷◌, length, take, codes, Ok}
 use Rattle.std.specs.List.{AllByRecursion, join_with_byte}
 use Rattle.std.specs.Prelude.{◌==◌}
 use Rattle.std.specs.Fmt.{decimal}
 use Rattle.hex.specs.Hex.{decode_of}
 use Rattle.mediator_calls.specs.declared.limits.Limits.{Limits}
+use Rattle.call_lists.specs.declared.fault.CallsFault.{CallsFault}
+use Rattle.call_lists.specs.declared.fault.CallsFault.TheVariants.{Line, OutOfMemory}
 use Rattle.call_lists.specs.LineEnds.{with_line_ends}
 use Rattle.call_lists.specs.Lines.{greatest}
-use Rattle.call_lists.specs.Lists.{Asked, nothing, default_limits, lines_of, is_skipped, list_of}
+use Rattle.call_lists.specs.Lists.{Asked, nothing, default_limits, lines_of, is_skipped}
 use Rattle.call_lists.specs.Sayings.{Saying}
 use Rattle.call_lists.specs.Sayings.Saying.{to_open, to_close, to_receive, to_edit, to_subscribe, to_unsubscribe, to_pull, to_tell_status, to_drain_audit}
 use Rattle.call_lists.specs.Words.{Word}
@@ -94,3 +96,8 @@ pub record IsFirstBadLine (text : List ℕ) (n : ℕ) : Type 0 where
   pub within : n ≤ length (lines_of text)
   pub before : (list : Asked) × AreList (take (n - 1) (lines_of text)) list
   pub bad : (list : Asked) → AreList (take n (lines_of text)) list → ⊥
+
+-- the fault is the text's first line that asks for nothing; want of memory says nothing
+abbrev pub IsFaultOf : CallsFault → List ℕ → Type 0
+IsFaultOf (Line n) text = IsFirstBadLine text n
+IsFaultOf OutOfMemory text = Unit {0}

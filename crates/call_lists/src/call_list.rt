@@ -1,7 +1,8 @@
 //! A text of calls, read.
-ghost use Rattle.std.specs.Prelude.{◌≡◌, IfOk};
+ghost use Rattle.std.specs.Prelude.{◌≡◌, Ok, IfErr, IfOk};
 ghost use Rattle.std.specs.Option.{option_map};
-ghost use Rattle.call_lists.specs.Lists.{Reads, asked, nothing, list_of, line_step, step, call_step, is_skipped};
+ghost use Rattle.call_lists.specs.Lists.{Asked, Reads, asked, nothing, list_of, line_step, step, call_step, is_skipped};
+ghost use Rattle.call_lists.specs.Grammar.{IsFaultOf, Lists};
 
 use crate::fault::CallsFault;
 use crate::line::{read_call, read_limits};
@@ -34,7 +35,21 @@ pub struct CallList {
 /// # Errors
 /// `Line` with the first line that asks for nothing, `OutOfMemory`.
 pub fn read_call_list(alloc: Global, text: &str) -> Result<CallList, CallsFault>
+    // What is read is listed so.
+    ensures found { IfOk result (λ list. Lists text.now (asked list)) }
+    // What is listed so is read, unless memory runs out.
+    ensures only { (list : Asked) → Lists text.now list → Reads result (Ok list) }
+    // What is refused has this first line that asks for nothing, unless memory ran out.
+    ensures first { IfErr result (λ fault. IsFaultOf fault text.now) }
+    // Which line it is.
     ensures exact { Reads result (list_of text.now) }
+{
+    read_lines(alloc, text)
+}
+
+/// Reads the lines of a text, one after another.
+fn read_lines(alloc: Global, text: &str) -> Result<CallList, CallsFault>
+    ensures { Reads result (list_of text.now) }
 {
     let mut list = CallList::new(alloc);
     let mut started = false;

@@ -2,7 +2,7 @@ use Rattle.std.proofs.Common.{◌≡◌, ◌+◌, ◌≤◌, length}
 use denote.Shadow.{shadow}
 use denote.Text.{Utf8}
 use Rattle.call_lists.specs.Lists.{asked, read_lines, lines_of, list_of}
-use Rattle.call_lists.proofs.call_list.read_call_list.Given as goal
+use Rattle.call_lists.proofs.call_list.read_lines.Given as goal
 
 abbrev pub invariant-lines : goal.invariant-lines
 invariant-lines l = record {
