@@ -483,3 +483,96 @@ rule for acme in * from * to * pass # all of it
 ",
     ),
 ];
+
+/// Each list of calls, and the answers.
+pub const REPLAYS: [(&str, &str); 2] = [
+    // full-queue
+    (
+        "# What becomes of a subscriber that doesn't take its messages in time? Here one record may wait.
+limits 1 1 100 100 100000
+edit policy 1;rule for * in * from * to * pass;rule for * in * from * to * element * keep
+subscribe acme
+subscribe lab
+open
+receive 1 0 000a00326553f100000000000000000700020014010000030008000400070002000100040100000ec000024d01bb000005dc
+pull 2 1700000060 1400
+
+# acme has pulled nothing yet.
+receive 1 1 000a001e6553f10a00000001000000070100000ec000024d01bb000005dc
+status 1
+status 2
+audit 100
+
+# What waited can still be pulled; the rest is lost to acme, which has to subscribe anew.
+pull 1 1700000070 1400
+pull 1 1700000070 1400
+pull 2 1700000070 1400
+subscribe acme
+unsubscribe 1
+subscribe acme
+",
+        "ok 1
+ok 1
+ok 2
+ok 1
+ok 4 records 1 cut 0 unknown 0 reserved 0 refused 0
+ok 000a00326553f13c000000000000000000020014010000030008000400070002000100040100000ec000024d01bb000005dc
+ok 6 records 1 cut 1 unknown 0 reserved 0 refused 0
+ok 1 0 1 cut
+ok 1 1 1 live
+ok 1
+5 0 1 cut
+ok 000a00326553f146000000000000000000020014010000030008000400070002000100040100000ec000024d01bb000005dc
+ok none
+ok 000a001e6553f14600000001000000000100000ec000024d01bb000005dc
+err AlreadySubscribed 1
+ok
+ok 3
+",
+    ),
+    // rehearsal
+    (
+        "# What would this change of the policy do? The same two flows arrive before it and after it.
+limits 1000 100 1000 1000 1000000
+open
+subscribe acme
+subscribe lab
+
+# The policy in force: acme sees the flows of 192.0.2.0/24, with 24 bits of their sources; lab sees nothing.
+edit policy 1;rule for acme in * from 192.0.2.0/24 to * pass;rule for * in * from * to * element sourceIPv4Address truncate 24;rule for * in * from * to * element * keep
+receive 1 0 000a00566553f1000000000000000007000200200100000600080004000c000400070002000b0002000400010001000401000026c000024dc6336409c00101bb06000005dcc000024ecb007105c00200351100000050
+pull 1 1700000060 1400
+pull 2 1700000060 1400
+audit 100
+
+# The change: lab is to see those to 198.51.100.0/24, without source ports.
+edit policy 1;rule for lab in * from 192.0.2.0/24 to 198.51.100.0/24 pass;rule for acme in * from 192.0.2.0/24 to * pass;rule for lab in * from * to * element sourceTransportPort remove;rule for * in * from * to * element sourceIPv4Address truncate 24;rule for * in * from * to * element * keep
+receive 1 1 000a00366553f10a000000020000000701000026c000024dc6336409c00101bb06000005dcc000024ecb007105c00200351100000050
+pull 1 1700000070 1400
+pull 2 1700000070 1400
+audit 100
+status 1
+status 2
+",
+        "ok 1
+ok 1
+ok 2
+ok 1
+ok 4 records 2 cut 0 unknown 0 reserved 0 refused 0
+ok 000a00566553f13c0000000000000000000200200100000600080004000c000400070002000b0002000400010001000401000026c0000200c6336409c00101bb06000005dcc0000200cb007105c00200351100000050
+ok none
+ok 2
+4 0 2 withheld 0 rule
+4 1 2 withheld 0 rule
+ok 2
+ok 6 records 2 cut 0 unknown 0 reserved 0 refused 0
+ok 000a00366553f146000000020000000001000026c0000200c6336409c00101bb06000005dcc0000200cb007105c00200351100000050
+ok 000a003f6553f14600000000000000000002001c0100000500080004000c0004000b0002000400010001000401000013c0000200c633640901bb06000005dc
+ok 2
+6 0 2 removed 2:3
+6 1 2 withheld 0 rule
+ok 0 4 1 live
+ok 0 1 1 live
+",
+    ),
+];

@@ -117,6 +117,14 @@ const FAILED_FILES: &[Run<'static>] = &[
         errors: DEVICE,
     },
     Run {
+        name: "missing_calls",
+        words: &["replay", "--calls", "/nowhere/calls"],
+        input: b"",
+        status: 3,
+        output: "",
+        errors: DEVICE,
+    },
+    Run {
         name: "missing_audit_folder",
         words: &[
             "offline",
