@@ -1,10 +1,11 @@
 -- What `ipmd replay` does: the calls that a text lists are made on a new mediator, and the answer to each is written.
-use Rattle.std.specs.Prelude.{◌≡◌, ◌⊎◌, ℕ, List, Option, Ok, Err}
+use Rattle.std.specs.Prelude.{◌⊎◌, ℕ, List, Option}
 use Rattle.std.specs.Io.KnownBytes.{Appends, Keeps}
 use Rattle.mediator_calls.specs.declared.call.Reply.{Reply}
 use Rattle.mediator_calls.specs.Limited.{AreAllowed}
 use Rattle.call_lists.specs.declared.call_list.CallList.{CallList}
-use Rattle.call_lists.specs.Lists.{asked, list_of}
+use Rattle.call_lists.specs.Lists.{asked}
+use Rattle.call_lists.specs.Grammar.{Lists, IsFirstBadLine}
 use Rattle.call_lists.specs.Answers.{answers_text}
 use Rattle.mediator_core.specs.Mediation.{Mediation, started}
 use Rattle.mediator_core.specs.Runs.{Runs}
@@ -17,7 +18,7 @@ use Rattle.ipmd.specs.HexText.{WritesSome}
 -- run holds of them.
 pub record RunsText (text : List ℕ) (replies : List Reply) : Type 0 where
   pub list : CallList
-  pub read : list_of text ≡ Ok (asked list)
+  pub listed : Lists text (asked list)
   pub after : Mediation
   pub steps : Runs (started list.limits) list.calls.items replies after
   pub history : HistoryIsTheCalls list.calls.items replies after
@@ -29,12 +30,12 @@ pub record RunsText (text : List ℕ) (replies : List Reply) : Type 0 where
 -- the text lists calls whose limits no mediator may have
 pub record HasBadLimits (text : List ℕ) : Type 0 where
   pub list : CallList
-  pub read : list_of text ≡ Ok (asked list)
+  pub listed : Lists text (asked list)
   pub bad : AreAllowed list.limits → ⊥
 
 -- why no call of a text is made: its first line that asks for nothing, its limits, or want of memory
 abbrev pub RefusesText : ProgramFault → List ℕ → Type 0
-RefusesText (Calls n) text = list_of text ≡ Err n
+RefusesText (Calls n) text = IsFirstBadLine text n
 RefusesText BadLimits text = HasBadLimits text
 RefusesText OutOfMemory text = Unit {0}
 RefusesText (CommandLine e) text = ⊥

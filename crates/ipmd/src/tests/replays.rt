@@ -86,7 +86,10 @@ fn replay_answers(rt: HostRuntime) -> Result<(), Fail> {
 
 /// Lists that are refused, and what is said of them: of the first line that asks for nothing, or of the limits.
 const REFUSED: &[(&str, &str)] = &[
-    ("open\n\n# a line that says nothing is counted\nopen \nclose", "ipmd: calls line 4\n"),
+    (
+        "open\n\n# a line that says nothing is counted\nopen \nclose",
+        "ipmd: calls line 4\n",
+    ),
     ("advance 5", "ipmd: calls line 1\n"),
     ("OPEN", "ipmd: calls line 1\n"),
     (" open", "ipmd: calls line 1\n"),

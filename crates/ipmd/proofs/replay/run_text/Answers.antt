@@ -7,4 +7,4 @@ use Rattle.ipmd.proofs.replay.run_text.Goals as goal
 pub returns-in_err-run-clause-err : goal.returns-in_err-run-clause-err
 returns-in_err-run-clause-err c =
     err_gives c.from_residual-in_err-run.result c.from_residual-in_err-run.ensures
-    (λ e is. subst (λ e. RefusesText e c.args.text.now) (sym is) (no_run c.args.text.now c.in_ok-list.list c.in_err-run.field-0.0 c.in_ok-list.ensures.exact c.in_err-run.ensures.err))
+    (λ e is. subst (λ e. RefusesText e c.args.text.now) (sym is) (no_run c.args.text.now c.in_ok-list.list c.in_err-run.field-0.0 c.in_ok-list.ensures.found c.in_err-run.ensures.err))
