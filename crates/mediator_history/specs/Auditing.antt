@@ -1,7 +1,9 @@
--- What the audit names: each record that is kept from a subscription or loses fields, and each cut.
+-- What the audit names: each record that is kept from a subscription, counts in an aggregate or loses fields, and each cut.
 use Rattle.std.specs.Prelude.{ℕ, ◌+◌, List, [], ◌∷◌, length, map}
 use Rattle.std.specs.List.{flat_map}
 use Rattle.sequences.specs.Before.{each_with_before}
+use Rattle.ipfix_template.specs.DataRecord.{DataRecord}
+use Rattle.policy_text.specs.Policies.{Aggregate}
 use Rattle.disclosure_audit.specs.declared.reason.Reason.{Reason}
 use Rattle.disclosure_audit.specs.declared.reason.Reason.TheVariants as named
 use Rattle.disclosure_audit.specs.declared.entry.RemovedField.{RemovedField}
@@ -11,11 +13,13 @@ use Rattle.disclosure_audit.specs.declared.entry.AuditEntry.{AuditEntry}
 use Rattle.flow_anonymize.specs.declared.disclosure.Reason.{Reason as Because}
 use Rattle.flow_anonymize.specs.declared.disclosure.Reason.TheVariants as because
 use Rattle.flow_anonymize.specs.Outcome.{Outcome, Passes, Aggregates, Withholds}
+use Rattle.flow_aggregate.specs.declared.timing.Timing.{Timing}
+use Rattle.flow_aggregate.specs.declared.timing.Timing.TheVariants as timing
 use Rattle.event_journal.specs.declared.entry.Entry.{Entry}
 use Rattle.event_journal.specs.declared.entry.Entry.TheVariants.{Message, Cut}
-use Rattle.mediator_history.specs.Subscriptions.{served}
+use Rattle.mediator_history.specs.Subscriptions.{policy_in_force, served}
 use Rattle.mediator_history.specs.Accepted.{Accepted, accepted_at}
-use Rattle.mediator_history.specs.Disclosed.{outcome_for}
+use Rattle.mediator_history.specs.Counting.{outcome_for, clock_of, timing_at}
 
 abbrev pub reason_named : Because → Reason
 reason_named because.Rule = named.Rule
@@ -27,17 +31,25 @@ abbrev pub removed_of : List RemovedField → List What
 removed_of [] = []
 removed_of (field ∷ fields) = Removed (field ∷ fields) ∷ []
 
-abbrev pub kept_back : Outcome → List What
-kept_back (Passes kept removed) = removed_of removed
-kept_back (Aggregates rule definition) = Aggregated rule ∷ []
-kept_back (Withholds rule reason) = Withheld rule (reason_named reason) ∷ []
+-- of a record that an aggregate rule names: that it counts, or why it doesn't
+abbrev pub told_of : ℕ → Timing → What
+told_of rule (timing.Placed start) = Aggregated rule
+told_of rule timing.NoTime = Withheld rule named.NoTime
+told_of rule timing.NoKey = Withheld rule named.NoKey
+told_of rule timing.Late = Withheld rule named.Late
+
+abbrev pub kept_back : List Aggregate → ℕ → DataRecord → Outcome → List What
+kept_back aggregates clock r (Passes kept removed) = removed_of removed
+kept_back aggregates clock r (Aggregates rule place) = told_of rule (timing_at aggregates place r clock) ∷ []
+kept_back aggregates clock r (Withholds rule reason) = Withheld rule (reason_named reason) ∷ []
 
 abbrev pub audit_entry : ℕ → ℕ → ℕ → What → AuditEntry
 audit_entry position index sub what = record { position = position; index = index; sub = sub; what = what }
 
 -- what is kept back of an accepted record from a subscription
 abbrev pub audit_of : List Entry → Accepted → ℕ → List AuditEntry
-audit_of before a sub = map (audit_entry a.position a.index sub) (kept_back (outcome_for sub before a.domain a.flow))
+audit_of before a sub =
+    map (audit_entry a.position a.index sub) (kept_back (policy_in_force before).aggregates (clock_of before) a.flow (outcome_for sub before a.domain a.flow))
 
 -- the audit entries of an entry, by what stands before it: for each accepted record, for each subscription that is served
 abbrev pub audit_at : List Entry → Entry → List AuditEntry

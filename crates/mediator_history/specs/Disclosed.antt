@@ -5,15 +5,12 @@ use Rattle.sequences.specs.Before.{each_with_before}
 use Rattle.ipfix_template.specs.DataRecord.{DataRecord}
 use Rattle.ipfix_session.specs.Meaning.{domain_of}
 use Rattle.flow_anonymize.specs.Outcome.{Outcome, Passes, Aggregates, Withholds}
-use Rattle.flow_anonymize.specs.Disclosed.{disclosure_of}
+use Rattle.flow_aggregate.specs.Closing.{closed_by}
 use Rattle.event_journal.specs.declared.entry.Entry.{Entry}
-use Rattle.event_journal.specs.declared.entry.Entry.TheVariants.{Message}
-use Rattle.mediator_history.specs.Subscriptions.{policy_in_force, name_of, is_served}
+use Rattle.event_journal.specs.declared.entry.Entry.TheVariants.{Message, Advance}
+use Rattle.mediator_history.specs.Subscriptions.{is_served}
 use Rattle.mediator_history.specs.Accepted.{records_at}
-
--- what the policy in force discloses of a record of this domain to a subscription
-abbrev pub outcome_for : ℕ → List Entry → ℕ → DataRecord → Outcome
-outcome_for sub before domain r = disclosure_of (name_of sub before) domain r (policy_in_force before).rules
+use Rattle.mediator_history.specs.Counting.{outcome_for, running}
 
 -- the record that is handed on, if one is
 abbrev pub passed : Outcome → List DataRecord
@@ -21,10 +18,12 @@ passed (Passes kept removed) = kept ∷ []
 passed (Aggregates rule definition) = []
 passed (Withholds rule reason) = []
 
--- the records that an entry gives to a subscription, by what stands before it
+-- what an entry gives to a subscription, by what stands before it: a message the records that pass, an advance of the clock the
+-- groups that it closes
 abbrev pub given_at : ℕ → List Entry → Entry → List DataRecord
 given_at sub before (Message session number octets) =
     if is_served sub before then flat_map (λ r. passed (outcome_for sub before (domain_of octets) r)) (records_at before (Message session number octets)) else []
+given_at sub before (Advance t) = closed_by t (running sub before)
 given_at sub before _ = []
 
 -- all that a history discloses to a subscription
