@@ -7,7 +7,7 @@ use Rattle.std.proofs.lemmas.Bool.{and_right}
 use Rattle.std.proofs.lemmas.Grind.{flat_map-append}
 use Rattle.std.proofs.lemmas.List.{length-map, length_push, map_push}
 use Rattle.std.proofs.lemmas.List.Concat.{flat_map-cons}
-use Rattle.sequences.specs.Before.{each_after, last_of, HasNone}
+use Rattle.sequences.specs.Before.{each_after, each_with_before, last_of, HasNone}
 use Rattle.sequences.proofs.BeforeLaws.{each_with_before-append, last_of-append, last_of-none}
 use Rattle.ipfix_template.specs.DataRecord.{DataRecord}
 use Rattle.ipfix_session.specs.Meaning.{meaning_of, domain_of}
@@ -20,7 +20,8 @@ use Rattle.mediator_history.specs.Numbers.{is_in}
 use Rattle.mediator_history.specs.Sessions.{opens, is_open, message_in, messages_of}
 use Rattle.mediator_history.specs.Subscriptions.{edited, policy_in_force, named, name_of, switched, is_served, subscribed_in, served}
 use Rattle.mediator_history.specs.Accepted.{records_meant}
-use Rattle.mediator_history.specs.Disclosed.{outcome_for, passed, given_at, disclosed}
+use Rattle.mediator_history.specs.Counting.{outcome_for}
+use Rattle.mediator_history.specs.Disclosed.{passed, given_at, disclosed}
 use Rattle.mediator_history.specs.Auditing.{audit_entry, audit_at, audit_list, cut_entries}
 use Rattle.mediator_history.specs.Cuts.{after_cuts}
 use Rattle.mediator_history.proofs.ListFilters.{filter_ext, filter_filter}
@@ -33,7 +34,7 @@ length-cuts h subs = length-append h (map Cut subs) ∙ ap (λ n. length h + n) 
 
 -- ---- what no cut has a word in stays
 
-last_of-cuts : {B : Type 0} (f : Entry → Option B) (start : B) → ((sub : ℕ) → f (Cut sub) ≡ None) → (h : List Entry) (subs : List ℕ) → last_of f start (after_cuts h subs) ≡ last_of f start h
+pub last_of-cuts : {B : Type 0} (f : Entry → Option B) (start : B) → ((sub : ℕ) → f (Cut sub) ≡ None) → (h : List Entry) (subs : List ℕ) → last_of f start (after_cuts h subs) ≡ last_of f start h
 last_of-cuts {B} f start none h subs = last_of-append f start h (map Cut subs) ∙ last_of-none f (last_of f start h) (map Cut subs) (all_none subs) where
   all_none : (subs : List ℕ) → HasNone f (map Cut subs)
   all_none [] = tt
@@ -57,12 +58,14 @@ messages-cuts id h subs = ap reverse (flat_map-cuts (message_in id) (λ s. refl)
 pub is_open-cuts : (id : ℕ) (h : List Entry) (subs : List ℕ) → is_open id (after_cuts h subs) ≡ is_open id h
 is_open-cuts id h subs = last_of-cuts (opens id) false (λ s. refl) h subs
 
-given_by_cuts : (sub : ℕ) (h : List Entry) (subs : List ℕ) → each_after (given_at sub) h (map Cut subs) ≡ []
-given_by_cuts sub h [] = refl
-given_by_cuts sub h (s ∷ subs) = given_by_cuts sub (h ++ Cut s ∷ []) subs
+pub each-cuts : {A : Type 0} (f : List Entry → Entry → List A) → ((before : List Entry) (sub : ℕ) → f before (Cut sub) ≡ []) → (h : List Entry) (subs : List ℕ) → each_with_before f (after_cuts h subs) ≡ each_with_before f h
+each-cuts {A} f none h subs = each_with_before-append f h (map Cut subs) ∙ ap (λ (t : List A). each_with_before f h ++ t) (none_of h subs) ∙ append-nil (each_with_before f h) where
+  none_of : (before : List Entry) (subs : List ℕ) → each_after f before (map Cut subs) ≡ []
+  none_of before [] = refl
+  none_of before (sub ∷ subs) = ap (λ (t : List A). t ++ each_after f (before ++ Cut sub ∷ []) (map Cut subs)) (none before sub) ∙ none_of (before ++ Cut sub ∷ []) subs
 
 pub disclosed-cuts : (sub : ℕ) (h : List Entry) (subs : List ℕ) → disclosed sub (after_cuts h subs) ≡ disclosed sub h
-disclosed-cuts sub h subs = each_with_before-append (given_at sub) h (map Cut subs) ∙ ap (λ (t : List DataRecord). disclosed sub h ++ t) (given_by_cuts sub h subs) ∙ append-nil (disclosed sub h)
+disclosed-cuts sub h subs = each-cuts (given_at sub) (λ before s. refl) h subs
 
 -- ---- who is served still
 

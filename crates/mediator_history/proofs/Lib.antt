@@ -5,3 +5,4 @@ pub mod Counts
 pub mod ListFilters
 pub mod EntryLaws
 pub mod CutLaws
+pub mod CountingLaws

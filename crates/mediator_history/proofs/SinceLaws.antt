@@ -5,13 +5,15 @@ use Rattle.std.specs.List.{AllByRecursion}
 use Rattle.std.proofs.lemmas.Bool.{true≢false, eqb-true, eq-eqb, ne_eqb}
 use Rattle.sequences.specs.Before.{last_of, IsLast}
 use Rattle.sequences.proofs.BeforeLaws.{last_of-append, last_of-found, last_of-push}
+use Rattle.flow_aggregate.specs.Closing.{closed_by}
 use Rattle.event_journal.specs.declared.entry.Entry.{Entry}
-use Rattle.event_journal.specs.declared.entry.Entry.TheVariants.{Open, Close, Message, Subscribe, Unsubscribe, Cut}
+use Rattle.event_journal.specs.declared.entry.Entry.TheVariants.{Open, Close, Message, Subscribe, Unsubscribe, Advance, Cut}
 use Rattle.mediator_history.specs.Sessions.{opens, is_open}
 use Rattle.mediator_history.specs.Subscriptions.{begins, is_live, switched, is_served}
 use Rattle.mediator_history.specs.LastEntries.{StaysLive, IsBegun, StaysOpen, IsOpened}
 use Rattle.mediator_history.specs.Disclosed.{given_at}
 use Rattle.mediator_history.proofs.LastLaws.{all_of}
+use Rattle.mediator_history.proofs.CountingLaws.{running_unserved}
 
 -- ---- what is on since an entry
 
@@ -139,5 +141,7 @@ ended_is_served_no_more sub h = last_of-push (switched sub) false h (Unsubscribe
 
 -- who is not served gets nothing from any entry
 pub unserved_get_nothing : (sub : ℕ) (h : List Entry) (e : Entry) → is_served sub h ≡ false → given_at sub h e ≡ []
+unfolding closed_by
 unserved_get_nothing sub h (Message session number octets) off = rw off refl
+unserved_get_nothing sub h (Advance t) off = ap (closed_by t) (running_unserved sub h off)
 unserved_get_nothing sub h _ off = refl

@@ -9,7 +9,7 @@ use Rattle.policy_text.specs.Policies.{Aggregate}
 use Rattle.flow_anonymize.specs.Outcome.{Outcome, Passes, Aggregates, Withholds}
 use Rattle.flow_anonymize.specs.Disclosed.{disclosure_of}
 use Rattle.flow_aggregate.specs.declared.timing.Timing.{Timing}
-use Rattle.flow_aggregate.specs.declared.timing.Timing.TheVariants.{Placed, NoTime, NoKey, Late}
+use Rattle.flow_aggregate.specs.declared.timing.Timing.TheVariants.{Placed, NoTime}
 use Rattle.flow_aggregate.specs.Placing.{timing_of}
 use Rattle.flow_aggregate.specs.Groups.{Counted, counted_as}
 use Rattle.flow_aggregate.specs.Running.{staying}

@@ -5,9 +5,10 @@
 //! - `specs/Subscriptions`: the policy in force, and who is subscribed, under which name, and not cut.
 //! - `specs/LastEntries`: the same by the last entry that decides it.
 //! - `specs/Accepted`: the records that were accepted.
+//! - `specs/Counting`: the clock, and which records count in aggregates for a subscription.
 //! - `specs/Disclosed`: what is disclosed to a subscription.
 //! - `specs/Auditing`: what the audit names.
-//! - `specs/Cuts`: whom a message cuts, and a history with cuts behind it.
+//! - `specs/Cuts`: whom an entry cuts, and a history with cuts behind it.
 //! - `specs/Numbers`: numbers in a list.
 //! - [`laws`]: the policy in force is that of the last edit whose text is a policy, or one without rules
 //!   (`last_edit_is_in_force`); a subscription has the name under which it began last (`last_subscription_names`), is
