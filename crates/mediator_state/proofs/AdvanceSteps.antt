@@ -125,7 +125,7 @@ advance_step d e h t shares so ahead is did = record {
   subscriptions = λ sub. subst (λ limits. IsLiveAs (h ++ Advance t ∷ []) limits sub (at e.subscriptions sub)) (sym did.limits)
       (live_advanced h t d.limits sub (at d.subscriptions sub) (at e.subscriptions sub) (subst (λ l. Related (TakesGiven l) (at d.subscriptions sub) (at e.subscriptions sub)) (gives sub) (did.each sub)) (so.subscriptions sub));
   served_are = did.served ∙ so.served_are ∙ sym (served_same h (Advance t) (λ sub. refl) refl);
-  groups = λ sub. subst (StandsForRecords (groups_at e.groups sub)) (sym (running-advance sub t h ahead)) (did.stays sub (running sub h) (so.groups sub));
+  groups = λ sub. subst (StandsForRecords (groups_at e.groups sub)) (sym (running-advance sub h t ahead)) (did.stays sub (running sub h) (so.groups sub));
   audit = subst (λ a. StandsIn a.standing (audit_list (h ++ Advance t ∷ []))) (sym did.audit) (subst (StandsIn d.audit.standing) (sym (audit_same h (Advance t) refl)) so.audit);
   limits = subst AreInRange (sym did.limits) so.limits;
   numbered = numbered_advance h t so.numbered;

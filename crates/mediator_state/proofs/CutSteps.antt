@@ -24,7 +24,7 @@ use Rattle.mediator_history.specs.Counting.{counted}
 use Rattle.mediator_history.specs.Disclosed.{given_at, disclosed}
 use Rattle.mediator_history.specs.Auditing.{audit_at, audit_list, audit_entry}
 use Rattle.mediator_history.proofs.HistoryLaws.{flat_map-push, disclosed-push, audit-push}
-use Rattle.mediator_history.proofs.CountingLaws.{counted_same, running-cut, running-cut_other}
+use Rattle.mediator_history.proofs.CountingLaws.{counted_same, running-cut, running_cut}
 use Rattle.mediator_history.proofs.EntryLaws.{served-cut, messages_same, given_same}
 use Rattle.open_sessions.specs.declared.open_session.OpenSession.{OpenSession}
 use Rattle.live_subscriptions.specs.declared.subscription.Subscription.{Subscription}
@@ -138,7 +138,7 @@ pub cut_step : (d e : Engine) (h : List Entry) (number : ℕ) → Stands d h →
 cut_step d e h number so rest table served no_groups other_groups takes = record {
   policy = ap (λ (f : InForce). f.policy) rest.in_force ∙ so.policy ∙ sym (last_of-push edited no_policy h (Cut number));
   clock = clock_kept d e h (Cut number) so rest.in_force refl;
-  groups = groups_ended d e h (Cut number) number so no_groups other_groups (running-cut number h) (λ q other. running-cut_other q number h other);
+  groups = groups_ended d e h (Cut number) number so no_groups other_groups (running_cut number h) (λ q other. running-cut q h number (λ e. other (sym e)));
   edits = rest.edits ∙ so.edits ∙ sym (ap (λ (ts : List (List ℕ)). length ts) (no_entry texts_in h (Cut number) refl));
   opened = rest.opened ∙ so.opened ∙ sym (opened-cut h number);
   begun = rest.begun ∙ so.begun ∙ sym (begun-cut h number);

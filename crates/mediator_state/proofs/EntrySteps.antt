@@ -27,7 +27,7 @@ use Rattle.mediator_history.specs.Disclosed.{given_at, disclosed}
 use Rattle.mediator_history.specs.Auditing.{audit_at, audit_list}
 use Rattle.mediator_history.proofs.HistoryLaws.{flat_map-push}
 use Rattle.mediator_history.proofs.ListFilters.{distinct_push}
-use Rattle.mediator_history.proofs.CountingLaws.{counted_same, running_unserved, running-open, running-close, running-edit, running-subscribe, running-subscribe_other, running-unsubscribe, running-unsubscribe_other}
+use Rattle.mediator_history.proofs.CountingLaws.{counted_same, running_unserved, running-open, running-close, running-edit, running-subscribe, running_begun, running-unsubscribe, running_ended}
 use Rattle.mediator_history.proofs.EntryLaws.{edits_few, opened_few, subscribed_few, served_same, served-subscribe, served-unsubscribe, messages_same, given_same, audit_same}
 use Rattle.open_sessions.specs.declared.open_session.OpenSession.{OpenSession}
 use Rattle.open_sessions.specs.Table.{IsFresh}
@@ -164,7 +164,7 @@ pub stands-open : (e d : Engine) (h : List Entry) (n : ℕ) → Stands e h → n
 stands-open e d h n so next in_force groups edits opened begun table audit limits others fresh = record {
   policy = ap (λ (f : InForce). f.policy) in_force ∙ so.policy ∙ sym (last_stays edited no_policy h x refl);
   clock = clock_kept e d h x so in_force refl;
-  groups = groups_kept e d h x so groups (λ sub. running-open sub n h);
+  groups = groups_kept e d h x so groups (λ sub. running-open sub h n);
   edits = edits ∙ so.edits ∙ sym (count_stays texts_in h x refl);
   opened = opened ∙ next ∙ ap (λ (m : ℕ). m + 1) so.opened ∙ sym (count_more opened_in h x n refl);
   begun = begun ∙ so.begun ∙ sym (count_stays subscribed_in h x refl);
@@ -218,7 +218,7 @@ pub stands-close : (e d : Engine) (h : List Entry) (n : ℕ) → Stands e h
 stands-close e d h n so in_force groups edits opened begun table audit limits left = record {
   policy = ap (λ (f : InForce). f.policy) in_force ∙ so.policy ∙ sym (last_stays edited no_policy h x refl);
   clock = clock_kept e d h x so in_force refl;
-  groups = groups_kept e d h x so groups (λ sub. running-close sub n h);
+  groups = groups_kept e d h x so groups (λ sub. running-close sub h n);
   edits = edits ∙ so.edits ∙ sym (count_stays texts_in h x refl);
   opened = opened ∙ so.opened ∙ sym (count_stays opened_in h x refl);
   begun = begun ∙ so.begun ∙ sym (count_stays subscribed_in h x refl);
@@ -260,7 +260,7 @@ pub stands-edit : (e d : Engine) (h : List Entry) (text : List ℕ) (policy : Po
 stands-edit e d h text p so spelled policy clock groups edits opened begun sessions table audit limits = record {
   policy = policy ∙ sym (last_of-push edited no_policy h x ∙ ap (λ r. unwrap_or (policy_or_none r) (policy_in_force h)) spelled);
   clock = clock ∙ so.clock ∙ sym (clock_stays h x refl);
-  groups = groups_kept e d h x so groups (λ sub. running-edit sub text h);
+  groups = groups_kept e d h x so groups (λ sub. running-edit sub h text);
   edits = edits ∙ ap (λ (m : ℕ). m + 1) so.edits ∙ sym (count_more texts_in h x text refl);
   opened = opened ∙ so.opened ∙ sym (count_stays opened_in h x refl);
   begun = begun ∙ so.begun ∙ sym (count_stays subscribed_in h x refl);
@@ -284,7 +284,7 @@ pub stands-unsubscribe : (e d : Engine) (h : List Entry) (n : ℕ) → Stands e 
 stands-unsubscribe e d h n so in_force edits opened begun sessions audit limits left fewer no_groups other_groups = record {
   policy = ap (λ (f : InForce). f.policy) in_force ∙ so.policy ∙ sym (last_stays edited no_policy h x refl);
   clock = clock_kept e d h x so in_force refl;
-  groups = groups_ended e d h x n so no_groups other_groups (running-unsubscribe n h) (λ q other. running-unsubscribe_other q n h other);
+  groups = groups_ended e d h x n so no_groups other_groups (running_ended n h) (λ q other. running-unsubscribe q h n (λ e. other (sym e)));
   edits = edits ∙ so.edits ∙ sym (count_stays texts_in h x refl);
   opened = opened ∙ so.opened ∙ sym (count_stays opened_in h x refl);
   begun = begun ∙ so.begun ∙ sym (count_stays subscribed_in h x refl);
@@ -365,11 +365,11 @@ stands-subscribe e d h n name stream so next in_force groups edits opened begun 
   still : (sub : ℕ) → running sub (h ++ Subscribe n name ∷ []) ≡ running sub h
   still sub = by_number (sub == n) refl where
     here : running n (h ++ Subscribe n name ∷ []) ≡ running n h
-    here = running-subscribe n name h unbegun.uncounted ∙ sym (running_unserved n h unbegun.unserved)
+    here = running_begun n h name unbegun.uncounted ∙ sym (running_unserved n h unbegun.unserved)
 
     by_number : (same : Bool) → (sub == n) ≡ same → running sub (h ++ Subscribe n name ∷ []) ≡ running sub h
     by_number true is = subst (λ (q : ℕ). running q (h ++ Subscribe n name ∷ []) ≡ running q h) (sym (eqb-true sub n is)) here
-    by_number false is = running-subscribe_other sub n name h (eqb-false sub n is)
+    by_number false is = running-subscribe sub h n name (λ e. eqb-false sub n is (sym e))
 
   begun_other : (sub : ℕ) → n ≢ sub → begins sub (Subscribe n name) ≡ None
   begun_other sub apart = rw (ne_eqb n sub apart) refl

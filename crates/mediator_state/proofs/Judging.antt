@@ -45,7 +45,7 @@ use Rattle.mediator_history.proofs.ListFilters.{filter_alike, is_in-filter}
 use Rattle.mediator_history.proofs.EntryLaws.{all_served, is_in-served, served_is_live}
 use Rattle.mediator_history.proofs.Counts.{few_records}
 use Rattle.mediator_history.proofs.CutLaws.{length-cuts, policy-cuts, name-cuts, messages-cuts, is_served-cuts, served-cuts, given-served, given-cuts}
-use Rattle.mediator_history.proofs.CountingLaws.{clock-cuts}
+use Rattle.mediator_history.proofs.CountingLaws.{clock-cuts, counted-served}
 use Rattle.record_sharing.specs.declared.served.Served.{Served}
 use Rattle.record_sharing.specs.declared.shares.Note.{Note}
 use Rattle.record_sharing.specs.declared.shares.Share.{Share}
@@ -184,10 +184,6 @@ given_told h session number octets domain f records is sub on =
     ∙ ap (λ d. given (name_of sub h) d (in_force_at h) records) is.domain_is
     ∙ ap (λ rs. given (name_of sub h) (domain_of octets) (in_force_at h) rs) is.records_are
     ∙ sym (given-served sub session number octets h on)
-
-counted-served : (sub session number : ℕ) (octets : List ℕ) (h : List Entry) → is_served sub h ≡ true
-    → counted_at sub h (Message session number octets) ≡ flat_map (counts_for sub h (domain_of octets)) (records_meant (meaning_of (messages_of session h) octets))
-counted-served sub session number octets h on = rw on refl
 
 added_told : (h : List Entry) (session number : ℕ) (octets : List ℕ) (domain : ℕ) (f : InForce) (records : List DataRecord)
     → IsAsked h session octets domain f records → (sub : ℕ) → is_served sub h ≡ true → added (name_of sub h) domain f records ≡ map count_of (counted_at sub h (Message session number octets))

@@ -278,7 +278,7 @@ pub message_step : (d e : Engine) (h : List Entry) (session number : ℕ) (octet
 message_step d e h session number octets reading shares tallies entries so is did = record {
   policy = ap (λ (f : InForce). f.policy) did.in_force ∙ so.policy ∙ sym (policy-message h session number octets);
   clock = clock_kept d e h (Message session number octets) so did.in_force refl;
-  groups = λ sub. subst (StandsForRecords (groups_at e.groups sub)) (sym (running-message sub session number octets h))
+  groups = λ sub. subst (StandsForRecords (groups_at e.groups sub)) (sym (running-message sub h session number octets))
       (did.adds sub (running sub h) (counted_at sub h (Message session number octets)) (so.groups sub) (adds sub));
   edits = did.edits ∙ so.edits ∙ sym (ap (λ (ts : List (List ℕ)). length ts) (no_entry texts_in h (Message session number octets) refl));
   opened = did.opened ∙ so.opened ∙ sym (ap (λ (ns : List ℕ). length ns) (no_entry opened_in h (Message session number octets) refl));

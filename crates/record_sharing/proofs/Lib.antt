@@ -1,1 +1,2 @@
 pub mod SharingLaws
+pub mod KeyLaws

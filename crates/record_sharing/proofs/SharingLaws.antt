@@ -1,5 +1,5 @@
 -- Shares that grow, one subscription after another and one record after another.
-use Rattle.std.proofs.Common.{◌≡◌, ℕ, suc, ◌+◌, ◌<◌, List, [], ◌∷◌, ◌++◌, length, map, take, drop, refl, sym, ap, ◌∙◌, arith, append_assoc, append-nil, ◌≤◌}
+use Rattle.std.proofs.Common.{◌≡◌, ℕ, suc, ◌+◌, ◌<◌, List, [], ◌∷◌, ◌++◌, length, map, take, drop, refl, sym, ap, ◌∙◌, subst, arith, append_assoc, append-nil, ◌≤◌}
 use Rattle.std.specs.Prelude.{get_or, set}
 use Rattle.std.specs.List.{flat_map, enumerate_from}
 use Rattle.std.proofs.lemmas.List.{map-set, map-append, length-map, take_more, take_all, length-take-le}
@@ -7,14 +7,19 @@ use Rattle.std.proofs.Math.ListN.{get_or-map, drop_of_length-le}
 use Rattle.std.proofs.Math.Seq.{set-append_seam, get_or-append_seam, drop-cons}
 use Rattle.mediator_history.proofs.HistoryLaws.{flat_map-push}
 use Rattle.ipfix_template.specs.DataRecord.{DataRecord}
-use Rattle.flow_aggregate.specs.Counts.{Count}
+use Rattle.flow_aggregate.specs.Counts.{Count, count_of}
+use Rattle.policy_text.specs.Policies.{Meaning as Policy}
 use Rattle.flow_anonymize.specs.Outcome.{Outcome}
+use Rattle.flow_anonymize.specs.Disclosed.{disclosure_of}
+use Rattle.mediator_history.specs.Counting.{counts}
+use Rattle.mediator_history.specs.Disclosed.{passed}
+use Rattle.mediator_history.specs.Auditing.{kept_back}
 use Rattle.record_sharing.specs.InForce.{InForce}
 use Rattle.record_sharing.specs.declared.served.Served.{Served}
 use Rattle.record_sharing.specs.declared.shares.Share.{Share}
 use Rattle.record_sharing.specs.declared.shares.Tally.{Tally}
 use Rattle.record_sharing.specs.declared.shares.Note.{Note}
-use Rattle.record_sharing.specs.Sharing.{given_by, added_by, kept_by, shown, tallied, blank, share_by, shares_of, tallies_of, note_of, noted, noted_of_each, notes_of}
+use Rattle.record_sharing.specs.Sharing.{outcome_by, given_by, added_by, kept_by, shown, tallied, blank, share_by, shares_of, tallies_of, note_of, noted, noted_of_each, notes_of}
 
 abbrev pub as_share : {X : Type 0} → ℕ → List X → ℕ × List X
 as_share sub items = (sub, items)
@@ -145,6 +150,21 @@ adding_step old new new2 told tnew tnew2 before notes notes2 domain f index r se
   stay = same ∙ so.stay;
   stay_tallies = same_too ∙ so.stay_tallies;
 }
+
+-- the same, where what becomes of the record is said by an outcome
+pub adding_found : (old new new2 : List Share) (told tnew tnew2 : List Tally) (before notes notes2 : List Note) (domain : ℕ) (f : InForce) (index : ℕ) (r : DataRecord) (served : List Served) (place : ℕ) (who other : Served) (policy : Policy) (found : Outcome)
+    → IsAdding old new told tnew before notes domain f index r served place → place < length served → who ≡ get_or served place other
+    → policy ≡ f.policy → found ≡ disclosure_of who.name.now domain r policy.rules
+    → GrowsAt shown new new2 place (passed found) → GrowsAt tallied tnew tnew2 place (map count_of (counts f.policy.aggregates f.clock r found))
+    → length new2 ≡ length new → length tnew2 ≡ length tnew → notes2 ≡ notes ++ map (note_of index who.sub) (kept_back f.policy.aggregates f.clock r found)
+    → IsAdding old new2 told tnew2 before notes2 domain f index r served (place + 1)
+adding_found old new new2 told tnew tnew2 before notes notes2 domain f index r served place who other policy found so within at same_policy is gives tallies same same_too notes_grow =
+    adding_step old new new2 told tnew tnew2 before notes notes2 domain f index r served place who other so within at
+    (subst (λ o. GrowsAt shown new new2 place (passed o)) judged gives) (subst (λ o. GrowsAt tallied tnew tnew2 place (map count_of (counts f.policy.aggregates f.clock r o))) judged tallies)
+    same same_too (subst (λ o. notes2 ≡ notes ++ map (note_of index who.sub) (kept_back f.policy.aggregates f.clock r o)) judged notes_grow)
+  where
+    judged : found ≡ outcome_by domain f who.name.now r
+    judged = is ∙ ap (λ (p : Policy). disclosure_of who.name.now domain r p.rules) same_policy
 
 -- ---- one record after another
 

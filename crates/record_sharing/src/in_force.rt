@@ -21,6 +21,7 @@ pub struct InForce {
 }
 
 impl Model for InForce {
+    ghost use Rattle.std.specs.Prelude.{◌≡◌};
     ghost use Rattle.record_sharing.specs.InForce.{InForce, in_force_with};
 
     ghost Value = { InForce };
@@ -122,9 +123,9 @@ fn definitions_of(
     requires { AllByRecursion (λ a. AllByRecursion (λ e. is_key_kind (kind_of e) ≡ true) a.key) aggregates.now }
     ensures { IfOk result (λ v. v.items ≡ aggregates.now) }
 {
-    let mut definitions = Vec::with_capacity(alloc, aggregates.len())?;
+    let mut definitions = Vec::new(alloc);
     for definition in aggregates {
-        definitions.push_reserved(Definition::of(alloc, definition)?);
+        definitions.push(Definition::of(alloc, definition)?)?;
     }
     Ok(definitions)
 }

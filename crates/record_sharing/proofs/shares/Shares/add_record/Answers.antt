@@ -1,5 +1,6 @@
-use Rattle.std.proofs.Common.{refl, arith, ◌≤◌, length, subst}
-use Rattle.record_sharing.proofs.SharingLaws.{adding_start, adding_step, shares_added, tallies_added, notes_added}
+use Rattle.std.proofs.Common.{refl, arith}
+use Rattle.flow_anonymize.specs.Outcome as outcome
+use Rattle.record_sharing.proofs.SharingLaws.{adding_start, adding_found, shares_added, tallies_added, notes_added}
 use Rattle.record_sharing.proofs.shares.Shares.add_record.Goals as goal
 
 pub served-init : goal.served-init
@@ -10,10 +11,10 @@ add-requires c = record { within = omega (arith, c.served-test.true, c.served.in
 
 pub served-preserved : goal.served-preserved
 served-preserved c =
-    adding_step c.args.self.now.shares.items c.served.self.shares.items c.add.new.self.shares.items c.args.self.now.tallies.items c.served.self.tallies.items c.add.new.self.tallies.items
+    adding_found c.args.self.now.shares.items c.served.self.shares.items c.add.new.self.shares.items c.args.self.now.tallies.items c.served.self.tallies.items c.add.new.self.tallies.items
     c.args.self.now.notes.items c.served.self.notes.items c.add.new.self.notes.items c.args.domain c.args.in_force.now c.args.index c.args.flow_record.now c.args.served.now c.served.place
-    _ _ c.served.invariant (omega (arith, c.served-test.true)) refl
-    (rw (sym c.in_ok-found.ensures.exact) c.in_ok-add.ensures.shares) (rw (sym c.in_ok-found.ensures.exact) c.in_ok-add.ensures.tallies) c.in_ok-add.ensures.stay c.in_ok-add.ensures.stay_tallies (rw (sym c.in_ok-found.ensures.exact) c.in_ok-add.ensures.notes)
+    _ _ c.policy.result.now (outcome.shown c.in_ok-found.found) c.served.invariant (omega (arith, c.served-test.true)) refl c.policy.ensures c.in_ok-found.ensures.exact
+    c.in_ok-add.ensures.shares c.in_ok-add.ensures.tallies c.in_ok-add.ensures.stay c.in_ok-add.ensures.stay_tallies c.in_ok-add.ensures.notes
 
 pub returns-clause-shares : goal.returns-clause-shares
 returns-clause-shares c =
