@@ -1,6 +1,6 @@
 -- The record of a closed group is a sound record.
-use Rattle.std.proofs.Common.{◌≡◌, ℕ, zero, suc, ◌+◌, ◌*◌, ◌<◌, ◌≤◌, Bool, true, false, cond, eqb, List, [], ◌∷◌, ◌++◌, length, map, get_or, take, drop, Option, Some, None, refl, sym, ap, ◌∙◌, arith, add-one, append_assoc, length-append, length-drop, drop-cons}
-use Rattle.std.specs.Prelude.{◌&&◌, ◌==◌, unwrap_or}
+use Rattle.std.proofs.Common.{◌≡◌, ℕ, suc, ◌+◌, ◌*◌, ◌<◌, ◌≤◌, Bool, true, false, cond, List, [], ◌∷◌, ◌++◌, length, get_or, take, drop, Option, Some, None, refl, sym, ap, ◌∙◌, arith, add-one, append_assoc, length-append, length-drop, drop-cons}
+use Rattle.std.specs.Prelude.{◌==◌, unwrap_or}
 use Rattle.std.specs.List.{list_all, flat_map, sum_by, AllByRecursion}
 use Rattle.std.proofs.lemmas.Bool.{and_parts, and_from, eqb-true, eq-eqb, ne_eqb}
 use Rattle.std.proofs.lemmas.List.{length-map, length-take-le}
@@ -15,10 +15,10 @@ use Rattle.ipfix_element.specs.Kinds.{kind_of, full_width_of, is_allowed_length}
 use Rattle.ipfix_element.specs.Registry.{registry}
 use Rattle.ipfix_template.specs.declared.field.FieldSpec.{FieldSpec}
 use Rattle.ipfix_template.specs.declared.template.Template.{Template}
-use Rattle.ipfix_template.specs.declared.template.Refused.TheVariants.{BadLength, BadScope, EmptyRecord}
-use Rattle.ipfix_template.specs.Template.{is_variable, least_octets, has_allowed_length, has_bad_scope, shortest_record, refusal_of, is_options, IsAccepted, specifier, specifier_of}
+use Rattle.ipfix_template.specs.declared.template.Refused.TheVariants.{BadLength, EmptyRecord}
+use Rattle.ipfix_template.specs.Template.{is_variable, least_octets, has_allowed_length, refusal_of, IsAccepted, specifier, specifier_of}
 use Rattle.ipfix_template.specs.Values.{fits_field, fit_fields, value_text, record_text}
-use Rattle.ipfix_template.specs.DataRecord.{DataRecord, IsSound}
+use Rattle.ipfix_template.specs.DataRecord.{IsSound}
 use Rattle.ipfix_template.proofs.Encoding.{octets_of_record}
 use Rattle.policy_text.specs.Policies.{Aggregate}
 use Rattle.flow_aggregate.specs.declared.sums.Sums.{Sums}

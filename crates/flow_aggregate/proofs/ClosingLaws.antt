@@ -1,5 +1,5 @@
 -- The groups that are due are those that an advance closes.
-use Rattle.std.proofs.Common.{◌≡◌, ℕ, ◌+◌, ◌<◌, length, take, get_or, slice_get, Bool, true, false, cond, List, [], ◌∷◌, ◌++◌, map, Option, Some, None, refl, sym, ap, ◌∙◌, subst, append_assoc, append-nil, IsPermutation, Bor}
+use Rattle.std.proofs.Common.{◌≡◌, ℕ, ◌+◌, ◌<◌, length, take, get_or, slice_get, Bool, true, false, cond, List, [], ◌∷◌, ◌++◌, Option, Some, None, refl, sym, ap, ◌∙◌, append_assoc, append-nil, IsPermutation, Bor}
 use Rattle.std.specs.List.{IsDistinct, AllByRecursion}
 use Rattle.std.proofs.lemmas.List.{take_more}
 use Rattle.std.proofs.lemmas.Option.{get_or_from_slice_get}
@@ -17,7 +17,7 @@ use Rattle.flow_aggregate.specs.declared.sums.Sums.{Sums}
 use Rattle.flow_aggregate.specs.declared.closed.ClosedAggregate.{ClosedAggregate}
 use Rattle.flow_aggregate.specs.Groups.{Group, Counted}
 use Rattle.flow_aggregate.specs.GroupOrder.{same_group, group_cmp, group_total, same_group-is, same_group-whole}
-use Rattle.flow_aggregate.specs.Running.{Entries, joined, sums_at, of_group, sums_over, StandsFor, is_due, closed_sums, pair_of, pairs_of, sums_in, AreClosed, closed_one, due_one, due_of}
+use Rattle.flow_aggregate.specs.Running.{Entries, joined, sums_at, StandsFor, is_due, pair_of, pairs_of, sums_in, AreClosed, closed_one, due_one, due_of}
 use Rattle.flow_aggregate.proofs.EntryLaws.{absent, same_both}
 
 pub due_more : (t : ℕ) (es : Entries) (e : Group × Option Sums) → due_of t (es ++ e ∷ []) ≡ due_of t es ++ due_one t e.0 e.1

@@ -1,25 +1,19 @@
 -- Look-ups by group in entries of distinct groups.
-use Rattle.std.proofs.Common.{◌≡◌, ℕ, zero, suc, ◌+◌, ◌<◌, ◌≤◌, Bool, true, false, cond, not, List, [], ◌∷◌, ◌++◌, length, map, get_or, filter, position, Option, Some, None, refl, sym, ap, ◌∙◌, subst, arith, is_some, slice_get}
-use Rattle.std.specs.Prelude.{unwrap_or, option_map}
-use Rattle.std.specs.List.{IsDistinct, AllByRecursion, position_or_len}
-use Rattle.std.specs.Map.{lookup, keys_of, values_of}
-use Rattle.std.proofs.lemmas.List.Quantifiers.{position-Some}
-use Rattle.indexmap.specs.IndexMap.{set_value_at}
+use Rattle.std.proofs.Common.{◌≡◌, ℕ, Bool, true, false, cond, not, List, [], ◌∷◌, ◌++◌, filter, Option, Some, None, refl, sym, ap, ◌∙◌, is_some}
+use Rattle.std.specs.Prelude.{unwrap_or}
+use Rattle.std.specs.List.{AllByRecursion, list_any}
+use Rattle.std.specs.Map.{lookup, keys_of, set_value}
+use Rattle.std.proofs.lemmas.Map.{lookup-set_value, keys-set_value}
+use Rattle.std.proofs.lemmas.Map.Made.{is_some-lookup}
+use Rattle.sequences.proofs.OptionLaws.{none_from_is_some}
 use Rattle.flow_aggregate.specs.declared.sums.Sums.{Sums}
+use Rattle.flow_aggregate.specs.Sums.{no_sums, plus}
 use Rattle.flow_aggregate.specs.Groups.{Group}
 use Rattle.flow_aggregate.specs.GroupOrder.{same_group, same_group-is, same_group-itself, same_group-whole}
 use Rattle.flow_aggregate.specs.Running.{Entries, joined, sums_at, is_due}
-use Rattle.flow_aggregate.specs.Adding.{group_at, sums_there}
+use Rattle.flow_aggregate.specs.Counts.{Count, has_place, HavePlaces, with_count}
 
--- ---- a group is at one place
-
-some_is : {A : Type 0} (a b : A) → Some a ≡ Some b → a ≡ b
-some_is a b e = cc
-
-pub apart_at : (k g : Group) (es : Entries) (p : ℕ) → AllByRecursion (λ y. same_group k y ≡ false) (keys_of es) → group_at p es ≡ Some g → same_group k g ≡ false
-apart_at k g [] p all at = absurd cc
-apart_at k g (e ∷ es) zero all at = let same = some_is e.0 g at in rw (← same) all.0
-apart_at k g (e ∷ es) (suc p) all at = apart_at k g es p all.1 at
+-- ---- look-ups
 
 pub absent : (k : Group) (es : Entries) → AllByRecursion (λ y. same_group k y ≡ false) (keys_of es) → lookup (same_group k) es ≡ None
 absent k [] all = refl
@@ -30,58 +24,39 @@ pub same_both : {A : Type 0} (b : Bool) (x : A) → x ≡ cond b x x
 same_both true x = refl
 same_both false x = refl
 
-chosen : {A : Type 0} (b : Bool) (w v l : Option A) → cond b w l ≡ cond b w (cond b v l)
-chosen true w v l = refl
-chosen false w v l = refl
+-- ---- what is counted
 
-pub set_look : (es : Entries) (p : ℕ) (k g : Group) (w : Option Sums) → IsDistinct same_group (keys_of es) → group_at p es ≡ Some k
-    → lookup (same_group g) (set_value_at es p w) ≡ cond (same_group g k) (Some w) (lookup (same_group g) es)
-unfolding IsDistinct
-set_look [] p k g w distinct at = absurd cc
-set_look (e ∷ es) zero k g w distinct at =
-    let same = some_is e.0 k at in
-    rw (← same) (chosen (same_group g e.0) (Some w) (Some e.1) (lookup (same_group g) es))
-set_look (e ∷ es) (suc p) k g w distinct at =
-    let rest = set_look es p k g w distinct.1 at in
-    elim (same_group g e.0) as (λ b. same_group g e.0 ≡ b → cond b (Some e.1) (lookup (same_group g) (set_value_at es p w))
-    ≡ cond (same_group g k) (Some w) (cond b (Some e.1) (lookup (same_group g) es))) [
-      | true ↦ λ is.
-          let one = same_group-is g e.0 is in
-          let apart : same_group g k ≡ false = rw one (apart_at e.0 k es p distinct.0 at) in
-          rw apart refl
-      | false ↦ λ _. rest
-    ] refl
+-- the test of a group finds what is that group
+one_group : (g x y : Group) → same_group g x ≡ true → same_group g y ≡ same_group x y
+one_group g x y is = ap (λ h. same_group h y) (same_group-is g x is)
 
-pub there_is : (es : Entries) (p : ℕ) (k : Group) → IsDistinct same_group (keys_of es) → group_at p es ≡ Some k → sums_there p es ≡ sums_at es k
-unfolding IsDistinct
-there_is [] p k distinct at = absurd cc
-there_is (e ∷ es) zero k distinct at =
-    let one = some_is e.0 k at in
-    let same : same_group k e.0 ≡ true = rw one (same_group-itself k) in
-    rw same refl
-there_is (e ∷ es) (suc p) k distinct at =
-    let apart : same_group k e.0 ≡ false = same_group-whole.symm k e.0 ∙ apart_at e.0 k es p distinct.0 at in
-    rw apart (there_is es p k distinct.1 at)
+pub look_counted : (es : Entries) (k : Count) (g : Group) → has_place es k.group ≡ true
+    → lookup (same_group g) (with_count es k) ≡ cond (same_group g k.group) (Some (Some (plus (unwrap_or (sums_at es k.group) no_sums) k.counters))) (lookup (same_group g) es)
+look_counted es k g there =
+    let w : Option Sums = Some (plus (unwrap_or (sums_at es k.group) no_sums) k.counters) in
+    lookup-set_value same_group-whole (same_group k.group) (one_group k.group) g w es there
+    ∙ ap (λ b. cond b (Some w) (lookup (same_group g) es)) (same_group-whole.symm k.group g)
 
--- ---- a write leaves the groups where they are
+pub place_counted : (es : Entries) (k : Count) (g : Group) → has_place (with_count es k) g ≡ has_place es g
+place_counted es k g =
+    let w : Option Sums = Some (plus (unwrap_or (sums_at es k.group) no_sums) k.counters) in
+    is_some-lookup (same_group g) (with_count es k) ∙ ap (λ ks. list_any (same_group g) ks) (keys-set_value (same_group k.group) es w) ∙ sym (is_some-lookup (same_group g) es)
 
-pub keys_set : (es : Entries) (p : ℕ) (w : Option Sums) → keys_of (set_value_at es p w) ≡ keys_of es
-keys_set [] p w = refl
-keys_set (e ∷ es) zero w = refl
-keys_set (e ∷ es) (suc p) w = ap (λ ks. e.0 ∷ ks) (keys_set es p w)
+-- of a group that is wanting nothing is written
+set_none : {K X : Type 0} (test : K → Bool) (es : List (K × X)) (w : X) → lookup test es ≡ None → set_value test es w ≡ es
+set_none test [] w none = refl
+set_none test (e ∷ es) w none = by (test e.0) none (set_none test es w) where
+  by : (b : Bool) → cond b (Some e.1) (lookup test es) ≡ None → (lookup test es ≡ None → set_value test es w ≡ es) → cond b ((e.0, w) ∷ es) (e ∷ set_value test es w) ≡ e ∷ es
+  by true none rest = absurd cc
+  by false none rest = ap (λ ds. e ∷ ds) (rest none)
 
-pub group_at_set : (es : Entries) (p q : ℕ) (w : Option Sums) → group_at q (set_value_at es p w) ≡ group_at q es
-group_at_set [] p q w = refl
-group_at_set (e ∷ es) zero zero w = refl
-group_at_set (e ∷ es) zero (suc q) w = refl
-group_at_set (e ∷ es) (suc p) zero w = refl
-group_at_set (e ∷ es) (suc p) (suc q) w = group_at_set es p q w
+-- what is written of one more, and where its group is wanting
+pub one_written : (es fs gs : Entries) (k : Count) (sums : Option Sums) (after : Sums) → es ≡ fs → Some sums ≡ lookup (same_group k.group) es
+    → gs ≡ set_value (same_group k.group) es (Some after) → after ≡ plus (unwrap_or sums no_sums) k.counters → gs ≡ with_count fs k
+one_written es fs gs k sums after same there written is = written ∙ rw (← same, ← there, is) refl
 
--- a write past the end changes nothing
-pub set_past : (es : Entries) (p : ℕ) (w : Option Sums) → slice_get (values_of es) p ≡ None → set_value_at es p w ≡ es
-set_past [] p w none = refl
-set_past (e ∷ es) zero w none = absurd cc
-set_past (e ∷ es) (suc p) w none = ap (λ (rest : Entries). e ∷ rest) (set_past es p w none)
+pub none_written : (es fs gs : Entries) (k : Count) → es ≡ fs → None ≡ lookup (same_group k.group) es → gs ≡ es → gs ≡ with_count fs k
+none_written es fs gs k same none kept = kept ∙ rw (← same) (sym (set_none (same_group k.group) es _ (sym none)))
 
 -- ---- a new group, without records
 
@@ -96,42 +71,30 @@ look_new (e ∷ es) k g = by (same_group g e.0) (look_new es k g) where
   by true rest = refl
   by false rest = rest
 
-pub group_at_push : (es : Entries) (e : Group × Option Sums) (p : ℕ) (g : Group) → group_at p es ≡ Some g → group_at p (es ++ e ∷ []) ≡ Some g
-group_at_push [] e p g at = absurd cc
-group_at_push (d ∷ es) e zero g at = at
-group_at_push (d ∷ es) e (suc p) g at = group_at_push es e p g at
+pub place_new : (es : Entries) (k g : Group) → has_place es g ≡ true → has_place (es ++ (k, None) ∷ []) g ≡ true
+place_new [] k g there = absurd cc
+place_new (e ∷ es) k g there = by (same_group g e.0) there (place_new es k g) where
+  by : (b : Bool) → is_some (cond b (Some e.1) (lookup (same_group g) es)) ≡ true → (has_place es g ≡ true → has_place (es ++ (k, None) ∷ []) g ≡ true)
+      → is_some (cond b (Some e.1) (lookup (same_group g) (es ++ (k, None) ∷ []))) ≡ true
+  by true there rest = refl
+  by false there rest = rest there
 
-group_at_last : (es : Entries) (k : Group) (w : Option Sums) → group_at (length es) (es ++ (k, w) ∷ []) ≡ Some k
-group_at_last [] k w = refl
-group_at_last (e ∷ es) k w = group_at_last es k w
+pub place_made : (es : Entries) (k : Group) → has_place (es ++ (k, None) ∷ []) k ≡ true
+place_made [] k = rw (same_group-itself k) refl
+place_made (e ∷ es) k = by (same_group k e.0) (place_made es k) where
+  by : (b : Bool) → has_place (es ++ (k, None) ∷ []) k ≡ true → is_some (cond b (Some e.1) (lookup (same_group k) (es ++ (k, None) ∷ []))) ≡ true
+  by true rest = refl
+  by false rest = rest
 
-last_place : (es : Entries) (k : Group) → lookup (same_group k) es ≡ None → position_or_len (same_group k) (keys_of es) ≡ length es
-last_place [] k none = refl
-last_place (e ∷ es) k none = by (same_group k e.0) none (last_place es k) where
-  by : (b : Bool) → cond b (Some e.1) (lookup (same_group k) es) ≡ None → (lookup (same_group k) es ≡ None → position_or_len (same_group k) (keys_of es) ≡ length es)
-      → cond (not b) (1 + position_or_len (same_group k) (keys_of es)) 0 ≡ suc (length es)
-  by true none rest = absurd cc
-  by false none rest = let more = rest none in omega (arith, more)
+-- more groups have places where each that had one has one
+pub places_kept : (es fs : Entries) (counts : List Count) → ((g : Group) → has_place es g ≡ true → has_place fs g ≡ true) → HavePlaces es counts → HavePlaces fs counts
+places_kept es fs [] kept have = tt
+places_kept es fs (k ∷ counts) kept have = (kept k.group have.0, places_kept es fs counts kept have.1)
 
-pub group_at_new : (es : Entries) (k : Group) (p : ℕ) → lookup (same_group k) es ≡ None → p ≡ position_or_len (same_group k) (keys_of es)
-    → group_at p (es ++ (k, None) ∷ []) ≡ Some k
-group_at_new es k p none is = rw (is, last_place es k none) (group_at_last es k None)
-
-pub none_from_test : {A : Type 0} (o : Option A) → false ≡ is_some o → o ≡ None
-none_from_test None e = refl
-none_from_test (Some x) e = absurd cc
-
--- ---- a group that is found
-
-group_at_key : (es : Entries) (p : ℕ) (d : Group) → p < length (keys_of es) → group_at p es ≡ Some (get_or (keys_of es) p d)
-group_at_key [] p d within = absurd (omega (arith, within))
-group_at_key (e ∷ es) zero d within = refl
-group_at_key (e ∷ es) (suc p) d within = group_at_key es p d (omega (arith, within))
-
-pub found_group : (es : Entries) (k : Group) (p : ℕ) → position (same_group k) (keys_of es) ≡ Some p → group_at p es ≡ Some k
-found_group es k p at =
-    let found = position-Some (same_group k) (keys_of es) p k at in
-    group_at_key es p k found.0 ∙ ap (λ g. Some g) (sym (same_group-is k (get_or (keys_of es) p k) found.1))
+-- a group that a test didn't find is wanting
+pub wanting : (es : Entries) (k g : Group) (is_there : Bool) → g ≡ k → is_there ≡ false → is_there ≡ has_place es k → lookup (same_group g) es ≡ None
+wanting es k g is_there is not_there there =
+    ap (λ h. lookup (same_group h) es) is ∙ none_from_is_some (lookup (same_group k) es) (sym there ∙ not_there)
 
 -- ---- the groups that stay
 

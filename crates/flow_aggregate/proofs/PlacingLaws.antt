@@ -1,6 +1,6 @@
 -- What is known of a record that is placed, and the key's octets of one.
-use Rattle.std.proofs.Common.{◌≡◌, ℕ, ◌+◌, ◌-◌, ◌<◌, ◌≤◌, ◌^◌, Bool, true, false, cond, List, [], ◌∷◌, ◌++◌, length, replicate, Option, Some, None, refl, sym, ap, ◌∙◌, arith, length-append, is_some, nat_lt}
-use Rattle.std.specs.Prelude.{unwrap_or, nat_le}
+use Rattle.std.proofs.Common.{◌≡◌, ℕ, ◌-◌, ◌<◌, ◌≤◌, ◌^◌, Bool, true, false, cond, List, [], ◌∷◌, ◌++◌, length, replicate, Option, Some, None, refl, ap, ◌∙◌, arith, length-append, is_some, nat_lt}
+use Rattle.std.specs.Prelude.{unwrap_or}
 use Rattle.std.specs.List.{list_all, flat_map, sum_by}
 use Rattle.std.proofs.lemmas.Bool.{and_parts, ltb-true}
 use Rattle.std.proofs.lemmas.List.{length-replicate}
@@ -9,8 +9,7 @@ use Rattle.std.proofs.lemmas.List.Concat.{flat_map-cons}
 use Rattle.ipfix_element.specs.Element.{Element}
 use Rattle.ipfix_template.specs.DataRecord.{DataRecord, IsSound}
 use Rattle.policy_text.specs.Policies.{Aggregate}
-use Rattle.flow_aggregate.specs.declared.timing.Timing.{Timing}
-use Rattle.flow_aggregate.specs.declared.timing.Timing.TheVariants.{Placed, NoTime, NoKey, Late}
+use Rattle.flow_aggregate.specs.declared.timing.Timing.TheVariants.{Placed, NoTime, NoKey}
 use Rattle.flow_aggregate.specs.Values.{first_value, has_value, full_width}
 use Rattle.flow_aggregate.specs.Placing.{start_of, has_key, interval_start, in_interval, timing_at, timing_of}
 use Rattle.flow_aggregate.specs.Groups.{wide_value, key_octets, HaveWidths, IsSummed, IsGroup}
@@ -61,9 +60,13 @@ key_long (e ∷ es) r sound widths has =
     omega (arith, here, rest, all, sum_by-cons full_width e es)
 
 -- the group of a record that is placed
-pub group_found : (a : Aggregate) (r : DataRecord) (d : Aggregate) (start : ℕ) (key : List ℕ) → IsPlaced a r → IsSound r → IsSummed d → d ≡ a
-    → start ≤ unwrap_or (start_of r) 0 → key ≡ key_octets d.key r → IsGroup (record { start = start; definition = d; key = key })
+pub group_found : (a : Aggregate) (r : DataRecord) (d : Aggregate) (start : ℕ) (key : List ℕ) → IsPlaced a r → IsSound r → IsSummed a → d ≡ a
+    → start ≤ unwrap_or (start_of r) 0 → key ≡ key_octets a.key r → IsGroup (record { start = start; definition = d; key = key })
 group_found a r d start key placed sound summed same early is-key =
     let can = can_count a r placed in
-    let has : has_key d.key r ≡ true = rw same can.key in
-    record { summed = summed; start = omega (arith, early, can.start); key = ap length is-key ∙ key_long d.key r sound summed.widths has }
+    let all : IsGroup (record { start = start; definition = a; key = key }) = record {
+      summed = summed;
+      start = omega (arith, early, can.start);
+      key = ap length is-key ∙ key_long a.key r sound summed.widths can.key;
+    } in
+    rw same all

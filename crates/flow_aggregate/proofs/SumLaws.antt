@@ -1,15 +1,14 @@
 -- Sums of one record more.
-use Rattle.std.proofs.Common.{◌≡◌, ℕ, ◌+◌, ◌-◌, ◌^◌, List, [], ◌∷◌, ◌++◌, Option, Some, None, refl, sym, ap, ◌∙◌, arith, min, map}
+use Rattle.std.proofs.Common.{◌≡◌, ℕ, ◌+◌, List, [], ◌∷◌, ◌++◌, Some, refl, sym, ap, ◌∙◌, arith}
 use Rattle.std.specs.Prelude.{unwrap_or}
 use Rattle.std.specs.List.{sum_by}
 use Rattle.std.proofs.lemmas.List.{map_push}
 use Rattle.std.proofs.lemmas.List.Sums.{sum_by-append, sum_by-cons}
 use Rattle.ipfix_template.specs.DataRecord.{DataRecord}
 use Rattle.flow_aggregate.specs.declared.sums.Sums.{Sums}
-use Rattle.flow_aggregate.specs.Sums.{capped, octets_in, packets_in, flows_in, counters_of, totals, plus}
+use Rattle.flow_aggregate.specs.Sums.{capped, octets_in, packets_in, flows_in, no_sums, counters_of, totals, plus}
 use Rattle.flow_aggregate.specs.Groups.{Counted}
 use Rattle.flow_aggregate.specs.Running.{flows_of, sums_over}
-use Rattle.flow_aggregate.specs.Adding.{no_sums}
 
 one_more : (f : DataRecord → ℕ) (rs : List DataRecord) (r : DataRecord) → capped (sum_by f (rs ++ r ∷ [])) ≡ capped (capped (sum_by f rs) + f r)
 one_more f rs r =

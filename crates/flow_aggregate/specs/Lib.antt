@@ -13,5 +13,5 @@ pub mod Groups
 pub mod GroupOrder
 pub mod Closed
 pub mod Running
+pub mod Counts
 pub mod Closing
-pub mod Adding

@@ -1,6 +1,6 @@
 -- The counters that are summed (RFC 7015, section 4.2.2). That a record without octets or packets counts none, one without
 -- flows counts one flow, and that sums stop at the greatest number of 64 bits, is this project's own.
-use Rattle.std.specs.Prelude.{ℕ, ◌+◌, ◌-◌, ◌^◌, List, Option, unwrap_or, min}
+use Rattle.std.specs.Prelude.{ℕ, ◌+◌, ◌-◌, ◌^◌, List, unwrap_or, min}
 use Rattle.std.specs.List.{sum_by}
 use Rattle.ipfix_template.specs.DataRecord.{DataRecord}
 use Rattle.flow_aggregate.specs.declared.sums.Sums.{Sums}
@@ -25,6 +25,9 @@ counters_of r = record { octets = octets_in r; packets = packets_in r; flows = f
 -- the sums over records
 unfoldable pub totals : List DataRecord → Sums
 totals rs = record { octets = capped (sum_by octets_in rs); packets = capped (sum_by packets_in rs); flows = capped (sum_by flows_in rs) }
+
+abbrev pub no_sums : Sums
+no_sums = record { octets = 0; packets = 0; flows = 0 }
 
 -- one more added to sums
 abbrev pub plus : Sums → Sums → Sums

@@ -1,5 +1,5 @@
 -- The values of a record that aggregates look at. Of an element that stands twice the first counts: this project's own rule.
-use Rattle.std.specs.Prelude.{ℕ, Bool, List, Option, Some, None, option_map, is_some, unwrap_or, slice_get, position, ◌==◌, ◌&&◌}
+use Rattle.std.specs.Prelude.{ℕ, Bool, List, Option, None, option_map, is_some, unwrap_or, slice_get, position, ◌==◌, ◌&&◌}
 use Rattle.ipfix_octets.specs.Octets.{be_value}
 use Rattle.sequences.specs.Options.{◌>>=◌}
 use Rattle.ipfix_element.specs.Element.{Element}

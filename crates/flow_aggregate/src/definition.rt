@@ -12,10 +12,10 @@ use std::alloc::{AllocError, Global};
 use std::marker::Model;
 use std::sync::Arc;
 
-/// An aggregate's definition, which its groups share. Two are one where name, key, interval and grace are equal,
-/// whatever edit brought them.
+/// An aggregate's definition, made ready for records to be counted in it: its groups share it. Two are one where name,
+/// key, interval and grace are equal, whatever edit brought them.
 #[derive(Drop)]
-pub(crate) struct Definition {
+pub struct Definition {
     interval: u32,
     grace: u32,
     name: Bytes,
@@ -39,7 +39,7 @@ impl Definition {
     ///
     /// # Errors
     /// Want of memory.
-    pub(crate) fn of(alloc: Global, definition: &AggregateDef) -> Result<Definition, AllocError>
+    pub fn of(alloc: Global, definition: &AggregateDef) -> Result<Definition, AllocError>
         requires { AllByRecursion (λ e. is_key_kind (kind_of e) ≡ true) definition.now.key }
         ensures { IfOk result (λ d. d ≡ definition.now) }
     {
@@ -56,7 +56,7 @@ impl Definition {
     ///
     /// # Errors
     /// Want of memory for the count of its holds.
-    pub(crate) fn share(&self) -> Result<Definition, AllocError>
+    pub fn share(&self) -> Result<Definition, AllocError>
         ensures { IfOk result (λ d. d ≡ self.now) }
     {
         Ok(Definition {
@@ -83,6 +83,7 @@ impl Definition {
 
     pub(crate) fn interval(&self) -> u32
         ensures value { result ≡ self.now.interval }
+        ensures some { 1 ≤ result }
         ensures few { result ≤ 86400 }
     {
         self.interval

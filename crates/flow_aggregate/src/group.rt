@@ -1,8 +1,5 @@
 //! Groups of records that count together.
 ghost use Rattle.std.specs.Prelude.{◌≡◌, ◌+◌, ◌≤◌, ◌<◌, ◌^◌, ◌++◌, true, length, IfOk, OnOk};
-ghost use Rattle.std.specs.List.{AllByRecursion};
-ghost use Rattle.ipfix_element.specs.Kinds.{kind_of};
-ghost use Rattle.policy_text.specs.Classes.{is_key_kind};
 ghost use Rattle.flow_aggregate.specs.Values.{full_width};
 ghost use Rattle.flow_aggregate.specs.Groups.{wide_value, key_octets, group_of, counted_as, IsGroup};
 ghost use Rattle.flow_aggregate.specs.Running.{IsPlaced, is_due};
@@ -13,7 +10,6 @@ use crate::values::{MILLISECONDS, first_value};
 use bytes::Bytes;
 use ipfix_element::{ElementId, full_width, kind_of};
 use ipfix_template::Record;
-use policy_text::AggregateDef;
 use std::alloc::{AllocError, Global};
 use std::marker::Model;
 
@@ -43,21 +39,19 @@ impl Group {
     /// Want of memory.
     pub(crate) fn of(
         alloc: Global,
-        definition: &AggregateDef,
+        definition: &Definition,
         flow_record: &Record,
     ) -> Result<Group, AllocError>
-        requires kinds { AllByRecursion (λ e. is_key_kind (kind_of e) ≡ true) definition.now.key }
         requires placed { IsPlaced definition.now flow_record.now }
         ensures { IfOk result (λ g. g ≡ group_of (counted_as definition.now flow_record.now)) }
     {
         // The values of a record have the lengths that their elements allow.
         let _template = flow_record.template();
-        let shared = Definition::of(alloc, definition)?;
-        let key = key_octets(alloc, shared.key(), flow_record)?;
+        let key = key_octets(alloc, definition.key(), flow_record)?;
         let start = start_of(flow_record).unwrap_or(0);
         Ok(Group {
-            start: interval_start(definition, start),
-            definition: shared,
+            start: interval_start(definition.interval(), start),
+            definition: definition.share()?,
             key,
         })
     }

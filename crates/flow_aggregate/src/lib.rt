@@ -4,21 +4,22 @@
 //!
 //! - `timing`: [`judge_time`], and [`Timing`], what it answers.
 //! - `running`: [`Running`], the groups that are still open; it adds records and closes groups.
-//! - `additions`: [`Additions`], what was made ready for records that are to be added.
+//! - `definition`: [`Definition`], an aggregate's definition, made ready for records to be counted in it.
+//! - `count`: [`Count`], what a record adds, and to which group.
 //! - `closed`: [`ClosedAggregate`], a closed group with its sums, and its record.
-//! - `group`, `group_order`, `definition`: what groups are, which are one, and their order.
+//! - `group`, `group_order`: what groups are, which are one, and their order.
 //! - `sums`, `values`: the counters, and the first value of an element in a record.
 //!
 //! Proved: `judge_time` answers the interval in which a record counts, or the first reason why it counts in none.
-//! `Running::reserve` changes no sum, and leaves what was reserved before; `add_reserved`, which can't fail, makes groups
-//! that stand for some records stand for these and the records that were reserved; `closing` answers the groups of those
+//! `Running::reserve` changes no sum, and what was reserved before stays so; `add_reserved`, which can't fail, makes groups
+//! that stand for some records stand for these and the records that the counts are of; `closing` answers the groups of those
 //! records that the advance comes to, each once, in their order, with the sums of their records, capped at 2^64-1
 //! (`AreClosed`, which looks at the records that were added and at no group); after `close` they stand for the others.
 //! `ClosedAggregate::record` is the record of the group and its sums, each value at full width.
 #![tactic(auto)]
 
-mod additions;
 mod closed;
+mod count;
 mod definition;
 mod group;
 mod group_order;
@@ -27,7 +28,8 @@ mod sums;
 mod timing;
 mod values;
 
-pub use additions::Additions;
 pub use closed::ClosedAggregate;
+pub use count::Count;
+pub use definition::Definition;
 pub use running::Running;
 pub use timing::{Timing, judge_time};

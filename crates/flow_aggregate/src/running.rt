@@ -1,22 +1,17 @@
 //! Groups that are still open, with their sums.
-ghost use Rattle.std.specs.Prelude.{◌≡◌, ◌++◌, ◌∷◌, ℕ, List, [], true, filter, not, IfOk, OnOk, OnErr, Some, slice_get};
-ghost use Rattle.std.specs.List.{AllByRecursion, IsDistinct};
+ghost use Rattle.std.specs.Prelude.{◌≡◌, ◌++◌, List, [], true, map, filter, not, IfOk, OnOk};
+ghost use Rattle.std.specs.List.{IsDistinct};
 ghost use Rattle.std.specs.Map.{keys_of};
-ghost use Rattle.ipfix_element.specs.Kinds.{kind_of};
-ghost use Rattle.policy_text.specs.Classes.{is_key_kind};
-ghost use Rattle.flow_aggregate.specs.declared.additions.Addition.{Addition as OneAddition};
-ghost use Rattle.flow_aggregate.specs.Groups.{Group as OneGroup, Counted, counted_as};
+ghost use Rattle.flow_aggregate.specs.Groups.{Group as OneGroup, Counted};
 ghost use Rattle.flow_aggregate.specs.GroupOrder.{same_group, group_cmp};
-ghost use Rattle.flow_aggregate.specs.Running.{sums_at, StandsFor, IsPlaced, is_due, staying, AreClosed, due_one, due_of};
-ghost use Rattle.flow_aggregate.specs.Adding.{AreFor, group_at, with_one, with_all};
+ghost use Rattle.flow_aggregate.specs.Running.{sums_at, StandsFor, is_due, staying, AreClosed, due_one, due_of};
+ghost use Rattle.flow_aggregate.specs.Counts.{Count as OneCount, count_of, has_place, HavePlaces, with_count};
 
-use crate::additions::{Addition, Additions};
 use crate::closed::ClosedAggregate;
+use crate::count::Count;
 use crate::group::Group;
 use crate::sums::Sums;
 use indexmap::IndexMap;
-use ipfix_template::Record;
-use policy_text::AggregateDef;
 use std::alloc::{AllocError, Global};
 use std::cmp::Ordering;
 use std::marker::Model;
@@ -24,12 +19,12 @@ use std::marker::Model;
 /// Groups that are still open. It keeps their sums and no records, so that its size goes with the groups and
 /// not with the traffic.
 ///
-/// Records are counted in two steps: `reserve` makes what takes memory, record by record, and changes nothing that
-/// contracts see; `add_reserved` takes no memory and can't fail.
+/// Records are counted in two steps: `reserve` makes what takes memory and changes no sum; `add_reserved` takes no memory
+/// and can't fail.
 #[derive(Drop)]
 pub struct Running {
     alloc: Global,
-    // A group without sums was made for a record that is yet to be counted.
+    // A group without sums was made for what is yet to be added.
     groups: IndexMap<Group, Option<Sums>>,
 }
 
@@ -52,46 +47,32 @@ impl Running {
         }
     }
 
-    /// Makes ready for one record more to be counted in an aggregate, of which `judge_time` says that it places it.
-    /// The group that it counts in is made where it is wanting.
+    /// Makes ready for these to be added: their groups are made where they are wanting.
     ///
     /// # Errors
-    /// Want of memory; then the additions are as they were, and may still be added.
-    pub fn reserve(
-        &mut self,
-        definition: &AggregateDef,
-        flow_record: &Record,
-        additions: &mut Additions,
-    ) -> Result<(), AllocError>
-        requires kinds { AllByRecursion (λ e. is_key_kind (kind_of e) ≡ true) definition.now.key }
-        requires placed { IsPlaced definition.now flow_record.now }
-        // No sum changes.
+    /// Want of memory; no sum changes, and what was reserved before stays so.
+    pub fn reserve(&mut self, counts: &[Count]) -> Result<(), AllocError>
         ensures same { (g : OneGroup) → sums_at self.new g ≡ sums_at self.old g }
-        // What was reserved before stays so.
-        ensures kept { (list : List OneAddition) (counted : List Counted) → AreFor self.old list counted → AreFor self.new list counted }
-        ensures ok { (counted : List Counted) → AreFor self.old additions.old counted
-            → OnOk result (AreFor self.new additions.new (counted ++ counted_as definition.now flow_record.now ∷ [])) }
-        ensures err { OnErr result (additions.new ≡ additions.old) }
+        ensures kept { (more : List OneCount) → HavePlaces self.old more → HavePlaces self.new more }
+        ensures ok { OnOk result (HavePlaces self.new counts.now) }
     {
-        let group = Group::of(self.alloc, definition, flow_record)?;
-        let place = self.place_of(group)?;
-        additions.push(Addition {
-            place,
-            counters: Sums::of_record(flow_record),
-        })
+        for count in counts {
+            self.make_place(&count.group)?;
+        }
+        Ok(())
     }
 
-    /// Counts the records for which the additions were reserved, since the groups were last closed. It takes no
-    /// memory.
-    pub fn add_reserved(&mut self, additions: Additions)
-        ensures { (before counted : List Counted) → StandsFor self.old before → AreFor self.old additions counted → StandsFor self.new (before ++ counted) }
+    /// Adds what records count, for which places were reserved since groups were last closed. It takes no memory.
+    pub fn add_reserved(&mut self, counts: Vec<Count>)
+        requires { HavePlaces self.old counts.items }
+        ensures { (before more : List Counted) → StandsFor self.old before → counts.items ≡ map count_of more → StandsFor self.new (before ++ more) }
     {
-        // No group stands twice.
-        let _count = self.groups.len();
-        self.add_all(additions.into_vec());
+        for count in counts {
+            self.add_one(&count);
+        }
     }
 
-    /// Drops the groups that an advance of the clock to `t` closes. Additions that were reserved before are void.
+    /// Drops the groups that an advance of the clock to `t` closes. What was reserved before is so no more.
     pub fn close(&mut self, t: u64)
         ensures { (counted : List Counted) → StandsFor self.old counted → StandsFor self.new (staying t counted) }
     {
@@ -140,39 +121,29 @@ impl Running {
         );
     }
 
-    /// The place of the group, which is made where it is wanting.
-    fn place_of(&mut self, group: Group) -> Result<usize, AllocError>
+    /// Makes the group where it is wanting.
+    fn make_place(&mut self, group: &Group) -> Result<(), AllocError>
         ensures same { (g : OneGroup) → sums_at self.new g ≡ sums_at self.old g }
-        ensures kept { (place : ℕ) (g : OneGroup) → group_at place self.old ≡ Some g → group_at place self.new ≡ Some g }
-        ensures place { IfOk result (λ place. group_at place self.new ≡ Some group) }
+        ensures kept { (g : OneGroup) → has_place self.old g ≡ true → has_place self.new g ≡ true }
+        ensures ok { OnOk result (has_place self.new group.now ≡ true) }
     {
-        if let Some(place) = self.groups.get_index_of(&group) {
-            return Ok(place);
+        if !self.groups.contains_key(group) {
+            self.groups.insert(group.share()?, None)?;
         }
-        let (place, _) = self.groups.insert_full(group, None)?;
-        Ok(place)
+        Ok(())
     }
 
-    fn add_all(&mut self, additions: Vec<Addition>)
-        ensures { self.new ≡ with_all self.old additions.items }
+    fn add_one(&mut self, count: &Count)
+        ensures { self.new ≡ with_count self.old count.now }
     {
-        for addition in additions {
-            self.add_one(addition);
-        }
-    }
-
-    fn add_one(&mut self, addition: Addition)
-        ensures { self.new ≡ with_one self.old addition }
-    {
-        if let Some(sums) = self.groups.get_index_mut(addition.place) {
-            *sums = Some(with_counters(*sums, addition.counters));
+        if let Some(sums) = self.groups.get_mut(&count.group) {
+            *sums = Some(with_counters(*sums, count.counters));
         }
     }
 }
 
 ghost use Rattle.std.specs.Prelude.{unwrap_or};
-ghost use Rattle.flow_aggregate.specs.Sums.{plus};
-ghost use Rattle.flow_aggregate.specs.Adding.{no_sums};
+ghost use Rattle.flow_aggregate.specs.Sums.{no_sums, plus};
 
 /// The sums of a group with one record more.
 fn with_counters(sums: Option<Sums>, counters: Sums) -> Sums

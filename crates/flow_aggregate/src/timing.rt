@@ -1,6 +1,6 @@
 //! In which interval a record counts.
-ghost use Rattle.std.specs.Prelude.{◌≡◌, ◌≤◌};
-ghost use Rattle.flow_aggregate.specs.Placing.{start_of, interval_start, has_key, timing_of};
+ghost use Rattle.std.specs.Prelude.{◌≡◌, ◌≤◌, ◌*◌, ◌/◌};
+ghost use Rattle.flow_aggregate.specs.Placing.{start_of, has_key, timing_of};
 
 use crate::values::{
     FLOW_START_MILLISECONDS, FLOW_START_SECONDS, MILLISECONDS, first_number, first_value,
@@ -41,7 +41,7 @@ pub fn judge_time(definition: &AggregateDef, flow_record: &Record, closed_to: u6
     if !has_key(definition.key(), flow_record) {
         return Timing::NoKey;
     }
-    let start = interval_start(definition, time);
+    let start = interval_start(definition.interval(), time);
     let width = u64::from(definition.interval()) * MILLISECONDS;
     if start + width + u64::from(definition.grace()) * MILLISECONDS <= closed_to {
         Timing::Late
@@ -50,14 +50,13 @@ pub fn judge_time(definition: &AggregateDef, flow_record: &Record, closed_to: u6
     }
 }
 
-/// Where the interval that holds this time starts.
-pub(crate) fn interval_start(definition: &AggregateDef, time: u64) -> u64
-    ensures value { result ≡ interval_start definition.now time }
+/// Where the interval that holds this time starts, of intervals of so many seconds.
+pub(crate) fn interval_start(interval: u32, time: u64) -> u64
+    requires { 1 ≤ interval }
+    ensures value { result ≡ time / (interval * 1000) * (interval * 1000) }
     ensures within { result ≤ time }
 {
-    // The range of the interval.
-    let _key = definition.key();
-    let width = u64::from(definition.interval()) * MILLISECONDS;
+    let width = u64::from(interval) * MILLISECONDS;
     time / width * width
 }
 

@@ -1,6 +1,6 @@
 -- A plan that is carried out: the cuts, and then the message.
 use Rattle.std.proofs.Common.{◌≡◌, ◌≢◌, ℕ, ◌+◌, ◌*◌, ◌≤◌, ◌<◌, ◌^◌, Bool, true, false, cond, List, [], ◌∷◌, ◌++◌, length, map, take, drop, Option, Some, None, refl, sym, ap, ◌∙◌, subst, arith, length-append}
-use Rattle.std.specs.Prelude.{IsSomeAnd, IfSome}
+use Rattle.std.specs.Prelude.{IsSomeAnd, IfSome, not, ◌&&◌}
 use Rattle.std.specs.Option.{option_map}
 use Rattle.std.specs.List.{flat_map, AllByRecursion}
 use Rattle.std.proofs.lemmas.List.{length-drop, take-append-drop}
@@ -14,26 +14,33 @@ use Rattle.subscriber_stream.proofs.CallLaws.{parts_bring}
 use Rattle.subscriber_stream.proofs.Standings.{records_in-append}
 use Rattle.disclosure_audit.specs.declared.entry.AuditEntry.{AuditEntry}
 use Rattle.event_journal.specs.declared.entry.Entry.{Entry}
-use Rattle.event_journal.specs.declared.entry.Entry.TheVariants.{Message}
+use Rattle.event_journal.specs.declared.entry.Entry.TheVariants.{Message, Advance}
 use Rattle.mediator_history.specs.Numbers.{AreDistinct, is_in}
 use Rattle.mediator_history.specs.Sessions.{is_open, messages_of}
 use Rattle.mediator_history.specs.Subscriptions.{is_served, subscribed_in, served}
+use Rattle.mediator_history.specs.Counting.{counted_at}
 use Rattle.mediator_history.specs.Disclosed.{given_at, disclosed}
 use Rattle.mediator_history.specs.Auditing.{audit_list}
 use Rattle.mediator_history.specs.Cuts.{after_cuts}
 use Rattle.mediator_history.proofs.ListFilters.{distinct_filter}
-use Rattle.mediator_history.proofs.EntryLaws.{messages_few}
-use Rattle.mediator_history.proofs.CutLaws.{is_open-cuts, messages-cuts, length-cuts}
-use Rattle.record_sharing.specs.Sharing.{shown}
+use Rattle.mediator_history.proofs.EntryLaws.{messages_few, all_served}
+use Rattle.mediator_history.proofs.CutLaws.{is_open-cuts, messages-cuts, length-cuts, is_served-cuts}
+use Rattle.flow_aggregate.specs.Counts.{Count, count_of, HavePlaces}
+use Rattle.flow_aggregate.specs.Running.{Entries}
+use Rattle.running_groups.specs.Table.{groups_at}
+use Rattle.record_sharing.specs.Sharing.{shown, tallied}
 use Rattle.open_sessions.specs.declared.open_session.OpenSession.{OpenSession}
 use Rattle.live_subscriptions.specs.declared.subscription.Subscription.{Subscription}
 use Rattle.live_subscriptions.specs.Table.{at, cut_off, HasSpare, IsReady, AreReadyAmong}
 use Rattle.mediator_state.specs.declared.engine.Engine.{Engine}
+use Rattle.mediator_state.specs.declared.closing.Closing.{Closing}
 use Rattle.mediator_state.specs.declared.plan.Plan.{Plan}
 use Rattle.mediator_state.specs.Standing.{Stands, place, IsSession, IsLiveAs, AreInRange}
 use Rattle.mediator_state.specs.Steps.{CutsInARow, HasAuditRoom}
-use Rattle.mediator_state.specs.Planning.{share_at, HasRoomIn, AreStreamed, IsPlan}
+use Rattle.mediator_state.specs.Counting.{HaveGroups, AreCountable}
+use Rattle.mediator_state.specs.Planning.{share_at, tally_at, AreTallied, HasRoomIn, AreStreamed, IsJudged, IsPlan}
 use Rattle.mediator_state.specs.Accepting.{HasRoomForPlan, IsPlannedFor, IsReadyToTake, IsMessage}
+use Rattle.mediator_state.specs.Advancing.{HasRoomToClose, IsClosingFor, IsReadyToClose, AreClosings}
 use Rattle.mediator_state.proofs.MessageSteps.{few_given}
 
 -- ---- counts
@@ -111,15 +118,60 @@ spares_kept d e cuts row (share ∷ shares) spares = (
   spares_kept d e cuts row shares spares.1,
 )
 
+-- the streams of those that are left are ready for what an entry gives them
+pub streams_ready : (d e : Engine) (h : List Entry) (x : Entry) (cuts : List ℕ) (shares : List (ℕ × List DataRecord))
+    → Stands e (after_cuts h cuts) → length (after_cuts h cuts) ≤ 200000000 → CutsInARow cuts d e → shares ≡ map (share_at (after_cuts h cuts) x) (served (after_cuts h cuts))
+    → AllByRecursion (HasRoomIn d.subscriptions) shares → AllByRecursion (HasSpare d.subscriptions.live) shares → AreReadyAmong e.subscriptions.live shares
+streams_ready d e h x cuts shares so long row are rooms spares =
+    subst (AreReadyAmong e.subscriptions.live) (sym are)
+    (ready_all e (λ n. given_at n (after_cuts h cuts) x) (served (after_cuts h cuts))
+    (λ n has spare. ready_one e.limits (after_cuts h cuts) (n, given_at n (after_cuts h cuts) x) (at e.subscriptions n) so.limits long (so.small.listed n) (so.subscriptions n) has spare)
+    (distinct_filter (λ s. is_served s (after_cuts h cuts)) (flat_map subscribed_in (after_cuts h cuts)) so.numbered.distinct)
+    (subst (AllByRecursion (HasRoomIn e.subscriptions)) are (rooms_kept d e cuts row shares rooms))
+    (subst (AllByRecursion (HasSpare e.subscriptions.live)) are (spares_kept d e cuts row shares spares)))
+
+-- ---- groups
+
+left_uncut : (h : List Entry) (cuts : List ℕ) (ns : List ℕ) → AllByRecursion (λ n. is_served n (after_cuts h cuts) ≡ true) ns → AllByRecursion (λ n. is_in n cuts ≡ false) ns
+left_uncut h cuts [] on = tt
+left_uncut h cuts (n ∷ ns) on = (uncut (is_served n h) (is_in n cuts) (sym (is_served-cuts n h cuts) ∙ on.0), left_uncut h cuts ns on.1) where
+  uncut : (a b : Bool) → (a && not b) ≡ true → b ≡ false
+  uncut true false so = refl
+  uncut true true so = absurd cc
+  uncut false b so = absurd cc
+
+tallies_apart : (g : ℕ → List Count) (n : ℕ) (ns : List ℕ) → AllByRecursion (λ m. m ≢ n) ns → AllByRecursion (λ (o : ℕ × List Count). o.0 ≢ n) (map (λ m. (m, g m)) ns)
+tallies_apart g n [] apart = tt
+tallies_apart g n (m ∷ ns) apart = (apart.0, tallies_apart g n ns apart.1)
+
+countable_all : (d e : Engine) (cuts : List ℕ) (g : ℕ → List Count) (ns : List ℕ) → CutsInARow cuts d e → AreDistinct ns → AllByRecursion (λ n. is_in n cuts ≡ false) ns
+    → AllByRecursion (HaveGroups d.groups) (map (λ n. (n, g n)) ns) → AreCountable e.groups (map (λ n. (n, g n)) ns)
+countable_all d e cuts g [] row distinct uncut has = tt
+countable_all d e cuts g (n ∷ ns) row distinct uncut has = (
+  subst (λ (es : Entries). HavePlaces es (g n)) (sym (row.groups n ∙ ap (λ (b : Bool). cond b [] (groups_at d.groups n)) uncut.0)) has.0,
+  tallies_apart g n ns distinct.0,
+  countable_all d e cuts g ns row distinct.1 uncut.1 has.1,
+)
+
+groups_ready : (d e : Engine) (h : List Entry) (x : Entry) (cuts : List ℕ) (tallies : List (ℕ × List Count))
+    → Stands e (after_cuts h cuts) → CutsInARow cuts d e → AreTallied (after_cuts h cuts) x tallies → AllByRecursion (HaveGroups d.groups) tallies → AreCountable e.groups tallies
+groups_ready d e h x cuts tallies so row are has =
+    subst (AreCountable e.groups) (sym are)
+    (countable_all d e cuts (λ n. map count_of (counted_at n (after_cuts h cuts) x)) (served (after_cuts h cuts)) row
+    (distinct_filter (λ s. is_served s (after_cuts h cuts)) (flat_map subscribed_in (after_cuts h cuts)) so.numbered.distinct)
+    (left_uncut h cuts (served (after_cuts h cuts)) (all_served (after_cuts h cuts)))
+    (subst (AllByRecursion (HaveGroups d.groups)) are has))
+
 -- ---- a plan
 
 -- behind the cuts the message is what the plan says
 pub is_message : (d e : Engine) (h : List Entry) (number : ℕ) (octets : List ℕ) (p : Plan) → IsPlan d h number octets p → HasRoomForPlan d p → CutsInARow p.cuts.items d e
-    → IsMessage e (after_cuts h p.cuts.items) p.session number octets p.reading (map shown p.shares.items) p.entries.items
+    → IsMessage e (after_cuts h p.cuts.items) p.session number octets p.reading (map shown p.shares.items) (map tallied p.tallies.items) p.entries.items
 is_message d e h number octets p plan room row = record {
   opened = is_open-cuts p.session h p.cuts.items ∙ plan.opened;
   read = subst (λ ms. IsReadingOf ms octets p.reading) (sym (messages-cuts p.session h p.cuts.items)) plan.read;
   shares_are = plan.judged.shares_are;
+  tallies_are = plan.tallied_are;
   entries_are = plan.judged.entries_are;
   room = rooms_kept d e p.cuts.items row (map shown p.shares.items) plan.judged.room;
   streamable = plan.judged.streamable;
@@ -136,7 +188,7 @@ cuts_room d position p planned room = record {
 
 -- and behind them for the message
 pub ready : (d e : Engine) (position : ℕ) (p : Plan) → IsPlannedFor d position p → HasRoomForPlan d p → CutsInARow p.cuts.items d e
-    → ((h : List Entry) → Stands d h → length h ≡ position → Stands e (after_cuts h p.cuts.items)) → IsReadyToTake e p.session p.reading (map shown p.shares.items) (length p.entries.items)
+    → ((h : List Entry) → Stands d h → length h ≡ position → Stands e (after_cuts h p.cuts.items)) → IsReadyToTake e p.session p.reading (map shown p.shares.items) (map tallied p.tallies.items) (length p.entries.items)
 ready d e position p planned room row stands =
     let h = planned.history in
     let cuts = p.cuts.items in
@@ -148,13 +200,39 @@ ready d e position p planned room row stands =
       stands = so;
       session_room = subst (λ ss. IsSomeAnd (at_key p.session ss) (λ o. HasRoomFor o.session p.reading)) (sym row.rest.sessions) (session_room h p.session p.reading (at_key p.session d.sessions) (planned.stands.sessions p.session) planned.plan.opened room.session);
       session_count = subst (λ ss. IfSome (at_key p.session ss) (λ o. o.accepted + 1 < 2 ^ 64)) (sym row.rest.sessions) (session_count h p.session (at_key p.session d.sessions) (omega (arith, planned.counted, planned.short)) (planned.stands.sessions p.session));
-      streams = subst (AreReadyAmong e.subscriptions.live) (sym planned.plan.judged.shares_are)
-          (ready_all e (λ n. given_at n (after_cuts h cuts) E) (served (after_cuts h cuts))
-          (λ n has spare. ready_one e.limits (after_cuts h cuts) (n, given_at n (after_cuts h cuts) E) (at e.subscriptions n) so.limits long (so.small.listed n) (so.subscriptions n) has spare)
-          (distinct_filter (λ s. is_served s (after_cuts h cuts)) (flat_map subscribed_in (after_cuts h cuts)) so.numbered.distinct)
-          (subst (AllByRecursion (HasRoomIn e.subscriptions)) planned.plan.judged.shares_are (rooms_kept d e cuts row (map shown p.shares.items) planned.plan.judged.room))
-          (subst (AllByRecursion (HasSpare e.subscriptions.live)) planned.plan.judged.shares_are (spares_kept d e cuts row (map shown p.shares.items) room.streams)));
+      streams = streams_ready d e h E cuts (map shown p.shares.items) so long row planned.plan.judged.shares_are planned.plan.judged.room room.streams;
+      groups = groups_ready d e h E cuts (map tallied p.tallies.items) so row planned.plan.tallied_are room.groups;
       audit = omega (arith, row.entries, row.rest.audit_limit, room.audit);
       reserved = omega (arith, row.spare, room.reserved);
       count = omega (arith, audit_count e (after_cuts h cuts) so, long, room.audit, room.limit);
     }
+
+-- ---- an advance of the clock
+
+pub close_cuts_room : (d : Engine) (position t : ℕ) (c : Closing) → IsClosingFor d position t c → HasRoomToClose d c → HasAuditRoom d.audit (length c.cuts.items)
+close_cuts_room d position t c planned room = record {
+  room = room.audit.room;
+  reserved = room.audit.reserved;
+  count = omega (arith, audit_count d planned.history planned.stands, planned.counted, planned.short, room.audit.room, room.audit.limit);
+}
+
+pub ready_to_close : (d e : Engine) (position t : ℕ) (c : Closing) → IsClosingFor d position t c → HasRoomToClose d c → CutsInARow c.cuts.items d e
+    → ((h : List Entry) → Stands d h → length h ≡ position → Stands e (after_cuts h c.cuts.items)) → IsReadyToClose e (map shown c.shares.items)
+ready_to_close d e position t c planned room row stands =
+    let h = planned.history in
+    let cuts = c.cuts.items in
+    let so : Stands e (after_cuts h cuts) = stands h planned.stands planned.counted in
+    let long : length (after_cuts h cuts) ≤ 200000000 = omega (arith, length-cuts h cuts, planned.counted, planned.short, room.audit.room, room.audit.limit) in
+    record {
+      history = after_cuts h cuts;
+      stands = so;
+      streams = streams_ready d e h (Advance t) cuts (map shown c.shares.items) so long row planned.judged.shares_are planned.judged.room room.streams;
+    }
+
+pub are_closings : (d e : Engine) (h : List Entry) (t : ℕ) (c : Closing) → IsJudged d h (Advance t) c.cuts.items (map shown c.shares.items) [] → CutsInARow c.cuts.items d e
+    → AreClosings e (after_cuts h c.cuts.items) t (map shown c.shares.items)
+are_closings d e h t c judged row = record {
+  shares_are = judged.shares_are;
+  room = rooms_kept d e c.cuts.items row (map shown c.shares.items) judged.room;
+  streamable = judged.streamable;
+}

@@ -65,6 +65,7 @@ lacks_after (fault.Policy why) limits count octets h more c lacks = absurd lacks
 lacks_after fault.BadName limits count octets h more c lacks = absurd lacks
 lacks_after (fault.AlreadySubscribed sub) limits count octets h more c lacks = absurd lacks
 lacks_after fault.UnknownSub limits count octets h more c lacks = absurd lacks
+lacks_after (fault.ClockBack last) limits count octets h more c lacks = absurd lacks
 lacks_after (fault.AuditFull need room) limits count octets h more c lacks = absurd lacks
 
 -- ---- a message and its cuts
@@ -83,17 +84,17 @@ cuts_of e h session number octets p is plan =
     ap (λ (cuts : List ℕ). map Cut cuts) plan.judged.cuts_are ∙ ap (λ (s : ℕ). cuts_before e.limits h (Message s number octets) (waiting_of e)) is
 
 -- the entries that are appended
-pub entries_are : (e : Engine) (h : List Entry) (session number : ℕ) (octets : List ℕ) (p : Plan) (entries : List Entry) → p.session ≡ session → entries ≡ map Cut p.cuts.items ++ Message session number octets ∷ [] → IsPlan e h number octets p → entries ≡ with_cuts e h session number octets
+pub entries_are : (e : Engine) (h : List Entry) (session number : ℕ) (octets : List ℕ) (p : Plan) (entries : List Entry) → p.session ≡ session → entries ≡ map Cut p.cuts.items ++ Message session number octets ∷ [] → IsPlan e h number octets p → entries ≡ with_cuts e h (Message session number octets)
 entries_are e h session number octets p entries is made plan =
     made ∙ ap (λ (cuts : List Entry). cuts ++ Message session number octets ∷ []) (cuts_of e h session number octets p is plan)
 
 -- ---- what is noted of it
 
-length-cut_entries : (n : ℕ) (subs : List ℕ) → length (cut_entries n subs) ≡ length subs
+pub length-cut_entries : (n : ℕ) (subs : List ℕ) → length (cut_entries n subs) ≡ length subs
 length-cut_entries n [] = refl
 length-cut_entries n (sub ∷ subs) = ap (λ (k : ℕ). suc k) (length-cut_entries (n + 1) subs)
 
-noted_of : (e : Engine) (h : List Entry) (session number : ℕ) (octets : List ℕ) (p : Plan) → p.session ≡ session → IsPlan e h number octets p → audit_list (h ++ with_cuts e h session number octets) ≡ audit_list h ++ (cut_entries (length h) p.cuts.items ++ p.entries.items)
+noted_of : (e : Engine) (h : List Entry) (session number : ℕ) (octets : List ℕ) (p : Plan) → p.session ≡ session → IsPlan e h number octets p → audit_list (h ++ with_cuts e h (Message session number octets)) ≡ audit_list h ++ (cut_entries (length h) p.cuts.items ++ p.entries.items)
 noted_of e h session number octets p is plan =
     let message : Entry = Message session number octets in
     let cuts : List ℕ = p.cuts.items in
@@ -116,6 +117,7 @@ refused_message (fault.Policy why) limits e h session number octets r = r
 refused_message fault.BadName limits e h session number octets r = r
 refused_message (fault.AlreadySubscribed sub) limits e h session number octets r = r
 refused_message fault.UnknownSub limits e h session number octets r = r
+refused_message (fault.ClockBack last) limits e h session number octets r = r
 refused_message (fault.AuditFull need room) limits e h session number octets r = absurd r
 
 -- what was found out of a message before it is accepted
@@ -156,6 +158,7 @@ refused_audit (fault.Policy why) limits count sizes e h session number octets p 
 refused_audit fault.BadName limits count sizes e h session number octets p entries c f r lacks = absurd lacks
 refused_audit (fault.AlreadySubscribed sub) limits count sizes e h session number octets p entries c f r lacks = absurd lacks
 refused_audit fault.UnknownSub limits count sizes e h session number octets p entries c f r lacks = absurd lacks
+refused_audit (fault.ClockBack last) limits count sizes e h session number octets p entries c f r lacks = absurd lacks
 
 -- ---- what an accepted message leaves
 
@@ -180,7 +183,7 @@ pub received : {C : Type 0} (tells : C → List Entry → Type 0) (limits : C �
     → tells new.chronicle (h ++ entries) → AcceptsPlan e position p new.engine → r ≡ receipt_of position (length p.cuts.items) p.reading.meaning → Receives tells limits old h session number octets r new
 received tells limits old new e count sizes h session number octets p entries r position stands c at f room same told accepts receipt =
     let counted : length h ≡ position = sym (at ∙ c.entries) in
-    let same_entries : entries ≡ with_cuts old.engine h session number octets = entries_are old.engine h session number octets p entries f.session_is f.entries_made f.plan in
+    let same_entries : entries ≡ with_cuts old.engine h (Message session number octets) = entries_are old.engine h session number octets p entries f.session_is f.entries_made f.plan in
     let after : Stands new.engine (after_cuts h p.cuts.items ++ Message p.session number octets ∷ []) = accepts h number octets (stands_same old.engine e h same stands.stands) counted (plan_same old.engine e h number octets p same f.plan) in
     let history : after_cuts h p.cuts.items ++ Message p.session number octets ∷ [] ≡ h ++ entries =
     append_assoc h (map Cut p.cuts.items) (Message p.session number octets ∷ []) ∙ ap (λ (s : ℕ). h ++ (map Cut p.cuts.items ++ Message s number octets ∷ [])) f.session_is ∙ ap (λ (more : List Entry). h ++ more) (sym f.entries_made) in
@@ -234,6 +237,7 @@ refused_subscribe (fault.Policy why) limits count sizes h name n written next is
 refused_subscribe fault.BadName limits count sizes h name n written next is c named free lacks = absurd lacks
 refused_subscribe (fault.AlreadySubscribed sub) limits count sizes h name n written next is c named free lacks = absurd lacks
 refused_subscribe fault.UnknownSub limits count sizes h name n written next is c named free lacks = absurd lacks
+refused_subscribe (fault.ClockBack last) limits count sizes h name n written next is c named free lacks = absurd lacks
 refused_subscribe (fault.AuditFull need room) limits count sizes h name n written next is c named free lacks = absurd lacks
 
 pub refused_memory : (e : Fault) (limits : Journaled) (h : List Entry) (name : List ℕ) → e ≡ fault.OutOfMemory → is_name name ≡ true → IsFree h name → RefusesSubscribe e limits h name

@@ -1,6 +1,6 @@
 -- An engine that cuts a subscription stands for the history with the cut.
 use Rattle.std.proofs.Common.{◌≡◌, ℕ, ◌+◌, ◌*◌, ◌≤◌, ◌<◌, Bool, true, false, cond, List, [], ◌∷◌, ◌++◌, length, Option, Some, None, refl, sym, ap, ◌∙◌, subst, arith, append-nil, length-append}
-use Rattle.std.specs.Prelude.{not, ◌==◌, filter, unwrap_or, if◌then◌else◌}
+use Rattle.std.specs.Prelude.{◌≢◌, not, ◌==◌, filter, unwrap_or, if◌then◌else◌}
 use Rattle.std.specs.Option.{option_map}
 use Rattle.std.specs.List.{flat_map, AllByRecursion}
 use Rattle.std.proofs.lemmas.Bool.{eqb-true, eqb-false, eq-eqb, ne_eqb}
@@ -20,16 +20,21 @@ use Rattle.event_journal.specs.declared.entry.Entry.TheVariants.{Message, Cut}
 use Rattle.mediator_history.specs.Numbers.{AreDistinct, is_in}
 use Rattle.mediator_history.specs.Sessions.{opens, is_open, opened_in, sessions_opened, message_in, messages_of}
 use Rattle.mediator_history.specs.Subscriptions.{edited, policy_in_force, texts_in, edits_made, named, name_of, begins, is_live, switched, is_served, subscribed_in, subscriptions_begun, served}
+use Rattle.mediator_history.specs.Counting.{counted}
 use Rattle.mediator_history.specs.Disclosed.{given_at, disclosed}
 use Rattle.mediator_history.specs.Auditing.{audit_at, audit_list, audit_entry}
 use Rattle.mediator_history.proofs.HistoryLaws.{flat_map-push, disclosed-push, audit-push}
+use Rattle.mediator_history.proofs.CountingLaws.{counted_same, running-cut, running-cut_other}
 use Rattle.mediator_history.proofs.EntryLaws.{served-cut, messages_same, given_same}
 use Rattle.open_sessions.specs.declared.open_session.OpenSession.{OpenSession}
 use Rattle.live_subscriptions.specs.declared.subscription.Subscription.{Subscription}
 use Rattle.live_subscriptions.specs.Table.{at, cut_off}
+use Rattle.record_sharing.specs.InForce.{InForce}
+use Rattle.running_groups.specs.Table.{groups_at}
 use Rattle.mediator_state.specs.declared.engine.Engine.{Engine}
 use Rattle.mediator_state.specs.Standing.{Stands, place, IsSession, IsSubscription, IsLiveAs, IsUnopened, IsUnbegun, AreNumbered, IsSmall, AreInRange}
 use Rattle.mediator_state.specs.Steps.{KeepsRest}
+use Rattle.mediator_state.proofs.GroupLaws.{clock_kept, groups_ended}
 
 -- ---- what stays of a session, and of the numbers, where what decides it stays
 
@@ -40,8 +45,8 @@ session_stays h g session opened messages (Some o) so = (opened ∙ so.0, so.1 �
 pub unopened_stays : (h g : List Entry) (session : ℕ) → is_open session g ≡ is_open session h → messages_of session g ≡ messages_of session h → IsUnopened h session → IsUnopened g session
 unopened_stays h g session opened messages so = record { closed = opened ∙ so.closed; silent = messages ∙ so.silent }
 
-pub unbegun_stays : (h g : List Entry) (sub : ℕ) → is_live sub g ≡ is_live sub h → (is_served sub h ≡ false → is_served sub g ≡ false) → disclosed sub g ≡ disclosed sub h → IsUnbegun h sub → IsUnbegun g sub
-unbegun_stays h g sub live unserved listed so = record { gone = live ∙ so.gone; unserved = unserved so.unserved; nothing = listed ∙ so.nothing }
+pub unbegun_stays : (h g : List Entry) (sub : ℕ) → is_live sub g ≡ is_live sub h → (is_served sub h ≡ false → is_served sub g ≡ false) → disclosed sub g ≡ disclosed sub h → counted sub g ≡ counted sub h → IsUnbegun h sub → IsUnbegun g sub
+unbegun_stays h g sub live unserved listed counts so = record { gone = live ∙ so.gone; unserved = unserved so.unserved; nothing = listed ∙ so.nothing; uncounted = counts ∙ so.uncounted }
 
 -- ---- a cut
 
@@ -112,7 +117,7 @@ begun-cut h number = ap (λ (ns : List ℕ). length ns) (subscribed-cut h number
 numbered_cut : (h : List Entry) (number : ℕ) → AreNumbered h → AreNumbered (h ++ Cut number ∷ [])
 numbered_cut h number so = record {
   sessions = λ session above. unopened_stays h (h ++ Cut number ∷ []) session (is_open-cut session h number) (messages-cut session h number) (so.sessions session (omega (arith, above, opened-cut h number)));
-  subscriptions = λ sub above. unbegun_stays h (h ++ Cut number ∷ []) sub (is_live-cut sub h number) (unserved_cut sub h number) (disclosed-cut sub h number) (so.subscriptions sub (omega (arith, above, begun-cut h number)));
+  subscriptions = λ sub above. unbegun_stays h (h ++ Cut number ∷ []) sub (is_live-cut sub h number) (unserved_cut sub h number) (disclosed-cut sub h number) (counted_same sub h (Cut number) refl) (so.subscriptions sub (omega (arith, above, begun-cut h number)));
   distinct = subst AreDistinct (sym (subscribed-cut h number)) so.distinct;
   within = subst (λ (ns : List ℕ). AllByRecursion (λ sub. sub ≤ length ns) ns) (sym (subscribed-cut h number)) so.within;
 }
@@ -127,10 +132,13 @@ small_cut h number so = record {
 pub cut_step : (d e : Engine) (h : List Entry) (number : ℕ) → Stands d h → KeepsRest d e
     → ((q : ℕ) → at e.subscriptions q ≡ (if q == number then option_map cut_off (at d.subscriptions q) else at d.subscriptions q))
     → e.subscriptions.served ≡ filter (λ q. not (q == number)) d.subscriptions.served
+    → groups_at e.groups number ≡ [] → ((q : ℕ) → q ≢ number → groups_at e.groups q ≡ groups_at d.groups q)
     → Takes d.audit.standing (audit_entry (length h) 0 number CutOff ∷ []) e.audit.standing
     → Stands e (h ++ Cut number ∷ [])
-cut_step d e h number so rest table served takes = record {
-  policy = rest.policy ∙ so.policy ∙ sym (last_of-push edited no_policy h (Cut number));
+cut_step d e h number so rest table served no_groups other_groups takes = record {
+  policy = ap (λ (f : InForce). f.policy) rest.in_force ∙ so.policy ∙ sym (last_of-push edited no_policy h (Cut number));
+  clock = clock_kept d e h (Cut number) so rest.in_force refl;
+  groups = groups_ended d e h (Cut number) number so no_groups other_groups (running-cut number h) (λ q other. running-cut_other q number h other);
   edits = rest.edits ∙ so.edits ∙ sym (ap (λ (ts : List (List ℕ)). length ts) (no_entry texts_in h (Cut number) refl));
   opened = rest.opened ∙ so.opened ∙ sym (opened-cut h number);
   begun = rest.begun ∙ so.begun ∙ sym (begun-cut h number);

@@ -22,16 +22,22 @@ use Rattle.event_journal.specs.declared.entry.Entry.TheVariants.{Open, Close, Ed
 use Rattle.mediator_history.specs.Numbers.{AreDistinct}
 use Rattle.mediator_history.specs.Sessions.{opens, is_open, opened_in, sessions_opened, message_in, messages_of}
 use Rattle.mediator_history.specs.Subscriptions.{policy_or_none, edited, policy_in_force, texts_in, edits_made, named, name_of, begins, is_live, switched, is_served, subscribed_in, subscriptions_begun, served}
+use Rattle.mediator_history.specs.Counting.{counted_at, counted, running}
 use Rattle.mediator_history.specs.Disclosed.{given_at, disclosed}
 use Rattle.mediator_history.specs.Auditing.{audit_at, audit_list}
 use Rattle.mediator_history.proofs.HistoryLaws.{flat_map-push}
 use Rattle.mediator_history.proofs.ListFilters.{distinct_push}
+use Rattle.mediator_history.proofs.CountingLaws.{counted_same, running_unserved, running-open, running-close, running-edit, running-subscribe, running-subscribe_other, running-unsubscribe, running-unsubscribe_other}
 use Rattle.mediator_history.proofs.EntryLaws.{edits_few, opened_few, subscribed_few, served_same, served-subscribe, served-unsubscribe, messages_same, given_same, audit_same}
 use Rattle.open_sessions.specs.declared.open_session.OpenSession.{OpenSession}
 use Rattle.open_sessions.specs.Table.{IsFresh}
 use Rattle.live_subscriptions.specs.declared.subscription.Subscription.{Subscription}
 use Rattle.live_subscriptions.specs.Table.{Table, at}
+use Rattle.flow_aggregate.specs.Running.{Entries, StandsFor as StandsForRecords}
+use Rattle.record_sharing.specs.InForce.{InForce, in_force_with}
+use Rattle.running_groups.specs.Table.{groups_at}
 use Rattle.mediator_state.specs.declared.engine.Engine.{Engine}
+use Rattle.mediator_state.proofs.GroupLaws.{clock_stays, clock_kept, none_stand, groups_kept, groups_ended}
 use Rattle.mediator_state.specs.Standing.{place, IsSession, IsSubscription, IsLiveAs, IsUnopened, IsUnbegun, AreNumbered, IsSmall, AreInRange, Stands, StandsSomewhere}
 
 -- ---- what stays where an entry has no word in it
@@ -90,25 +96,26 @@ unopened_stays h x session still silent so = record {
   silent = messages_same session h x silent ∙ so.silent;
 }
 
-unbegun_stays : (h : List Entry) (x : Entry) (sub : ℕ) → unwrap_or (begins sub x) false ≡ false → unwrap_or (switched sub x) false ≡ false → given_at sub h x ≡ [] → IsUnbegun h sub → IsUnbegun (h ++ x ∷ []) sub
-unbegun_stays h x sub begun on given so = record {
+unbegun_stays : (h : List Entry) (x : Entry) (sub : ℕ) → unwrap_or (begins sub x) false ≡ false → unwrap_or (switched sub x) false ≡ false → given_at sub h x ≡ [] → counted_at sub h x ≡ [] → IsUnbegun h sub → IsUnbegun (h ++ x ∷ []) sub
+unbegun_stays h x sub begun on given counts so = record {
   gone = last_of-push (begins sub) false h x ∙ ap (λ (b : Bool). unwrap_or (begins sub x) b) so.gone ∙ begun;
   unserved = last_of-push (switched sub) false h x ∙ ap (λ (b : Bool). unwrap_or (switched sub x) b) so.unserved ∙ on;
   nothing = given_same sub h x given ∙ so.nothing;
+  uncounted = counted_same sub h x counts ∙ so.uncounted;
 }
 
 -- an entry that gives out no number
 numbered_stays : (h : List Entry) (x : Entry) → opened_in x ≡ [] → subscribed_in x ≡ []
     → ((session : ℕ) → unwrap_or (opens session x) false ≡ false) → ((session : ℕ) → message_in session x ≡ [])
-    → ((sub : ℕ) → unwrap_or (begins sub x) false ≡ false) → ((sub : ℕ) → unwrap_or (switched sub x) false ≡ false) → ((sub : ℕ) → given_at sub h x ≡ [])
+    → ((sub : ℕ) → unwrap_or (begins sub x) false ≡ false) → ((sub : ℕ) → unwrap_or (switched sub x) false ≡ false) → ((sub : ℕ) → given_at sub h x ≡ []) → ((sub : ℕ) → counted_at sub h x ≡ [])
     → AreNumbered h → AreNumbered (h ++ x ∷ [])
-numbered_stays h x opened begun still silent gone off given so =
+numbered_stays h x opened begun still silent gone off given counts so =
     let same : flat_map subscribed_in (h ++ x ∷ []) ≡ flat_map subscribed_in h = flat_map-push subscribed_in h x ∙ ap (λ t. flat_map subscribed_in h ++ t) begun ∙ append-nil (flat_map subscribed_in h) in
     let count : sessions_opened (h ++ x ∷ []) ≡ sessions_opened h = count_stays opened_in h x opened in
     let count_too : subscriptions_begun (h ++ x ∷ []) ≡ subscriptions_begun h = ap (λ (t : List ℕ). length t) same in
     record {
       sessions = λ session above. unopened_stays h x session (still session) (silent session) (so.sessions session (subst (λ (n : ℕ). n < session) count above));
-      subscriptions = λ sub above. unbegun_stays h x sub (gone sub) (off sub) (given sub) (so.subscriptions sub (subst (λ (n : ℕ). n < sub) count_too above));
+      subscriptions = λ sub above. unbegun_stays h x sub (gone sub) (off sub) (given sub) (counts sub) (so.subscriptions sub (subst (λ (n : ℕ). n < sub) count_too above));
       distinct = subst AreDistinct (sym same) so.distinct;
       within = subst (λ (t : List ℕ). AllByRecursion (λ sub. sub ≤ length t) t) (sym same) so.within;
     }
@@ -151,11 +158,13 @@ same_audit e d h x so audit none = subst (StandsIn d.audit.standing) (sym (audit
 
 -- a session is opened
 pub stands-open : (e d : Engine) (h : List Entry) (n : ℕ) → Stands e h → n ≡ e.opened + 1
-    → d.policy ≡ e.policy → d.edits ≡ e.edits → d.opened ≡ n → d.begun ≡ e.begun → d.subscriptions ≡ e.subscriptions → d.audit ≡ e.audit → d.limits ≡ e.limits
+    → d.in_force ≡ e.in_force → d.groups ≡ e.groups → d.edits ≡ e.edits → d.opened ≡ n → d.begun ≡ e.begun → d.subscriptions ≡ e.subscriptions → d.audit ≡ e.audit → d.limits ≡ e.limits
     → ((q : ℕ) → q ≢ n → at_key q d.sessions ≡ at_key q e.sessions) → IsSomeAnd (at_key n d.sessions) IsFresh
     → Stands d (h ++ Open n ∷ [])
-stands-open e d h n so next policy edits opened begun table audit limits others fresh = record {
-  policy = policy ∙ so.policy ∙ sym (last_stays edited no_policy h x refl);
+stands-open e d h n so next in_force groups edits opened begun table audit limits others fresh = record {
+  policy = ap (λ (f : InForce). f.policy) in_force ∙ so.policy ∙ sym (last_stays edited no_policy h x refl);
+  clock = clock_kept e d h x so in_force refl;
+  groups = groups_kept e d h x so groups (λ sub. running-open sub n h);
   edits = edits ∙ so.edits ∙ sym (count_stays texts_in h x refl);
   opened = opened ∙ next ∙ ap (λ (m : ℕ). m + 1) so.opened ∙ sym (count_more opened_in h x n refl);
   begun = begun ∙ so.begun ∙ sym (count_stays subscribed_in h x refl);
@@ -196,18 +205,20 @@ stands-open e d h n so next policy edits opened begun table audit limits others 
       let same : flat_map subscribed_in (h ++ Open n ∷ []) ≡ flat_map subscribed_in h = flat_map-push subscribed_in h (Open n) ∙ append-nil (flat_map subscribed_in h) in
       record {
         sessions = λ session higher. unopened_stays h (Open n) session (ap (λ (o : Option Bool). unwrap_or o false) (other session (λ is. absurd (omega (arith, count, so.opened, is, higher))))) refl (so.numbered.sessions session (omega (arith, count, higher)));
-        subscriptions = λ sub higher. unbegun_stays h (Open n) sub refl refl refl (so.numbered.subscriptions sub (subst (λ (t : List ℕ). length t < sub) same higher));
+        subscriptions = λ sub higher. unbegun_stays h (Open n) sub refl refl refl refl (so.numbered.subscriptions sub (subst (λ (t : List ℕ). length t < sub) same higher));
         distinct = subst AreDistinct (sym same) so.numbered.distinct;
         within = subst (λ (t : List ℕ). AllByRecursion (λ sub. sub ≤ length t) t) (sym same) so.numbered.within;
       }
 
 -- a session is closed
 pub stands-close : (e d : Engine) (h : List Entry) (n : ℕ) → Stands e h
-    → d.policy ≡ e.policy → d.edits ≡ e.edits → d.opened ≡ e.opened → d.begun ≡ e.begun → d.subscriptions ≡ e.subscriptions → d.audit ≡ e.audit → d.limits ≡ e.limits
+    → d.in_force ≡ e.in_force → d.groups ≡ e.groups → d.edits ≡ e.edits → d.opened ≡ e.opened → d.begun ≡ e.begun → d.subscriptions ≡ e.subscriptions → d.audit ≡ e.audit → d.limits ≡ e.limits
     → ((q : ℕ) → at_key q d.sessions ≡ (if q == n then None else at_key q e.sessions))
     → Stands d (h ++ Close n ∷ [])
-stands-close e d h n so policy edits opened begun table audit limits left = record {
-  policy = policy ∙ so.policy ∙ sym (last_stays edited no_policy h x refl);
+stands-close e d h n so in_force groups edits opened begun table audit limits left = record {
+  policy = ap (λ (f : InForce). f.policy) in_force ∙ so.policy ∙ sym (last_stays edited no_policy h x refl);
+  clock = clock_kept e d h x so in_force refl;
+  groups = groups_kept e d h x so groups (λ sub. running-close sub n h);
   edits = edits ∙ so.edits ∙ sym (count_stays texts_in h x refl);
   opened = opened ∙ so.opened ∙ sym (count_stays opened_in h x refl);
   begun = begun ∙ so.begun ∙ sym (count_stays subscribed_in h x refl);
@@ -216,7 +227,7 @@ stands-close e d h n so policy edits opened begun table audit limits left = reco
   served_are = ap (λ (t : Table). t.served) table ∙ so.served_are ∙ sym (served_same h x (λ sub. refl) refl);
   audit = same_audit e d h x so audit refl;
   limits = subst AreInRange (sym limits) so.limits;
-  numbered = numbered_stays h x refl refl (λ session. ends (n == session)) (λ session. refl) (λ sub. refl) (λ sub. refl) (λ sub. refl) so.numbered;
+  numbered = numbered_stays h x refl refl (λ session. ends (n == session)) (λ session. refl) (λ sub. refl) (λ sub. refl) (λ sub. refl) (λ sub. refl) so.numbered;
   small = small_stays h x (λ sub. refl) refl so.small;
 } where
   x : Entry
@@ -244,10 +255,12 @@ stands-close e d h n so policy edits opened begun table audit limits left = reco
 
 -- a policy is put in force
 pub stands-edit : (e d : Engine) (h : List Entry) (text : List ℕ) (policy : Policy) → Stands e h → policy_of text ≡ Ok policy
-    → d.policy ≡ policy → d.edits ≡ e.edits + 1 → d.opened ≡ e.opened → d.begun ≡ e.begun → d.sessions ≡ e.sessions → d.subscriptions ≡ e.subscriptions → d.audit ≡ e.audit → d.limits ≡ e.limits
+    → d.in_force.policy ≡ policy → d.in_force.clock ≡ e.in_force.clock → d.groups ≡ e.groups → d.edits ≡ e.edits + 1 → d.opened ≡ e.opened → d.begun ≡ e.begun → d.sessions ≡ e.sessions → d.subscriptions ≡ e.subscriptions → d.audit ≡ e.audit → d.limits ≡ e.limits
     → Stands d (h ++ Edit text ∷ [])
-stands-edit e d h text p so spelled policy edits opened begun sessions table audit limits = record {
+stands-edit e d h text p so spelled policy clock groups edits opened begun sessions table audit limits = record {
   policy = policy ∙ sym (last_of-push edited no_policy h x ∙ ap (λ r. unwrap_or (policy_or_none r) (policy_in_force h)) spelled);
+  clock = clock ∙ so.clock ∙ sym (clock_stays h x refl);
+  groups = groups_kept e d h x so groups (λ sub. running-edit sub text h);
   edits = edits ∙ ap (λ (m : ℕ). m + 1) so.edits ∙ sym (count_more texts_in h x text refl);
   opened = opened ∙ so.opened ∙ sym (count_stays opened_in h x refl);
   begun = begun ∙ so.begun ∙ sym (count_stays subscribed_in h x refl);
@@ -256,7 +269,7 @@ stands-edit e d h text p so spelled policy edits opened begun sessions table aud
   served_are = ap (λ (t : Table). t.served) table ∙ so.served_are ∙ sym (served_same h x (λ sub. refl) refl);
   audit = same_audit e d h x so audit refl;
   limits = subst AreInRange (sym limits) so.limits;
-  numbered = numbered_stays h x refl refl (λ session. refl) (λ session. refl) (λ sub. refl) (λ sub. refl) (λ sub. refl) so.numbered;
+  numbered = numbered_stays h x refl refl (λ session. refl) (λ session. refl) (λ sub. refl) (λ sub. refl) (λ sub. refl) (λ sub. refl) so.numbered;
   small = small_stays h x (λ sub. refl) refl so.small;
 } where
   x : Entry
@@ -264,11 +277,14 @@ stands-edit e d h text p so spelled policy edits opened begun sessions table aud
 
 -- a subscription ends
 pub stands-unsubscribe : (e d : Engine) (h : List Entry) (n : ℕ) → Stands e h
-    → d.policy ≡ e.policy → d.edits ≡ e.edits → d.opened ≡ e.opened → d.begun ≡ e.begun → d.sessions ≡ e.sessions → d.audit ≡ e.audit → d.limits ≡ e.limits
+    → d.in_force ≡ e.in_force → d.edits ≡ e.edits → d.opened ≡ e.opened → d.begun ≡ e.begun → d.sessions ≡ e.sessions → d.audit ≡ e.audit → d.limits ≡ e.limits
     → ((q : ℕ) → at d.subscriptions q ≡ (if q == n then None else at e.subscriptions q)) → d.subscriptions.served ≡ filter (λ q. not (q == n)) e.subscriptions.served
+    → groups_at d.groups n ≡ [] → ((q : ℕ) → q ≢ n → groups_at d.groups q ≡ groups_at e.groups q)
     → Stands d (h ++ Unsubscribe n ∷ [])
-stands-unsubscribe e d h n so policy edits opened begun sessions audit limits left fewer = record {
-  policy = policy ∙ so.policy ∙ sym (last_stays edited no_policy h x refl);
+stands-unsubscribe e d h n so in_force edits opened begun sessions audit limits left fewer no_groups other_groups = record {
+  policy = ap (λ (f : InForce). f.policy) in_force ∙ so.policy ∙ sym (last_stays edited no_policy h x refl);
+  clock = clock_kept e d h x so in_force refl;
+  groups = groups_ended e d h x n so no_groups other_groups (running-unsubscribe n h) (λ q other. running-unsubscribe_other q n h other);
   edits = edits ∙ so.edits ∙ sym (count_stays texts_in h x refl);
   opened = opened ∙ so.opened ∙ sym (count_stays opened_in h x refl);
   begun = begun ∙ so.begun ∙ sym (count_stays subscribed_in h x refl);
@@ -277,7 +293,7 @@ stands-unsubscribe e d h n so policy edits opened begun sessions audit limits le
   served_are = fewer ∙ ap (filter (λ q. not (q == n))) so.served_are ∙ sym (served-unsubscribe h n);
   audit = same_audit e d h x so audit refl;
   limits = subst AreInRange (sym limits) so.limits;
-  numbered = numbered_stays h x refl refl (λ session. refl) (λ session. refl) (λ sub. ends (n == sub)) (λ sub. ends (n == sub)) (λ sub. refl) so.numbered;
+  numbered = numbered_stays h x refl refl (λ session. refl) (λ session. refl) (λ sub. ends (n == sub)) (λ sub. ends (n == sub)) (λ sub. refl) (λ sub. refl) so.numbered;
   small = small_stays h x (λ sub. refl) refl so.small;
 } where
   x : Entry
@@ -309,12 +325,14 @@ next_is_free e h n so next = none_live h e.limits n (at e.subscriptions n) (so.n
 
 -- a subscription begins
 pub stands-subscribe : (e d : Engine) (h : List Entry) (n : ℕ) (name : List ℕ) (stream : Kept) → Stands e h → n ≡ e.begun + 1
-    → d.policy ≡ e.policy → d.edits ≡ e.edits → d.opened ≡ e.opened → d.begun ≡ n → d.sessions ≡ e.sessions → d.audit ≡ e.audit → d.limits ≡ e.limits
+    → d.in_force ≡ e.in_force → d.groups ≡ e.groups → d.edits ≡ e.edits → d.opened ≡ e.opened → d.begun ≡ n → d.sessions ≡ e.sessions → d.audit ≡ e.audit → d.limits ≡ e.limits
     → StandsAt stream.standing [] 0 → stream.limits ≡ e.limits
     → ((q : ℕ) → at d.subscriptions q ≡ (if q == n then Some (record { name = name; is_cut = false; stream = stream }) else at e.subscriptions q)) → d.subscriptions.served ≡ e.subscriptions.served ++ n ∷ []
     → Stands d (h ++ Subscribe n name ∷ [])
-stands-subscribe e d h n name stream so next policy edits opened begun sessions audit limits start bound left more = record {
-  policy = policy ∙ so.policy ∙ sym (last_stays edited no_policy h x refl);
+stands-subscribe e d h n name stream so next in_force groups edits opened begun sessions audit limits start bound left more = record {
+  policy = ap (λ (f : InForce). f.policy) in_force ∙ so.policy ∙ sym (last_stays edited no_policy h x refl);
+  clock = clock_kept e d h x so in_force refl;
+  groups = groups_kept e d h x so groups still;
   edits = edits ∙ so.edits ∙ sym (count_stays texts_in h x refl);
   opened = opened ∙ so.opened ∙ sym (count_stays opened_in h x refl);
   begun = begun ∙ next ∙ ap (λ (m : ℕ). m + 1) so.begun ∙ sym (count_more subscribed_in h x n refl);
@@ -343,6 +361,15 @@ stands-subscribe e d h n name stream so next policy edits opened begun sessions 
 
   unbegun : IsUnbegun h n
   unbegun = so.numbered.subscriptions n above
+
+  still : (sub : ℕ) → running sub (h ++ Subscribe n name ∷ []) ≡ running sub h
+  still sub = by_number (sub == n) refl where
+    here : running n (h ++ Subscribe n name ∷ []) ≡ running n h
+    here = running-subscribe n name h unbegun.uncounted ∙ sym (running_unserved n h unbegun.unserved)
+
+    by_number : (same : Bool) → (sub == n) ≡ same → running sub (h ++ Subscribe n name ∷ []) ≡ running sub h
+    by_number true is = subst (λ (q : ℕ). running q (h ++ Subscribe n name ∷ []) ≡ running q h) (sym (eqb-true sub n is)) here
+    by_number false is = running-subscribe_other sub n name h (eqb-false sub n is)
 
   begun_other : (sub : ℕ) → n ≢ sub → begins sub (Subscribe n name) ≡ None
   begun_other sub apart = rw (ne_eqb n sub apart) refl
@@ -387,7 +414,7 @@ stands-subscribe e d h n name stream so next policy edits opened begun sessions 
     sessions = λ session higher. unopened_stays h (Subscribe n name) session refl refl (so.numbered.sessions session (subst (λ (m : ℕ). m < session) (count_stays opened_in h (Subscribe n name) refl) higher));
     subscriptions = λ sub higher.
         let apart : n ≢ sub = λ is. absurd (omega (arith, count, so.begun, is, higher)) in
-        unbegun_stays h (Subscribe n name) sub (ap (λ (o : Option Bool). unwrap_or o false) (begun_other sub apart)) (ap (λ (o : Option Bool). unwrap_or o false) (on_other sub apart)) refl
+        unbegun_stays h (Subscribe n name) sub (ap (λ (o : Option Bool). unwrap_or o false) (begun_other sub apart)) (ap (λ (o : Option Bool). unwrap_or o false) (on_other sub apart)) refl refl
         (so.numbered.subscriptions sub (omega (arith, count, higher)));
     distinct = subst AreDistinct (sym pushed) (distinct_push (flat_map subscribed_in h) n so.numbered.distinct new);
     within = subst (λ (t : List ℕ). AllByRecursion (λ sub. sub ≤ subscriptions_begun (h ++ Subscribe n name ∷ [])) t) (sym pushed)
@@ -405,9 +432,11 @@ no_shapes = refl
 none_streamable : AreStreamable []
 none_streamable = record { each = tt; shapes = rw no_shapes (omega arith) }
 
-pub stands-new : (d : Engine) → d.policy ≡ no_policy → d.edits ≡ 0 → d.opened ≡ 0 → d.begun ≡ 0 → d.sessions ≡ [] → d.subscriptions ≡ record { live = []; served = [] } → StandsIn d.audit.standing [] → AreInRange d.limits → Stands d []
-stands-new d policy edits opened begun sessions table audit range = record {
-  policy = policy;
+pub stands-new : (d : Engine) → d.in_force ≡ in_force_with no_policy 0 → ((q : ℕ) → groups_at d.groups q ≡ []) → d.edits ≡ 0 → d.opened ≡ 0 → d.begun ≡ 0 → d.sessions ≡ [] → d.subscriptions ≡ record { live = []; served = [] } → StandsIn d.audit.standing [] → AreInRange d.limits → Stands d []
+stands-new d in_force groups edits opened begun sessions table audit range = record {
+  policy = ap (λ (f : InForce). f.policy) in_force;
+  clock = ap (λ (f : InForce). f.clock) in_force;
+  groups = λ sub. subst (λ (es : Entries). StandsForRecords es []) (sym (groups sub)) none_stand;
   edits = edits;
   opened = opened;
   begun = begun;
@@ -418,7 +447,7 @@ stands-new d policy edits opened begun sessions table audit range = record {
   limits = range;
   numbered = record {
     sessions = λ session above. record { closed = refl; silent = refl };
-    subscriptions = λ sub above. record { gone = refl; unserved = refl; nothing = refl };
+    subscriptions = λ sub above. record { gone = refl; unserved = refl; nothing = refl; uncounted = refl };
     distinct = tt;
     within = tt;
   };

@@ -25,8 +25,7 @@ use Rattle.ipfix_session.specs.Meaning.{Meaning, meaning_of, contents_of, read_i
 use Rattle.ipfix_session.specs.ReadAhead.{IsReadingOf}
 use Rattle.ipfix_session.specs.Standing.{StandsFor}
 use Rattle.ipfix_session.specs.declared.read_error.ReadError.{ReadError}
-use Rattle.policy_text.specs.declared.rule.Rule.{Rule}
-use Rattle.flow_anonymize.specs.Disclosed.{disclosure_of}
+use Rattle.flow_aggregate.specs.Counts.{Count, count_of}
 use Rattle.subscriber_stream.specs.declared.limits.Limits.{Limits}
 use Rattle.subscriber_stream.specs.Shapes.{shapes_after}
 use Rattle.subscriber_stream.specs.Standing.{Kept, HasRoom, queued}
@@ -38,17 +37,21 @@ use Rattle.mediator_history.specs.Numbers.{is_in}
 use Rattle.mediator_history.specs.Sessions.{is_open, messages_of}
 use Rattle.mediator_history.specs.Subscriptions.{policy_in_force, name_of, is_live, is_served, served}
 use Rattle.mediator_history.specs.Accepted.{records_meant, records_at, accepted_as}
+use Rattle.mediator_history.specs.Counting.{clock_of, counts_for, counted_at}
 use Rattle.mediator_history.specs.Disclosed.{given_at, disclosed}
-use Rattle.mediator_history.specs.Auditing.{kept_back, audit_entry, audit_of, audit_at}
+use Rattle.mediator_history.specs.Auditing.{audit_entry, audit_of, audit_at}
 use Rattle.mediator_history.specs.Cuts.{overflows, is_cut_by, after_cuts}
 use Rattle.mediator_history.proofs.ListFilters.{filter_alike, is_in-filter}
 use Rattle.mediator_history.proofs.EntryLaws.{all_served, is_in-served, served_is_live}
 use Rattle.mediator_history.proofs.Counts.{few_records}
 use Rattle.mediator_history.proofs.CutLaws.{length-cuts, policy-cuts, name-cuts, messages-cuts, is_served-cuts, served-cuts, given-served, given-cuts}
+use Rattle.mediator_history.proofs.CountingLaws.{clock-cuts}
 use Rattle.record_sharing.specs.declared.served.Served.{Served}
 use Rattle.record_sharing.specs.declared.shares.Note.{Note}
 use Rattle.record_sharing.specs.declared.shares.Share.{Share}
-use Rattle.record_sharing.specs.Sharing.{given, shown, share_of, shares_of, note_of, noted, noted_of_each, notes_of}
+use Rattle.record_sharing.specs.declared.shares.Tally.{Tally}
+use Rattle.record_sharing.specs.InForce.{InForce, in_force_with}
+use Rattle.record_sharing.specs.Sharing.{given_by, added_by, kept_by, shown, tallied, share_of, shares_of, tallies_of, note_of, noted, noted_of_each, notes_of}
 use Rattle.open_sessions.specs.declared.open_session.OpenSession.{OpenSession}
 use Rattle.live_subscriptions.specs.declared.subscription.Subscription.{Subscription}
 use Rattle.live_subscriptions.specs.Table.{Table, at, told, told_in, lacks_room, lacks_room_at}
@@ -57,7 +60,7 @@ use Rattle.mediator_state.specs.declared.plan.Judged.{Judged}
 use Rattle.mediator_state.specs.declared.plan.Plan.{Plan}
 use Rattle.mediator_state.specs.Standing.{Stands, IsSession, IsLiveAs}
 use Rattle.mediator_state.specs.Seen.{waiting_in, waiting_of}
-use Rattle.mediator_state.specs.Planning.{lacks, has, stamp, share_at, HasRoomIn, AreStreamed, IsJudged, IsJudgedFor, IsInTurn, IsPlan}
+use Rattle.mediator_state.specs.Planning.{lacks, has, stamp, share_at, tally_at, AreTallied, HasRoomIn, AreStreamed, IsJudged, IsJudgedFor, IsInTurn, IsPlan}
 
 -- ---- lists
 
@@ -134,84 +137,127 @@ all_told e h all so tells =
     ∙ ap (map (told_in e.subscriptions)) so.served_are
     ∙ map_same (told_in e.subscriptions) (known h) (served h) (all_on (λ sub. told_in e.subscriptions sub ≡ known h sub) h (told_is e h so))
 
--- ---- what a message gives
+-- ---- what a message gives, and what it adds to aggregates
+
+-- of these records those that pass for a subscriber of this name, and what they add to its aggregates
+abbrev given : List ℕ → ℕ → InForce → List DataRecord → List DataRecord
+given name domain f records = flat_map (given_by domain f name) records
+
+abbrev added : List ℕ → ℕ → InForce → List DataRecord → List Count
+added name domain f records = flat_map (added_by domain f name) records
 
 -- the share of a subscription of this number and name
-abbrev pub share_told : ℕ → List Rule → List DataRecord → ℕ × List ℕ → ℕ × List DataRecord
-share_told domain rules records p = (p.0, given p.1 domain rules records)
+abbrev pub share_told : ℕ → InForce → List DataRecord → ℕ × List ℕ → ℕ × List DataRecord
+share_told domain f records p = (p.0, given p.1 domain f records)
 
--- records of this domain are those of the message behind the history, under the policy in force
-pub record IsAsked (h : List Entry) (session : ℕ) (octets : List ℕ) (domain : ℕ) (rules : List Rule) (records : List DataRecord) : Type 0 where
-  pub rules_are : rules ≡ (policy_in_force h).rules
+abbrev pub tally_told : ℕ → InForce → List DataRecord → ℕ × List ℕ → ℕ × List Count
+tally_told domain f records p = (p.0, added p.1 domain f records)
+
+abbrev pub tallying : ℕ → List Count → ℕ × List Count
+tallying sub counts = (sub, counts)
+
+-- what is in force behind a history
+abbrev pub in_force_at : List Entry → InForce
+in_force_at h = in_force_with (policy_in_force h) (clock_of h)
+
+-- records of this domain are those of the message behind the history, under what is in force
+pub record IsAsked (h : List Entry) (session : ℕ) (octets : List ℕ) (domain : ℕ) (f : InForce) (records : List DataRecord) : Type 0 where
+  pub in_force_is : f ≡ in_force_at h
   pub domain_is : domain ≡ domain_of octets
   pub records_are : records ≡ records_meant (meaning_of (messages_of session h) octets)
 
-asked-cuts : (h : List Entry) (session : ℕ) (octets : List ℕ) (domain : ℕ) (rules : List Rule) (records : List DataRecord) (subs : List ℕ)
-    → IsAsked h session octets domain rules records → IsAsked (after_cuts h subs) session octets domain rules records
-asked-cuts h session octets domain rules records subs is = record {
-  rules_are = is.rules_are ∙ ap (λ p. p.rules) (sym (policy-cuts h subs));
+in_force-cuts : (h : List Entry) (subs : List ℕ) → in_force_at (after_cuts h subs) ≡ in_force_at h
+in_force-cuts h subs = ap (λ p. in_force_with p (clock_of (after_cuts h subs))) (policy-cuts h subs) ∙ ap (in_force_with (policy_in_force h)) (clock-cuts h subs)
+
+asked-cuts : (h : List Entry) (session : ℕ) (octets : List ℕ) (domain : ℕ) (f : InForce) (records : List DataRecord) (subs : List ℕ)
+    → IsAsked h session octets domain f records → IsAsked (after_cuts h subs) session octets domain f records
+asked-cuts h session octets domain f records subs is = record {
+  in_force_is = is.in_force_is ∙ sym (in_force-cuts h subs);
   domain_is = is.domain_is;
   records_are = is.records_are ∙ ap (λ older. records_meant (meaning_of older octets)) (sym (messages-cuts session h subs));
 }
 
-given_told : (h : List Entry) (session number : ℕ) (octets : List ℕ) (domain : ℕ) (rules : List Rule) (records : List DataRecord)
-    → IsAsked h session octets domain rules records → (sub : ℕ) → is_served sub h ≡ true → given (name_of sub h) domain rules records ≡ given_at sub h (Message session number octets)
-given_told h session number octets domain rules records is sub on =
-    ap (λ rs. given (name_of sub h) domain rs records) is.rules_are
-    ∙ ap (λ d. given (name_of sub h) d (policy_in_force h).rules records) is.domain_is
-    ∙ ap (λ rs. given (name_of sub h) (domain_of octets) (policy_in_force h).rules rs) is.records_are
+given_told : (h : List Entry) (session number : ℕ) (octets : List ℕ) (domain : ℕ) (f : InForce) (records : List DataRecord)
+    → IsAsked h session octets domain f records → (sub : ℕ) → is_served sub h ≡ true → given (name_of sub h) domain f records ≡ given_at sub h (Message session number octets)
+given_told h session number octets domain f records is sub on =
+    ap (λ g. given (name_of sub h) domain g records) is.in_force_is
+    ∙ ap (λ d. given (name_of sub h) d (in_force_at h) records) is.domain_is
+    ∙ ap (λ rs. given (name_of sub h) (domain_of octets) (in_force_at h) rs) is.records_are
     ∙ sym (given-served sub session number octets h on)
 
-shares_at : (h : List Entry) (session number : ℕ) (octets : List ℕ) (domain : ℕ) (rules : List Rule) (records : List DataRecord) (left : List Served)
-    → IsAsked h session octets domain rules records → map told left ≡ map (known h) (served h)
-    → shares_of domain rules records left ≡ map (share_at h (Message session number octets)) (served h)
-shares_at h session number octets domain rules records left is tells =
-    sym (map-map (share_told domain rules records) told left)
-    ∙ ap (map (share_told domain rules records)) tells
-    ∙ map-map (share_told domain rules records) (known h) (served h)
-    ∙ map_same (λ sub. share_told domain rules records (known h sub)) (share_at h (Message session number octets)) (served h)
-    (all_on (λ sub. share_told domain rules records (known h sub) ≡ share_at h (Message session number octets) sub) h (λ sub on. ap (sharing sub) (given_told h session number octets domain rules records is sub on)))
+counted-served : (sub session number : ℕ) (octets : List ℕ) (h : List Entry) → is_served sub h ≡ true
+    → counted_at sub h (Message session number octets) ≡ flat_map (counts_for sub h (domain_of octets)) (records_meant (meaning_of (messages_of session h) octets))
+counted-served sub session number octets h on = rw on refl
+
+added_told : (h : List Entry) (session number : ℕ) (octets : List ℕ) (domain : ℕ) (f : InForce) (records : List DataRecord)
+    → IsAsked h session octets domain f records → (sub : ℕ) → is_served sub h ≡ true → added (name_of sub h) domain f records ≡ map count_of (counted_at sub h (Message session number octets))
+added_told h session number octets domain f records is sub on =
+    ap (λ g. added (name_of sub h) domain g records) is.in_force_is
+    ∙ ap (λ d. added (name_of sub h) d (in_force_at h) records) is.domain_is
+    ∙ ap (λ rs. added (name_of sub h) (domain_of octets) (in_force_at h) rs) is.records_are
+    ∙ sym (map-flat_map count_of (counts_for sub h (domain_of octets)) (records_meant (meaning_of (messages_of session h) octets)))
+    ∙ ap (map count_of) (sym (counted-served sub session number octets h on))
+
+shares_at : (h : List Entry) (session number : ℕ) (octets : List ℕ) (domain : ℕ) (f : InForce) (records : List DataRecord) (left : List Served)
+    → IsAsked h session octets domain f records → map told left ≡ map (known h) (served h)
+    → shares_of domain f records left ≡ map (share_at h (Message session number octets)) (served h)
+shares_at h session number octets domain f records left is tells =
+    sym (map-map (share_told domain f records) told left)
+    ∙ ap (map (share_told domain f records)) tells
+    ∙ map-map (share_told domain f records) (known h) (served h)
+    ∙ map_same (λ sub. share_told domain f records (known h sub)) (share_at h (Message session number octets)) (served h)
+    (all_on (λ sub. share_told domain f records (known h sub) ≡ share_at h (Message session number octets) sub) h (λ sub on. ap (sharing sub) (given_told h session number octets domain f records is sub on)))
+
+tallies_at : (h : List Entry) (session number : ℕ) (octets : List ℕ) (domain : ℕ) (f : InForce) (records : List DataRecord) (left : List Served)
+    → IsAsked h session octets domain f records → map told left ≡ map (known h) (served h)
+    → tallies_of domain f records left ≡ map (tally_at h (Message session number octets)) (served h)
+tallies_at h session number octets domain f records left is tells =
+    sym (map-map (tally_told domain f records) told left)
+    ∙ ap (map (tally_told domain f records)) tells
+    ∙ map-map (tally_told domain f records) (known h) (served h)
+    ∙ map_same (λ sub. tally_told domain f records (known h sub)) (tally_at h (Message session number octets)) (served h)
+    (all_on (λ sub. tally_told domain f records (known h sub) ≡ tally_at h (Message session number octets) sub) h (λ sub on. ap (tallying sub) (added_told h session number octets domain f records is sub on)))
 
 -- ---- what the audit names
 
 -- what is kept back of a record from a subscription of this number and name
-abbrev pub audit_told : ℕ → ℕ → List Rule → ℕ × DataRecord → ℕ × List ℕ → List AuditEntry
-audit_told position domain rules r p = map (audit_entry position r.0 p.0) (kept_back (disclosure_of p.1 domain r.1 rules))
+abbrev pub audit_told : ℕ → ℕ → InForce → ℕ × DataRecord → ℕ × List ℕ → List AuditEntry
+audit_told position domain f r p = map (audit_entry position r.0 p.0) (kept_by domain f p.1 r.1)
 
-stamped_one : (position domain : ℕ) (rules : List Rule) (r : ℕ × DataRecord) (left : List Served)
-    → map (stamp position) (noted_of_each domain rules left r) ≡ flat_map (audit_told position domain rules r) (map told left)
-stamped_one position domain rules r left =
-    map-flat_map (stamp position) (noted domain rules r) left
-    ∙ flat_map-same (λ who. map (stamp position) (noted domain rules r who)) (λ who. audit_told position domain rules r (told who)) left (λ who. map-map (stamp position) (note_of r.0 who.sub) (kept_back (disclosure_of who.name.now domain r.1 rules)))
-    ∙ sym (flat_map-map (audit_told position domain rules r) told left)
+stamped_one : (position domain : ℕ) (f : InForce) (r : ℕ × DataRecord) (left : List Served)
+    → map (stamp position) (noted_of_each domain f left r) ≡ flat_map (audit_told position domain f r) (map told left)
+stamped_one position domain f r left =
+    map-flat_map (stamp position) (noted domain f r) left
+    ∙ flat_map-same (λ who. map (stamp position) (noted domain f r who)) (λ who. audit_told position domain f r (told who)) left (λ who. map-map (stamp position) (note_of r.0 who.sub) (kept_by domain f who.name.now r.1))
+    ∙ sym (flat_map-map (audit_told position domain f r) told left)
 
-notes_told : (position domain : ℕ) (rules : List Rule) (records : List DataRecord) (left : List Served)
-    → map (stamp position) (notes_of domain rules records left) ≡ flat_map (λ r. flat_map (audit_told position domain rules r) (map told left)) (enumerate_from 0 records)
-notes_told position domain rules records left =
-    map-flat_map (stamp position) (noted_of_each domain rules left) (enumerate_from 0 records)
-    ∙ flat_map-same (λ r. map (stamp position) (noted_of_each domain rules left r)) (λ r. flat_map (audit_told position domain rules r) (map told left)) (enumerate_from 0 records) (λ r. stamped_one position domain rules r left)
+notes_told : (position domain : ℕ) (f : InForce) (records : List DataRecord) (left : List Served)
+    → map (stamp position) (notes_of domain f records left) ≡ flat_map (λ r. flat_map (audit_told position domain f r) (map told left)) (enumerate_from 0 records)
+notes_told position domain f records left =
+    map-flat_map (stamp position) (noted_of_each domain f left) (enumerate_from 0 records)
+    ∙ flat_map-same (λ r. map (stamp position) (noted_of_each domain f left r)) (λ r. flat_map (audit_told position domain f r) (map told left)) (enumerate_from 0 records) (λ r. stamped_one position domain f r left)
 
 audits_at : (h : List Entry) (session number : ℕ) (octets : List ℕ)
-    → flat_map (λ r. flat_map (audit_told (length h) (domain_of octets) (policy_in_force h).rules r) (map (known h) (served h))) (enumerate_from 0 (records_meant (meaning_of (messages_of session h) octets)))
+    → flat_map (λ r. flat_map (audit_told (length h) (domain_of octets) (in_force_at h) r) (map (known h) (served h))) (enumerate_from 0 (records_meant (meaning_of (messages_of session h) octets)))
     ≡ audit_at h (Message session number octets)
 audits_at h session number octets =
     flat_map-same
-    (λ r. flat_map (audit_told (length h) (domain_of octets) (policy_in_force h).rules r) (map (known h) (served h)))
+    (λ r. flat_map (audit_told (length h) (domain_of octets) (in_force_at h) r) (map (known h) (served h)))
     (λ r. flat_map (audit_of h (accepted_as (length h) session (domain_of octets) r)) (served h))
     (enumerate_from 0 (records_meant (meaning_of (messages_of session h) octets)))
-    (λ r. flat_map-map (audit_told (length h) (domain_of octets) (policy_in_force h).rules r) (known h) (served h))
+    (λ r. flat_map-map (audit_told (length h) (domain_of octets) (in_force_at h) r) (known h) (served h))
     ∙ sym (flat_map-map (λ a. flat_map (audit_of h a) (served h)) (accepted_as (length h) session (domain_of octets)) (enumerate_from 0 (records_at h (Message session number octets))))
 
-notes_at : (h : List Entry) (session number : ℕ) (octets : List ℕ) (domain : ℕ) (rules : List Rule) (records : List DataRecord) (left : List Served) (position : ℕ)
-    → IsAsked h session octets domain rules records → map told left ≡ map (known h) (served h) → position ≡ length h
-    → map (stamp position) (notes_of domain rules records left) ≡ audit_at h (Message session number octets)
-notes_at h session number octets domain rules records left position is tells counted =
-    notes_told position domain rules records left
-    ∙ ap (λ l. flat_map (λ r. flat_map (audit_told position domain rules r) l) (enumerate_from 0 records)) tells
-    ∙ ap (λ p. flat_map (λ r. flat_map (audit_told p domain rules r) (map (known h) (served h))) (enumerate_from 0 records)) counted
-    ∙ ap (λ rs. flat_map (λ r. flat_map (audit_told (length h) domain rs r) (map (known h) (served h))) (enumerate_from 0 records)) is.rules_are
-    ∙ ap (λ d. flat_map (λ r. flat_map (audit_told (length h) d (policy_in_force h).rules r) (map (known h) (served h))) (enumerate_from 0 records)) is.domain_is
-    ∙ ap (λ rs. flat_map (λ r. flat_map (audit_told (length h) (domain_of octets) (policy_in_force h).rules r) (map (known h) (served h))) (enumerate_from 0 rs)) is.records_are
+notes_at : (h : List Entry) (session number : ℕ) (octets : List ℕ) (domain : ℕ) (f : InForce) (records : List DataRecord) (left : List Served) (position : ℕ)
+    → IsAsked h session octets domain f records → map told left ≡ map (known h) (served h) → position ≡ length h
+    → map (stamp position) (notes_of domain f records left) ≡ audit_at h (Message session number octets)
+notes_at h session number octets domain f records left position is tells counted =
+    notes_told position domain f records left
+    ∙ ap (λ l. flat_map (λ r. flat_map (audit_told position domain f r) l) (enumerate_from 0 records)) tells
+    ∙ ap (λ p. flat_map (λ r. flat_map (audit_told p domain f r) (map (known h) (served h))) (enumerate_from 0 records)) counted
+    ∙ ap (λ g. flat_map (λ r. flat_map (audit_told (length h) domain g r) (map (known h) (served h))) (enumerate_from 0 records)) is.in_force_is
+    ∙ ap (λ d. flat_map (λ r. flat_map (audit_told (length h) d (in_force_at h) r) (map (known h) (served h))) (enumerate_from 0 records)) is.domain_is
+    ∙ ap (λ rs. flat_map (λ r. flat_map (audit_told (length h) (domain_of octets) (in_force_at h) r) (map (known h) (served h))) (enumerate_from 0 rs)) is.records_are
     ∙ audits_at h session number octets
 
 -- ---- whom it cuts
@@ -228,28 +274,28 @@ lacks_over e h so sub on more = there (at e.subscriptions sub) (so.subscriptions
       (ap (λ (shapes : List Template). shapes_after shapes more) is.stream.shapes ∙ sym (shapes_on (disclosed sub h) more))
 
 -- whether a subscription of this number and name lacks room
-abbrev pub lacks_told : Table → ℕ → List Rule → List DataRecord → ℕ × List ℕ → Bool
-lacks_told t domain rules records p = lacks_room_at t (share_told domain rules records p)
+abbrev pub lacks_told : Table → ℕ → InForce → List DataRecord → ℕ × List ℕ → Bool
+lacks_told t domain f records p = lacks_room_at t (share_told domain f records p)
 
-lacks_is : (e : Engine) (h : List Entry) (session number : ℕ) (octets : List ℕ) (domain : ℕ) (rules : List Rule) (records : List DataRecord)
-    → Stands e h → IsAsked h session octets domain rules records → (sub : ℕ) → is_served sub h ≡ true
-    → lacks_told e.subscriptions domain rules records (known h sub) ≡ is_cut_by e.limits h (Message session number octets) (waiting_of e) sub
-lacks_is e h session number octets domain rules records so is sub on =
-    ap (λ more. lacks_room_at e.subscriptions (sharing sub more)) (given_told h session number octets domain rules records is sub on)
+lacks_is : (e : Engine) (h : List Entry) (session number : ℕ) (octets : List ℕ) (domain : ℕ) (f : InForce) (records : List DataRecord)
+    → Stands e h → IsAsked h session octets domain f records → (sub : ℕ) → is_served sub h ≡ true
+    → lacks_told e.subscriptions domain f records (known h sub) ≡ is_cut_by e.limits h (Message session number octets) (waiting_of e) sub
+lacks_is e h session number octets domain f records so is sub on =
+    ap (λ more. lacks_room_at e.subscriptions (sharing sub more)) (given_told h session number octets domain f records is sub on)
     ∙ lacks_over e h so sub on (given_at sub h (Message session number octets))
 
-cuts_are : (e : Engine) (h : List Entry) (session number : ℕ) (octets : List ℕ) (domain : ℕ) (rules : List Rule) (records : List DataRecord) (all : List Served)
-    → Stands e h → IsAsked h session octets domain rules records → map told all ≡ map (known h) (served h)
-    → map (λ who. who.sub) (filter (lacks e.subscriptions domain rules records) all) ≡ filter (is_cut_by e.limits h (Message session number octets) (waiting_of e)) (served h)
-cuts_are e h session number octets domain rules records all so is tells =
-    sym (map-map number_of told (filter (lacks e.subscriptions domain rules records) all))
-    ∙ ap (map number_of) (sym (filter-map (lacks_told e.subscriptions domain rules records) told all))
-    ∙ ap (λ l. map number_of (filter (lacks_told e.subscriptions domain rules records) l)) tells
-    ∙ ap (map number_of) (filter-map (lacks_told e.subscriptions domain rules records) (known h) (served h))
-    ∙ map-map number_of (known h) (filter (λ sub. lacks_told e.subscriptions domain rules records (known h sub)) (served h))
-    ∙ map_unchanged (filter (λ sub. lacks_told e.subscriptions domain rules records (known h sub)) (served h))
-    ∙ filter_alike (λ sub. lacks_told e.subscriptions domain rules records (known h sub)) (is_cut_by e.limits h (Message session number octets) (waiting_of e)) (served h)
-    (all_on (λ sub. lacks_told e.subscriptions domain rules records (known h sub) ≡ is_cut_by e.limits h (Message session number octets) (waiting_of e) sub) h (lacks_is e h session number octets domain rules records so is))
+cuts_are : (e : Engine) (h : List Entry) (session number : ℕ) (octets : List ℕ) (domain : ℕ) (f : InForce) (records : List DataRecord) (all : List Served)
+    → Stands e h → IsAsked h session octets domain f records → map told all ≡ map (known h) (served h)
+    → map (λ who. who.sub) (filter (lacks e.subscriptions domain f records) all) ≡ filter (is_cut_by e.limits h (Message session number octets) (waiting_of e)) (served h)
+cuts_are e h session number octets domain f records all so is tells =
+    sym (map-map number_of told (filter (lacks e.subscriptions domain f records) all))
+    ∙ ap (map number_of) (sym (filter-map (lacks_told e.subscriptions domain f records) told all))
+    ∙ ap (λ l. map number_of (filter (lacks_told e.subscriptions domain f records) l)) tells
+    ∙ ap (map number_of) (filter-map (lacks_told e.subscriptions domain f records) (known h) (served h))
+    ∙ map-map number_of (known h) (filter (λ sub. lacks_told e.subscriptions domain f records (known h sub)) (served h))
+    ∙ map_unchanged (filter (λ sub. lacks_told e.subscriptions domain f records (known h sub)) (served h))
+    ∙ filter_alike (λ sub. lacks_told e.subscriptions domain f records (known h sub)) (is_cut_by e.limits h (Message session number octets) (waiting_of e)) (served h)
+    (all_on (λ sub. lacks_told e.subscriptions domain f records (known h sub) ≡ is_cut_by e.limits h (Message session number octets) (waiting_of e) sub) h (lacks_is e h session number octets domain f records so is))
 
 -- ---- who is left
 
@@ -257,17 +303,17 @@ cuts_are e h session number octets domain rules records all so is tells =
 in_filter : (h : List Entry) (p : ℕ → Bool) (cuts : List ℕ) (sub : ℕ) → cuts ≡ filter p (served h) → is_served sub h ≡ true → is_in sub cuts ≡ p sub
 in_filter h p cuts sub are on = ap (is_in sub) are ∙ is_in-filter p sub (served h) ∙ ap (λ b. p sub && b) (is_in-served sub h ∙ on) ∙ and-true (p sub)
 
-left_told : (e : Engine) (h : List Entry) (session number : ℕ) (octets : List ℕ) (domain : ℕ) (rules : List Rule) (records : List DataRecord) (all : List Served) (cuts : List ℕ)
-    → Stands e h → IsAsked h session octets domain rules records → map told all ≡ map (known h) (served h)
+left_told : (e : Engine) (h : List Entry) (session number : ℕ) (octets : List ℕ) (domain : ℕ) (f : InForce) (records : List DataRecord) (all : List Served) (cuts : List ℕ)
+    → Stands e h → IsAsked h session octets domain f records → map told all ≡ map (known h) (served h)
     → cuts ≡ filter (is_cut_by e.limits h (Message session number octets) (waiting_of e)) (served h)
-    → map told (filter (has e.subscriptions domain rules records) all) ≡ map (known (after_cuts h cuts)) (served (after_cuts h cuts))
-left_told e h session number octets domain rules records all cuts so is tells are =
-    sym (filter-map (λ p. not (lacks_told e.subscriptions domain rules records p)) told all)
-    ∙ ap (filter (λ p. not (lacks_told e.subscriptions domain rules records p))) tells
-    ∙ filter-map (λ p. not (lacks_told e.subscriptions domain rules records p)) (known h) (served h)
-    ∙ ap (map (known h)) (filter_alike (λ sub. not (lacks_told e.subscriptions domain rules records (known h sub))) (λ sub. not (is_in sub cuts)) (served h)
-    (all_on (λ sub. not (lacks_told e.subscriptions domain rules records (known h sub)) ≡ not (is_in sub cuts)) h
-    (λ sub on. ap not (lacks_is e h session number octets domain rules records so is sub on ∙ sym (in_filter h (is_cut_by e.limits h (Message session number octets) (waiting_of e)) cuts sub are on)))))
+    → map told (filter (has e.subscriptions domain f records) all) ≡ map (known (after_cuts h cuts)) (served (after_cuts h cuts))
+left_told e h session number octets domain f records all cuts so is tells are =
+    sym (filter-map (λ p. not (lacks_told e.subscriptions domain f records p)) told all)
+    ∙ ap (filter (λ p. not (lacks_told e.subscriptions domain f records p))) tells
+    ∙ filter-map (λ p. not (lacks_told e.subscriptions domain f records p)) (known h) (served h)
+    ∙ ap (map (known h)) (filter_alike (λ sub. not (lacks_told e.subscriptions domain f records (known h sub))) (λ sub. not (is_in sub cuts)) (served h)
+    (all_on (λ sub. not (lacks_told e.subscriptions domain f records (known h sub)) ≡ not (is_in sub cuts)) h
+    (λ sub on. ap not (lacks_is e h session number octets domain f records so is sub on ∙ sym (in_filter h (is_cut_by e.limits h (Message session number octets) (waiting_of e)) cuts sub are on)))))
     ∙ ap (map (known h)) (sym (served-cuts h cuts))
     ∙ map_same (known h) (known (after_cuts h cuts)) (served (after_cuts h cuts))
     (all_on (λ sub. known h sub ≡ known (after_cuts h cuts) sub) (after_cuts h cuts) (λ sub on. ap (named sub) (sym (name-cuts sub h cuts))))
@@ -312,19 +358,19 @@ room_left e h session number octets cuts so are =
 
 -- ---- all of it
 
-pub is_judged : (e : Engine) (h : List Entry) (session number : ℕ) (octets : List ℕ) (domain : ℕ) (rules : List Rule) (records : List DataRecord) (all : List Served) (position : ℕ)
+pub is_judged : (e : Engine) (h : List Entry) (session number : ℕ) (octets : List ℕ) (domain : ℕ) (f : InForce) (records : List DataRecord) (all : List Served) (position : ℕ)
     (cuts : List ℕ) (shares : List (ℕ × List DataRecord)) (entries : List AuditEntry)
-    → Stands e h → IsAsked h session octets domain rules records → position ≡ length h
+    → Stands e h → IsAsked h session octets domain f records → position ≡ length h
     → map told all ≡ map (told_in e.subscriptions) e.subscriptions.served
-    → cuts ≡ map (λ who. who.sub) (filter (lacks e.subscriptions domain rules records) all)
-    → shares ≡ shares_of domain rules records (filter (has e.subscriptions domain rules records) all)
-    → entries ≡ map (stamp (position + length cuts)) (notes_of domain rules records (filter (has e.subscriptions domain rules records) all))
+    → cuts ≡ map (λ who. who.sub) (filter (lacks e.subscriptions domain f records) all)
+    → shares ≡ shares_of domain f records (filter (has e.subscriptions domain f records) all)
+    → entries ≡ map (stamp (position + length cuts)) (notes_of domain f records (filter (has e.subscriptions domain f records) all))
     → AllByRecursion AreStreamed shares
     → IsJudged e h (Message session number octets) cuts shares entries
-is_judged e h session number octets domain rules records all position cuts shares entries so is counted tells cutting giving noting streamable = record {
+is_judged e h session number octets domain f records all position cuts shares entries so is counted tells cutting giving noting streamable = record {
   cuts_are = are;
   shares_are = shared;
-  entries_are = noting ∙ notes_at (after_cuts h cuts) session number octets domain rules records (filter (has e.subscriptions domain rules records) all) (position + length cuts) (asked-cuts h session octets domain rules records cuts is) left (ap (λ n. n + length cuts) counted ∙ sym (length-cuts h cuts));
+  entries_are = noting ∙ notes_at (after_cuts h cuts) session number octets domain f records (filter (has e.subscriptions domain f records) all) (position + length cuts) (asked-cuts h session octets domain f records cuts is) left (ap (λ n. n + length cuts) counted ∙ sym (length-cuts h cuts));
   room = subst (AllByRecursion (HasRoomIn e.subscriptions)) (sym shared) (room_left e h session number octets cuts so are);
   streamable = streamable;
 } where
@@ -332,33 +378,42 @@ is_judged e h session number octets domain rules records all position cuts share
   served_are = all_told e h all so tells
 
   are : cuts ≡ filter (is_cut_by e.limits h (Message session number octets) (waiting_of e)) (served h)
-  are = cutting ∙ cuts_are e h session number octets domain rules records all so is served_are
+  are = cutting ∙ cuts_are e h session number octets domain f records all so is served_are
 
-  left : map told (filter (has e.subscriptions domain rules records) all) ≡ map (known (after_cuts h cuts)) (served (after_cuts h cuts))
-  left = left_told e h session number octets domain rules records all cuts so is served_are are
+  left : map told (filter (has e.subscriptions domain f records) all) ≡ map (known (after_cuts h cuts)) (served (after_cuts h cuts))
+  left = left_told e h session number octets domain f records all cuts so is served_are are
 
   shared : shares ≡ map (share_at (after_cuts h cuts) (Message session number octets)) (served (after_cuts h cuts))
-  shared = giving ∙ shares_at (after_cuts h cuts) session number octets domain rules records (filter (has e.subscriptions domain rules records) all) (asked-cuts h session octets domain rules records cuts is) left
+  shared = giving ∙ shares_at (after_cuts h cuts) session number octets domain f records (filter (has e.subscriptions domain f records) all) (asked-cuts h session octets domain f records cuts is) left
+
+pub is_tallied : (e : Engine) (h : List Entry) (session number : ℕ) (octets : List ℕ) (domain : ℕ) (f : InForce) (records : List DataRecord) (all : List Served) (cuts : List ℕ) (tallies : List (ℕ × List Count))
+    → Stands e h → IsAsked h session octets domain f records → map told all ≡ map (told_in e.subscriptions) e.subscriptions.served
+    → cuts ≡ map (λ who. who.sub) (filter (lacks e.subscriptions domain f records) all)
+    → tallies ≡ tallies_of domain f records (filter (has e.subscriptions domain f records) all)
+    → AreTallied (after_cuts h cuts) (Message session number octets) tallies
+is_tallied e h session number octets domain f records all cuts tallies so is tells cutting adding =
+    adding ∙ tallies_at (after_cuts h cuts) session number octets domain f records (filter (has e.subscriptions domain f records) all) (asked-cuts h session octets domain f records cuts is)
+    (left_told e h session number octets domain f records all cuts so is (all_told e h all so tells) (cutting ∙ cuts_are e h session number octets domain f records all so is (all_told e h all so tells)))
 
 -- ---- the split, share by share
 
 -- those before a place are split
 pub record IsSplit (t : Table) (all : List Served) (shares : List (ℕ × List DataRecord)) (cuts : List ℕ) (left : List Served) (place : ℕ) : Type 0 where
-  pub cutting : (domain : ℕ) (rules : List Rule) (records : List DataRecord) → shares ≡ shares_of domain rules records all
-      → cuts ≡ map (λ who. who.sub) (filter (lacks t domain rules records) (take place all))
-  pub leaving : (domain : ℕ) (rules : List Rule) (records : List DataRecord) → shares ≡ shares_of domain rules records all
-      → left ≡ filter (has t domain rules records) (take place all)
+  pub cutting : (domain : ℕ) (f : InForce) (records : List DataRecord) → shares ≡ shares_of domain f records all
+      → cuts ≡ map (λ who. who.sub) (filter (lacks t domain f records) (take place all))
+  pub leaving : (domain : ℕ) (f : InForce) (records : List DataRecord) → shares ≡ shares_of domain f records all
+      → left ≡ filter (has t domain f records) (take place all)
 
 -- whether there is no room for the share at a place
-lacks_at : (t : Table) (all : List Served) (shares : List Share) (place : ℕ) (who other : Served) (share : Share) (domain : ℕ) (rules : List Rule) (records : List DataRecord)
-    → place < length all → place < length shares → who ≡ get_or all place other → share ≡ get_or shares place share → map shown shares ≡ shares_of domain rules records all
-    → lacks_room_at t (shown share) ≡ lacks t domain rules records who
-lacks_at t all shares place who other share domain rules records within inside at is so = ap (lacks_room_at t) (
+lacks_at : (t : Table) (all : List Served) (shares : List Share) (place : ℕ) (who other : Served) (share : Share) (domain : ℕ) (f : InForce) (records : List DataRecord)
+    → place < length all → place < length shares → who ≡ get_or all place other → share ≡ get_or shares place share → map shown shares ≡ shares_of domain f records all
+    → lacks_room_at t (shown share) ≡ lacks t domain f records who
+lacks_at t all shares place who other share domain f records within inside at is so = ap (lacks_room_at t) (
     ap shown is
     ∙ sym (get_or-map shown shares place share (shown share) inside)
     ∙ ap (λ l. get_or l place (shown share)) so
-    ∙ get_or-map (share_of domain rules records) all place other (shown share) within
-    ∙ ap (share_of domain rules records) (sym at))
+    ∙ get_or-map (share_of domain f records) all place other (shown share) within
+    ∙ ap (share_of domain f records) (sym at))
 
 one_more : (p : Served → Bool) (all : List Served) (place : ℕ) (who other : Served) → place < length all → who ≡ get_or all place other
     → filter p (take (place + 1) all) ≡ filter p (take place all) ++ cond (p who) (who ∷ []) []
@@ -369,37 +424,37 @@ pub split_cut : (t : Table) (all : List Served) (shares : List Share) (cuts more
     → IsSplit t all (map shown shares) cuts left place → place < length all → place < length shares → who ≡ get_or all place other → share ≡ get_or shares place share
     → lacks_room_at t (shown share) ≡ true → more ≡ cuts ++ who.sub ∷ [] → IsSplit t all (map shown shares) more left (place + 1)
 split_cut t all shares cuts more left place who other share so within inside at is lacking grown = record {
-  cutting = λ domain rules records given.
-      grown ∙ ap (λ l. l ++ who.sub ∷ []) (so.cutting domain rules records given)
-      ∙ sym (map-append (λ w. w.sub) (filter (lacks t domain rules records) (take place all)) (who ∷ []))
-      ∙ ap (map (λ w. w.sub)) (sym (one_more (lacks t domain rules records) all place who other within at
-      ∙ ap (λ b. filter (lacks t domain rules records) (take place all) ++ cond b (who ∷ []) []) (lacked domain rules records given)));
-  leaving = λ domain rules records given.
-      so.leaving domain rules records given
-      ∙ sym (append-nil (filter (has t domain rules records) (take place all)))
-      ∙ sym (one_more (has t domain rules records) all place who other within at
-      ∙ ap (λ b. filter (has t domain rules records) (take place all) ++ cond (not b) (who ∷ []) []) (lacked domain rules records given));
+  cutting = λ domain f records given.
+      grown ∙ ap (λ l. l ++ who.sub ∷ []) (so.cutting domain f records given)
+      ∙ sym (map-append (λ w. w.sub) (filter (lacks t domain f records) (take place all)) (who ∷ []))
+      ∙ ap (map (λ w. w.sub)) (sym (one_more (lacks t domain f records) all place who other within at
+      ∙ ap (λ b. filter (lacks t domain f records) (take place all) ++ cond b (who ∷ []) []) (lacked domain f records given)));
+  leaving = λ domain f records given.
+      so.leaving domain f records given
+      ∙ sym (append-nil (filter (has t domain f records) (take place all)))
+      ∙ sym (one_more (has t domain f records) all place who other within at
+      ∙ ap (λ b. filter (has t domain f records) (take place all) ++ cond (not b) (who ∷ []) []) (lacked domain f records given));
 } where
-  lacked : (domain : ℕ) (rules : List Rule) (records : List DataRecord) → map shown shares ≡ shares_of domain rules records all → lacks t domain rules records who ≡ true
-  lacked domain rules records given = sym (lacks_at t all shares place who other share domain rules records within inside at is given) ∙ lacking
+  lacked : (domain : ℕ) (f : InForce) (records : List DataRecord) → map shown shares ≡ shares_of domain f records all → lacks t domain f records who ≡ true
+  lacked domain f records given = sym (lacks_at t all shares place who other share domain f records within inside at is given) ∙ lacking
 
 -- one that is left
 pub split_left : (t : Table) (all : List Served) (shares : List Share) (cuts : List ℕ) (left more : List Served) (place : ℕ) (who other : Served) (share : Share)
     → IsSplit t all (map shown shares) cuts left place → place < length all → place < length shares → who ≡ get_or all place other → share ≡ get_or shares place share
     → lacks_room_at t (shown share) ≡ false → more ≡ left ++ who ∷ [] → IsSplit t all (map shown shares) cuts more (place + 1)
 split_left t all shares cuts left more place who other share so within inside at is room grown = record {
-  cutting = λ domain rules records given.
-      so.cutting domain rules records given
-      ∙ ap (map (λ w. w.sub)) (sym (one_more (lacks t domain rules records) all place who other within at
-      ∙ ap (λ b. filter (lacks t domain rules records) (take place all) ++ cond b (who ∷ []) []) (has_it domain rules records given)
-      ∙ append-nil (filter (lacks t domain rules records) (take place all))));
-  leaving = λ domain rules records given.
-      grown ∙ ap (λ l. l ++ who ∷ []) (so.leaving domain rules records given)
-      ∙ sym (one_more (has t domain rules records) all place who other within at
-      ∙ ap (λ b. filter (has t domain rules records) (take place all) ++ cond (not b) (who ∷ []) []) (has_it domain rules records given));
+  cutting = λ domain f records given.
+      so.cutting domain f records given
+      ∙ ap (map (λ w. w.sub)) (sym (one_more (lacks t domain f records) all place who other within at
+      ∙ ap (λ b. filter (lacks t domain f records) (take place all) ++ cond b (who ∷ []) []) (has_it domain f records given)
+      ∙ append-nil (filter (lacks t domain f records) (take place all))));
+  leaving = λ domain f records given.
+      grown ∙ ap (λ l. l ++ who ∷ []) (so.leaving domain f records given)
+      ∙ sym (one_more (has t domain f records) all place who other within at
+      ∙ ap (λ b. filter (has t domain f records) (take place all) ++ cond (not b) (who ∷ []) []) (has_it domain f records given));
 } where
-  has_it : (domain : ℕ) (rules : List Rule) (records : List DataRecord) → map shown shares ≡ shares_of domain rules records all → lacks t domain rules records who ≡ false
-  has_it domain rules records given = sym (lacks_at t all shares place who other share domain rules records within inside at is given) ∙ room
+  has_it : (domain : ℕ) (f : InForce) (records : List DataRecord) → map shown shares ≡ shares_of domain f records all → lacks t domain f records who ≡ false
+  has_it domain f records given = sym (lacks_at t all shares place who other share domain f records within inside at is given) ∙ room
 
 -- ---- the notes, one after another
 
@@ -410,27 +465,27 @@ pub record IsStamping (position : ℕ) (notes waiting : List Note) (entries : Li
 
 -- ---- what a split answers, said of lists that were lent
 
-pub record IsSplitOf (t : Table) (domain : ℕ) (rules : List Rule) (records : List DataRecord) (all : List Served) (cuts : List ℕ) (left : List Served) : Type 0 where
-  pub cutting : cuts ≡ map (λ who. who.sub) (filter (lacks t domain rules records) all)
-  pub leaving : left ≡ filter (has t domain rules records) all
+pub record IsSplitOf (t : Table) (domain : ℕ) (f : InForce) (records : List DataRecord) (all : List Served) (cuts : List ℕ) (left : List Served) : Type 0 where
+  pub cutting : cuts ≡ map (λ who. who.sub) (filter (lacks t domain f records) all)
+  pub leaving : left ≡ filter (has t domain f records) all
 
-pub split_of : (t : Table) (domain : ℕ) (rules : List Rule) (records : List DataRecord) (all lent lent2 : List Served) (shares lent3 : List Share) (cuts : List ℕ) (left : List Served)
-    → lent ≡ all → lent2 ≡ all → lent3 ≡ shares → map shown shares ≡ shares_of domain rules records lent
-    → ((d : ℕ) (rs : List Rule) (xs : List DataRecord) → map shown lent3 ≡ shares_of d rs xs lent2 → cuts ≡ map (λ who. who.sub) (filter (lacks t d rs xs) lent2))
-    → ((d : ℕ) (rs : List Rule) (xs : List DataRecord) → map shown lent3 ≡ shares_of d rs xs lent2 → left ≡ filter (has t d rs xs) lent2)
-    → IsSplitOf t domain rules records all cuts left
-split_of t domain rules records all lent lent2 shares lent3 cuts left one two three sharing cutting leaving = record {
-  cutting = cutting domain rules records given_so ∙ ap (λ l. map (λ who. who.sub) (filter (lacks t domain rules records) l)) two;
-  leaving = leaving domain rules records given_so ∙ ap (filter (has t domain rules records)) two;
+pub split_of : (t : Table) (domain : ℕ) (f : InForce) (records : List DataRecord) (all lent lent2 : List Served) (shares lent3 : List Share) (cuts : List ℕ) (left : List Served)
+    → lent ≡ all → lent2 ≡ all → lent3 ≡ shares → map shown shares ≡ shares_of domain f records lent
+    → ((d : ℕ) (fs : InForce) (xs : List DataRecord) → map shown lent3 ≡ shares_of d fs xs lent2 → cuts ≡ map (λ who. who.sub) (filter (lacks t d fs xs) lent2))
+    → ((d : ℕ) (fs : InForce) (xs : List DataRecord) → map shown lent3 ≡ shares_of d fs xs lent2 → left ≡ filter (has t d fs xs) lent2)
+    → IsSplitOf t domain f records all cuts left
+split_of t domain f records all lent lent2 shares lent3 cuts left one two three sharing cutting leaving = record {
+  cutting = cutting domain f records given_so ∙ ap (λ l. map (λ who. who.sub) (filter (lacks t domain f records) l)) two;
+  leaving = leaving domain f records given_so ∙ ap (filter (has t domain f records)) two;
 } where
-  given_so : map shown lent3 ≡ shares_of domain rules records lent2
-  given_so = ap (map shown) three ∙ sharing ∙ ap (shares_of domain rules records) (one ∙ sym two)
+  given_so : map shown lent3 ≡ shares_of domain f records lent2
+  given_so = ap (map shown) three ∙ sharing ∙ ap (shares_of domain f records) (one ∙ sym two)
 
 -- where none is cut, all are left
-pub none_cut : (t : Table) (domain : ℕ) (rules : List Rule) (records : List DataRecord) (all lent : List Served) (cuts lent2 : List ℕ) (left lent3 : List Served)
-    → IsSplitOf t domain rules records all cuts left → lent ≡ all → lent2 ≡ cuts → lent3 ≡ left → lent2 ≡ [] → lent ≡ lent3
-none_cut t domain rules records all lent cuts lent2 left lent3 so one two three none =
-    one ∙ sym (kept_all (λ who. who.sub) (lacks t domain rules records) all (sym so.cutting ∙ sym two ∙ none)) ∙ sym so.leaving ∙ sym three
+pub none_cut : (t : Table) (domain : ℕ) (f : InForce) (records : List DataRecord) (all lent : List Served) (cuts lent2 : List ℕ) (left lent3 : List Served)
+    → IsSplitOf t domain f records all cuts left → lent ≡ all → lent2 ≡ cuts → lent3 ≡ left → lent2 ≡ [] → lent ≡ lent3
+none_cut t domain f records all lent cuts lent2 left lent3 so one two three none =
+    one ∙ sym (kept_all (λ who. who.sub) (lacks t domain f records) all (sym so.cutting ∙ sym two ∙ none)) ∙ sym so.leaving ∙ sym three
 
 -- ---- what judging answers
 
@@ -442,26 +497,30 @@ meaning_header older octets m e = found (contents_of older octets) e where
   found (Ok c) e = ap (λ x. x.header) (sym (same_Ok (record { header = header_of octets; records = c.records; skips = c.skips; gap = gap_of older octets }) m e))
   found (Err w) e = absurd cc
 
-pub judges : {E : Type 0} (e : Engine) (position : ℕ) (m : Meaning) (domain : ℕ) (records : List DataRecord) (all : List Served) (cuts : List ℕ) (left lent : List Served) (shares : List Share) (notes : List Note) (r : Result Judged E)
+pub judges : {E : Type 0} (e : Engine) (position : ℕ) (m : Meaning) (domain : ℕ) (records : List DataRecord) (all : List Served) (cuts : List ℕ) (left lent : List Served) (shares : List Share) (tallies : List Tally) (notes : List Note) (r : Result Judged E)
     → domain ≡ m.header.domain → records ≡ m.records → map told all ≡ map (told_in e.subscriptions) e.subscriptions.served
-    → IsSplitOf e.subscriptions domain e.policy.rules records all cuts left → lent ≡ left
-    → map shown shares ≡ shares_of domain e.policy.rules records lent → notes ≡ notes_of domain e.policy.rules records lent
-    → IfOk r (λ j. j.cuts.items ≡ cuts) → IfOk r (λ j. j.shares.items ≡ shares) → IfOk r (λ j. j.entries.items ≡ map (stamp (position + length cuts)) notes)
+    → IsSplitOf e.subscriptions domain e.in_force records all cuts left → lent ≡ left
+    → map shown shares ≡ shares_of domain e.in_force records lent → map tallied tallies ≡ tallies_of domain e.in_force records lent → notes ≡ notes_of domain e.in_force records lent
+    → IfOk r (λ j. j.cuts.items ≡ cuts) → IfOk r (λ j. j.shares.items ≡ shares) → IfOk r (λ j. j.tallies.items ≡ tallies) → IfOk r (λ j. j.entries.items ≡ map (stamp (position + length cuts)) notes)
     → IfOk r (λ j. AllByRecursion AreStreamed (map shown j.shares.items))
     → IfOk r (λ j. (h : List Entry) → Stands e h → length h ≡ position → IsJudgedFor e h m j)
-judges e position m domain records all cuts left lent shares notes (Err w) in_domain means tells so lending gives noting cut shared stamps streamable = tt
-judges e position m domain records all cuts left lent shares notes (Ok j) in_domain means tells so lending gives noting cut shared stamps streamable = λ h stands counted session number octets meant.
-    is_judged e h session number octets domain e.policy.rules records all position j.cuts.items (map shown j.shares.items) j.entries.items stands
-    (record {
-      rules_are = ap (λ p. p.rules) stands.policy;
+judges e position m domain records all cuts left lent shares tallies notes (Err w) in_domain means tells so lending gives adds noting cut shared counted_too stamps streamable = tt
+judges e position m domain records all cuts left lent shares tallies notes (Ok j) in_domain means tells so lending gives adds noting cut shared counted_too stamps streamable = λ h stands counted session number octets meant. (
+  is_judged e h session number octets domain e.in_force records all position j.cuts.items (map shown j.shares.items) j.entries.items stands (asked h stands session octets meant) (sym counted) tells (cut ∙ so.cutting)
+  (ap (map shown) shared ∙ gives ∙ ap (shares_of domain e.in_force records) (lending ∙ so.leaving))
+  (stamps ∙ ap (map (stamp (position + length cuts))) (noting ∙ ap (notes_of domain e.in_force records) (lending ∙ so.leaving))
+  ∙ ap (λ c. map (stamp (position + length c)) (notes_of domain e.in_force records (filter (has e.subscriptions domain e.in_force records) all))) (sym cut))
+  streamable,
+  is_tallied e h session number octets domain e.in_force records all j.cuts.items (map tallied j.tallies.items) stands (asked h stands session octets meant) tells (cut ∙ so.cutting)
+  (ap (map tallied) counted_too ∙ adds ∙ ap (tallies_of domain e.in_force records) (lending ∙ so.leaving)),
+)
+  where
+    asked : (h : List Entry) → Stands e h → (session : ℕ) (octets : List ℕ) → meaning_of (messages_of session h) octets ≡ Ok m → IsAsked h session octets domain e.in_force records
+    asked h stands session octets meant = record {
+      in_force_is = ap (λ p. in_force_with p e.in_force.clock) stands.policy ∙ ap (in_force_with (policy_in_force h)) stands.clock;
       domain_is = in_domain ∙ ap (λ x. x.domain) (meaning_header (messages_of session h) octets m meant);
       records_are = means ∙ ap records_meant (sym meant);
-    })
-    (sym counted) tells (cut ∙ so.cutting)
-    (ap (map shown) shared ∙ gives ∙ ap (shares_of domain e.policy.rules records) (lending ∙ so.leaving))
-    (stamps ∙ ap (map (stamp (position + length cuts))) (noting ∙ ap (notes_of domain e.policy.rules records) (lending ∙ so.leaving))
-    ∙ ap (λ c. map (stamp (position + length c)) (notes_of domain e.policy.rules records (filter (has e.subscriptions domain e.policy.rules records) all))) (sym cut))
-    streamable
+    }
 
 -- ---- whose turn it is
 
@@ -505,9 +564,9 @@ means_few older octets m are means = omega (arith, few_records older octets, ap 
 
 pub planned : (e : Engine) (h : List Entry) (number : ℕ) (octets : List ℕ) (p : Plan) (o : OpenSession) (j : Judged)
     → Stands e h → IsInTurn e p.session number o → ((older : List (List ℕ)) → StandsFor o.session older → IsReadingOf older octets p.reading)
-    → IsJudgedFor e h p.reading.meaning j → p.cuts ≡ j.cuts → p.shares ≡ j.shares → p.entries ≡ j.entries
+    → IsJudgedFor e h p.reading.meaning j → p.cuts ≡ j.cuts → p.shares ≡ j.shares → p.tallies ≡ j.tallies → p.entries ≡ j.entries
     → IsPlan e h number octets p
-planned e h number octets p o j so is reads judged cuts shares entries =
+planned e h number octets p o j so is reads judged cuts shares tallies entries =
     let turn : IsTurn h p.session number o = turn_of e h p.session number o so is in
     let read : IsReadingOf (messages_of p.session h) octets p.reading = reads (messages_of p.session h) turn.stands in
     record {
@@ -517,5 +576,8 @@ planned e h number octets p o j so is reads judged cuts shares entries =
       judged = subst (λ v. IsJudged e h (Message p.session number octets) v.items (map shown p.shares.items) p.entries.items) (sym cuts)
           (subst (λ v. IsJudged e h (Message p.session number octets) j.cuts.items (map shown v.items) p.entries.items) (sym shares)
           (subst (λ v. IsJudged e h (Message p.session number octets) j.cuts.items (map shown j.shares.items) v.items) (sym entries)
-          (judged p.session number octets read.means)));
+          (judged p.session number octets read.means).0));
+      tallied_are = subst (λ v. AreTallied (after_cuts h v.items) (Message p.session number octets) (map tallied p.tallies.items)) (sym cuts)
+          (subst (λ v. AreTallied (after_cuts h j.cuts.items) (Message p.session number octets) (map tallied v.items)) (sym tallies)
+          (judged p.session number octets read.means).1);
     }

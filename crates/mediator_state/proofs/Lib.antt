@@ -1,9 +1,12 @@
+pub mod GroupLaws
 pub mod CutSteps
 pub mod MessageSteps
+pub mod AdvanceSteps
 pub mod CutRows
 pub mod Accepts
 pub mod EntrySteps
 pub mod Judging
 pub mod SameLaws
 pub mod CallLaws
+pub mod AdvanceCalls
 pub mod PullLaws

@@ -25,20 +25,29 @@ use Rattle.event_journal.specs.declared.entry.Entry.TheVariants.{Message}
 use Rattle.mediator_history.specs.Numbers.{AreDistinct, is_in}
 use Rattle.mediator_history.specs.Sessions.{opens, is_open, opened_in, sessions_opened, messages_of}
 use Rattle.mediator_history.specs.Subscriptions.{edited, policy_in_force, texts_in, edits_made, named, name_of, begins, is_live, is_served, subscribed_in, subscriptions_begun, served}
+use Rattle.mediator_history.specs.Counting.{counted_at, running}
 use Rattle.mediator_history.specs.Disclosed.{given_at, disclosed}
 use Rattle.mediator_history.specs.Auditing.{audit_at, audit_list}
 use Rattle.mediator_history.proofs.HistoryLaws.{policy-message, name-message, is_served-message, subscribed-message, disclosed-push, audit-push}
 use Rattle.mediator_history.proofs.ListFilters.{distinct_filter}
 use Rattle.mediator_history.proofs.EntryLaws.{served_same, messages-any, is_in-served}
 use Rattle.mediator_history.proofs.CutLaws.{given-unserved}
+use Rattle.mediator_history.proofs.CountingLaws.{counted_same, counted_unserved, running-message}
 use Rattle.open_sessions.specs.declared.open_session.OpenSession.{OpenSession}
 use Rattle.open_sessions.specs.Table.{KeepsOn}
 use Rattle.live_subscriptions.specs.declared.subscription.Subscription.{Subscription}
 use Rattle.live_subscriptions.specs.Table.{at, Related, TakesGiven, given_to}
+use Rattle.flow_aggregate.specs.Counts.{Count, count_of}
+use Rattle.flow_aggregate.specs.Groups.{Counted}
+use Rattle.flow_aggregate.specs.Running.{StandsFor as StandsForRecords}
+use Rattle.record_sharing.specs.InForce.{InForce}
+use Rattle.running_groups.specs.Table.{groups_at}
 use Rattle.mediator_state.specs.declared.engine.Engine.{Engine}
 use Rattle.mediator_state.specs.Standing.{Stands, place, IsSession, IsSubscription, IsLiveAs, IsUnopened, IsUnbegun, AreNumbered, IsSmall, AreInRange}
 use Rattle.mediator_state.specs.Seen.{place_in, place_of}
-use Rattle.mediator_state.specs.Planning.{share_at, HasRoomIn, AreStreamed}
+use Rattle.mediator_state.specs.Counting.{added_to}
+use Rattle.mediator_state.specs.Planning.{share_at, tally_at, HasRoomIn, AreStreamed}
+use Rattle.mediator_state.proofs.GroupLaws.{clock_kept}
 use Rattle.mediator_state.specs.Accepting.{IsMessage}
 use Rattle.mediator_state.proofs.CutSteps.{no_entry, session_stays, unopened_stays, unbegun_stays}
 
@@ -82,17 +91,47 @@ given_one g q (n ∷ ns) distinct =
     by_number rest true is = ap (λ (l : List DataRecord). g n ++ l) (given_none g q ns (apart_from q n ns (eqb-true n q is) distinct.0)) ∙ append-nil (g n) ∙ ap g (eqb-true n q is)
     by_number rest false is = rest
 
--- ---- the message's shares are what it gives
+-- ---- the shares of an entry are what it gives
 
-pub given_is : (h : List Entry) (session number : ℕ) (octets : List ℕ) (sub : ℕ) → AreNumbered h
-    → given_to sub (map (share_at h (Message session number octets)) (served h)) ≡ given_at sub h (Message session number octets)
-given_is h session number octets sub so =
-    given_one (λ n. given_at n h (Message session number octets)) sub (served h) (distinct_filter (λ s. is_served s h) (flat_map subscribed_in h) so.distinct)
+-- what an entry gives to those that are not served
+abbrev pub GivesServedOnly : List Entry → Entry → Type 0
+GivesServedOnly h x = (sub : ℕ) → is_served sub h ≡ false → given_at sub h x ≡ []
+
+pub given_is : (h : List Entry) (x : Entry) (sub : ℕ) → AreNumbered h → GivesServedOnly h x → given_to sub (map (share_at h x) (served h)) ≡ given_at sub h x
+given_is h x sub so only =
+    given_one (λ n. given_at n h x) sub (served h) (distinct_filter (λ s. is_served s h) (flat_map subscribed_in h) so.distinct)
     ∙ by_test (is_in sub (served h)) refl
   where
-    by_test : (in' : Bool) → is_in sub (served h) ≡ in' → cond in' (given_at sub h (Message session number octets)) [] ≡ given_at sub h (Message session number octets)
+    by_test : (in' : Bool) → is_in sub (served h) ≡ in' → cond in' (given_at sub h x) [] ≡ given_at sub h x
     by_test true is = refl
-    by_test false is = sym (given-unserved sub session number octets h (sym (is_in-served sub h) ∙ is))
+    by_test false is = sym (only sub (sym (is_in-served sub h) ∙ is))
+
+-- the same of what is added to aggregates
+added_none : (g : ℕ → List Count) (q : ℕ) (ns : List ℕ) → AllByRecursion (λ n. n ≢ q) ns → added_to q (map (λ n. (n, g n)) ns) ≡ []
+added_none g q [] apart = refl
+added_none g q (n ∷ ns) apart =
+    flat_map-cons (λ (s : ℕ × List Count). if s.0 == q then s.1 else []) (n, g n) (map (λ n. (n, g n)) ns)
+    ∙ ap (λ (b : Bool). cond b (g n) [] ++ added_to q (map (λ n. (n, g n)) ns)) (ne_eqb n q apart.0)
+    ∙ added_none g q ns apart.1
+
+added_one : (g : ℕ → List Count) (q : ℕ) (ns : List ℕ) → AreDistinct ns → added_to q (map (λ n. (n, g n)) ns) ≡ cond (is_in q ns) (g q) []
+added_one g q [] distinct = refl
+added_one g q (n ∷ ns) distinct =
+    flat_map-cons (λ (s : ℕ × List Count). if s.0 == q then s.1 else []) (n, g n) (map (λ n. (n, g n)) ns) ∙ by_number (added_one g q ns distinct.1) (n == q) refl
+  where
+    by_number : added_to q (map (λ n. (n, g n)) ns) ≡ cond (is_in q ns) (g q) [] → (same : Bool) → (n == q) ≡ same → (cond same (g n) [] ++ added_to q (map (λ n. (n, g n)) ns)) ≡ cond (same || is_in q ns) (g q) []
+    by_number rest true is = ap (λ (l : List Count). g n ++ l) (added_none g q ns (apart_from q n ns (eqb-true n q is) distinct.0)) ∙ append-nil (g n) ∙ ap g (eqb-true n q is)
+    by_number rest false is = rest
+
+added_is : (h : List Entry) (session number : ℕ) (octets : List ℕ) (sub : ℕ) → AreNumbered h
+    → added_to sub (map (tally_at h (Message session number octets)) (served h)) ≡ map count_of (counted_at sub h (Message session number octets))
+added_is h session number octets sub so =
+    added_one (λ n. map count_of (counted_at n h (Message session number octets))) sub (served h) (distinct_filter (λ s. is_served s h) (flat_map subscribed_in h) so.distinct)
+    ∙ by_test (is_in sub (served h)) refl
+  where
+    by_test : (in' : Bool) → is_in sub (served h) ≡ in' → cond in' (map count_of (counted_at sub h (Message session number octets))) [] ≡ map count_of (counted_at sub h (Message session number octets))
+    by_test true is = refl
+    by_test false is = ap (map count_of) (sym (counted_unserved sub h (Message session number octets) (sym (is_in-served sub h) ∙ is)))
 
 -- what holds of each share holds of the one of a subscription that is served
 pub share_of_served : (P : ℕ × List DataRecord → Type 0) (f : ℕ → ℕ × List DataRecord) (q : ℕ) (ns : List ℕ) → is_in q ns ≡ true → AllByRecursion P (map f ns) → P (f q)
@@ -149,7 +188,8 @@ numbered_message h session number octets on so =
       subscriptions = λ sub above.
           let before = so.subscriptions sub (omega (arith, above, begun)) in
           unbegun_stays h (h ++ Message session number octets ∷ []) sub (is_live-message sub h session number octets) (λ off. is_served-message sub h session number octets ∙ off)
-          (disclosed-push sub h (Message session number octets) ∙ ap (λ (l : List DataRecord). disclosed sub h ++ l) (given-unserved sub session number octets h before.unserved) ∙ append-nil (disclosed sub h)) before;
+          (disclosed-push sub h (Message session number octets) ∙ ap (λ (l : List DataRecord). disclosed sub h ++ l) (given-unserved sub session number octets h before.unserved) ∙ append-nil (disclosed sub h))
+          (counted_same sub h (Message session number octets) (counted_unserved sub h (Message session number octets) before.unserved)) before;
       distinct = subst AreDistinct (sym (subscribed-message h session number octets)) so.distinct;
       within = subst (λ (ns : List ℕ). AllByRecursion (λ sub. sub ≤ length ns) ns) (sym (subscribed-message h session number octets)) so.within;
     }
@@ -183,42 +223,45 @@ streamable_given share limits h s range so room each before = by_size (length sh
   by_size zero is = subst AreStreamable (sym (ap (λ (l : List DataRecord). disclosed share.0 h ++ l) (nil_from_length share.1 is) ∙ append-nil (disclosed share.0 h))) before
   by_size (suc n) is = with_room s so (room (omega (arith, is)))
 
-small_message : (e : Engine) (h : List Entry) (session number : ℕ) (octets : List ℕ) (reading : Ahead) (shares : List (ℕ × List DataRecord)) (entries : List AuditEntry)
-    → Stands e h → IsMessage e h session number octets reading shares entries → IsSmall (h ++ Message session number octets ∷ [])
-small_message e h session number octets reading shares entries so is = record {
-  listed = λ sub. omega (arith, so.small.listed sub, few sub, ap (λ (l : List DataRecord). length l) (disclosed-push sub h (Message session number octets)), length-append (disclosed sub h) (given_at sub h (Message session number octets)), length-append h (Message session number octets ∷ []));
-  audited = omega (arith, so.small.audited, is.few, ap (λ (l : List AuditEntry). length l) is.entries_are, ap (λ (l : List AuditEntry). length l) (audit-push h (Message session number octets)), length-append (audit_list h) (audit_at h (Message session number octets)), length-append h (Message session number octets ∷ []));
-  streamable = λ sub. subst AreStreamable (sym (disclosed-push sub h (Message session number octets))) (more sub);
+pub small_given : (e : Engine) (h : List Entry) (x : Entry) (shares : List (ℕ × List DataRecord)) → Stands e h → GivesServedOnly h x → length (audit_at h x) ≤ 10000000
+    → shares ≡ map (share_at h x) (served h) → AllByRecursion (HasRoomIn e.subscriptions) shares → AllByRecursion AreStreamed shares → IsSmall (h ++ x ∷ [])
+small_given e h x shares so only noted are room streamable = record {
+  listed = λ sub. omega (arith, so.small.listed sub, few sub, ap (λ (l : List DataRecord). length l) (disclosed-push sub h x), length-append (disclosed sub h) (given_at sub h x), length-append h (x ∷ []));
+  audited = omega (arith, so.small.audited, noted, ap (λ (l : List AuditEntry). length l) (audit-push h x), length-append (audit_list h) (audit_at h x), length-append h (x ∷ []));
+  streamable = λ sub. subst AreStreamable (sym (disclosed-push sub h x)) (more sub);
 }
   where
-    rooms : AllByRecursion (HasRoomIn e.subscriptions) (map (share_at h (Message session number octets)) (served h))
-    rooms = subst (AllByRecursion (HasRoomIn e.subscriptions)) is.shares_are is.room
+    rooms : AllByRecursion (HasRoomIn e.subscriptions) (map (share_at h x) (served h))
+    rooms = subst (AllByRecursion (HasRoomIn e.subscriptions)) are room
 
-    streams : AllByRecursion AreStreamed (map (share_at h (Message session number octets)) (served h))
-    streams = subst (AllByRecursion AreStreamed) is.shares_are is.streamable
+    streams : AllByRecursion AreStreamed (map (share_at h x) (served h))
+    streams = subst (AllByRecursion AreStreamed) are streamable
 
-    few : (sub : ℕ) → length (given_at sub h (Message session number octets)) ≤ 1000000
+    few : (sub : ℕ) → length (given_at sub h x) ≤ 1000000
     few sub = by_test (is_served sub h) refl where
-      by_test : (on : Bool) → is_served sub h ≡ on → length (given_at sub h (Message session number octets)) ≤ 1000000
-      by_test false off = omega (arith, ap (λ (l : List DataRecord). length l) (given-unserved sub session number octets h off))
+      by_test : (on : Bool) → is_served sub h ≡ on → length (given_at sub h x) ≤ 1000000
+      by_test false off = omega (arith, ap (λ (l : List DataRecord). length l) (only sub off))
       by_test true on =
-          few_given (share_at h (Message session number octets) sub) e.limits h (at e.subscriptions sub) so.limits (so.subscriptions sub)
-          (share_of_served (HasRoomIn e.subscriptions) (share_at h (Message session number octets)) sub (served h) (is_in-served sub h ∙ on) rooms)
+          few_given (share_at h x sub) e.limits h (at e.subscriptions sub) so.limits (so.subscriptions sub)
+          (share_of_served (HasRoomIn e.subscriptions) (share_at h x) sub (served h) (is_in-served sub h ∙ on) rooms)
 
-    more : (sub : ℕ) → AreStreamable (disclosed sub h ++ given_at sub h (Message session number octets))
+    more : (sub : ℕ) → AreStreamable (disclosed sub h ++ given_at sub h x)
     more sub = by_test (is_served sub h) refl where
-      by_test : (on : Bool) → is_served sub h ≡ on → AreStreamable (disclosed sub h ++ given_at sub h (Message session number octets))
-      by_test false off = subst AreStreamable (sym (ap (λ (l : List DataRecord). disclosed sub h ++ l) (given-unserved sub session number octets h off) ∙ append-nil (disclosed sub h))) (so.small.streamable sub)
+      by_test : (on : Bool) → is_served sub h ≡ on → AreStreamable (disclosed sub h ++ given_at sub h x)
+      by_test false off = subst AreStreamable (sym (ap (λ (l : List DataRecord). disclosed sub h ++ l) (only sub off) ∙ append-nil (disclosed sub h))) (so.small.streamable sub)
       by_test true on =
-          streamable_given (share_at h (Message session number octets) sub) e.limits h (at e.subscriptions sub) so.limits (so.subscriptions sub)
-          (share_of_served (HasRoomIn e.subscriptions) (share_at h (Message session number octets)) sub (served h) (is_in-served sub h ∙ on) rooms)
-          (share_of_served AreStreamed (share_at h (Message session number octets)) sub (served h) (is_in-served sub h ∙ on) streams)
+          streamable_given (share_at h x sub) e.limits h (at e.subscriptions sub) so.limits (so.subscriptions sub)
+          (share_of_served (HasRoomIn e.subscriptions) (share_at h x) sub (served h) (is_in-served sub h ∙ on) rooms)
+          (share_of_served AreStreamed (share_at h x) sub (served h) (is_in-served sub h ∙ on) streams)
           (so.small.streamable sub)
 
 -- ---- the step
 
-pub record TakesMessage (d e : Engine) (session : ℕ) (reading : Ahead) (shares : List (ℕ × List DataRecord)) (entries : List AuditEntry) : Type 0 where
-  pub policy : e.policy ≡ d.policy
+served_only : (session number : ℕ) (octets : List ℕ) (h : List Entry) → GivesServedOnly h (Message session number octets)
+served_only session number octets h sub off = given-unserved sub session number octets h off
+
+pub record TakesMessage (d e : Engine) (session : ℕ) (reading : Ahead) (shares : List (ℕ × List DataRecord)) (tallies : List (ℕ × List Count)) (entries : List AuditEntry) : Type 0 where
+  pub in_force : e.in_force ≡ d.in_force
   pub edits : e.edits ≡ d.edits
   pub opened : e.opened ≡ d.opened
   pub begun : e.begun ≡ d.begun
@@ -227,12 +270,16 @@ pub record TakesMessage (d e : Engine) (session : ℕ) (reading : Ahead) (shares
   pub keeps : KeepsOn reading (at_key session d.sessions) (at_key session e.sessions)
   pub each : (sub : ℕ) → Related (TakesGiven (given_to sub shares)) (at d.subscriptions sub) (at e.subscriptions sub)
   pub served : e.subscriptions.served ≡ d.subscriptions.served
+  pub adds : (q : ℕ) (before more : List Counted) → StandsForRecords (groups_at d.groups q) before → added_to q tallies ≡ map count_of more → StandsForRecords (groups_at e.groups q) (before ++ more)
   pub takes : Takes d.audit.standing entries e.audit.standing
 
-pub message_step : (d e : Engine) (h : List Entry) (session number : ℕ) (octets : List ℕ) (reading : Ahead) (shares : List (ℕ × List DataRecord)) (entries : List AuditEntry)
-    → Stands d h → IsMessage d h session number octets reading shares entries → TakesMessage d e session reading shares entries → Stands e (h ++ Message session number octets ∷ [])
-message_step d e h session number octets reading shares entries so is did = record {
-  policy = did.policy ∙ so.policy ∙ sym (policy-message h session number octets);
+pub message_step : (d e : Engine) (h : List Entry) (session number : ℕ) (octets : List ℕ) (reading : Ahead) (shares : List (ℕ × List DataRecord)) (tallies : List (ℕ × List Count)) (entries : List AuditEntry)
+    → Stands d h → IsMessage d h session number octets reading shares tallies entries → TakesMessage d e session reading shares tallies entries → Stands e (h ++ Message session number octets ∷ [])
+message_step d e h session number octets reading shares tallies entries so is did = record {
+  policy = ap (λ (f : InForce). f.policy) did.in_force ∙ so.policy ∙ sym (policy-message h session number octets);
+  clock = clock_kept d e h (Message session number octets) so did.in_force refl;
+  groups = λ sub. subst (StandsForRecords (groups_at e.groups sub)) (sym (running-message sub session number octets h))
+      (did.adds sub (running sub h) (counted_at sub h (Message session number octets)) (so.groups sub) (adds sub));
   edits = did.edits ∙ so.edits ∙ sym (ap (λ (ts : List (List ℕ)). length ts) (no_entry texts_in h (Message session number octets) refl));
   opened = did.opened ∙ so.opened ∙ sym (ap (λ (ns : List ℕ). length ns) (no_entry opened_in h (Message session number octets) refl));
   begun = did.begun ∙ so.begun ∙ sym (ap (λ (ns : List ℕ). length ns) (subscribed-message h session number octets));
@@ -243,11 +290,17 @@ message_step d e h session number octets reading shares entries so is did = reco
   audit = subst (StandsIn e.audit.standing) (ap (λ (l : List AuditEntry). audit_list h ++ l) is.entries_are ∙ sym (audit-push h (Message session number octets))) (did.takes (audit_list h) so.audit);
   limits = subst AreInRange (sym did.limits) so.limits;
   numbered = numbered_message h session number octets is.opened so.numbered;
-  small = small_message d h session number octets reading shares entries so is;
+  small = small_given d h (Message session number octets) shares so (served_only session number octets h) few_noted is.shares_are is.room is.streamable;
 }
   where
     gives : (sub : ℕ) → given_to sub shares ≡ given_at sub h (Message session number octets)
-    gives sub = ap (given_to sub) is.shares_are ∙ given_is h session number octets sub so.numbered
+    gives sub = ap (given_to sub) is.shares_are ∙ given_is h (Message session number octets) sub so.numbered (served_only session number octets h)
+
+    few_noted : length (audit_at h (Message session number octets)) ≤ 10000000
+    few_noted = omega (arith, is.few, ap (λ (l : List AuditEntry). length l) is.entries_are)
+
+    adds : (sub : ℕ) → added_to sub tallies ≡ map count_of (counted_at sub h (Message session number octets))
+    adds sub = ap (added_to sub) is.tallies_are ∙ added_is h session number octets sub so.numbered
 
     own : IsSession (h ++ Message session number octets ∷ []) session (at_key session e.sessions)
     own = session_taken h session number octets reading (at_key session d.sessions) (at_key session e.sessions) did.keeps is.read (so.sessions session)
@@ -259,8 +312,8 @@ message_step d e h session number octets reading shares entries so is did = reco
         (subst (IsSession h q) (sym (did.others q (eqb-false q session here))) (so.sessions q))
 
 -- the places stay
-pub places_taken : (d e : Engine) (h : List Entry) (session : ℕ) (reading : Ahead) (shares : List (ℕ × List DataRecord)) (entries : List AuditEntry) → Stands d h → TakesMessage d e session reading shares entries → (sub : ℕ) → place_of e sub ≡ place_of d sub
-places_taken d e h session reading shares entries so did sub = at_one (given_to sub shares) (at d.subscriptions sub) (at e.subscriptions sub) (did.each sub) (so.subscriptions sub) where
+pub places_taken : (d e : Engine) (h : List Entry) (session : ℕ) (reading : Ahead) (shares : List (ℕ × List DataRecord)) (tallies : List (ℕ × List Count)) (entries : List AuditEntry) → Stands d h → TakesMessage d e session reading shares tallies entries → (sub : ℕ) → place_of e sub ≡ place_of d sub
+places_taken d e h session reading shares tallies entries so did sub = at_one (given_to sub shares) (at d.subscriptions sub) (at e.subscriptions sub) (did.each sub) (so.subscriptions sub) where
   at_one : (more : List DataRecord) (old new : Option Subscription) → Related (TakesGiven more) old new → IsLiveAs h d.limits sub old → place_in new ≡ place_in old
   at_one more None None takes so = refl
   at_one more None (Some t) takes so = absurd takes

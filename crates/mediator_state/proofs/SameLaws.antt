@@ -15,6 +15,7 @@ use Rattle.event_journal.specs.declared.entry.Entry.{Entry}
 use Rattle.event_journal.specs.declared.entry.Entry.TheVariants.{Message}
 use Rattle.mediator_history.specs.Sessions.{messages_of}
 use Rattle.mediator_history.specs.Subscriptions.{served}
+use Rattle.mediator_history.specs.Counting.{running}
 use Rattle.mediator_history.specs.Disclosed.{disclosed, given_at}
 use Rattle.mediator_history.specs.Auditing.{audit_list}
 use Rattle.mediator_history.specs.Cuts.{overflows, is_cut_by}
@@ -23,11 +24,14 @@ use Rattle.open_sessions.specs.declared.open_session.OpenSession.{OpenSession}
 use Rattle.open_sessions.specs.Table.{Seen as SeenSession, seen as session_seen}
 use Rattle.live_subscriptions.specs.declared.subscription.Subscription.{Subscription}
 use Rattle.live_subscriptions.specs.Table.{Seen, seen, at}
+use Rattle.record_sharing.specs.InForce.{InForce}
+use Rattle.running_groups.specs.Table.{groups_at}
 use Rattle.mediator_state.specs.declared.engine.Engine.{Engine}
 use Rattle.mediator_state.specs.declared.plan.Plan.{Plan}
 use Rattle.mediator_state.specs.Standing.{place, IsSession, IsLiveAs, AreInRange, Stands}
 use Rattle.mediator_state.specs.Seen.{place_in, waiting_in, waiting_of, IsUntouched, IsSameEngine}
 use Rattle.mediator_state.specs.Planning.{HasRoomIn, IsJudged, IsPlan}
+use Rattle.mediator_state.proofs.GroupLaws.{sums_same}
 
 some_same : {A : Type 0} (x y : A) → Some x ≡ Some y → x ≡ y
 some_same x y e = cc
@@ -82,7 +86,9 @@ room_same more (Some s) (Some t) e is =
 
 pub stands_same : (d e : Engine) (h : List Entry) → IsSameEngine d e → Stands d h → Stands e h
 stands_same d e h same s = record {
-  policy = same.policy ∙ s.policy;
+  policy = ap (λ (f : InForce). f.policy) same.in_force ∙ s.policy;
+  clock = ap (λ (f : InForce). f.clock) same.in_force ∙ s.clock;
+  groups = λ n. sums_same (groups_at d.groups n) (groups_at e.groups n) (running n h) (same.groups n) (s.groups n);
   edits = same.edits ∙ s.edits;
   opened = same.opened ∙ s.opened;
   begun = same.begun ∙ s.begun;
@@ -120,7 +126,7 @@ rooms_same : (d e : Engine) → IsSameEngine d e → (shares : List (ℕ × List
 rooms_same d e same [] all = tt
 rooms_same d e same (s ∷ ss) all = (λ some. room_same s.1 (at d.subscriptions s.0) (at e.subscriptions s.0) (same.subscriptions.each s.0) (all.0 some), rooms_same d e same ss all.1)
 
-judged_same : (d e : Engine) (h : List Entry) (entry : Entry) (cuts : List ℕ) (shares : List (ℕ × List DataRecord)) (entries : List AuditEntry) → IsSameEngine d e → IsJudged d h entry cuts shares entries → IsJudged e h entry cuts shares entries
+pub judged_same : (d e : Engine) (h : List Entry) (entry : Entry) (cuts : List ℕ) (shares : List (ℕ × List DataRecord)) (entries : List AuditEntry) → IsSameEngine d e → IsJudged d h entry cuts shares entries → IsJudged e h entry cuts shares entries
 judged_same d e h entry cuts shares entries same j = record {
   cuts_are = j.cuts_are ∙ filter_ext (is_cut_by d.limits h entry (waiting_of d)) (is_cut_by e.limits h entry (waiting_of e)) (cut_by_same d e h entry same) (served h);
   shares_are = j.shares_are;
@@ -135,4 +141,5 @@ plan_same d e h number octets p same plan = record {
   turn = plan.turn;
   read = plan.read;
   judged = judged_same d e h (Message p.session number octets) p.cuts.items _ p.entries.items same plan.judged;
+  tallied_are = plan.tallied_are;
 }

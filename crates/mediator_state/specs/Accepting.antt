@@ -13,7 +13,8 @@ use Rattle.event_journal.specs.declared.entry.Entry.TheVariants.{Message}
 use Rattle.mediator_history.specs.Sessions.{is_open, messages_of}
 use Rattle.mediator_history.specs.Subscriptions.{served}
 use Rattle.mediator_history.specs.Auditing.{audit_at}
-use Rattle.record_sharing.specs.Sharing.{shown}
+use Rattle.flow_aggregate.specs.Counts.{Count}
+use Rattle.record_sharing.specs.Sharing.{shown, tallied}
 use Rattle.live_subscriptions.specs.Table.{Table, at, HasSpare, AreReady}
 use Rattle.mediator_state.specs.declared.engine.Engine.{Engine}
 use Rattle.mediator_state.specs.declared.fault.Fault.{Fault}
@@ -21,13 +22,20 @@ use Rattle.mediator_state.specs.declared.fault.Fault.TheVariants as fault
 use Rattle.mediator_state.specs.declared.plan.Plan.{Plan}
 use Rattle.mediator_state.specs.declared.receipt.Receipt.{Receipt}
 use Rattle.mediator_state.specs.Standing.{Stands}
-use Rattle.mediator_state.specs.Planning.{share_at, HasRoomIn, AreStreamed, IsPlan}
+use Rattle.mediator_state.specs.Counting.{HaveGroups, AreCountable}
+use Rattle.mediator_state.specs.Planning.{share_at, AreTallied, HasRoomIn, AreStreamed, IsPlan}
 
 -- the audit has no room for so many entries, and this is its room
 abbrev pub LacksAudit : Fault → Kept → ℕ → Type 0
 LacksAudit (fault.AuditFull need room) audit noted = (need ≡ noted) × (room < need) × (room + length audit.standing.entries ≡ audit.limit)
 LacksAudit fault.OutOfMemory audit noted = Unit {0}
 LacksAudit _ audit noted = ⊥
+
+-- the audit has room for so many entries, in memory too
+pub record HasAuditFor (audit : Kept) (more : ℕ) : Type 0 where
+  pub room : length audit.standing.entries + more ≤ audit.limit
+  pub limit : audit.limit ≤ 10000000
+  pub reserved : more ≤ audit.spare
 
 -- room was made for what a plan does
 pub record HasRoomForPlan (e : Engine) (p : Plan) : Type 0 where
@@ -36,6 +44,7 @@ pub record HasRoomForPlan (e : Engine) (p : Plan) : Type 0 where
   pub reserved : length p.cuts.items + length p.entries.items ≤ e.audit.spare
   pub session : IfSome (at_key p.session e.sessions) (λ o. HasRoomFor o.session p.reading)
   pub streams : AllByRecursion (HasSpare e.subscriptions.live) (map shown p.shares.items)
+  pub groups : AllByRecursion (HaveGroups e.groups) (map tallied p.tallies.items)
 
 -- it is the plan for a message behind some history of so many entries
 pub record IsPlannedFor (e : Engine) (position : ℕ) (p : Plan) : Type 0 where
@@ -51,22 +60,24 @@ pub record IsPlannedFor (e : Engine) (position : ℕ) (p : Plan) : Type 0 where
 abbrev pub receipt_of : ℕ → ℕ → Meaning → Receipt
 receipt_of position cuts m = record { position = position + cuts; records = length m.records; cut = cuts; skips = m.skips; gap = m.gap }
 
--- sessions, streams and audit have room for what a message brings, gives and keeps back
-pub record IsReadyToTake (e : Engine) (session : ℕ) (reading : Ahead) (shares : List (ℕ × List DataRecord)) (entries : ℕ) : Type 0 where
+-- sessions, streams, groups and audit have room for what a message brings, gives, counts and keeps back
+pub record IsReadyToTake (e : Engine) (session : ℕ) (reading : Ahead) (shares : List (ℕ × List DataRecord)) (tallies : List (ℕ × List Count)) (entries : ℕ) : Type 0 where
   pub history : List Entry
   pub stands : Stands e history
   pub session_room : IsSomeAnd (at_key session e.sessions) (λ o. HasRoomFor o.session reading)
   pub session_count : IfSome (at_key session e.sessions) (λ o. o.accepted + 1 < 2 ^ 64)
   pub streams : AreReady e.subscriptions shares
+  pub groups : AreCountable e.groups tallies
   pub audit : length e.audit.standing.entries + entries ≤ e.audit.limit
   pub reserved : entries ≤ e.audit.spare
   pub count : e.audit.standing.drained + length e.audit.standing.entries + entries < 2 ^ 64
 
--- this is what a message brings, gives and keeps back behind a history
-pub record IsMessage (e : Engine) (h : List Entry) (session number : ℕ) (octets : List ℕ) (reading : Ahead) (shares : List (ℕ × List DataRecord)) (entries : List AuditEntry) : Type 0 where
+-- this is what a message brings, gives, counts and keeps back behind a history
+pub record IsMessage (e : Engine) (h : List Entry) (session number : ℕ) (octets : List ℕ) (reading : Ahead) (shares : List (ℕ × List DataRecord)) (tallies : List (ℕ × List Count)) (entries : List AuditEntry) : Type 0 where
   pub opened : is_open session h ≡ true
   pub read : IsReadingOf (messages_of session h) octets reading
   pub shares_are : shares ≡ map (share_at h (Message session number octets)) (served h)
+  pub tallies_are : AreTallied h (Message session number octets) tallies
   pub entries_are : entries ≡ audit_at h (Message session number octets)
   pub room : AllByRecursion (HasRoomIn e.subscriptions) shares
   pub streamable : AllByRecursion AreStreamed shares

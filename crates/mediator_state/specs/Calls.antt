@@ -1,8 +1,6 @@
 -- What the calls of a state answer, and what they leave.
-use Rattle.std.specs.Prelude.{◌≡◌, ◌≢◌, ◌⊎◌, ℕ, ◌+◌, ◌≤◌, ◌<◌, true, false, not, List, [], ◌∷◌, ◌++◌, length, take, drop, Option, Ok, Err}
+use Rattle.std.specs.Prelude.{◌≡◌, ◌≢◌, ℕ, ◌+◌, ◌≤◌, ◌<◌, true, false, not, List, [], ◌∷◌, ◌++◌, length, take, drop, Option, Ok, Err}
 use Rattle.ipfix_session.specs.Meaning.{Meaning, meaning_of}
-use Rattle.policy_text.specs.declared.fault.FaultKind.TheVariants.{UnknownWord}
-use Rattle.policy_text.specs.declared.fault.PolicyFault.{PolicyFault}
 use Rattle.policy_text.specs.Policies.{Meaning as Policy}
 use Rattle.policy_text.specs.Parsing.{policy_of}
 use Rattle.policy_text.specs.Naming.{is_name}
@@ -12,10 +10,11 @@ use Rattle.subscriber_stream.specs.Message.{built, place_after}
 use Rattle.disclosure_audit.specs.declared.entry.AuditEntry.{AuditEntry}
 use Rattle.event_journal.specs.Sizes.{history_octets}
 use Rattle.event_journal.specs.declared.entry.Entry.{Entry}
-use Rattle.event_journal.specs.declared.entry.Entry.TheVariants.{Open, Close, Message, Edit, Subscribe, Unsubscribe, Cut}
+use Rattle.event_journal.specs.declared.entry.Entry.TheVariants.{Open, Close, Message, Edit, Subscribe, Unsubscribe, Advance}
 use Rattle.event_journal.specs.Room.{Limits as Journaled, HasRoom, HasRoomAfter}
 use Rattle.mediator_history.specs.Sessions.{is_open, messages_of, sessions_opened}
 use Rattle.mediator_history.specs.Subscriptions.{edits_made, name_of, is_live, is_served, subscriptions_begun}
+use Rattle.mediator_history.specs.Counting.{clock_of}
 use Rattle.mediator_history.specs.Disclosed.{disclosed}
 use Rattle.mediator_history.specs.Auditing.{audit_list}
 use Rattle.mediator_history.specs.Cuts.{cuts_before}
@@ -78,16 +77,16 @@ RefusesClose e limits h session = (is_open session h ≡ true) × LacksRoomAfter
 
 -- ---- messages
 
--- the cuts that a message makes, and the message
-abbrev pub with_cuts : Engine → List Entry → ℕ → ℕ → List ℕ → List Entry
-with_cuts e h session number octets = cuts_before e.limits h (Message session number octets) (waiting_of e) ++ Message session number octets ∷ []
+-- the cuts that a message or an advance of the clock makes, and the entry itself
+abbrev pub with_cuts : Engine → List Entry → Entry → List Entry
+with_cuts e h entry = cuts_before e.limits h entry (waiting_of e) ++ entry ∷ []
 
 -- the message is the next of its session, it and its cuts are accepted, and this is its receipt
 pub record Receives {C : Type 0} (tells : C → List Entry → Type 0) (limits : C → Journaled) (old : State C) (h : List Entry) (session number : ℕ) (octets : List ℕ) (r : Receipt) (new : State C) : Type 0 where
   pub next : IsNext h session number
   pub meaning : Meaning
   pub means : meaning_of (messages_of session h) octets ≡ Ok meaning
-  pub accepts : Accepts tells limits old h (with_cuts old.engine h session number octets) new
+  pub accepts : Accepts tells limits old h (with_cuts old.engine h (Message session number octets)) new
   pub receipt : r ≡ receipt_of (length h) (length (cuts_before old.engine.limits h (Message session number octets) (waiting_of old.engine))) meaning
 
 -- the octets are a message of the session
@@ -98,43 +97,47 @@ pub record HasMeaning (h : List Entry) (session : ℕ) (octets : List ℕ) : Typ
 -- first its own refusals, then the journal is judged, and then the audit, whose need and room are told
 abbrev pub RefusesReceive : Fault → Journaled → Engine → List Entry → ℕ → ℕ → List ℕ → Type 0
 RefusesReceive fault.JournalFull limits e h session number octets =
-    IsNext h session number × HasMeaning h session octets × (HasRoomAfter limits h (with_cuts e h session number octets) → ⊥)
+    IsNext h session number × HasMeaning h session octets × (HasRoomAfter limits h (with_cuts e h (Message session number octets)) → ⊥)
 RefusesReceive (fault.AuditFull need room) limits e h session number octets =
-    IsNext h session number × HasMeaning h session octets × HasRoomAfter limits h (with_cuts e h session number octets)
-    × ((noted : List AuditEntry) × (audit_list (h ++ with_cuts e h session number octets) ≡ audit_list h ++ noted) × (need ≡ length noted))
+    IsNext h session number × HasMeaning h session octets × HasRoomAfter limits h (with_cuts e h (Message session number octets))
+    × ((noted : List AuditEntry) × (audit_list (h ++ with_cuts e h (Message session number octets)) ≡ audit_list h ++ noted) × (need ≡ length noted))
     × (room + length e.audit.standing.entries ≡ e.audit.limit) × (room < need)
 RefusesReceive why limits e h session number octets = RefusesMessage why h session number octets
 
--- ---- policies
+-- ---- the clock
 
--- the text spells a policy without aggregates
-pub record IsAccepted (text : List ℕ) (policy : Policy) : Type 0 where
-  pub spelled : policy_of text ≡ Ok policy
-  pub plain : policy.aggregates ≡ []
+-- the time isn't before that of the last advance, and the advance and its cuts are accepted
+pub record Advances {C : Type 0} (tells : C → List Entry → Type 0) (limits : C → Journaled) (old : State C) (h : List Entry) (t : ℕ) (new : State C) : Type 0 where
+  pub ahead : clock_of h ≤ t
+  pub accepts : Accepts tells limits old h (with_cuts old.engine h (Advance t)) new
+
+-- the clock stands later; else the journal is judged, and then the audit, whose need and room are told
+abbrev pub RefusesAdvance : Fault → Journaled → Engine → List Entry → ℕ → Type 0
+RefusesAdvance (fault.ClockBack last) limits e h t = (last ≡ clock_of h) × (t < last)
+RefusesAdvance fault.JournalFull limits e h t = (clock_of h ≤ t) × (HasRoomAfter limits h (with_cuts e h (Advance t)) → ⊥)
+RefusesAdvance (fault.AuditFull need room) limits e h t =
+    (clock_of h ≤ t) × HasRoomAfter limits h (with_cuts e h (Advance t))
+    × ((noted : List AuditEntry) × (audit_list (h ++ with_cuts e h (Advance t)) ≡ audit_list h ++ noted) × (need ≡ length noted))
+    × (room + length e.audit.standing.entries ≡ e.audit.limit) × (room < need)
+RefusesAdvance fault.OutOfMemory limits e h t = Unit {0}
+RefusesAdvance _ limits e h t = ⊥
+
+-- ---- policies
 
 -- the number of edits so far
 pub record Edits {C : Type 0} (tells : C → List Entry → Type 0) (limits : C → Journaled) (old : State C) (h : List Entry) (text : List ℕ) (n : ℕ) (new : State C) : Type 0 where
   pub policy : Policy
-  pub accepted : IsAccepted text policy
+  pub spelled : policy_of text ≡ Ok policy
   pub number : n ≡ edits_made h + 1
   pub accepts : Accepts tells limits old h (Edit text ∷ []) new
 
--- the policy of the text defines aggregates
-pub record HasAggregates (text : List ℕ) : Type 0 where
-  pub policy : Policy
-  pub spelled : policy_of text ≡ Ok policy
-  pub some : policy.aggregates ≢ []
-
--- the text has this fault; or its policy defines aggregates, which is said as an unknown word of the first line
-abbrev pub IsPolicyFault : List ℕ → PolicyFault → Type 0
-IsPolicyFault text why = (policy_of text ≡ Err why) ⊎ ((why ≡ record { line = 1; kind = UnknownWord }) × HasAggregates text)
-
 pub record HasPolicy (text : List ℕ) : Type 0 where
   pub policy : Policy
-  pub accepted : IsAccepted text policy
+  pub spelled : policy_of text ≡ Ok policy
 
+-- the text has this fault
 abbrev pub RefusesPolicy : Fault → List ℕ → Type 0
-RefusesPolicy (fault.Policy why) text = IsPolicyFault text why
+RefusesPolicy (fault.Policy why) text = policy_of text ≡ Err why
 RefusesPolicy fault.OutOfMemory text = Unit {0}
 RefusesPolicy _ text = ⊥
 

@@ -5,7 +5,7 @@ use Rattle.ipfix_template.specs.DataRecord.{DataRecord}
 use Rattle.ipfix_session.specs.Keeping.{at_key}
 use Rattle.ipfix_session.specs.Meaning.{Meaning, meaning_of}
 use Rattle.ipfix_session.specs.ReadAhead.{IsReadingOf}
-use Rattle.policy_text.specs.declared.rule.Rule.{Rule}
+use Rattle.flow_aggregate.specs.Counts.{Count, count_of}
 use Rattle.subscriber_stream.specs.Standing.{HasRoom}
 use Rattle.stream_meaning.specs.Served.{IsStreamable}
 use Rattle.disclosure_audit.specs.declared.entry.AuditEntry.{AuditEntry}
@@ -13,12 +13,14 @@ use Rattle.event_journal.specs.declared.entry.Entry.{Entry}
 use Rattle.event_journal.specs.declared.entry.Entry.TheVariants.{Message}
 use Rattle.mediator_history.specs.Sessions.{is_open, messages_of}
 use Rattle.mediator_history.specs.Subscriptions.{served}
+use Rattle.mediator_history.specs.Counting.{counted_at}
 use Rattle.mediator_history.specs.Disclosed.{given_at}
 use Rattle.mediator_history.specs.Auditing.{audit_at, audit_entry}
 use Rattle.mediator_history.specs.Cuts.{is_cut_by, after_cuts}
 use Rattle.record_sharing.specs.declared.served.Served.{Served}
 use Rattle.record_sharing.specs.declared.shares.Note.{Note}
-use Rattle.record_sharing.specs.Sharing.{shown, share_of}
+use Rattle.record_sharing.specs.InForce.{InForce}
+use Rattle.record_sharing.specs.Sharing.{shown, tallied, share_of}
 use Rattle.open_sessions.specs.declared.open_session.OpenSession.{OpenSession}
 use Rattle.live_subscriptions.specs.Table.{Table, at, lacks_room_at}
 use Rattle.mediator_state.specs.declared.engine.Engine.{Engine}
@@ -29,11 +31,11 @@ use Rattle.mediator_state.specs.declared.plan.Plan.{Plan}
 use Rattle.mediator_state.specs.Seen.{waiting_of}
 
 -- whether there is no room for the share of one that is served
-abbrev pub lacks : Table → ℕ → List Rule → List DataRecord → Served → Bool
-lacks t domain rules records who = lacks_room_at t (share_of domain rules records who)
+abbrev pub lacks : Table → ℕ → InForce → List DataRecord → Served → Bool
+lacks t domain f records who = lacks_room_at t (share_of domain f records who)
 
-abbrev pub has : Table → ℕ → List Rule → List DataRecord → Served → Bool
-has t domain rules records who = not (lacks t domain rules records who)
+abbrev pub has : Table → ℕ → InForce → List DataRecord → Served → Bool
+has t domain f records who = not (lacks t domain f records who)
 
 -- the audit's entry of a note of the message at a position
 abbrev pub stamp : ℕ → Note → AuditEntry
@@ -42,6 +44,14 @@ stamp position n = audit_entry position n.index n.sub n.what
 -- what an entry gives to a subscription
 abbrev pub share_at : List Entry → Entry → ℕ → ℕ × List DataRecord
 share_at h entry sub = (sub, given_at sub h entry)
+
+-- what an entry adds to the aggregates of a subscription
+abbrev pub tally_at : List Entry → Entry → ℕ → ℕ × List Count
+tally_at h entry sub = (sub, map count_of (counted_at sub h entry))
+
+-- the same of all that are served
+abbrev pub AreTallied : List Entry → Entry → List (ℕ × List Count) → Type 0
+AreTallied h entry tallies = tallies ≡ map (tally_at h entry) (served h)
 
 -- the subscription's stream has room for its share, if the share has a record
 abbrev pub HasRoomIn : Table → ℕ × List DataRecord → Type 0
@@ -62,6 +72,7 @@ pub record IsJudged (e : Engine) (h : List Entry) (entry : Entry) (cuts : List �
 abbrev pub IsJudgedFor : Engine → List Entry → Meaning → Judged → Type 0
 IsJudgedFor e h m j = (session number : ℕ) (octets : List ℕ) → meaning_of (messages_of session h) octets ≡ Ok m
     → IsJudged e h (Message session number octets) j.cuts.items (map shown j.shares.items) j.entries.items
+      × AreTallied (after_cuts h j.cuts.items) (Message session number octets) (map tallied j.tallies.items)
 
 -- what a message would do behind a history
 pub record IsPlan (e : Engine) (h : List Entry) (number : ℕ) (octets : List ℕ) (p : Plan) : Type 0 where
@@ -69,6 +80,7 @@ pub record IsPlan (e : Engine) (h : List Entry) (number : ℕ) (octets : List �
   pub turn : number ≡ length (messages_of p.session h)
   pub read : IsReadingOf (messages_of p.session h) octets p.reading
   pub judged : IsJudged e h (Message p.session number octets) p.cuts.items (map shown p.shares.items) p.entries.items
+  pub tallied_are : AreTallied (after_cuts h p.cuts.items) (Message p.session number octets) (map tallied p.tallies.items)
 
 -- the session is open, and this is the number of its next message
 pub record IsInTurn (e : Engine) (session number : ℕ) (o : OpenSession) : Type 0 where

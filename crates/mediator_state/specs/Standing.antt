@@ -6,13 +6,16 @@ use Rattle.ipfix_session.specs.Standing.{StandsFor}
 use Rattle.subscriber_stream.specs.declared.limits.Limits.{Limits}
 use Rattle.subscriber_stream.specs.Standing.{Standing, StandsAt, queued}
 use Rattle.stream_meaning.specs.Served.{AreStreamable}
+use Rattle.flow_aggregate.specs.Running.{StandsFor as StandsForRecords}
 use Rattle.disclosure_audit.specs.Queue.{StandsIn}
 use Rattle.event_journal.specs.declared.entry.Entry.{Entry}
 use Rattle.mediator_history.specs.Numbers.{AreDistinct}
 use Rattle.mediator_history.specs.Sessions.{is_open, messages_of, sessions_opened}
 use Rattle.mediator_history.specs.Subscriptions.{policy_in_force, edits_made, name_of, is_live, is_served, subscribed_in, subscriptions_begun, served}
+use Rattle.mediator_history.specs.Counting.{clock_of, counted, running}
 use Rattle.mediator_history.specs.Disclosed.{disclosed}
 use Rattle.mediator_history.specs.Auditing.{audit_list}
+use Rattle.running_groups.specs.Table.{groups_at}
 use Rattle.open_sessions.specs.declared.open_session.OpenSession.{OpenSession}
 use Rattle.live_subscriptions.specs.declared.subscription.Subscription.{Subscription}
 use Rattle.live_subscriptions.specs.Table.{Table, at}
@@ -50,6 +53,7 @@ pub record IsUnbegun (h : List Entry) (sub : ℕ) : Type 0 where
   pub gone : is_live sub h ≡ false
   pub unserved : is_served sub h ≡ false
   pub nothing : disclosed sub h ≡ []
+  pub uncounted : counted sub h ≡ []
 
 -- numbers are those from 1 on, and none comes again
 pub record AreNumbered (h : List Entry) : Type 0 where
@@ -70,13 +74,15 @@ pub record AreInRange (limits : Limits) : Type 0 where
   pub shapes : limits.shapes ≤ 65280
 
 pub record Stands (e : Engine) (h : List Entry) : Type 0 where
-  pub policy : e.policy ≡ policy_in_force h
+  pub policy : e.in_force.policy ≡ policy_in_force h
+  pub clock : e.in_force.clock ≡ clock_of h
   pub edits : e.edits ≡ edits_made h
   pub opened : e.opened ≡ sessions_opened h
   pub begun : e.begun ≡ subscriptions_begun h
   pub sessions : (session : ℕ) → IsSession h session (at_key session e.sessions)
   pub subscriptions : (sub : ℕ) → IsLiveAs h e.limits sub (at e.subscriptions sub)
   pub served_are : e.subscriptions.served ≡ served h
+  pub groups : (sub : ℕ) → StandsForRecords (groups_at e.groups sub) (running sub h)
   pub audit : StandsIn e.audit.standing (audit_list h)
   pub limits : AreInRange e.limits
   pub numbered : AreNumbered h

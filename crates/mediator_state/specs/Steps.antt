@@ -1,8 +1,9 @@
 -- What the steps of an engine leave as it was.
-use Rattle.std.specs.Prelude.{◌≡◌, ◌≢◌, ℕ, ◌+◌, ◌≤◌, ◌<◌, ◌^◌, List, length, if◌then◌else◌, ◌==◌}
+use Rattle.std.specs.Prelude.{◌≡◌, ◌≢◌, ℕ, ◌+◌, ◌≤◌, ◌<◌, ◌^◌, List, [], length, if◌then◌else◌, ◌==◌}
 use Rattle.std.specs.Option.{option_map}
 use Rattle.disclosure_audit.specs.Queue.{Kept}
 use Rattle.mediator_history.specs.Numbers.{is_in}
+use Rattle.running_groups.specs.Table.{groups_at}
 use Rattle.live_subscriptions.specs.Table.{at, cut_off}
 use Rattle.mediator_state.specs.declared.engine.Engine.{Engine}
 
@@ -12,9 +13,9 @@ pub record HasAuditRoom (audit : Kept) (more : ℕ) : Type 0 where
   pub reserved : more ≤ audit.spare
   pub count : audit.standing.drained + length audit.standing.entries + more < 2 ^ 64
 
--- policy, counts, sessions and limits stay
+-- policy, clock, counts, sessions and limits stay
 pub record KeepsRest (old new : Engine) : Type 0 where
-  pub policy : new.policy ≡ old.policy
+  pub in_force : new.in_force ≡ old.in_force
   pub edits : new.edits ≡ old.edits
   pub opened : new.opened ≡ old.opened
   pub begun : new.begun ≡ old.begun
@@ -27,6 +28,7 @@ pub record KeepsRest (old new : Engine) : Type 0 where
 pub record IsCutOnce (number : ℕ) (old new : Engine) : Type 0 where
   pub rest : KeepsRest old new
   pub table : (q : ℕ) → at new.subscriptions q ≡ (if q == number then option_map cut_off (at old.subscriptions q) else at old.subscriptions q)
+  pub groups : (q : ℕ) → groups_at new.groups q ≡ (if q == number then [] else groups_at old.groups q)
   pub entries : length new.audit.standing.entries ≡ length old.audit.standing.entries + 1
   pub spare : new.audit.spare + 1 ≡ old.audit.spare
 
@@ -34,5 +36,6 @@ pub record IsCutOnce (number : ℕ) (old new : Engine) : Type 0 where
 pub record CutsInARow (numbers : List ℕ) (old new : Engine) : Type 0 where
   pub rest : KeepsRest old new
   pub table : (q : ℕ) → at new.subscriptions q ≡ (if is_in q numbers then option_map cut_off (at old.subscriptions q) else at old.subscriptions q)
+  pub groups : (q : ℕ) → groups_at new.groups q ≡ (if is_in q numbers then [] else groups_at old.groups q)
   pub entries : length new.audit.standing.entries ≡ length old.audit.standing.entries + length numbers
   pub spare : new.audit.spare + length numbers ≡ old.audit.spare

@@ -2,7 +2,7 @@
 ghost use Rattle.std.specs.Prelude.{◌≡◌, ◌≤◌, ◌<◌, ◌+◌, ◌^◌, ◌++◌, ◌∷◌, [], ◌≢◌, ℕ, List, length, not, true, is_some, IfOk, IfSome, IfNone, OnOk, OnErr, IsSomeAnd, Ok};
 ghost use Rattle.std.specs.List.{AllByRecursion};
 ghost use Rattle.policy_text.specs.Parsing.{policy_of};
-ghost use Rattle.policy_text.specs.Policies.{nothing};
+ghost use Rattle.record_sharing.specs.InForce.{in_force_with};
 ghost use Rattle.policy_text.specs.Naming.{is_name};
 ghost use Rattle.disclosure_audit.specs.Queue as queue;
 ghost use Rattle.disclosure_audit.specs.declared.audit.TheConstants.{MOST_ENTRIES};
@@ -13,14 +13,17 @@ ghost use Rattle.mediator_history.specs.Subscriptions.{edits_made, is_live, name
 ghost use Rattle.mediator_history.specs.Cuts.{after_cuts};
 
 use crate::fault::Fault;
+use crate::closing::Closing;
 use crate::plan::Plan;
 use crate::receipt::Receipt;
+use crate::tallies::{count_all, reserve_all};
 use disclosure_audit::{Audit, AuditEntry, What};
 use ipfix_session::Reading;
 use live_subscriptions::Subscriptions;
 use open_sessions::Sessions;
 use policy_text::Policy;
-use record_sharing::Share;
+use record_sharing::{InForce, Share, Tally};
+use running_groups::RunningGroups;
 use std::alloc::{AllocError, Global};
 use subscriber_stream::{Limits, Stream};
 
@@ -31,14 +34,16 @@ pub(crate) struct Engine {
     pub(crate) alloc: Global,
     /// How much each subscription's stream may hold.
     pub(crate) limits: Limits,
-    /// The policy in force.
-    pub(crate) policy: Policy,
+    /// The policy in force, and the time of the clock.
+    pub(crate) in_force: InForce,
     /// How many edits there were.
     edits: u64,
     pub(crate) sessions: Sessions,
     /// How many sessions were opened.
     opened: u64,
     pub(crate) subscriptions: Subscriptions,
+    /// The running groups of those that are served.
+    pub(crate) groups: RunningGroups,
     /// How many subscriptions began.
     begun: u64,
     pub(crate) audit: Audit,
@@ -59,15 +64,15 @@ impl Engine {
         ensures limits { IfOk result (λ e. e.limits ≡ limits) }
         ensures audit_limit { IfOk result (λ e. e.audit.limit ≡ audit) }
     {
-        let policy = no_policy(alloc)?;
         Ok(Engine {
             alloc,
             limits,
-            policy,
+            in_force: InForce::nothing(alloc)?,
             edits: 0,
             sessions: Sessions::new(alloc),
             opened: 0,
             subscriptions: Subscriptions::new(alloc),
+            groups: RunningGroups::new(alloc),
             begun: 0,
             audit: Audit::new(alloc, audit),
         })
@@ -121,15 +126,26 @@ impl Engine {
         self.sessions.close(number);
     }
 
+    /// A policy as it would be in force now.
+    ///
+    /// # Errors
+    /// Want of memory.
+    pub(crate) fn with_policy(&self, policy: Policy) -> Result<InForce, AllocError>
+        ensures { IfOk result (λ f. f ≡ in_force_with policy self.now.in_force.clock) }
+    {
+        InForce::since(self.alloc, policy, self.in_force.clock())
+    }
+
     /// Puts a policy in force, and says how many edits there were.
-    pub(crate) fn put_in_force(&mut self, policy: Policy, position: u64) -> u64
+    pub(crate) fn put_in_force(&mut self, in_force: InForce, position: u64) -> u64
         requires somewhere { StandsSomewhere self.old position }
         requires short { position ≤ 100000000 }
+        requires same_clock { in_force.clock ≡ self.old.in_force.clock }
         ensures value { (h : List Entry) → Stands self.old h → result ≡ edits_made h + 1 }
-        ensures stands { (h : List Entry) (text : List ℕ) → Stands self.old h → policy_of text ≡ Ok policy → Stands self.new (h ++ Edit text ∷ []) }
+        ensures stands { (h : List Entry) (text : List ℕ) → Stands self.old h → policy_of text ≡ Ok in_force.policy → Stands self.new (h ++ Edit text ∷ []) }
         ensures untouched { IsUntouched self.old self.new }
     {
-        self.policy = policy;
+        self.in_force = in_force;
         self.edits += 1;
         self.edits
     }
@@ -173,19 +189,6 @@ impl Engine {
     }
 }
 
-/// A policy without rules.
-///
-/// # Errors
-/// Want of memory.
-fn no_policy(alloc: Global) -> Result<Policy, AllocError>
-    ensures { IfOk result (λ policy. policy ≡ nothing) }
-{
-    match Policy::parse(alloc, "policy 1") {
-        Ok(policy) => Ok(policy),
-        Err(_) => Err(AllocError),
-    }
-}
-
 impl Engine {
     ghost use Rattle.mediator_state.specs.Standing.{Stands};
     ghost use Rattle.mediator_state.specs.Seen.{place_of};
@@ -203,15 +206,17 @@ impl Engine {
         ensures audit_limit { self.new.audit.limit ≡ self.old.audit.limit }
     {
         self.subscriptions.remove(number);
+        self.groups.remove(number);
     }
 
-    /// Cuts a subscription, in room that the audit has. It takes no memory.
+    /// Cuts a subscription, in room that the audit has; its running groups are gone. It takes no memory.
     fn cut(&mut self, position: u64, number: u64)
         requires room { HasAuditRoom self.old.audit 1 }
         ensures stands { (h : List Entry) → Stands self.old h → length h ≡ position → Stands self.new (h ++ Cut number ∷ []) }
         ensures once { IsCutOnce number self.old self.new }
     {
         self.subscriptions.cut(number);
+        self.groups.remove(number);
         self.audit.push_reserved(AuditEntry {
             position,
             index: 0,
@@ -239,10 +244,31 @@ impl Engine {
     ghost use Rattle.ipfix_session.specs.Keeping.{at_key};
     ghost use Rattle.ipfix_session.specs.ReadAhead.{HasRoomFor};
     ghost use Rattle.live_subscriptions.specs.Table.{HasSpare};
-    ghost use Rattle.record_sharing.specs.Sharing.{shown};
+    ghost use Rattle.record_sharing.specs.Sharing.{shown, tallied};
     ghost use Rattle.mediator_state.specs.Planning.{IsPlan};
-    ghost use Rattle.mediator_state.specs.Accepting.{HasRoomForPlan, IsPlannedFor, LacksAudit, IsReadyToTake, IsMessage, receipt_of};
+    ghost use Rattle.mediator_state.specs.Accepting.{HasRoomForPlan, HasAuditFor, IsPlannedFor, LacksAudit, IsReadyToTake, IsMessage, receipt_of};
     ghost use Rattle.std.specs.Prelude.{map, IfErr};
+
+    /// Makes room for so many audit entries.
+    ///
+    /// # Errors
+    /// The audit has no room, or memory ran out.
+    pub(crate) fn make_audit_room(&mut self, need: usize) -> Result<(), Fault>
+        ensures same { IsSameEngine self.old self.new }
+        ensures ok { OnOk result (HasAuditFor self.new.audit need) }
+        ensures err { IfErr result (λ e. LacksAudit e self.old.audit need) }
+        ensures rest { (self.new.sessions ≡ self.old.sessions) × (self.new.subscriptions ≡ self.old.subscriptions) × (self.new.groups ≡ self.old.groups) }
+    {
+        let room = self.audit.room();
+        if need > room as usize {
+            return Err(Fault::AuditFull {
+                need: need as u64,
+                room,
+            });
+        }
+        self.audit.reserve(need as u32)?;
+        Ok(())
+    }
 
     /// Makes room for what a plan does.
     ///
@@ -253,17 +279,10 @@ impl Engine {
         ensures ok { OnOk result (HasRoomForPlan self.new plan.now) }
         ensures err { IfErr result (λ e. LacksAudit e self.old.audit (length plan.now.cuts.items + length plan.now.entries.items)) }
     {
-        let need = plan.cuts.len() + plan.entries.len();
-        let room = self.audit.room();
-        if need > room as usize {
-            return Err(Fault::AuditFull {
-                need: need as u64,
-                room,
-            });
-        }
-        self.audit.reserve(need as u32)?;
+        self.make_audit_room(plan.cuts.len() + plan.entries.len())?;
         self.sessions.make_room(plan.session, &plan.reading)?;
         self.subscriptions.reserve(&plan.shares)?;
+        reserve_all(&mut self.groups, &plan.tallies)?;
         Ok(())
     }
 
@@ -284,19 +303,84 @@ impl Engine {
             gap: plan.reading.gap(),
         };
         self.cut_all(position, &plan.cuts);
-        self.take(plan.session, plan.reading, plan.shares, plan.entries);
+        self.take(
+            plan.session,
+            plan.reading,
+            plan.shares,
+            plan.tallies,
+            plan.entries,
+        );
         receipt
     }
 
-    /// Takes what a message brings, gives and keeps back, in room that was made for it.
-    fn take(&mut self, session: u64, reading: Reading, shares: Vec<Share>, entries: Vec<AuditEntry>)
-        requires room { IsReadyToTake self.old session reading (map shown shares.items) (length entries.items) }
-        ensures stands { (h : List Entry) (number : ℕ) (octets : List ℕ) → Stands self.old h → IsMessage self.old h session number octets reading (map shown shares.items) entries.items
+    /// Takes what a message brings, gives, counts and keeps back, in room that was made for it.
+    fn take(
+        &mut self,
+        session: u64,
+        reading: Reading,
+        shares: Vec<Share>,
+        tallies: Vec<Tally>,
+        entries: Vec<AuditEntry>,
+    )
+        requires room { IsReadyToTake self.old session reading (map shown shares.items) (map tallied tallies.items) (length entries.items) }
+        ensures stands { (h : List Entry) (number : ℕ) (octets : List ℕ) → Stands self.old h → IsMessage self.old h session number octets reading (map shown shares.items) (map tallied tallies.items) entries.items
             → Stands self.new (h ++ Message session number octets ∷ []) }
         ensures untouched { IsUntouched self.old self.new }
     {
         self.sessions.keep(session, reading);
         self.subscriptions.give(shares);
+        count_all(&mut self.groups, tallies);
         self.audit.extend_reserved(entries);
+    }
+}
+
+impl Engine {
+    ghost use Rattle.std.specs.Prelude.{map, IfErr};
+    ghost use Rattle.mediator_state.specs.Standing.{Stands};
+    ghost use Rattle.mediator_state.specs.Seen.{IsSameEngine, IsUntouched};
+    ghost use Rattle.record_sharing.specs.Sharing.{shown};
+    ghost use Rattle.event_journal.specs.declared.entry.Entry.TheVariants.{Advance};
+    ghost use Rattle.mediator_history.specs.Counting.{clock_of};
+    ghost use Rattle.mediator_state.specs.Planning.{IsJudged};
+    ghost use Rattle.mediator_state.specs.Accepting.{LacksAudit};
+    ghost use Rattle.mediator_state.specs.Advancing.{HasRoomToClose, IsClosingFor, IsReadyToClose, AreClosings};
+
+    /// Makes room for what an advance of the clock does.
+    ///
+    /// # Errors
+    /// The audit has no room, or memory ran out.
+    pub(crate) fn make_room_to_close(&mut self, closing: &Closing) -> Result<(), Fault>
+        ensures same { IsSameEngine self.old self.new }
+        ensures ok { OnOk result (HasRoomToClose self.new closing.now) }
+        ensures err { IfErr result (λ e. LacksAudit e self.old.audit (length closing.now.cuts.items)) }
+    {
+        self.make_audit_room(closing.cuts.len())?;
+        self.subscriptions.reserve(&closing.shares)?;
+        Ok(())
+    }
+
+    /// Advances the clock to `t`, and does what that closes, in room that was made for it. It takes no memory.
+    pub(crate) fn advance(&mut self, position: u64, t: u64, closing: Closing)
+        requires room { HasRoomToClose self.old closing }
+        requires planned { IsClosingFor self.old position t closing }
+        ensures stands { (h : List Entry) → Stands self.old h → length h ≡ position → clock_of h ≤ t
+            → IsJudged self.old h (Advance t) closing.cuts.items (map shown closing.shares.items) []
+            → Stands self.new (after_cuts h closing.cuts.items ++ Advance t ∷ []) }
+        ensures untouched { IsUntouched self.old self.new }
+    {
+        self.cut_all(position, &closing.cuts);
+        self.close_due(t, closing.shares);
+    }
+
+    /// Gives what an advance of the clock closes, in room that was made for it, and drops these groups.
+    fn close_due(&mut self, t: u64, shares: Vec<Share>)
+        requires room { IsReadyToClose self.old (map shown shares.items) }
+        ensures stands { (h : List Entry) → Stands self.old h → clock_of h ≤ t → AreClosings self.old h t (map shown shares.items)
+            → Stands self.new (h ++ Advance t ∷ []) }
+        ensures untouched { IsUntouched self.old self.new }
+    {
+        self.subscriptions.give(shares);
+        self.groups.close(t);
+        self.in_force.advance(t);
     }
 }

@@ -18,11 +18,13 @@
 //! then the audit's, whose need and room are told; want of memory says nothing.
 #![tactic(auto)]
 
+mod closing;
 mod engine;
 mod fault;
 mod plan;
 mod receipt;
 mod state;
+mod tallies;
 
 pub use fault::Fault;
 pub use receipt::{Receipt, Status};

@@ -1,10 +1,10 @@
 //! What a message would do, found out before anything is changed.
 ghost use Rattle.std.specs.Prelude.{◌≡◌, ◌≤◌, ◌<◌, ◌+◌, ◌^◌, ◌++◌, ◌∷◌, [], ℕ, List, length, map, not, true, filter, IfOk, IfErr, OnOk};
 ghost use Rattle.sequences.specs.Octets.{AreOctets};
-ghost use Rattle.policy_text.specs.declared.rule.Rule.{Rule};
+ghost use Rattle.record_sharing.specs.InForce.{InForce};
 ghost use Rattle.ipfix_template.specs.DataRecord.{DataRecord};
 ghost use Rattle.event_journal.specs.declared.entry.Entry.{Entry};
-ghost use Rattle.record_sharing.specs.Sharing.{shown, shares_of, notes_of};
+ghost use Rattle.record_sharing.specs.Sharing.{shown, tallied, shares_of, tallies_of, notes_of};
 ghost use Rattle.std.specs.List.{AllByRecursion};
 ghost use Rattle.mediator_state.specs.Planning.{stamp, AreStreamed};
 
@@ -15,7 +15,7 @@ use disclosure_audit::AuditEntry;
 use ipfix_session::Reading;
 use ipfix_template::Record;
 use open_sessions::OpenSession;
-use record_sharing::{Note, Served, Share, Shares};
+use record_sharing::{Note, Served, Share, Shares, Tally};
 use std::alloc::{AllocError, Global};
 use stream_meaning::see_records;
 
@@ -29,6 +29,8 @@ pub(crate) struct Plan {
     pub(crate) cuts: Vec<u64>,
     /// What it gives to those that are still served.
     pub(crate) shares: Vec<Share>,
+    /// What it adds to their aggregates.
+    pub(crate) tallies: Vec<Tally>,
     /// What the audit names of it.
     pub(crate) entries: Vec<AuditEntry>,
 }
@@ -63,6 +65,7 @@ impl Engine {
             reading,
             cuts: judged.cuts,
             shares: judged.shares,
+            tallies: judged.tallies,
             entries: judged.entries,
         })
     }
@@ -95,18 +98,19 @@ impl Engine {
         let domain = reading.header().domain;
         let records = reading.records();
         let served = self.subscriptions.served()?;
-        let all = Shares::of_records(self.alloc, &self.policy, domain, records, &served)?;
+        let all = Shares::of_records(self.alloc, &self.in_force, domain, records, &served)?;
         let split = self.split(&served, &all.shares)?;
         let left = self.share_left(domain, records, all, &split.cuts, &split.left)?;
         self.judged(position, split.cuts, left)
     }
 }
 
-/// Whom a message cuts, and what it gives and keeps back then.
+/// Whom a message cuts, and what it gives, counts and keeps back then.
 #[derive(Drop)]
 pub(crate) struct Judged {
     pub(crate) cuts: Vec<u64>,
     pub(crate) shares: Vec<Share>,
+    pub(crate) tallies: Vec<Tally>,
     pub(crate) entries: Vec<AuditEntry>,
 }
 
@@ -134,15 +138,17 @@ impl Engine {
         left: &[Served<'_>],
     ) -> Result<Shares, AllocError>
         requires few { length records.now ≤ 2 ^ 32 }
-        requires shares { cuts.now ≡ [] → map shown all.shares.items ≡ shares_of domain self.now.policy.rules records.now left.now }
-        requires notes { cuts.now ≡ [] → all.notes.items ≡ notes_of domain self.now.policy.rules records.now left.now }
-        ensures shares { IfOk result (λ s. map shown s.shares.items ≡ shares_of domain self.now.policy.rules records.now left.now) }
-        ensures notes { IfOk result (λ s. s.notes.items ≡ notes_of domain self.now.policy.rules records.now left.now) }
+        requires shares { cuts.now ≡ [] → map shown all.shares.items ≡ shares_of domain self.now.in_force records.now left.now }
+        requires tallies { cuts.now ≡ [] → map tallied all.tallies.items ≡ tallies_of domain self.now.in_force records.now left.now }
+        requires notes { cuts.now ≡ [] → all.notes.items ≡ notes_of domain self.now.in_force records.now left.now }
+        ensures shares { IfOk result (λ s. map shown s.shares.items ≡ shares_of domain self.now.in_force records.now left.now) }
+        ensures tallies { IfOk result (λ s. map tallied s.tallies.items ≡ tallies_of domain self.now.in_force records.now left.now) }
+        ensures notes { IfOk result (λ s. s.notes.items ≡ notes_of domain self.now.in_force records.now left.now) }
     {
         if cuts.is_empty() {
             return Ok(all);
         }
-        Shares::of_records(self.alloc, &self.policy, domain, records, left)
+        Shares::of_records(self.alloc, &self.in_force, domain, records, left)
     }
 
     /// What is judged, with the audit's entries of the message behind its cuts, the first of which is at a position.
@@ -153,6 +159,7 @@ impl Engine {
         requires short { position ≤ 100000000 }
         ensures cuts { IfOk result (λ j. j.cuts.items ≡ cuts.items) }
         ensures shares { IfOk result (λ j. j.shares.items ≡ left.shares.items) }
+        ensures tallies { IfOk result (λ j. j.tallies.items ≡ left.tallies.items) }
         ensures entries { IfOk result (λ j. j.entries.items ≡ map (stamp (position + length cuts.items)) left.notes.items) }
         ensures streamable { IfOk result (λ j. AllByRecursion AreStreamed (map shown j.shares.items)) }
     {
@@ -162,6 +169,7 @@ impl Engine {
         Ok(Judged {
             cuts,
             shares: left.shares,
+            tallies: left.tallies,
             entries,
         })
     }
@@ -172,10 +180,10 @@ impl Engine {
     /// Want of memory.
     fn split<'a>(&self, served: &[Served<'a>], shares: &[Share]) -> Result<Split<'a>, AllocError>
         requires each { length shares.now ≡ length served.now }
-        ensures cuts { (domain : ℕ) (rules : List Rule) (records : List DataRecord) → map shown shares.now ≡ shares_of domain rules records served.now
-            → IfOk result (λ s. s.cuts.items ≡ map (λ w. w.sub) (filter (lacks self.now.subscriptions domain rules records) served.now)) }
-        ensures left { (domain : ℕ) (rules : List Rule) (records : List DataRecord) → map shown shares.now ≡ shares_of domain rules records served.now
-            → IfOk result (λ s. s.left.items ≡ filter (has self.now.subscriptions domain rules records) served.now) }
+        ensures cuts { (domain : ℕ) (f : InForce) (records : List DataRecord) → map shown shares.now ≡ shares_of domain f records served.now
+            → IfOk result (λ s. s.cuts.items ≡ map (λ w. w.sub) (filter (lacks self.now.subscriptions domain f records) served.now)) }
+        ensures left { (domain : ℕ) (f : InForce) (records : List DataRecord) → map shown shares.now ≡ shares_of domain f records served.now
+            → IfOk result (λ s. s.left.items ≡ filter (has self.now.subscriptions domain f records) served.now) }
     {
         let mut cuts = Vec::new(self.alloc);
         let mut left = Vec::new(self.alloc);
@@ -196,7 +204,7 @@ fn see_octets(message: &[u8])
 {}
 
 /// Each record of a share may be streamed, by its type.
-fn see_shares(shares: &[Share])
+pub(crate) fn see_shares(shares: &[Share])
     ensures { AllByRecursion AreStreamed (map shown shares.now) }
 {
     'shares: for share in shares {

@@ -1,7 +1,7 @@
 //! A mediator's state, over what keeps its history.
 ghost use Rattle.std.specs.Prelude.{◌≡◌, ◌≤◌, ◌<◌, ◌+◌, ◌^◌, ◌++◌, ◌∷◌, ◌↔◌, [], ◌≢◌, ℕ, List, length, map, take, drop, true, false, IfOk, IfErr, IfSome, IfNone, OnOk, OnErr};
 ghost use Rattle.event_journal.specs.declared.entry.Entry.{Entry};
-ghost use Rattle.event_journal.specs.declared.entry.Entry.TheVariants.{Open, Close, Message, Edit, Subscribe, Unsubscribe, Cut};
+ghost use Rattle.event_journal.specs.declared.entry.Entry.TheVariants.{Open, Close, Message, Edit, Subscribe, Unsubscribe, Advance, Cut};
 ghost use Rattle.event_journal.specs.Room.{HasRoom};
 ghost use Rattle.mediator_history.specs.Subscriptions.{is_live};
 ghost use Rattle.mediator_history.specs.Auditing.{audit_list};
@@ -135,7 +135,7 @@ impl<C: Chronicle + Drop> State<C> {
 }
 
 impl<C: Chronicle + Drop> State<C> {
-    ghost use Rattle.mediator_state.specs.Calls.{StandsFor, StandsForSome, Receives, RefusesReceive, Edits, RefusesEdit, Subscribes, RefusesSubscribe, Unsubscribes, RefusesUnsubscribe};
+    ghost use Rattle.mediator_state.specs.Calls.{StandsFor, StandsForSome, Receives, RefusesReceive, Edits, RefusesEdit, Subscribes, RefusesSubscribe, Unsubscribes, RefusesUnsubscribe, Advances, RefusesAdvance};
     ghost use Rattle.mediator_state.specs.Seen.{IsUntouched, place_of};
 
     /// Accepts the next message of a session: each subscription that is served is given what the policy in force discloses
@@ -155,7 +155,12 @@ impl<C: Chronicle + Drop> State<C> {
     {
         let position = self.chronicle.len();
         let plan = self.engine.plan(position, session, number, &message)?;
-        let entries = entries_of(self.engine.alloc, &plan.cuts, session, number, message)?;
+        let message = Entry::Message {
+            session,
+            number,
+            octets: message,
+        };
+        let entries = behind_cuts(self.engine.alloc, &plan.cuts, message)?;
         if !self.chronicle.room(&entries) {
             return Err(Fault::JournalFull);
         }
@@ -166,10 +171,10 @@ impl<C: Chronicle + Drop> State<C> {
     }
 
     /// Puts the policy of a text in force, and answers how many edits there were. What was accepted before is judged by the
-    /// policy of its time.
+    /// policy of its time, and running groups close as they stand.
     ///
     /// # Errors
-    /// The text is no policy, or one with aggregates, which are not carried out yet; the journal is full, or memory ran out.
+    /// The text is no policy; the journal is full, or memory ran out.
     pub fn edit(&mut self, text: &str) -> Result<u64, Fault>
         requires stands { StandsForSome C.tells self.old }
         ensures ok { IfOk result (λ n. (h : List Entry) → StandsFor C.tells self.old h → Edits C.tells C.limits self.old h text.now n self.new) }
@@ -178,12 +183,16 @@ impl<C: Chronicle + Drop> State<C> {
         ensures journaled { C.limits self.new.chronicle ≡ C.limits self.old.chronicle }
         ensures err { IfErr result (λ e. (h : List Entry) → StandsFor C.tells self.old h → RefusesEdit e (C.limits self.old.chronicle) h text.now) }
     {
-        let policy = read_policy(self.engine.alloc, text)?;
+        let policy = match Policy::parse(self.engine.alloc, text) {
+            Ok(policy) => policy,
+            Err(fault) => return Err(refusal(fault)),
+        };
+        let in_force = self.engine.with_policy(policy)?;
         let text = PolicyText::new(self.engine.alloc, text)?;
         let entry = Entry::Edit { text };
         let position = self.chronicle.len();
         self.make_room(&entry)?;
-        let edits = self.engine.put_in_force(policy, position);
+        let edits = self.engine.put_in_force(in_force, position);
         self.chronicle.push_reserved(entry);
         Ok(edits)
     }
@@ -238,6 +247,37 @@ impl<C: Chronicle + Drop> State<C> {
         self.make_room(&entry)?;
         self.engine.unsubscribe(sub);
         self.chronicle.push_reserved(entry);
+        Ok(())
+    }
+
+    /// Advances the clock to `t`, in milliseconds since 1970: each running group whose interval's end and grace it comes to is
+    /// closed, and its subscription is given the group's record. A subscription whose limits leave no room for what it
+    /// would be given is cut before the advance.
+    ///
+    /// # Errors
+    /// The clock stands later; the journal is full, or the audit; or memory ran out.
+    pub fn advance(&mut self, t: u64) -> Result<(), Fault>
+        requires stands { StandsForSome C.tells self.old }
+        ensures ok { OnOk result ((h : List Entry) → StandsFor C.tells self.old h → Advances C.tells C.limits self.old h t self.new) }
+        ensures untouched { IsUntouched self.old.engine self.new.engine }
+        ensures same { OnErr result ((h : List Entry) → StandsFor C.tells self.old h → StandsFor C.tells self.new h) }
+        ensures journaled { C.limits self.new.chronicle ≡ C.limits self.old.chronicle }
+        ensures err { IfErr result (λ e. (h : List Entry) → StandsFor C.tells self.old h → RefusesAdvance e (C.limits self.old.chronicle) self.old.engine h t) }
+    {
+        let last = self.engine.in_force.clock();
+        if t < last {
+            return Err(Fault::ClockBack { last });
+        }
+        let position = self.chronicle.len();
+        let closing = self.engine.plan_advance(t)?;
+        let entries = behind_cuts(self.engine.alloc, &closing.cuts, Entry::Advance { t })?;
+        if !self.chronicle.room(&entries) {
+            return Err(Fault::JournalFull);
+        }
+        self.engine.make_room_to_close(&closing)?;
+        self.chronicle.reserve(entries.len() as u64)?;
+        self.append(entries);
+        self.engine.advance(position, t, closing);
         Ok(())
     }
 
@@ -317,51 +357,19 @@ impl<C: Chronicle + Drop> State<C> {
     }
 }
 
-/// The entries of cuts, and of the message behind them.
+/// The entries of cuts, and the one behind them.
 ///
 /// # Errors
 /// Want of memory.
-fn entries_of(
-    alloc: Global,
-    cuts: &[u64],
-    session: u64,
-    number: u64,
-    octets: Bytes,
-) -> Result<Vec<Entry>, AllocError>
-    ensures { IfOk result (λ v. v.items ≡ map Cut cuts.now ++ Message session number octets ∷ []) }
+fn behind_cuts(alloc: Global, cuts: &[u64], last: Entry) -> Result<Vec<Entry>, AllocError>
+    ensures { IfOk result (λ v. v.items ≡ map Cut cuts.now ++ last ∷ []) }
 {
     let mut entries = Vec::with_capacity(alloc, cuts.len() + 1)?;
     'cuts: for sub in cuts {
         entries.push_reserved(Entry::Cut { sub: *sub });
     }
-    entries.push_reserved(Entry::Message {
-        session,
-        number,
-        octets,
-    });
+    entries.push_reserved(last);
     Ok(entries)
-}
-
-ghost use Rattle.mediator_state.specs.Calls.{IsAccepted, RefusesPolicy};
-
-/// The policy that a text spells. One that defines aggregates is refused at its first line, as unknown words: so far nothing
-/// closes them.
-fn read_policy(alloc: Global, text: &str) -> Result<Policy, Fault>
-    ensures ok { IfOk result (λ policy. IsAccepted text.now policy) }
-    ensures err { IfErr result (λ e. RefusesPolicy e text.now) }
-{
-    let policy = match Policy::parse(alloc, text) {
-        Ok(policy) => policy,
-        Err(fault) => return Err(refusal(fault)),
-    };
-    if policy.aggregates().is_empty() {
-        Ok(policy)
-    } else {
-        Err(Fault::Policy(PolicyFault {
-            line: 1,
-            kind: FaultKind::UnknownWord,
-        }))
-    }
 }
 
 ghost use Rattle.mediator_state.specs.Refusals.{policy_refusal};

@@ -1,4 +1,7 @@
 pub use Rattle.flow_anonymize.specs.Disclosed as Disclosures
 pub use Rattle.mediator_history.specs.Disclosed
 pub use Rattle.mediator_history.specs.Auditing
+pub use Rattle.flow_aggregate.specs.Counts
+pub use Rattle.mediator_history.specs.Counting
+pub mod InForce
 pub mod Sharing

@@ -1,48 +1,81 @@
--- What the records of one message give to each subscription that is served, and what is noted of each: the order of the notes
--- is that of the audit, by record and then by subscription. All of this is this project's own rule.
+-- What the records of one message give to each subscription that is served, what they add to its aggregates, and what is noted of
+-- each: the order of the notes is that of the audit, by record and then by subscription. All of this is this project's own rule.
 use Rattle.std.specs.Prelude.{ℕ, List, [], map}
 use Rattle.std.specs.List.{flat_map, enumerate_from}
 use Rattle.ipfix_template.specs.DataRecord.{DataRecord}
-use Rattle.policy_text.specs.declared.rule.Rule.{Rule}
-use Rattle.disclosure_audit.specs.declared.entry.What.{What}
+use Rattle.flow_anonymize.specs.Outcome.{Outcome}
 use Rattle.flow_anonymize.specs.Disclosed.{disclosure_of}
+use Rattle.flow_aggregate.specs.Counts.{Count, count_of}
+use Rattle.disclosure_audit.specs.declared.entry.What.{What}
+use Rattle.mediator_history.specs.Counting.{counts}
 use Rattle.mediator_history.specs.Disclosed.{passed}
 use Rattle.mediator_history.specs.Auditing.{kept_back}
+use Rattle.record_sharing.specs.InForce.{InForce}
 use Rattle.record_sharing.specs.declared.served.Served.{Served}
 use Rattle.record_sharing.specs.declared.shares.Share.{Share}
+use Rattle.record_sharing.specs.declared.shares.Tally.{Tally}
 use Rattle.record_sharing.specs.declared.shares.Note.{Note}
 
--- of these records those that pass for a subscriber of this name, as they are disclosed to it
-abbrev pub given : List ℕ → ℕ → List Rule → List DataRecord → List DataRecord
-given name domain rules records = flat_map (λ r. passed (disclosure_of name domain r rules)) records
+-- what becomes of a record for a subscriber of this name
+abbrev pub outcome_by : ℕ → InForce → List ℕ → DataRecord → Outcome
+outcome_by domain f name r = disclosure_of name domain r f.policy.rules
 
--- a share as a pair: the subscription, and what it is given
+-- ---- what each gets: for a subscriber of a name, and a record, some items
+
+-- what these records give to one that is served
+abbrev pub share_by : {X : Type 0} → (List ℕ → DataRecord → List X) → List DataRecord → Served → ℕ × List X
+share_by gives records who = (who.sub, flat_map (gives who.name.now) records)
+
+-- the record that passes, as it is disclosed
+abbrev pub given_by : ℕ → InForce → List ℕ → DataRecord → List DataRecord
+given_by domain f name r = passed (outcome_by domain f name r)
+
+-- what it adds to an aggregate
+abbrev pub added_by : ℕ → InForce → List ℕ → DataRecord → List Count
+added_by domain f name r = map count_of (counts f.policy.aggregates f.clock r (outcome_by domain f name r))
+
+-- a share and a tally as pairs: the subscription with what it is given, or with what is added to its aggregates
 abbrev pub shown : Share → ℕ × List DataRecord
 shown s = (s.sub, s.given.items)
 
+abbrev pub tallied : Tally → ℕ × List Count
+tallied t = (t.sub, t.counts.items)
+
 -- before the first record
-abbrev pub blank : Served → ℕ × List DataRecord
+abbrev pub blank : {X : Type 0} → Served → ℕ × List X
 blank who = (who.sub, [])
 
 -- the share of a subscription
-abbrev pub share_of : ℕ → List Rule → List DataRecord → Served → ℕ × List DataRecord
-share_of domain rules records who = (who.sub, given who.name.now domain rules records)
+abbrev pub share_of : ℕ → InForce → List DataRecord → Served → ℕ × List DataRecord
+share_of domain f records who = share_by (given_by domain f) records who
+
+abbrev pub tally_of : ℕ → InForce → List DataRecord → Served → ℕ × List Count
+tally_of domain f records who = share_by (added_by domain f) records who
 
 -- the share of each, in their order
-abbrev pub shares_of : ℕ → List Rule → List DataRecord → List Served → List (ℕ × List DataRecord)
-shares_of domain rules records served = map (share_of domain rules records) served
+abbrev pub shares_of : ℕ → InForce → List DataRecord → List Served → List (ℕ × List DataRecord)
+shares_of domain f records served = map (share_of domain f records) served
+
+abbrev pub tallies_of : ℕ → InForce → List DataRecord → List Served → List (ℕ × List Count)
+tallies_of domain f records served = map (tally_of domain f records) served
+
+-- ---- what is noted
 
 abbrev pub note_of : ℕ → ℕ → What → Note
 note_of index sub what = record { index = index; sub = sub; what = what }
 
+-- what is kept back of a record from a subscriber of this name
+abbrev pub kept_by : ℕ → InForce → List ℕ → DataRecord → List What
+kept_by domain f name r = kept_back f.policy.aggregates f.clock r (outcome_by domain f name r)
+
 -- what is kept back of the record with this index from one subscription
-abbrev pub noted : ℕ → List Rule → ℕ × DataRecord → Served → List Note
-noted domain rules r who = map (note_of r.0 who.sub) (kept_back (disclosure_of who.name.now domain r.1 rules))
+abbrev pub noted : ℕ → InForce → ℕ × DataRecord → Served → List Note
+noted domain f r who = map (note_of r.0 who.sub) (kept_by domain f who.name.now r.1)
 
 -- and from each
-abbrev pub noted_of_each : ℕ → List Rule → List Served → ℕ × DataRecord → List Note
-noted_of_each domain rules served r = flat_map (noted domain rules r) served
+abbrev pub noted_of_each : ℕ → InForce → List Served → ℕ × DataRecord → List Note
+noted_of_each domain f served r = flat_map (noted domain f r) served
 
 -- what is kept back of the records, by index and then by subscription
-abbrev pub notes_of : ℕ → List Rule → List DataRecord → List Served → List Note
-notes_of domain rules records served = flat_map (noted_of_each domain rules served) (enumerate_from 0 records)
+abbrev pub notes_of : ℕ → InForce → List DataRecord → List Served → List Note
+notes_of domain f records served = flat_map (noted_of_each domain f served) (enumerate_from 0 records)

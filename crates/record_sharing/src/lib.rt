@@ -1,14 +1,20 @@
-//! What the records of one message give to each subscription, and what the audit notes of them.
+//! What the records of one message give to each subscription, what they add to its aggregates, and what the audit notes of
+//! them.
 //!
+//! - `in_force`: [`InForce`], the policy in force and the time of the clock.
 //! - `served`: [`Served`], a subscription that is served, with its subscriber's name.
-//! - `shares`: [`Shares`], what each of them is given, and what is kept back from it: [`Share`] and [`Note`].
+//! - `shares`: [`Shares`], what each of them is given ([`Share`]), what is added to its aggregates ([`Tally`]), and what the
+//!   audit notes ([`Note`]).
 //!
 //! Proved: `Shares::of_records` gives each subscription, in their order, the records that the policy discloses to its
-//! subscriber (`shares`), and notes what is kept back by record and then by subscription (`notes`).
+//! subscriber (`shares`) and what counts in its aggregates by the clock (`tallies`), and notes what is kept back or counts
+//! by record and then by subscription (`notes`).
 #![tactic(auto)]
 
+mod in_force;
 mod served;
 mod shares;
 
+pub use in_force::InForce;
 pub use served::Served;
-pub use shares::{Note, Share, Shares};
+pub use shares::{Note, Share, Shares, Tally};

@@ -2,16 +2,19 @@
 ghost use Rattle.std.specs.Prelude.{◌≡◌, ◌++◌, ◌∷◌, ◌≤◌, ◌<◌, ◌^◌, ℕ, List, [], length, map, IfOk, OnOk};
 ghost use Rattle.ipfix_template.specs.DataRecord.{DataRecord};
 ghost use Rattle.flow_anonymize.specs.Outcome as outcome;
-ghost use Rattle.flow_anonymize.specs.Disclosed.{disclosure_of};
+ghost use Rattle.flow_aggregate.specs.Counts.{Count as OneCount, count_of};
+ghost use Rattle.mediator_history.specs.Counting.{counts};
 ghost use Rattle.mediator_history.specs.Disclosed.{passed};
-ghost use Rattle.mediator_history.specs.Auditing.{kept_back, reason_named, removed_of};
-ghost use Rattle.record_sharing.specs.Sharing.{blank, shown, shares_of, notes_of, note_of, noted_of_each};
+ghost use Rattle.mediator_history.specs.Auditing.{kept_back, reason_named, removed_of, told_of};
+ghost use Rattle.record_sharing.specs.InForce.{count_by, timing_by, as_list};
+ghost use Rattle.record_sharing.specs.Sharing.{blank, shown, tallied, shares_of, tallies_of, notes_of, note_of, noted_of_each};
 
+use crate::in_force::InForce;
 use crate::served::Served;
 use disclosure_audit::{RemovedField, RemovedFields, What};
+use flow_aggregate::{Count, Timing};
 use flow_anonymize::{Disclosure, disclose};
 use ipfix_template::Record;
-use policy_text::Policy;
 use std::alloc::{AllocError, Global};
 
 /// What a subscription is given.
@@ -23,7 +26,15 @@ pub struct Share {
     pub given: Vec<Record>,
 }
 
-/// What is kept back of a record from a subscription.
+/// What is added to the aggregates of a subscription.
+#[derive(Drop)]
+pub struct Tally {
+    /// The number of the subscription.
+    pub sub: u64,
+    pub counts: Vec<Count>,
+}
+
+/// What the audit notes of a record for a subscription: that it is kept back, counts in an aggregate, or loses fields.
 #[derive(Debug, Drop)]
 pub struct Note {
     /// The record's place in its message, from 0.
@@ -38,29 +49,32 @@ pub struct Note {
 pub struct Shares {
     /// A share for each subscription, in their order.
     pub shares: Vec<Share>,
+    /// What is added to the aggregates of each, in the same order.
+    pub tallies: Vec<Tally>,
     /// What is kept back, by record and then by subscription.
     pub notes: Vec<Note>,
 }
 
 impl Shares {
-    /// Judges the records of one message, of this Observation Domain, for each subscription.
+    /// Judges the records of one message, of this Observation Domain, for each subscription, by what is in force.
     ///
     /// # Errors
     /// Want of memory.
     pub fn of_records(
         alloc: Global,
-        policy: &Policy,
+        in_force: &InForce,
         domain: u32,
         records: &[Record],
         served: &[Served<'_>],
     ) -> Result<Shares, AllocError>
         requires few { length records.now ≤ 2 ^ 32 }
-        ensures shares { IfOk result (λ s. map shown s.shares.items ≡ shares_of domain policy.now.rules records.now served.now) }
-        ensures notes { IfOk result (λ s. s.notes.items ≡ notes_of domain policy.now.rules records.now served.now) }
+        ensures shares { IfOk result (λ s. map shown s.shares.items ≡ shares_of domain in_force.now records.now served.now) }
+        ensures tallies { IfOk result (λ s. map tallied s.tallies.items ≡ tallies_of domain in_force.now records.now served.now) }
+        ensures notes { IfOk result (λ s. s.notes.items ≡ notes_of domain in_force.now records.now served.now) }
     {
         let mut found = Shares::of_none(alloc, served)?;
         'records: for (index, flow_record) in records.iter().enumerate() {
-            found.add_record(alloc, policy, domain, index as u32, flow_record, served)?;
+            found.add_record(alloc, in_force, domain, index as u32, flow_record, served)?;
         }
         Ok(found)
     }
@@ -68,17 +82,24 @@ impl Shares {
     /// No record.
     fn of_none(alloc: Global, served: &[Served<'_>]) -> Result<Shares, AllocError>
         ensures shares { IfOk result (λ s. map shown s.shares.items ≡ map blank served.now) }
+        ensures tallies { IfOk result (λ s. map tallied s.tallies.items ≡ map blank served.now) }
         ensures notes { IfOk result (λ s. s.notes.items ≡ []) }
     {
         let mut shares = Vec::new(alloc);
+        let mut tallies = Vec::new(alloc);
         'served: for who in served {
             shares.push(Share {
                 sub: who.sub,
                 given: Vec::new(alloc),
             })?;
+            tallies.push(Tally {
+                sub: who.sub,
+                counts: Vec::new(alloc),
+            })?;
         }
         Ok(Shares {
             shares,
+            tallies,
             notes: Vec::new(alloc),
         })
     }
@@ -87,21 +108,25 @@ impl Shares {
     fn add_record(
         &mut self,
         alloc: Global,
-        policy: &Policy,
+        in_force: &InForce,
         domain: u32,
         index: u32,
         flow_record: &Record,
         served: &[Served<'_>],
     ) -> Result<(), AllocError>
         requires each { length self.old.shares.items ≡ length served.now }
-        ensures shares { (done : List DataRecord) → map shown self.old.shares.items ≡ shares_of domain policy.now.rules done served.now
-            → OnOk result (map shown self.new.shares.items ≡ shares_of domain policy.now.rules (done ++ flow_record.now ∷ []) served.now) }
+        requires each_tally { length self.old.tallies.items ≡ length served.now }
+        ensures shares { (done : List DataRecord) → map shown self.old.shares.items ≡ shares_of domain in_force.now done served.now
+            → OnOk result (map shown self.new.shares.items ≡ shares_of domain in_force.now (done ++ flow_record.now ∷ []) served.now) }
+        ensures tallies { (done : List DataRecord) → map tallied self.old.tallies.items ≡ tallies_of domain in_force.now done served.now
+            → OnOk result (map tallied self.new.tallies.items ≡ tallies_of domain in_force.now (done ++ flow_record.now ∷ []) served.now) }
         ensures stay { OnOk result (length self.new.shares.items ≡ length served.now) }
-        ensures notes { OnOk result (self.new.notes.items ≡ self.old.notes.items ++ noted_of_each domain policy.now.rules served.now (index, flow_record.now)) }
+        ensures stay_tallies { OnOk result (length self.new.tallies.items ≡ length served.now) }
+        ensures notes { OnOk result (self.new.notes.items ≡ self.old.notes.items ++ noted_of_each domain in_force.now served.now (index, flow_record.now)) }
     {
         'served: for (place, who) in served.iter().enumerate() {
-            let found = disclose(alloc, policy, who.name, domain, flow_record)?;
-            self.add(place, index, who.sub, found)?;
+            let found = disclose(alloc, in_force.policy(), who.name, domain, flow_record)?;
+            self.add(alloc, place, index, who.sub, in_force, flow_record, found)?;
         }
         Ok(())
     }
@@ -109,29 +134,68 @@ impl Shares {
     /// Adds what is disclosed of the record with this index to the subscription at a place.
     fn add(
         &mut self,
+        alloc: Global,
         place: usize,
         index: u32,
         sub: u64,
+        in_force: &InForce,
+        flow_record: &Record,
         found: Disclosure,
     ) -> Result<(), AllocError>
         requires within { place < length self.old.shares.items }
+        requires within_tallies { place < length self.old.tallies.items }
         ensures shares { (before after : List (ℕ × List DataRecord)) (s : ℕ × List DataRecord) → map shown self.old.shares.items ≡ before ++ s ∷ after → length before ≡ place
             → OnOk result (map shown self.new.shares.items ≡ before ++ (s.0, s.1 ++ passed (outcome.shown found)) ∷ after) }
+        ensures tallies { (before after : List (ℕ × List OneCount)) (s : ℕ × List OneCount) → map tallied self.old.tallies.items ≡ before ++ s ∷ after → length before ≡ place
+            → OnOk result (map tallied self.new.tallies.items ≡ before ++ (s.0, s.1 ++ map count_of (counts in_force.now.policy.aggregates in_force.now.clock flow_record.now (outcome.shown found))) ∷ after) }
         ensures stay { OnOk result (length self.new.shares.items ≡ length self.old.shares.items) }
-        ensures notes { OnOk result (self.new.notes.items ≡ self.old.notes.items ++ map (note_of index sub) (kept_back (outcome.shown found))) }
+        ensures stay_tallies { OnOk result (length self.new.tallies.items ≡ length self.old.tallies.items) }
+        ensures notes { OnOk result (self.new.notes.items ≡ self.old.notes.items ++ map (note_of index sub) (kept_back in_force.now.policy.aggregates in_force.now.clock flow_record.now (outcome.shown found))) }
     {
         match found {
             Disclosure::Passed { kept, removed } => {
                 self.note_removed(index, sub, removed)?;
-                self.shares[place].given.push(kept)?;
-                Ok(())
+                self.give(place, kept)
             }
-            Disclosure::Aggregated { rule, .. } => self.note(index, sub, What::Aggregated { rule }),
+            Disclosure::Aggregated { rule, definition } => {
+                let what = told(rule, in_force.timing(definition, flow_record));
+                self.note(index, sub, what)?;
+                match in_force.count(alloc, definition, flow_record)? {
+                    Some(count) => self.tally(place, count),
+                    None => Ok(()),
+                }
+            }
             Disclosure::Withheld { rule, reason } => {
                 let reason = named(reason);
                 self.note(index, sub, What::Withheld { rule, reason })
             }
         }
+    }
+
+    /// Gives a record to the subscription at a place.
+    fn give(&mut self, place: usize, kept: Record) -> Result<(), AllocError>
+        requires within { place < length self.old.shares.items }
+        ensures shares { (before after : List (ℕ × List DataRecord)) (s : ℕ × List DataRecord) → map shown self.old.shares.items ≡ before ++ s ∷ after → length before ≡ place
+            → OnOk result (map shown self.new.shares.items ≡ before ++ (s.0, s.1 ++ kept ∷ []) ∷ after) }
+        ensures stay { OnOk result (length self.new.shares.items ≡ length self.old.shares.items) }
+        ensures tallies { self.new.tallies ≡ self.old.tallies }
+        ensures notes { self.new.notes ≡ self.old.notes }
+    {
+        self.shares[place].given.push(kept)?;
+        Ok(())
+    }
+
+    /// Adds what counts to the aggregates of the subscription at a place.
+    fn tally(&mut self, place: usize, count: Count) -> Result<(), AllocError>
+        requires within { place < length self.old.tallies.items }
+        ensures tallies { (before after : List (ℕ × List OneCount)) (s : ℕ × List OneCount) → map tallied self.old.tallies.items ≡ before ++ s ∷ after → length before ≡ place
+            → OnOk result (map tallied self.new.tallies.items ≡ before ++ (s.0, s.1 ++ count ∷ []) ∷ after) }
+        ensures stay { OnOk result (length self.new.tallies.items ≡ length self.old.tallies.items) }
+        ensures shares { self.new.shares ≡ self.old.shares }
+        ensures notes { self.new.notes ≡ self.old.notes }
+    {
+        self.tallies[place].counts.push(count)?;
+        Ok(())
     }
 
     /// Notes the fields that a record loses, where there are some.
@@ -143,6 +207,7 @@ impl Shares {
     ) -> Result<(), AllocError>
         ensures notes { OnOk result (self.new.notes.items ≡ self.old.notes.items ++ map (note_of index sub) (removed_of removed.items)) }
         ensures shares { self.new.shares ≡ self.old.shares }
+        ensures tallies { self.new.tallies ≡ self.old.tallies }
     {
         if removed.is_empty() {
             return Ok(());
@@ -154,6 +219,7 @@ impl Shares {
     fn note(&mut self, index: u32, sub: u64, what: What) -> Result<(), AllocError>
         ensures notes { OnOk result (self.new.notes.items ≡ self.old.notes.items ++ note_of index sub what ∷ []) }
         ensures shares { self.new.shares ≡ self.old.shares }
+        ensures tallies { self.new.tallies ≡ self.old.tallies }
     {
         self.notes.push(Note { index, sub, what })?;
         Ok(())
@@ -169,4 +235,17 @@ fn named(reason: flow_anonymize::Reason) -> disclosure_audit::Reason
         flow_anonymize::Reason::ScopeLost => disclosure_audit::Reason::ScopeLost,
         flow_anonymize::Reason::Empty => disclosure_audit::Reason::Empty,
     }
+}
+
+/// What the audit says of a record that an aggregate rule names.
+fn told(rule: u32, timing: Timing) -> What
+    ensures { result ≡ told_of rule timing }
+{
+    let reason = match timing {
+        Timing::Placed { .. } => return What::Aggregated { rule },
+        Timing::NoTime => disclosure_audit::Reason::NoTime,
+        Timing::NoKey => disclosure_audit::Reason::NoKey,
+        Timing::Late => disclosure_audit::Reason::Late,
+    };
+    What::Withheld { rule, reason }
 }

@@ -1,4 +1,4 @@
-use Rattle.std.proofs.Common.{rules, sym, ◌∙◌, ap}
+use Rattle.std.proofs.Common.{rules, sym}
 use Rattle.flow_aggregate.proofs.WidthLaws.{place_within, first_is, first_wide}
 use Rattle.flow_aggregate.proofs.values.first_value.Goals as goal
 

@@ -1,15 +1,10 @@
-use Rattle.std.proofs.Common.{List, sym, ap, ◌∙◌, ◌++◌, subst}
-use Rattle.std.specs.List.{IsDistinct}
-use Rattle.std.specs.Map.{keys_of}
-use Rattle.flow_aggregate.specs.declared.additions.Addition.{Addition}
-use Rattle.flow_aggregate.specs.GroupOrder.{same_group}
-use Rattle.flow_aggregate.specs.Running.{Entries, StandsFor}
-use Rattle.flow_aggregate.specs.Adding.{with_all}
-use Rattle.flow_aggregate.proofs.RunningLaws.{all_added}
+use Rattle.std.proofs.Common.{arith}
+use Rattle.std.specs.Vec.Iter.{into_iter_items}
+use Rattle.std.proofs.lemmas.List.{nil_from_length}
+use Rattle.flow_aggregate.proofs.RunningLaws.{counts_added}
 use Rattle.flow_aggregate.proofs.running.Running.add_reserved.Goals as goal
 
 pub returns : goal.returns
-returns c before counted stands are =
-    let distinct : IsDistinct same_group (keys_of c.args.self.now) = rw (← c.self.view_is) c.len-count.ensures.unique in
-    let added = c.add_all.ensures ∙ ap (λ (list : List Addition). with_all c.args.self.now list) c.into_vec.ensures in
-    subst (λ (es : Entries). StandsFor es (before ++ counted)) (sym added) (all_added c.args.additions counted c.args.self.now before distinct stands are)
+returns c before more stands of =
+    counts_added c.args.self.now c.loop-count.self c.args.counts.items (into_iter_items c.loop-count.count-iterator) before more
+    (nil_from_length (into_iter_items c.loop-count.count-iterator) (omega (arith, c.in-None.ensures.steps.0))) c.loop-count.invariant stands c.requires of

@@ -1,4 +1,4 @@
-use Rattle.std.proofs.Common.{rules, arith}
+use Rattle.std.proofs.Common.{arith}
 use Rattle.flow_aggregate.proofs.ClosingLaws.{due_step}
 use Rattle.flow_aggregate.proofs.running.Running.due.Goals as goal
 

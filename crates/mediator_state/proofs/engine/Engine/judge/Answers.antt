@@ -1,30 +1,39 @@
 use Rattle.std.proofs.Common.{ap, ◌∙◌}
-use Rattle.record_sharing.specs.Sharing.{shares_of, notes_of}
+use Rattle.record_sharing.specs.Sharing.{shares_of, tallies_of, notes_of}
 use Rattle.mediator_state.proofs.Judging.{split_of, none_cut, judges}
 use Rattle.mediator_state.proofs.engine.Engine.judge.Goals as goal
 
 pub share_left-requires-clause-shares : goal.share_left-requires-clause-shares
 share_left-requires-clause-shares c none =
     c.in_ok-all.ensures.shares
-    ∙ ap (shares_of c.header-domain.result.domain c.args.self.now.policy.rules c.records-records.result.now)
-    (none_cut c.args.self.now.subscriptions c.header-domain.result.domain c.args.self.now.policy.rules c.records-records.result.now c.in_ok-served.served.items c.deref.result.now c.in_ok-split.split.cuts.items c.deref-4.result.now c.in_ok-split.split.left.items c.deref-5.result.now
-    (split_of c.args.self.now.subscriptions c.header-domain.result.domain c.args.self.now.policy.rules c.records-records.result.now c.in_ok-served.served.items c.deref.result.now c.deref-2.result.now c.in_ok-all.all.shares.items c.deref-3.result.now c.in_ok-split.split.cuts.items c.in_ok-split.split.left.items
+    ∙ ap (shares_of c.header-domain.result.domain c.args.self.now.in_force c.records-records.result.now)
+    (none_cut c.args.self.now.subscriptions c.header-domain.result.domain c.args.self.now.in_force c.records-records.result.now c.in_ok-served.served.items c.deref.result.now c.in_ok-split.split.cuts.items c.deref-4.result.now c.in_ok-split.split.left.items c.deref-5.result.now
+    (split_of c.args.self.now.subscriptions c.header-domain.result.domain c.args.self.now.in_force c.records-records.result.now c.in_ok-served.served.items c.deref.result.now c.deref-2.result.now c.in_ok-all.all.shares.items c.deref-3.result.now c.in_ok-split.split.cuts.items c.in_ok-split.split.left.items
+    c.deref.ensures.value c.deref-2.ensures.value c.deref-3.ensures.value c.in_ok-all.ensures.shares c.in_ok-split.ensures.cuts c.in_ok-split.ensures.left)
+    c.deref.ensures.value c.deref-4.ensures.value c.deref-5.ensures.value none)
+
+pub share_left-requires-clause-tallies : goal.share_left-requires-clause-tallies
+share_left-requires-clause-tallies c none =
+    c.in_ok-all.ensures.tallies
+    ∙ ap (tallies_of c.header-domain.result.domain c.args.self.now.in_force c.records-records.result.now)
+    (none_cut c.args.self.now.subscriptions c.header-domain.result.domain c.args.self.now.in_force c.records-records.result.now c.in_ok-served.served.items c.deref.result.now c.in_ok-split.split.cuts.items c.deref-4.result.now c.in_ok-split.split.left.items c.deref-5.result.now
+    (split_of c.args.self.now.subscriptions c.header-domain.result.domain c.args.self.now.in_force c.records-records.result.now c.in_ok-served.served.items c.deref.result.now c.deref-2.result.now c.in_ok-all.all.shares.items c.deref-3.result.now c.in_ok-split.split.cuts.items c.in_ok-split.split.left.items
     c.deref.ensures.value c.deref-2.ensures.value c.deref-3.ensures.value c.in_ok-all.ensures.shares c.in_ok-split.ensures.cuts c.in_ok-split.ensures.left)
     c.deref.ensures.value c.deref-4.ensures.value c.deref-5.ensures.value none)
 
 pub share_left-requires-clause-notes : goal.share_left-requires-clause-notes
 share_left-requires-clause-notes c none =
     c.in_ok-all.ensures.notes
-    ∙ ap (notes_of c.header-domain.result.domain c.args.self.now.policy.rules c.records-records.result.now)
-    (none_cut c.args.self.now.subscriptions c.header-domain.result.domain c.args.self.now.policy.rules c.records-records.result.now c.in_ok-served.served.items c.deref.result.now c.in_ok-split.split.cuts.items c.deref-4.result.now c.in_ok-split.split.left.items c.deref-5.result.now
-    (split_of c.args.self.now.subscriptions c.header-domain.result.domain c.args.self.now.policy.rules c.records-records.result.now c.in_ok-served.served.items c.deref.result.now c.deref-2.result.now c.in_ok-all.all.shares.items c.deref-3.result.now c.in_ok-split.split.cuts.items c.in_ok-split.split.left.items
+    ∙ ap (notes_of c.header-domain.result.domain c.args.self.now.in_force c.records-records.result.now)
+    (none_cut c.args.self.now.subscriptions c.header-domain.result.domain c.args.self.now.in_force c.records-records.result.now c.in_ok-served.served.items c.deref.result.now c.in_ok-split.split.cuts.items c.deref-4.result.now c.in_ok-split.split.left.items c.deref-5.result.now
+    (split_of c.args.self.now.subscriptions c.header-domain.result.domain c.args.self.now.in_force c.records-records.result.now c.in_ok-served.served.items c.deref.result.now c.deref-2.result.now c.in_ok-all.all.shares.items c.deref-3.result.now c.in_ok-split.split.cuts.items c.in_ok-split.split.left.items
     c.deref.ensures.value c.deref-2.ensures.value c.deref-3.ensures.value c.in_ok-all.ensures.shares c.in_ok-split.ensures.cuts c.in_ok-split.ensures.left)
     c.deref.ensures.value c.deref-4.ensures.value c.deref-5.ensures.value none)
 
 pub returns : goal.returns
 returns c =
-    judges c.args.self.now c.args.position c.args.reading.now.meaning c.header-domain.result.domain c.records-records.result.now c.in_ok-served.served.items c.in_ok-split.split.cuts.items c.in_ok-split.split.left.items c.deref-5.result.now c.in_ok-left.left.shares.items c.in_ok-left.left.notes.items c.judged.result
+    judges c.args.self.now c.args.position c.args.reading.now.meaning c.header-domain.result.domain c.records-records.result.now c.in_ok-served.served.items c.in_ok-split.split.cuts.items c.in_ok-split.split.left.items c.deref-5.result.now c.in_ok-left.left.shares.items c.in_ok-left.left.tallies.items c.in_ok-left.left.notes.items c.judged.result
     (ap (λ x. x.domain) c.header-domain.ensures) c.records-records.ensures c.in_ok-served.ensures
-    (split_of c.args.self.now.subscriptions c.header-domain.result.domain c.args.self.now.policy.rules c.records-records.result.now c.in_ok-served.served.items c.deref.result.now c.deref-2.result.now c.in_ok-all.all.shares.items c.deref-3.result.now c.in_ok-split.split.cuts.items c.in_ok-split.split.left.items
+    (split_of c.args.self.now.subscriptions c.header-domain.result.domain c.args.self.now.in_force c.records-records.result.now c.in_ok-served.served.items c.deref.result.now c.deref-2.result.now c.in_ok-all.all.shares.items c.deref-3.result.now c.in_ok-split.split.cuts.items c.in_ok-split.split.left.items
     c.deref.ensures.value c.deref-2.ensures.value c.deref-3.ensures.value c.in_ok-all.ensures.shares c.in_ok-split.ensures.cuts c.in_ok-split.ensures.left)
-    c.deref-5.ensures.value c.in_ok-left.ensures.shares c.in_ok-left.ensures.notes c.judged.ensures.cuts c.judged.ensures.shares c.judged.ensures.entries c.judged.ensures.streamable
+    c.deref-5.ensures.value c.in_ok-left.ensures.shares c.in_ok-left.ensures.tallies c.in_ok-left.ensures.notes c.judged.ensures.cuts c.judged.ensures.shares c.judged.ensures.tallies c.judged.ensures.entries c.judged.ensures.streamable

@@ -6,4 +6,4 @@ pub overflow_add-self : goal.overflow_add-self
 overflow_add-self c = omega (arith, few_edits c.args.self.now c.args.position c.requires.somewhere)
 
 pub returns-clause-stands : goal.returns-clause-stands
-returns-clause-stands c = λ h text so spelled. stands-edit c.args.self.now _ h text c.args.policy so spelled refl refl refl refl refl refl refl refl
+returns-clause-stands c = λ h text so spelled. stands-edit c.args.self.now _ h text c.args.in_force.policy so spelled refl c.requires.same_clock refl refl refl refl refl refl refl refl

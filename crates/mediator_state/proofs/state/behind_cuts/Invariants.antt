@@ -1,7 +1,7 @@
 use Rattle.std.proofs.Common.{◌≡◌, ◌≤◌, ◌+◌, length, map, take}
 use Rattle.std.specs.Prelude.{vec_capacity}
 use Rattle.event_journal.specs.declared.entry.Entry.TheVariants.{Cut}
-use Rattle.mediator_state.proofs.state.entries_of.Given as goal
+use Rattle.mediator_state.proofs.state.behind_cuts.Given as goal
 
 abbrev pub invariant-cuts : goal.invariant-cuts
 invariant-cuts l = record {

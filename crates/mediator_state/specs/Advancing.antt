@@ -1,0 +1,44 @@
+-- What an advance of the clock does, and what its steps want.
+use Rattle.std.specs.Prelude.{◌≡◌, ℕ, ◌≤◌, List, [], length, map}
+use Rattle.std.specs.List.{AllByRecursion}
+use Rattle.ipfix_template.specs.DataRecord.{DataRecord}
+use Rattle.event_journal.specs.declared.entry.Entry.{Entry}
+use Rattle.event_journal.specs.declared.entry.Entry.TheVariants.{Advance}
+use Rattle.mediator_history.specs.Subscriptions.{served}
+use Rattle.mediator_history.specs.Disclosed.{given_at}
+use Rattle.record_sharing.specs.Sharing.{shown}
+use Rattle.live_subscriptions.specs.Table.{HasSpare, AreReady}
+use Rattle.mediator_state.specs.declared.engine.Engine.{Engine}
+use Rattle.mediator_state.specs.declared.closing.Closing.{Closing}
+use Rattle.mediator_state.specs.Standing.{Stands}
+use Rattle.mediator_state.specs.Planning.{share_at, HasRoomIn, AreStreamed, IsJudged}
+use Rattle.mediator_state.specs.Accepting.{HasAuditFor}
+
+-- what an advance to t closes for one that is served
+abbrev pub closing_share : List Entry → ℕ → ℕ × List ℕ → ℕ × List DataRecord
+closing_share h t who = (who.0, given_at who.0 h (Advance t))
+
+-- room was made for what an advance does
+pub record HasRoomToClose (e : Engine) (c : Closing) : Type 0 where
+  pub audit : HasAuditFor e.audit (length c.cuts.items)
+  pub streams : AllByRecursion (HasSpare e.subscriptions.live) (map shown c.shares.items)
+
+-- this is what an advance to t does behind some history of so many entries
+pub record IsClosingFor (e : Engine) (position t : ℕ) (c : Closing) : Type 0 where
+  pub history : List Entry
+  pub stands : Stands e history
+  pub counted : length history ≡ position
+  pub short : position ≤ 100000000
+  pub judged : IsJudged e history (Advance t) c.cuts.items (map shown c.shares.items) []
+
+-- the streams have room for these shares
+pub record IsReadyToClose (e : Engine) (shares : List (ℕ × List DataRecord)) : Type 0 where
+  pub history : List Entry
+  pub stands : Stands e history
+  pub streams : AreReady e.subscriptions shares
+
+-- this is what an advance to t closes behind a history
+pub record AreClosings (e : Engine) (h : List Entry) (t : ℕ) (shares : List (ℕ × List DataRecord)) : Type 0 where
+  pub shares_are : shares ≡ map (share_at h (Advance t)) (served h)
+  pub room : AllByRecursion (HasRoomIn e.subscriptions) shares
+  pub streamable : AllByRecursion AreStreamed shares

@@ -1,0 +1,130 @@
+//! What decides over the records of a message.
+ghost use Rattle.std.specs.Prelude.{◌≡◌, ◌++◌, ◌∷◌, true, IfOk};
+ghost use Rattle.std.specs.List.{AllByRecursion};
+ghost use Rattle.ipfix_element.specs.Kinds.{kind_of};
+ghost use Rattle.policy_text.specs.Classes.{is_key_kind};
+ghost use Rattle.policy_text.specs.Policies.{nothing};
+
+use flow_aggregate::{Count, Definition, Timing, judge_time};
+use ipfix_template::Record;
+use policy_text::{AggregateDef, Policy};
+use std::alloc::{AllocError, Global};
+use std::marker::Model;
+
+/// The policy in force, and the time to which the clock was advanced. The policy's aggregates are kept as groups share
+/// them.
+#[derive(Drop)]
+pub struct InForce {
+    policy: Policy,
+    definitions: Vec<Definition>,
+    clock: u64,
+}
+
+impl Model for InForce {
+    ghost use Rattle.record_sharing.specs.InForce.{InForce, in_force_with};
+
+    ghost Value = { InForce };
+
+    ghost view = { λ f. in_force_with f.policy f.clock };
+
+    ghost invariant = { λ f. f.definitions.items ≡ f.policy.aggregates };
+}
+
+impl InForce {
+    ghost use Rattle.record_sharing.specs.InForce.{in_force_with, timing_by, count_by, as_list};
+
+    /// Before the first edit and the first advance of the clock: a policy without rules.
+    ///
+    /// # Errors
+    /// Want of memory.
+    pub fn nothing(alloc: Global) -> Result<InForce, AllocError>
+        ensures { IfOk result (λ f. f ≡ in_force_with nothing 0) }
+    {
+        match Policy::parse(alloc, "policy 1") {
+            Ok(policy) => InForce::since(alloc, policy, 0),
+            Err(_) => Err(AllocError),
+        }
+    }
+
+    /// A policy, with the clock at a time in milliseconds since 1970.
+    ///
+    /// # Errors
+    /// Want of memory.
+    pub fn since(alloc: Global, policy: Policy, clock: u64) -> Result<InForce, AllocError>
+        ensures { IfOk result (λ f. f ≡ in_force_with policy clock) }
+    {
+        // The kinds of a key's elements are kept by the type of policies.
+        let _rules = policy.rules();
+        let definitions = definitions_of(alloc, policy.aggregates())?;
+        Ok(InForce {
+            policy,
+            definitions,
+            clock,
+        })
+    }
+
+    pub fn policy(&self) -> &Policy
+        ensures { result.now ≡ self.now.policy }
+    {
+        &self.policy
+    }
+
+    /// The time to which the clock was advanced, in milliseconds since 1970.
+    pub fn clock(&self) -> u64
+        ensures { result ≡ self.now.clock }
+    {
+        self.clock
+    }
+
+    /// Advances the clock.
+    pub fn advance(&mut self, t: u64)
+        ensures { self.new ≡ in_force_with self.old.policy t }
+    {
+        self.clock = t;
+    }
+
+    /// Where a record counts in the aggregate at a place of the policy's list, or why it doesn't.
+    pub(crate) fn timing(&self, place: usize, flow_record: &Record) -> Timing
+        ensures { result ≡ timing_by self.now place flow_record.now }
+    {
+        match self.policy.aggregates().get(place) {
+            Some(definition) => judge_time(definition, flow_record, self.clock),
+            None => Timing::NoTime,
+        }
+    }
+
+    /// What it adds there, if it counts.
+    ///
+    /// # Errors
+    /// Want of memory.
+    pub(crate) fn count(
+        &self,
+        alloc: Global,
+        place: usize,
+        flow_record: &Record,
+    ) -> Result<Option<Count>, AllocError>
+        ensures { IfOk result (λ count. as_list count ≡ count_by self.now place flow_record.now) }
+    {
+        let Timing::Placed { .. } = self.timing(place, flow_record) else {
+            return Ok(None);
+        };
+        match self.definitions.get(place) {
+            Some(definition) => Ok(Some(Count::of(alloc, definition, flow_record)?)),
+            None => Ok(None),
+        }
+    }
+}
+
+fn definitions_of(
+    alloc: Global,
+    aggregates: &[AggregateDef],
+) -> Result<Vec<Definition>, AllocError>
+    requires { AllByRecursion (λ a. AllByRecursion (λ e. is_key_kind (kind_of e) ≡ true) a.key) aggregates.now }
+    ensures { IfOk result (λ v. v.items ≡ aggregates.now) }
+{
+    let mut definitions = Vec::with_capacity(alloc, aggregates.len())?;
+    for definition in aggregates {
+        definitions.push_reserved(Definition::of(alloc, definition)?);
+    }
+    Ok(definitions)
+}
