@@ -6,6 +6,8 @@ use Rattle.ipfix_session.specs.Meaning.{domain_of}
 use Rattle.policy_text.specs.declared.rule.Rule.{Rule}
 use Rattle.policy_text.specs.Policies.{Meaning as Policy}
 use Rattle.policy_text.specs.Parsing.{policy_of}
+use Rattle.policy_judge.specs.declared.verdict.RecordAction.TheVariants.{Aggregate}
+use Rattle.policy_judge.specs.Verdicts.{record_verdict_of}
 use Rattle.policy_judge.specs.Laws.{concerning}
 use Rattle.flow_anonymize.specs.Secrecy.{AreAlike}
 use Rattle.event_journal.specs.declared.entry.Entry.{Entry}
@@ -23,13 +25,14 @@ EntryByEntry R (e ∷ h) [] = ⊥
 
 -- ---- rules that name others
 
--- the second text spells the first one's policy without the rules that name another subscriber
+-- the second text spells the first one's policy without the rules that name another subscriber, with the same aggregates
 pub record LeavesOut (name : List ℕ) (text less : List ℕ) : Type 0 where
   pub policy : Policy
   pub rest : Policy
   pub spelled : policy_of text ≡ Ok policy
   pub spelled_rest : policy_of less ≡ Ok rest
   pub rules : rest.rules ≡ concerning name policy.rules
+  pub aggregates : rest.aggregates ≡ policy.aggregates
 
 -- two edits, of which the second is the first without the rules that name another subscriber
 pub record IsEditLess (name : List ℕ) (e f : Entry) : Type 0 where
@@ -67,10 +70,16 @@ EntriesOfOthersNeverMatter = (sub : ℕ) (h : List Entry) → disclosed sub (fil
 
 -- ---- values that are denied
 
--- records that differ, place by place, in what is denied to the subscriber at most, and are inside the same prefixes of the rules
+-- two records that differ in what is denied to the subscriber at most, and are inside the same prefixes of the rules; they are the
+-- same record where the first rule on records that matches names an aggregate, which shows what its definition says
+pub record IsAlike (name : List ℕ) (domain : ℕ) (rules : List Rule) (r s : DataRecord) : Type 0 where
+  pub alike : AreAlike name domain rules r s
+  pub counted : (place : ℕ) → (record_verdict_of name domain r rules).action ≡ Aggregate place → r ≡ s
+
+-- records that are so, place by place
 abbrev pub AreAllAlike : List ℕ → ℕ → List Rule → List DataRecord → List DataRecord → Type 0
 AreAllAlike name domain rules [] [] = Unit {0}
-AreAllAlike name domain rules (r ∷ rs) (s ∷ ss) = AreAlike name domain rules r s × AreAllAlike name domain rules rs ss
+AreAllAlike name domain rules (r ∷ rs) (s ∷ ss) = IsAlike name domain rules r s × AreAllAlike name domain rules rs ss
 AreAllAlike name domain rules [] (s ∷ ss) = ⊥
 AreAllAlike name domain rules (r ∷ rs) [] = ⊥
 
@@ -88,6 +97,6 @@ AreAlikeFrom sub before other [] (f ∷ g) = ⊥
 AreAlikeFrom sub before other (e ∷ h) [] = ⊥
 
 -- the same is disclosed where a value that is removed takes another of its length, or one that is truncated other bits where it is
--- cut off, inside the same prefixes of the revision in force
+-- cut off, inside the same prefixes of the revision in force, of a record whose first rule names no aggregate
 abbrev pub DeniedValuesNeverMatter : Type 0
 DeniedValuesNeverMatter = (sub : ℕ) (h g : List Entry) → AreAlikeFrom sub [] [] h g → disclosed sub h ≡ disclosed sub g

@@ -2,7 +2,8 @@
 //! code stands behind them.
 ghost use Rattle.mediator_core.specs.Secrecy.{RulesOfOthersNeverMatter, EntriesOfOthersNeverMatter, DeniedValuesNeverMatter};
 
-/// Rules that name another subscriber never matter: where they are left out of any edits, the same is disclosed.
+/// Rules that name another subscriber never matter: where they are left out of any edits, the same is disclosed. The
+/// definitions of aggregates stay, since rules name them by their places.
 pub fn rules_of_others_never_matter()
     ensures { RulesOfOthersNeverMatter }
 {}
@@ -13,7 +14,8 @@ pub fn entries_of_others_never_matter()
 {}
 
 /// What is denied never matters: where a value that the first matching rule removes takes another of its length, or one
-/// that it truncates takes other bits where it is cut off, inside the same prefixes of the rules, the same is disclosed.
+/// that it truncates takes other bits where it is cut off, inside the same prefixes of the rules, the same is disclosed. This
+/// is said of records whose first matching rule names no aggregate: what an aggregate shows, its definition says.
 pub fn denied_values_never_matter()
     ensures { DeniedValuesNeverMatter }
 {}

@@ -113,7 +113,7 @@ stays_before clock t (c ∷ cs) before = by (is_due clock (group_of c)) (is_due 
 runs : Bool → ℕ → List Counted → List Counted
 runs on clock cs = cond on (staying clock cs) []
 
-running_by : (sub : ℕ) (h g : List Entry) → is_served sub h ≡ is_served sub g → clock_of h ≡ clock_of g → counted sub h ≡ counted sub g → running sub h ≡ running sub g
+pub running_by : (sub : ℕ) (h g : List Entry) → is_served sub h ≡ is_served sub g → clock_of h ≡ clock_of g → counted sub h ≡ counted sub g → running sub h ≡ running sub g
 unfolding runs
 running_by sub h g on clock cs =
     ap (λ (b : Bool). runs b (clock_of h) (counted sub h)) on
