@@ -503,12 +503,12 @@ pub judges : {E : Type 0} (e : Engine) (position : ℕ) (m : Meaning) (domain : 
 judges e position m domain records all cuts left lent shares tallies notes (Err w) in_domain means tells so lending gives adds noting cut shared counted_too stamps streamable = tt
 judges e position m domain records all cuts left lent shares tallies notes (Ok j) in_domain means tells so lending gives adds noting cut shared counted_too stamps streamable = λ h stands counted session number octets meant. (
   is_judged e h session number octets domain e.in_force records all position j.cuts.items (map shown j.shares.items) j.entries.items stands (asked h stands session octets meant) (sym counted) tells (cut ∙ so.cutting)
-  (ap (map shown) shared ∙ gives ∙ ap (shares_of domain e.in_force records) (lending ∙ so.leaving))
-  (stamps ∙ ap (map (stamp (position + length cuts))) (noting ∙ ap (notes_of domain e.in_force records) (lending ∙ so.leaving))
-  ∙ ap (λ c. map (stamp (position + length c)) (notes_of domain e.in_force records (filter (has e.subscriptions domain e.in_force records) all))) (sym cut))
-  streamable,
+      (ap (map shown) shared ∙ gives ∙ ap (shares_of domain e.in_force records) (lending ∙ so.leaving))
+      (stamps ∙ ap (map (stamp (position + length cuts))) (noting ∙ ap (notes_of domain e.in_force records) (lending ∙ so.leaving))
+      ∙ ap (λ c. map (stamp (position + length c)) (notes_of domain e.in_force records (filter (has e.subscriptions domain e.in_force records) all))) (sym cut))
+      streamable,
   is_tallied e h session number octets domain e.in_force records all j.cuts.items (map tallied j.tallies.items) stands (asked h stands session octets meant) tells (cut ∙ so.cutting)
-  (ap (map tallied) counted_too ∙ adds ∙ ap (tallies_of domain e.in_force records) (lending ∙ so.leaving)),
+      (ap (map tallied) counted_too ∙ adds ∙ ap (tallies_of domain e.in_force records) (lending ∙ so.leaving)),
 )
   where
     asked : (h : List Entry) → Stands e h → (session : ℕ) (octets : List ℕ) → meaning_of (messages_of session h) octets ≡ Ok m → IsAsked h session octets domain e.in_force records

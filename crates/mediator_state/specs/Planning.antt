@@ -72,7 +72,7 @@ pub record IsJudged (e : Engine) (h : List Entry) (entry : Entry) (cuts : List �
 abbrev pub IsJudgedFor : Engine → List Entry → Meaning → Judged → Type 0
 IsJudgedFor e h m j = (session number : ℕ) (octets : List ℕ) → meaning_of (messages_of session h) octets ≡ Ok m
     → IsJudged e h (Message session number octets) j.cuts.items (map shown j.shares.items) j.entries.items
-      × AreTallied (after_cuts h j.cuts.items) (Message session number octets) (map tallied j.tallies.items)
+    × AreTallied (after_cuts h j.cuts.items) (Message session number octets) (map tallied j.tallies.items)
 
 -- what a message would do behind a history
 pub record IsPlan (e : Engine) (h : List Entry) (number : ℕ) (octets : List ℕ) (p : Plan) : Type 0 where

@@ -12,8 +12,8 @@ ghost use Rattle.mediator_history.specs.Sessions.{is_open, sessions_opened};
 ghost use Rattle.mediator_history.specs.Subscriptions.{edits_made, is_live, name_of, subscriptions_begun};
 ghost use Rattle.mediator_history.specs.Cuts.{after_cuts};
 
-use crate::fault::Fault;
 use crate::closing::Closing;
+use crate::fault::Fault;
 use crate::plan::Plan;
 use crate::receipt::Receipt;
 use crate::tallies::{count_all, reserve_all};

@@ -16,10 +16,7 @@ use std::alloc::AllocError;
 ///
 /// # Errors
 /// Want of memory. Nothing that contracts see changes, whatever the answer.
-pub(crate) fn reserve_all(
-    groups: &mut RunningGroups,
-    tallies: &[Tally],
-) -> Result<(), AllocError>
+pub(crate) fn reserve_all(groups: &mut RunningGroups, tallies: &[Tally]) -> Result<(), AllocError>
     ensures same { (q : ℕ) (g : Group) → sums_at (groups_at groups.new q) g ≡ sums_at (groups_at groups.old q) g }
     ensures ok { OnOk result (AllByRecursion (HaveGroups groups.new) (map tallied tallies.now)) }
 {
