@@ -65,6 +65,7 @@ lacks_after (fault.Policy why) limits count octets h more c lacks = absurd lacks
 lacks_after fault.BadName limits count octets h more c lacks = absurd lacks
 lacks_after (fault.AlreadySubscribed sub) limits count octets h more c lacks = absurd lacks
 lacks_after fault.UnknownSub limits count octets h more c lacks = absurd lacks
+lacks_after (fault.ClockBack last) limits count octets h more c lacks = absurd lacks
 lacks_after (fault.AuditFull need room) limits count octets h more c lacks = absurd lacks
 
 -- ---- a message and its cuts
@@ -116,6 +117,7 @@ refused_message (fault.Policy why) limits e h session number octets r = r
 refused_message fault.BadName limits e h session number octets r = r
 refused_message (fault.AlreadySubscribed sub) limits e h session number octets r = r
 refused_message fault.UnknownSub limits e h session number octets r = r
+refused_message (fault.ClockBack last) limits e h session number octets r = r
 refused_message (fault.AuditFull need room) limits e h session number octets r = absurd r
 
 -- what was found out of a message before it is accepted
@@ -156,6 +158,7 @@ refused_audit (fault.Policy why) limits count sizes e h session number octets p 
 refused_audit fault.BadName limits count sizes e h session number octets p entries c f r lacks = absurd lacks
 refused_audit (fault.AlreadySubscribed sub) limits count sizes e h session number octets p entries c f r lacks = absurd lacks
 refused_audit fault.UnknownSub limits count sizes e h session number octets p entries c f r lacks = absurd lacks
+refused_audit (fault.ClockBack last) limits count sizes e h session number octets p entries c f r lacks = absurd lacks
 
 -- ---- what an accepted message leaves
 
@@ -234,6 +237,7 @@ refused_subscribe (fault.Policy why) limits count sizes h name n written next is
 refused_subscribe fault.BadName limits count sizes h name n written next is c named free lacks = absurd lacks
 refused_subscribe (fault.AlreadySubscribed sub) limits count sizes h name n written next is c named free lacks = absurd lacks
 refused_subscribe fault.UnknownSub limits count sizes h name n written next is c named free lacks = absurd lacks
+refused_subscribe (fault.ClockBack last) limits count sizes h name n written next is c named free lacks = absurd lacks
 refused_subscribe (fault.AuditFull need room) limits count sizes h name n written next is c named free lacks = absurd lacks
 
 pub refused_memory : (e : Fault) (limits : Journaled) (h : List Entry) (name : List ℕ) → e ≡ fault.OutOfMemory → is_name name ≡ true → IsFree h name → RefusesSubscribe e limits h name

@@ -1,7 +1,7 @@
 -- What is said of a fault: its name.
 use Rattle.std.specs.Prelude.{ℕ, List, codes}
 use Rattle.mediator_state.specs.declared.fault.Fault.{Fault}
-use Rattle.mediator_state.specs.declared.fault.Fault.TheVariants.{UnknownSession, OutOfTurn, Malformed, Policy, BadName, AlreadySubscribed, UnknownSub, JournalFull, AuditFull, OutOfMemory}
+use Rattle.mediator_state.specs.declared.fault.Fault.TheVariants.{UnknownSession, OutOfTurn, Malformed, Policy, BadName, AlreadySubscribed, UnknownSub, ClockBack, JournalFull, AuditFull, OutOfMemory}
 
 abbrev pub text_of_fault : Fault → List ℕ
 text_of_fault UnknownSession = codes "UnknownSession"
@@ -11,6 +11,7 @@ text_of_fault (Policy why) = codes "Policy"
 text_of_fault BadName = codes "BadName"
 text_of_fault (AlreadySubscribed sub) = codes "AlreadySubscribed"
 text_of_fault UnknownSub = codes "UnknownSub"
+text_of_fault (ClockBack last) = codes "ClockBack"
 text_of_fault JournalFull = codes "JournalFull"
 text_of_fault (AuditFull need room) = codes "AuditFull"
 text_of_fault OutOfMemory = codes "OutOfMemory"

@@ -24,6 +24,8 @@ pub enum Fault {
     AlreadySubscribed { sub: u64 },
     /// No subscription with this number is live.
     UnknownSub,
+    /// The clock stands later already: at so many milliseconds since 1970.
+    ClockBack { last: u64 },
     /// The journal has no room for what would be accepted.
     JournalFull,
     /// The audit needs room for so many entries, and has this room.
@@ -49,6 +51,7 @@ impl Display for Fault {
             Fault::BadName => "BadName",
             Fault::AlreadySubscribed { .. } => "AlreadySubscribed",
             Fault::UnknownSub => "UnknownSub",
+            Fault::ClockBack { .. } => "ClockBack",
             Fault::JournalFull => "JournalFull",
             Fault::AuditFull { .. } => "AuditFull",
             Fault::OutOfMemory => "OutOfMemory",
