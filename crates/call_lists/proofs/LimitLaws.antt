@@ -34,6 +34,7 @@ no_limits verb.Receive left = let word = next_word-only (codes "receive") left (
 no_limits verb.Edit left = let word = next_word-only (codes "edit") left (verb_lacks verb.Edit) in rw word refl
 no_limits verb.Subscribe left = let word = next_word-only (codes "subscribe") left (verb_lacks verb.Subscribe) in rw word refl
 no_limits verb.Unsubscribe left = let word = next_word-only (codes "unsubscribe") left (verb_lacks verb.Unsubscribe) in rw word refl
+no_limits verb.Advance left = let word = next_word-only (codes "advance") left (verb_lacks verb.Advance) in rw word refl
 no_limits verb.Pull left = let word = next_word-only (codes "pull") left (verb_lacks verb.Pull) in rw word refl
 no_limits verb.Status left = let word = next_word-only (codes "status") left (verb_lacks verb.Status) in rw word refl
 no_limits verb.Audit left = let word = next_word-only (codes "audit") left (verb_lacks verb.Audit) in rw word refl

@@ -18,7 +18,7 @@ use Rattle.call_lists.specs.declared.verb.Verb.{Verb}
 use Rattle.call_lists.specs.declared.verb.Verb.TheVariants as verb
 use Rattle.call_lists.specs.LineEnds.{with_line_ends}
 use Rattle.call_lists.specs.Sayings.{Saying}
-use Rattle.call_lists.specs.Sayings.Saying.{to_open, to_close, to_receive, to_edit, to_subscribe, to_unsubscribe, to_pull, to_tell_status, to_drain_audit}
+use Rattle.call_lists.specs.Sayings.Saying.{to_open, to_close, to_receive, to_edit, to_subscribe, to_unsubscribe, to_advance, to_pull, to_tell_status, to_drain_audit}
 use Rattle.call_lists.specs.Words.{Word, Left, next_word, next_number, last_number, last_word, ended}
 use Rattle.call_lists.specs.Lines.{greatest, verb_of, call_by, call_of, receive_of, edit_of, pull_of}
 use Rattle.call_lists.specs.Grammar.{words_text, IsNumberLine, IsReceiveLine, IsEditLine, IsSubscribeLine, IsPullLine, IsLineOf}
@@ -33,6 +33,7 @@ verb_text verb.Receive = codes "receive"
 verb_text verb.Edit = codes "edit"
 verb_text verb.Subscribe = codes "subscribe"
 verb_text verb.Unsubscribe = codes "unsubscribe"
+verb_text verb.Advance = codes "advance"
 verb_text verb.Pull = codes "pull"
 verb_text verb.Status = codes "status"
 verb_text verb.Audit = codes "audit"
@@ -54,12 +55,14 @@ verb_of-found word v e =
     ⊎_elim (is_named word (codes "edit") verb.Edit v refl) (λ e4.
     ⊎_elim (is_named word (codes "subscribe") verb.Subscribe v refl) (λ e5.
     ⊎_elim (is_named word (codes "unsubscribe") verb.Unsubscribe v refl) (λ e6.
-    ⊎_elim (is_named word (codes "pull") verb.Pull v refl) (λ e7.
-    ⊎_elim (is_named word (codes "status") verb.Status v refl) (λ e8.
-    ⊎_elim (is_named word (codes "audit") verb.Audit v refl) (λ e9. absurd (none-some v e9))
-    (named word (codes "audit") verb.Audit v _ (bytes_eq word (codes "audit")) refl e8))
-    (named word (codes "status") verb.Status v _ (bytes_eq word (codes "status")) refl e7))
-    (named word (codes "pull") verb.Pull v _ (bytes_eq word (codes "pull")) refl e6))
+    ⊎_elim (is_named word (codes "advance") verb.Advance v refl) (λ e7.
+    ⊎_elim (is_named word (codes "pull") verb.Pull v refl) (λ e8.
+    ⊎_elim (is_named word (codes "status") verb.Status v refl) (λ e9.
+    ⊎_elim (is_named word (codes "audit") verb.Audit v refl) (λ e10. absurd (none-some v e10))
+    (named word (codes "audit") verb.Audit v _ (bytes_eq word (codes "audit")) refl e9))
+    (named word (codes "status") verb.Status v _ (bytes_eq word (codes "status")) refl e8))
+    (named word (codes "pull") verb.Pull v _ (bytes_eq word (codes "pull")) refl e7))
+    (named word (codes "advance") verb.Advance v _ (bytes_eq word (codes "advance")) refl e6))
     (named word (codes "unsubscribe") verb.Unsubscribe v _ (bytes_eq word (codes "unsubscribe")) refl e5))
     (named word (codes "subscribe") verb.Subscribe v _ (bytes_eq word (codes "subscribe")) refl e4))
     (named word (codes "edit") verb.Edit v _ (bytes_eq word (codes "edit")) refl e3))
@@ -75,6 +78,7 @@ verb_of-only verb.Receive = refl
 verb_of-only verb.Edit = refl
 verb_of-only verb.Subscribe = refl
 verb_of-only verb.Unsubscribe = refl
+verb_of-only verb.Advance = refl
 verb_of-only verb.Pull = refl
 verb_of-only verb.Status = refl
 verb_of-only verb.Audit = refl
@@ -86,6 +90,7 @@ verb_lacks verb.Receive = (refl, (refl, (refl, (refl, (refl, (refl, (refl, tt)))
 verb_lacks verb.Edit = (refl, (refl, (refl, (refl, tt))))
 verb_lacks verb.Subscribe = (refl, (refl, (refl, (refl, (refl, (refl, (refl, (refl, (refl, tt)))))))))
 verb_lacks verb.Unsubscribe = (refl, (refl, (refl, (refl, (refl, (refl, (refl, (refl, (refl, (refl, (refl, tt)))))))))))
+verb_lacks verb.Advance = (refl, (refl, (refl, (refl, (refl, (refl, (refl, tt)))))))
 verb_lacks verb.Pull = (refl, (refl, (refl, (refl, tt))))
 verb_lacks verb.Status = (refl, (refl, (refl, (refl, (refl, (refl, tt))))))
 verb_lacks verb.Audit = (refl, (refl, (refl, (refl, (refl, tt)))))
@@ -228,6 +233,7 @@ call_by-found verb.Receive left said e = receive_found left said e
 call_by-found verb.Edit left said e = edit_found left said e
 call_by-found verb.Subscribe left said e = subscribe_found left said e
 call_by-found verb.Unsubscribe left said e = by_number (codes "unsubscribe") (greatest 64) left (λ n. to_unsubscribe n) said (omega arith) (λ n line is. is) e
+call_by-found verb.Advance left said e = by_number (codes "advance") (greatest 64) left (λ n. to_advance n) said (omega arith) (λ n line is. is) e
 call_by-found verb.Pull left said e = pull_found left said e
 call_by-found verb.Status left said e = by_number (codes "status") (greatest 64) left (λ n. to_tell_status n) said (omega arith) (λ n line is. is) e
 call_by-found verb.Audit left said e = by_number (codes "audit") (greatest 32) left (λ n. to_drain_audit n) said (omega arith) (λ n line is. is) e
@@ -259,6 +265,10 @@ reads_close left = refl
 reads_unsubscribe : (left : Left) → call_by verb.Unsubscribe left ≡ (last_number (greatest 64) left >>= λ m. Some (to_unsubscribe m))
 unfolding call_by
 reads_unsubscribe left = refl
+
+reads_advance : (left : Left) → call_by verb.Advance left ≡ (last_number (greatest 64) left >>= λ m. Some (to_advance m))
+unfolding call_by
+reads_advance left = refl
 
 reads_status : (left : Left) → call_by verb.Status left ≡ (last_number (greatest 64) left >>= λ m. Some (to_tell_status m))
 unfolding call_by
@@ -323,6 +333,7 @@ call_of-only (to_receive session number octets) line is = receive_only session n
 call_of-only (to_edit text) line is = edit_only text line is
 call_of-only (to_subscribe name) line is = subscribe_only name line is
 call_of-only (to_unsubscribe sub) line is = number_only verb.Unsubscribe (greatest 64) sub line (λ n. to_unsubscribe n) (omega arith) reads_unsubscribe is
+call_of-only (to_advance t) line is = number_only verb.Advance (greatest 64) t line (λ n. to_advance n) (omega arith) reads_advance is
 call_of-only (to_pull sub now target) line is =
     by_name verb.Pull (Some (decimal sub ++ behind (Some (decimal now ++ behind (Some (decimal target)))))) line (to_pull sub now target) is.text (pull_read sub now target is.sub_bound is.now_bound is.target_bound)
 call_of-only (to_tell_status sub) line is = number_only verb.Status (greatest 64) sub line (λ n. to_tell_status n) (omega arith) reads_status is

@@ -8,7 +8,7 @@ use Rattle.call_lists.specs.declared.call_list.CallList.{CallList}
 use Rattle.call_lists.specs.declared.fault.CallsFault.{CallsFault}
 use Rattle.call_lists.specs.declared.fault.CallsFault.TheVariants.{Line, OutOfMemory}
 use Rattle.call_lists.specs.Sayings.{Saying}
-use Rattle.call_lists.specs.Sayings.Saying.{to_open, to_close, to_receive, to_edit, to_subscribe, to_unsubscribe, to_pull, to_tell_status, to_drain_audit}
+use Rattle.call_lists.specs.Sayings.Saying.{to_open, to_close, to_receive, to_edit, to_subscribe, to_unsubscribe, to_advance, to_pull, to_tell_status, to_drain_audit}
 use Rattle.call_lists.specs.Lines.{call_of, limits_of}
 use Rattle.call_lists.specs.Lists.{Asked, asked, nothing, lines_of, is_skipped, with_call, with_limits, call_step, first_step, step, line_step, read_lines, list_of, Reads}
 use Rattle.call_lists.specs.Grammar.{IsLineOf, SetsLimits, AreCalls, AreList, Lists, IsFirstBadLine, IsFaultOf}
@@ -99,6 +99,7 @@ line_counts (to_receive session number octets) line is = ⊎_elim (λ h. ap is_s
 line_counts (to_edit text) line is = ap is_skipped is.2
 line_counts (to_subscribe name) line is = ⊎_elim (λ h. ap is_skipped h.1) (λ h. ap is_skipped h.1) is
 line_counts (to_unsubscribe sub) line is = ap is_skipped is.text
+line_counts (to_advance t) line is = ap is_skipped is.text
 line_counts (to_pull sub now target) line is = ap is_skipped is.text
 line_counts (to_tell_status sub) line is = ap is_skipped is.text
 line_counts (to_drain_audit most) line is = ap is_skipped is.text

@@ -12,7 +12,7 @@ use Rattle.call_lists.specs.LineEnds.{with_line_ends}
 use Rattle.call_lists.specs.Lines.{greatest}
 use Rattle.call_lists.specs.Lists.{Asked, nothing, default_limits, lines_of, is_skipped}
 use Rattle.call_lists.specs.Sayings.{Saying}
-use Rattle.call_lists.specs.Sayings.Saying.{to_open, to_close, to_receive, to_edit, to_subscribe, to_unsubscribe, to_pull, to_tell_status, to_drain_audit}
+use Rattle.call_lists.specs.Sayings.Saying.{to_open, to_close, to_receive, to_edit, to_subscribe, to_unsubscribe, to_advance, to_pull, to_tell_status, to_drain_audit}
 use Rattle.call_lists.specs.Words.{Word}
 
 -- words with one space (32) between
@@ -59,6 +59,7 @@ IsLineOf (to_receive session number octets) line = IsReceiveLine session number 
 IsLineOf (to_edit text) line = IsEditLine text line
 IsLineOf (to_subscribe name) line = IsSubscribeLine name line
 IsLineOf (to_unsubscribe sub) line = IsNumberLine (codes "unsubscribe") (greatest 64) sub line
+IsLineOf (to_advance t) line = IsNumberLine (codes "advance") (greatest 64) t line
 IsLineOf (to_pull sub now target) line = IsPullLine sub now target line
 IsLineOf (to_tell_status sub) line = IsNumberLine (codes "status") (greatest 64) sub line
 IsLineOf (to_drain_audit most) line = IsNumberLine (codes "audit") (greatest 32) most line

@@ -9,7 +9,7 @@ use Rattle.call_lists.specs.declared.verb.Verb.{Verb}
 use Rattle.call_lists.specs.declared.verb.Verb.TheVariants as verb
 use Rattle.call_lists.specs.LineEnds.{with_line_ends}
 use Rattle.call_lists.specs.Sayings.{Saying}
-use Rattle.call_lists.specs.Sayings.Saying.{to_open, to_close, to_receive, to_edit, to_subscribe, to_unsubscribe, to_pull, to_tell_status, to_drain_audit}
+use Rattle.call_lists.specs.Sayings.Saying.{to_open, to_close, to_receive, to_edit, to_subscribe, to_unsubscribe, to_advance, to_pull, to_tell_status, to_drain_audit}
 use Rattle.call_lists.specs.Words.{Word, Left, next_word, next_number, last_number, last_word, ended}
 
 -- the greatest number of so many bits
@@ -25,6 +25,7 @@ verb_of word =
     else if bytes_eq word (codes "edit") then Some verb.Edit
     else if bytes_eq word (codes "subscribe") then Some verb.Subscribe
     else if bytes_eq word (codes "unsubscribe") then Some verb.Unsubscribe
+    else if bytes_eq word (codes "advance") then Some verb.Advance
     else if bytes_eq word (codes "pull") then Some verb.Pull
     else if bytes_eq word (codes "status") then Some verb.Status
     else if bytes_eq word (codes "audit") then Some verb.Audit
@@ -61,6 +62,7 @@ call_by verb.Receive left = receive_of left
 call_by verb.Edit left = edit_of left
 call_by verb.Subscribe left = last_word left >>= λ name. Some (to_subscribe name)
 call_by verb.Unsubscribe left = last_number (greatest 64) left >>= λ sub. Some (to_unsubscribe sub)
+call_by verb.Advance left = last_number (greatest 64) left >>= λ t. Some (to_advance t)
 call_by verb.Pull left = pull_of left
 call_by verb.Status left = last_number (greatest 64) left >>= λ sub. Some (to_tell_status sub)
 call_by verb.Audit left = last_number (greatest 32) left >>= λ most. Some (to_drain_audit most)

@@ -11,6 +11,8 @@ pub data Saying : Type 0 where
   to_edit : List ℕ → Saying
   to_subscribe : List ℕ → Saying
   to_unsubscribe : ℕ → Saying
+  -- the time, in milliseconds since 1970
+  to_advance : ℕ → Saying
   -- the subscription, the Export Time, the target
   to_pull : ℕ → ℕ → ℕ → Saying
   to_tell_status : ℕ → Saying
@@ -23,6 +25,7 @@ saying (call.Receive session number message) = to_receive session.0 number messa
 saying (call.Edit text) = to_edit (string_bytes text)
 saying (call.Subscribe name) = to_subscribe (string_bytes name)
 saying (call.Unsubscribe sub) = to_unsubscribe sub.0
+saying (call.Advance t) = to_advance t
 saying (call.Pull sub now target) = to_pull sub.0 now target
 saying (call.Status sub) = to_tell_status sub.0
 saying (call.DrainAudit most) = to_drain_audit most

@@ -40,7 +40,7 @@ pub fn answer_text(alloc: Global, reply: &Reply) -> Result<String, AllocError>
 {
     match reply {
         Reply::Opened(session) => number_text(alloc, session.0),
-        Reply::Closed | Reply::Unsubscribed => String::from_str(alloc, "ok\n"),
+        Reply::Closed | Reply::Unsubscribed | Reply::Advanced => String::from_str(alloc, "ok\n"),
         Reply::Received(receipt) => received_text(alloc, receipt),
         Reply::Edited(edits) => number_text(alloc, *edits),
         Reply::Subscribed(sub) => number_text(alloc, sub.0),
@@ -172,6 +172,7 @@ fn put_details(text: &mut String, why: &Fault) -> Result<(), AllocError>
             write!(text, " {line} {kind}")
         }
         Fault::AlreadySubscribed { sub } => write!(text, " {sub}"),
+        Fault::ClockBack { last } => write!(text, " {last}"),
         Fault::AuditFull { need, room } => write!(text, " {need} {room}"),
         Fault::UnknownSession
         | Fault::BadName

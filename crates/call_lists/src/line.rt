@@ -15,7 +15,7 @@ use hex::FromHexError;
 use mediator_calls::{Call, Limits, SessionId, SubId};
 use std::alloc::{AllocError, Global};
 
-/// The greatest number of a session, a message or a subscription.
+/// The greatest number of a session, a message or a subscription, and the latest time of the clock.
 const U64: u64 = u64::MAX;
 /// The greatest Export Time, and the most audit entries that may be asked for.
 const U32: u64 = 4_294_967_295;
@@ -49,6 +49,7 @@ fn read_by(alloc: Global, verb: Verb, words: &mut Words<'_>) -> Result<Option<Ca
         Verb::Edit => read_edit(alloc, words),
         Verb::Subscribe => read_subscribe(alloc, words),
         Verb::Unsubscribe => Ok(read_unsubscribe(words)),
+        Verb::Advance => Ok(read_advance(words)),
         Verb::Pull => Ok(read_pull(words)),
         Verb::Status => Ok(read_status(words)),
         Verb::Audit => Ok(read_audit(words)),
@@ -137,6 +138,14 @@ fn read_unsubscribe(words: &mut Words<'_>) -> Option<Call>
 {
     let sub = words.last_number(U64)?;
     Some(Call::Unsubscribe { sub: SubId(sub) })
+}
+
+#[tactic(auto, unfolding(crate::specs::Lines::call_by))]
+fn read_advance(words: &mut Words<'_>) -> Option<Call>
+    ensures { option_map saying result ≡ call_by Verb.Advance words.old }
+{
+    let t = words.last_number(U64)?;
+    Some(Call::Advance { t })
 }
 
 /// Behind `pull`: the subscription, the Export Time and the target.

@@ -12,6 +12,7 @@ pub(crate) enum Verb {
     Edit,
     Subscribe,
     Unsubscribe,
+    Advance,
     Pull,
     Status,
     Audit,
@@ -34,6 +35,8 @@ pub(crate) fn verb_of(word: &str) -> Option<Verb>
         Some(Verb::Subscribe)
     } else if is_word(word, "unsubscribe") {
         Some(Verb::Unsubscribe)
+    } else if is_word(word, "advance") {
+        Some(Verb::Advance)
     } else if is_word(word, "pull") {
         Some(Verb::Pull)
     } else if is_word(word, "status") {

@@ -32,6 +32,10 @@ pub enum Call {
     Unsubscribe {
         sub: SubId,
     },
+    /// The clock goes on to so many milliseconds since 1970.
+    Advance {
+        t: u64,
+    },
     /// A subscription's next message is built.
     Pull {
         sub: SubId,
@@ -61,6 +65,7 @@ pub enum Reply {
     /// The subscription's number.
     Subscribed(SubId),
     Unsubscribed,
+    Advanced,
     /// The message, where something waited.
     Pulled(Option<Bytes>),
     Stands(Status),

@@ -85,6 +85,16 @@ pub(crate) fn unsubscribe<C: Chronicle + Drop>(state: &mut State<C>, sub: u64) -
     }
 }
 
+pub(crate) fn advance<C: Chronicle + Drop>(state: &mut State<C>, t: u64) -> Result<(), Fault>
+    requires stands { StandsForSome C.tells state.old }
+    ensures stands { StandsForSome C.tells state.new }
+{
+    match state.advance(t) {
+        Err(Fault::OutOfMemory) => state.advance(t),
+        answer => answer,
+    }
+}
+
 pub(crate) fn pull<C: Chronicle + Drop>(
     state: &mut State<C>,
     sub: u64,

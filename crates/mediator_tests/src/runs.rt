@@ -25,6 +25,7 @@ fn call_of(alloc: Global, step: &Step) -> Result<Call, AllocError> {
             name: String::from_str(alloc, name)?,
         },
         Step::Unsubscribe(sub, _) => Call::Unsubscribe { sub: SubId(*sub) },
+        Step::Advance(t, _) => Call::Advance { t: *t },
         Step::Pull(sub, target, _) => Call::Pull {
             sub: SubId(*sub),
             now: 0x6553_f13c,
@@ -65,11 +66,12 @@ fn is_number(reply: &Reply, due: &Result<u64, Fault>) -> bool {
     }
 }
 
-/// Whether a call that ends something was answered so.
-fn is_ended(reply: &Reply, due: &Result<(), Fault>) -> bool {
+/// Whether a call that answers nothing was done so.
+fn is_done(reply: &Reply, due: &Result<(), Fault>) -> bool {
     match (reply, due) {
         (Reply::Closed, Ok(())) => true,
         (Reply::Unsubscribed, Ok(())) => true,
+        (Reply::Advanced, Ok(())) => true,
         (Reply::Refused(fault), Err(wanted)) => fault == wanted,
         _ => false,
     }
@@ -94,14 +96,15 @@ fn is_status(reply: &Reply, queued: u32, handed: u64, shapes: u32, cut: bool) ->
 fn is_reply(alloc: Global, reply: &Reply, step: &Step) -> Result<bool, AllocError> {
     Ok(match step {
         Step::Open(due) => is_number(reply, due),
-        Step::Close(_, due) => is_ended(reply, due),
+        Step::Close(_, due) => is_done(reply, due),
         Step::Accept(_, _, _, position, records) => {
             is_received(reply, &Ok(plain(*position, *records)))
         }
         Step::Receive(_, _, _, due) => is_received(reply, due),
         Step::Edit(_, due) => is_number(reply, due),
         Step::Subscribe(_, due) => is_number(reply, due),
-        Step::Unsubscribe(_, due) => is_ended(reply, due),
+        Step::Unsubscribe(_, due) => is_done(reply, due),
+        Step::Advance(_, due) => is_done(reply, due),
         Step::Pull(_, _, due) => is_pulled(reply, due),
         Step::Served(_, queued, handed, shapes) => {
             is_status(reply, *queued, *handed, *shapes, false)
@@ -109,7 +112,7 @@ fn is_reply(alloc: Global, reply: &Reply, step: &Step) -> Result<bool, AllocErro
         Step::WasCut(_, queued, handed, shapes) => {
             is_status(reply, *queued, *handed, *shapes, true)
         }
-        Step::Gone(_) => is_ended(reply, &Err(Fault::UnknownSub)),
+        Step::Gone(_) => is_done(reply, &Err(Fault::UnknownSub)),
         Step::Audit(_, due) => match reply {
             Reply::Drained(entries) => are_lines(alloc, entries, due)?,
             _ => false,

@@ -115,6 +115,7 @@ fn answers<C: Chronicle + Drop>(
         Step::Edit(text, due) => Ok(calls::edit(state, text) == *due),
         Step::Subscribe(name, due) => Ok(calls::subscribe(state, name) == *due),
         Step::Unsubscribe(sub, due) => Ok(calls::unsubscribe(state, *sub) == *due),
+        Step::Advance(t, due) => Ok(calls::advance(state, *t) == *due),
         Step::Pull(sub, target, due) => Ok(is_pull(&calls::pull(state, *sub, *target), due)),
         Step::Served(sub, queued, handed, shapes) => {
             Ok(state.status(*sub) == status(*queued, *handed, *shapes, false))

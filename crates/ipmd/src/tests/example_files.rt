@@ -3,7 +3,47 @@
 use super::examples::Example;
 
 /// Each folder with a command.
-pub const EXAMPLES: [Example<'static>; 11] = [
+pub const EXAMPLES: [Example<'static>; 12] = [
+    // aggregate
+    Example {
+        policy: "# acme is shown the flows of its own network, and of all others what each service
+# took in five minutes.
+policy 1
+aggregate services key protocolIdentifier,destinationTransportPort interval 300 grace 60
+rule for acme in * from 198.51.100.0/24 to * pass
+rule for acme in * from * to 198.51.100.0/24 pass
+rule for acme in * from * to * aggregate services
+rule for acme in * from * to * element * keep
+",
+        subscriber: "acme",
+        input: "000a 0089 6553f100 00000000 00000007
+  0002 0024
+    0100 0007  0098 0008  0008 0004  000c 0004  0004 0001  000b 0002  0002 0004  0001 0004
+  0100 0055
+    0000018bcfe6eea0 c000024d cb007105 06 01bb 00000002 000005dc
+    0000018bcfe73cc0 c000024e c6336409 06 01bb 00000005 00000fa0
+    0000018bcfeb827f c0000250 cb007105 06 01bb 00000002 000000c8
+
+000a 0070 6553f10a 00000003 00000007
+  0002 001c
+    0101 0005  0096 0004  0008 0004  000c 0004  0004 0001  0001 0004
+  0002 001c
+    0102 0005  0008 0004  000c 0004  0004 0001  000b 0002  0001 0004
+  0101 0015
+    6553f1c8 c000024d cb007105 01 00000054
+  0102 0013
+    c000024d cb007109 11 0035 00000050
+",
+        output: "000a00536553f13c000000000000000000020024010000070098000800080004000c000400040001000b000200020004000100040100001f0000018bcfe73cc0c000024ec63364090601bb0000000500000fa0
+",
+        audit: "3 0 1 aggregated 3
+3 2 1 aggregated 3
+4 0 1 withheld 3 no-key
+4 1 1 withheld 3 no-time
+",
+        report: "messages 2 records 5 disclosed 1
+",
+    },
     // all-but-one
     Example {
         policy: "# Every subscriber is shown every flow, but for those from or to the payroll
@@ -485,7 +525,7 @@ rule for acme in * from * to * pass # all of it
 ];
 
 /// Each list of calls, and the answers to it.
-pub const REPLAYS: [(&str, &str); 2] = [
+pub const REPLAYS: [(&str, &str); 4] = [
     (
         "# The policy of today, a subscriber and an exporter's session. Each ; of a policy is read as a line end.
 edit policy 1;rule for acme in * from 198.51.100.0/24 to * pass;rule for acme in * from * to 198.51.100.0/24 pass;rule for acme in * from 198.51.100.0/24 to * element sourceIPv4Address keep;rule for acme in * from * to 198.51.100.0/24 element destinationIPv4Address keep;rule for acme in * from * to * element sourceIPv4Address truncate 24;rule for acme in * from * to * element destinationIPv4Address truncate 24;rule for acme in * from * to 198.51.100.0/24 element sourceTransportPort remove;rule for acme in * from * to * element * keep;
@@ -519,6 +559,104 @@ ok 2
 5 0 1 removed 2:5
 5 1 1 withheld 0 rule
 ok 0 2 1 live
+",
+    ),
+    (
+        "# What goes to each port, in intervals of five minutes, each closed a minute after its end.
+edit policy 1;aggregate web key destinationTransportPort interval 300 grace 60;rule for acme in * from * to * aggregate web;
+subscribe acme
+open
+
+# Three flows to port 443. Two start at 1700000100.000 and 1700000399.999, in one interval, the third at 1700000400.000, in the next.
+receive 1 0 000a006e6553f1000000000000000007000200180100000400980008000b00020001000800020004010000460000018bcfe6eea001bb0000000000000064000000010000018bcfeb827f01bb00000000000000c8000000020000018bcfeb828001bb000000000000003200000001
+pull 1 1700000060 1400
+audit 10
+
+# A millisecond before the first interval's end and grace nothing closes. Then it does.
+advance 1700000459999
+pull 1 1700000459 1400
+advance 1700000460000
+pull 1 1700000460 1400
+
+# A flow that started at 1700000200.000 comes too late.
+receive 1 1 000a002a6553f10000000003000000070100001a0000018bcfe8754001bb000000000000012c00000003
+audit 10
+
+# The second interval closes, and nothing is left. The clock doesn't go back; it may stay.
+advance 1700000760000
+pull 1 1700000760 1400
+advance 1700000759999
+advance 1700000760000
+pull 1 1700000761 1400
+status 1
+",
+        "ok 1
+ok 1
+ok 1
+ok 3 records 3 cut 0 unknown 0 reserved 0 refused 0
+ok none
+ok 3
+3 0 1 aggregated 1
+3 1 1 aggregated 1
+3 2 1 aggregated 1
+ok
+ok none
+ok
+ok 000a005e6553f2cc00000000000000000002002001000006000b000200980008009900080001000800020008000300080100002e01bb0000018bcfe6eea00000018bcfeb8280000000000000012c00000000000000030000000000000002
+ok 6 records 1 cut 0 unknown 0 reserved 0 refused 0
+ok 1
+6 0 1 withheld 1 late
+ok
+ok 000a003e6553f3f800000001000000000100002e01bb0000018bcfeb82800000018bcff01660000000000000003200000000000000010000000000000001
+err ClockBack 1700000760000
+ok
+ok none
+ok 0 2 1 live
+",
+    ),
+    (
+        "# The same aggregate, and two flows of one interval, to the ports 443 and 80.
+edit policy 1;aggregate web key destinationTransportPort interval 300 grace 60;rule for acme in * from * to * aggregate web;
+subscribe acme
+open
+receive 1 0 000a00586553f1000000000000000007000200180100000400980008000b00020001000800020004010000300000018bcfe6eea001bb0000000000000064000000010000018bcfe6eea00050000000000000002800000001
+
+# The grace changes to 0: that is another aggregate, though its name is the same. A flow to port 443 counts in a group of its own.
+edit policy 1;aggregate web key destinationTransportPort interval 300 grace 0;rule for acme in * from * to * aggregate web;
+receive 1 1 000a002a6553f10000000002000000070100001a0000018bcfe8754001bb00000000000000c800000002
+
+# The first policy again: a flow counts in the group that is still running.
+edit policy 1;aggregate web key destinationTransportPort interval 300 grace 60;rule for acme in * from * to * aggregate web;
+receive 1 2 000a002a6553f10000000003000000070100001a0000018bcfe9fbe001bb000000000000019000000004
+
+# At the interval's end the group without a grace closes alone.
+advance 1700000400000
+pull 1 1700000400 1400
+
+# No rule aggregates any more, yet the groups that run close as they stand, port 80 before port 443.
+edit policy 1;aggregate web key destinationTransportPort interval 300 grace 60;rule for acme in * from * to * withhold;
+advance 1700000460000
+pull 1 1700000460 1400
+audit 10
+",
+        "ok 1
+ok 1
+ok 1
+ok 3 records 2 cut 0 unknown 0 reserved 0 refused 0
+ok 2
+ok 5 records 1 cut 0 unknown 0 reserved 0 refused 0
+ok 3
+ok 7 records 1 cut 0 unknown 0 reserved 0 refused 0
+ok
+ok 000a005e6553f29000000000000000000002002001000006000b000200980008009900080001000800020008000300080100002e01bb0000018bcfe6eea00000018bcfeb828000000000000000c800000000000000020000000000000001
+ok 4
+ok
+ok 000a00686553f2cc00000001000000000100005800500000018bcfe6eea00000018bcfeb828000000000000000280000000000000001000000000000000101bb0000018bcfe6eea00000018bcfeb828000000000000001f400000000000000050000000000000002
+ok 4
+3 0 1 aggregated 1
+3 1 1 aggregated 1
+5 0 1 aggregated 1
+7 0 1 aggregated 1
 ",
     ),
     (
