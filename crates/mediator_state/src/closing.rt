@@ -36,8 +36,8 @@ impl Engine {
         let served = self.subscriptions.served()?;
         let mut shares = self.closing_shares(t, &served)?;
         let cuts = self.subscriptions.without_room(&shares)?;
-        see_shares(&shares);
         self.drop_those_without_room(&mut shares);
+        see_shares(&shares);
         Ok(Closing { cuts, shares })
     }
 
@@ -46,14 +46,15 @@ impl Engine {
     /// # Errors
     /// Want of memory.
     fn closing_shares(&self, t: u64, served: &[Served<'_>]) -> Result<Vec<Share>, AllocError>
-        ensures { (h : List Entry) → Stands self.now h → IfOk result (λ v. map shown v.items ≡ map (closing_share h t) (map told served.now)) }
+        ensures { IfOk result (λ v. (h : List Entry) → Stands self.now h → map shown v.items ≡ map (closing_share h t) (map told served.now)) }
     {
-        let mut shares = Vec::with_capacity(self.alloc, served.len())?;
+        let mut shares = Vec::new(self.alloc);
         'served: for who in served {
-            shares.push_reserved(Share {
+            let given = self.groups.closing(who.sub, t)?;
+            shares.push(Share {
                 sub: who.sub,
-                given: self.groups.closing(who.sub, t)?,
-            });
+                given,
+            })?;
         }
         Ok(shares)
     }
@@ -64,7 +65,7 @@ impl Engine {
     {
         shares.retain(
             |share: &Share| -> bool
-                ensures { result ≡ not (lacks_room_at self.now.subscriptions (shown share.now)) }
+                ensures { result ≡ not (lacks_room_at self.entry.now.subscriptions (shown share.now)) }
             { !self.subscriptions.lacks_room(share) },
         );
     }
