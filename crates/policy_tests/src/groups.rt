@@ -63,7 +63,6 @@ fn one_advance_closes_a_hundred_thousand_groups(rt: HostRuntime) -> Result<(), F
         add_all(&mut groups, shared(rt.alloc(), &in_force, minute)?)?;
     }
     assert_eq!(rt; groups.closing(1, 64_999)?.len(), 0);
-    assert_eq!(rt; groups.closing(1, 65_000)?.len(), 6250);
     assert_eq!(rt; groups.closing(1, 965_000)?.len(), 100_000);
     groups.close(905_000);
     assert_eq!(rt; groups.closing(1, 965_000)?.len(), 6250);
