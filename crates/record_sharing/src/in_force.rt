@@ -116,10 +116,7 @@ impl InForce {
     }
 }
 
-fn definitions_of(
-    alloc: Global,
-    aggregates: &[AggregateDef],
-) -> Result<Vec<Definition>, AllocError>
+fn definitions_of(alloc: Global, aggregates: &[AggregateDef]) -> Result<Vec<Definition>, AllocError>
     requires { AllByRecursion (λ a. AllByRecursion (λ e. is_key_kind (kind_of e) ≡ true) a.key) aggregates.now }
     ensures { IfOk result (λ v. v.items ≡ aggregates.now) }
 {
