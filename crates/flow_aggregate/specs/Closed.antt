@@ -1,4 +1,4 @@
--- The record of a closed group (RFC 7015, section 5: an Aggregated Flow with its key, its interval and its counters).
+-- The record of a closed group (RFC 7015, section 7: an Aggregated Flow with its key, its interval and its counters).
 use Rattle.std.specs.Prelude.{◌≡◌, ℕ, ◌+◌, List, [], ◌∷◌, ◌++◌, map, take, drop}
 use Rattle.ipfix_octets.specs.Octets.{be_octets}
 use Rattle.ipfix_element.specs.Element.{Element}

@@ -1,5 +1,5 @@
 -- Groups of records that count together: those of one aggregate that start in one interval and agree in the key (RFC 7015,
--- sections 4.1.1 and 4.2.2).
+-- sections 5.1.1 and 5.2).
 use Rattle.std.specs.Prelude.{◌≡◌, ℕ, ◌-◌, ◌≤◌, ◌^◌, List, [], ◌++◌, length, replicate, unwrap_or}
 use Rattle.std.specs.List.{flat_map, sum_by, AllByRecursion}
 use Rattle.ipfix_element.specs.Element.{Element}

@@ -1,4 +1,4 @@
--- The interval in which a record counts (RFC 7015, section 4.1.1.1: by the record's start, Start Interval). The reasons why it
+-- The interval in which a record counts (RFC 7015, section 5.1.1: by the record's start, Start Interval). The reasons why it
 -- counts in none, their order, and the grace are this project's own.
 use Rattle.std.specs.Prelude.{ℕ, ◌+◌, ◌*◌, ◌/◌, ◌^◌, Bool, List, Option, Some, None, nat_lt, nat_le, if◌then◌else◌}
 use Rattle.std.specs.List.{list_all}

@@ -1,5 +1,5 @@
 -- What running groups stand for, and what an advance of the clock closes. Both are said of the records that were counted, and
--- not of the groups that are kept (RFC 7015, section 4.1; the grace and the order are this project's own).
+-- not of the groups that are kept (RFC 7015, section 5.1; the grace and the order are this project's own).
 use Rattle.std.specs.Prelude.{◌≡◌, ◌≤◌, ℕ, Bool, List, [], ◌∷◌, ◌++◌, map, filter, not, Option, Some, None, nat_le, if◌then◌else◌}
 use Rattle.std.specs.List.{IsDistinct, AllByRecursion}
 use Rattle.std.specs.List.Sorted.{IsSortedByKey}

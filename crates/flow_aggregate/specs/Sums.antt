@@ -1,4 +1,4 @@
--- The counters that are summed (RFC 7015, section 4.2.2). That a record without octets or packets counts none, one without
+-- The counters that are summed (RFC 7015, section 5.3.1). That a record without octets or packets counts none, one without
 -- flows counts one flow, and that sums stop at the greatest number of 64 bits, is this project's own.
 use Rattle.std.specs.Prelude.{ℕ, ◌+◌, ◌-◌, ◌^◌, List, unwrap_or, min}
 use Rattle.std.specs.List.{sum_by}

@@ -1,6 +1,6 @@
 //! Sums over intervals: where a record counts in an aggregate, the sums of the records that count together, and the
 //! record of a group once no more can count in it (RFC 7015: intervals and their distribution by a flow's start in
-//! section 4.1, aggregation by key in section 4.2). It knows no policy, no clock and no subscriber.
+//! section 5.1.1, aggregation by key in section 5.2). It knows no policy, no clock and no subscriber.
 //!
 //! - `timing`: [`judge_time`], and [`Timing`], what it answers.
 //! - `running`: [`Running`], the groups that are still open; it adds records and closes groups.

@@ -1,4 +1,4 @@
--- What counts in aggregates, and what an advance of the clock closes (RFC 7015, section 4). The clock, its advances, and that a
+-- What counts in aggregates, and what an advance of the clock closes (RFC 7015, section 5). The clock, its advances, and that a
 -- record counts by the policy and the clock at its message, are this project's own.
 use Rattle.std.specs.Prelude.{ℕ, List, [], ◌∷◌, Option, Some, None, slice_get, if◌then◌else◌}
 use Rattle.std.specs.List.{flat_map}
