@@ -64,16 +64,16 @@ use Rattle.mediator_state.specs.Planning.{lacks, has, stamp, share_at, tally_at,
 
 -- ---- lists
 
-map_same : {A B : Type 0} (f g : A → B) (xs : List A) → AllByRecursion (λ x. f x ≡ g x) xs → map f xs ≡ map g xs
+pub map_same : {A B : Type 0} (f g : A → B) (xs : List A) → AllByRecursion (λ x. f x ≡ g x) xs → map f xs ≡ map g xs
 map_same f g [] same = refl
 map_same f g (x ∷ xs) same = ap (λ y. y ∷ map f xs) same.0 ∙ ap (λ ys. g x ∷ ys) (map_same f g xs same.1)
 
-map_unchanged : {A : Type 0} (xs : List A) → map (λ x. x) xs ≡ xs
+pub map_unchanged : {A : Type 0} (xs : List A) → map (λ x. x) xs ≡ xs
 map_unchanged [] = refl
 map_unchanged (x ∷ xs) = ap (λ ys. x ∷ ys) (map_unchanged xs)
 
 -- a filter of what a map gives
-filter-map : {A B : Type 0} (p : B → Bool) (f : A → B) (xs : List A) → filter p (map f xs) ≡ map f (filter (λ x. p (f x)) xs)
+pub filter-map : {A B : Type 0} (p : B → Bool) (f : A → B) (xs : List A) → filter p (map f xs) ≡ map f (filter (λ x. p (f x)) xs)
 filter-map p f [] = refl
 filter-map p f (x ∷ xs) = by_test (p (f x)) (filter-map p f xs) where
   by_test : (b : Bool) → filter p (map f xs) ≡ map f (filter (λ y. p (f y)) xs) → cond b (f x ∷ filter p (map f xs)) (filter p (map f xs)) ≡ map f (cond b (x ∷ filter (λ y. p (f y)) xs) (filter (λ y. p (f y)) xs))
@@ -84,7 +84,7 @@ all_implied : {A : Type 0} (P Q : A → Type 0) (xs : List A) → ((x : A) → P
 all_implied P Q [] so all = tt
 all_implied P Q (x ∷ xs) so all = (so x all.0, all_implied P Q xs so all.1)
 
-all_mapped : {A B : Type 0} (P : B → Type 0) (f : A → B) (xs : List A) → AllByRecursion (λ x. P (f x)) xs → AllByRecursion P (map f xs)
+pub all_mapped : {A B : Type 0} (P : B → Type 0) (f : A → B) (xs : List A) → AllByRecursion (λ x. P (f x)) xs → AllByRecursion P (map f xs)
 all_mapped P f [] all = tt
 all_mapped P f (x ∷ xs) all = (all.0, all_mapped P f xs all.1)
 
@@ -122,7 +122,7 @@ abbrev pub sharing : ℕ → List DataRecord → ℕ × List DataRecord
 sharing sub records = (sub, records)
 
 -- what holds of each that is served
-all_on : (P : ℕ → Type 0) (h : List Entry) → ((sub : ℕ) → is_served sub h ≡ true → P sub) → AllByRecursion P (served h)
+pub all_on : (P : ℕ → Type 0) (h : List Entry) → ((sub : ℕ) → is_served sub h ≡ true → P sub) → AllByRecursion P (served h)
 all_on P h so = all_implied (λ sub. is_served sub h ≡ true) P (served h) so (all_served h)
 
 told_is : (e : Engine) (h : List Entry) → Stands e h → (sub : ℕ) → is_served sub h ≡ true → told_in e.subscriptions sub ≡ known h sub
@@ -131,7 +131,7 @@ told_is e h so sub on = there (at e.subscriptions sub) (so.subscriptions sub) wh
   there None gone = let live : is_live sub h ≡ true = served_is_live sub h on in absurd cc
   there (Some s) is = ap (named sub) is.name
 
-all_told : (e : Engine) (h : List Entry) (all : List Served) → Stands e h → map told all ≡ map (told_in e.subscriptions) e.subscriptions.served → map told all ≡ map (known h) (served h)
+pub all_told : (e : Engine) (h : List Entry) (all : List Served) → Stands e h → map told all ≡ map (told_in e.subscriptions) e.subscriptions.served → map told all ≡ map (known h) (served h)
 all_told e h all so tells =
     tells
     ∙ ap (map (told_in e.subscriptions)) so.served_are
@@ -259,7 +259,7 @@ notes_at h session number octets domain f records left position is tells counted
 -- ---- whom it cuts
 
 -- there is no room in a stream just where its records overflow what the history discloses
-lacks_over : (e : Engine) (h : List Entry) → Stands e h → (sub : ℕ) → is_served sub h ≡ true → (more : List DataRecord)
+pub lacks_over : (e : Engine) (h : List Entry) → Stands e h → (sub : ℕ) → is_served sub h ≡ true → (more : List DataRecord)
     → lacks_room_at e.subscriptions (sharing sub more) ≡ overflows e.limits (disclosed sub h) (waiting_of e sub) more
 lacks_over e h so sub on more = there (at e.subscriptions sub) (so.subscriptions sub) where
   there : (o : Option Subscription) → IsLiveAs h e.limits sub o → option_map_or (λ s. lacks_room s.stream more) o false ≡ overflows e.limits (disclosed sub h) (waiting_in o) more
@@ -296,7 +296,7 @@ cuts_are e h session number octets domain f records all so is tells =
 -- ---- who is left
 
 -- one that is served is in what a filter keeps, where it passes
-in_filter : (h : List Entry) (p : ℕ → Bool) (cuts : List ℕ) (sub : ℕ) → cuts ≡ filter p (served h) → is_served sub h ≡ true → is_in sub cuts ≡ p sub
+pub in_filter : (h : List Entry) (p : ℕ → Bool) (cuts : List ℕ) (sub : ℕ) → cuts ≡ filter p (served h) → is_served sub h ≡ true → is_in sub cuts ≡ p sub
 in_filter h p cuts sub are on = ap (is_in sub) are ∙ is_in-filter p sub (served h) ∙ ap (λ b. p sub && b) (is_in-served sub h ∙ on) ∙ and-true (p sub)
 
 left_told : (e : Engine) (h : List Entry) (session number : ℕ) (octets : List ℕ) (domain : ℕ) (f : InForce) (records : List DataRecord) (all : List Served) (cuts : List ℕ)
@@ -328,14 +328,14 @@ has_room k more none some = first (nat_lt 0 (length more)) refl none where
   first true f over = last (nat_lt k.limits.queue (queued k.standing + length more)) (nat_lt k.limits.shapes (length (shapes_after k.standing.shapes more))) refl refl over
   first false f over = absurd (omega (arith, some, ltb-false 0 (length more) f))
 
-room_at : (e : Engine) (h : List Entry) → Stands e h → (sub : ℕ) → is_served sub h ≡ true → (more : List DataRecord)
+pub room_at : (e : Engine) (h : List Entry) → Stands e h → (sub : ℕ) → is_served sub h ≡ true → (more : List DataRecord)
     → lacks_room_at e.subscriptions (sharing sub more) ≡ false → HasRoomIn e.subscriptions (sharing sub more)
 room_at e h so sub on more none some = there (at e.subscriptions sub) (so.subscriptions sub) none where
   there : (o : Option Subscription) → IsLiveAs h e.limits sub o → option_map_or (λ s. lacks_room s.stream more) o false ≡ false → IsSomeAnd o (λ s. HasRoom s.stream more)
   there None gone over = let live : is_live sub h ≡ true = served_is_live sub h on in absurd cc
   there (Some s) is over = has_room s.stream more over some
 
-both_so : (a b : Bool) → (a && not b) ≡ true → (a ≡ true) × (b ≡ false)
+pub both_so : (a b : Bool) → (a && not b) ≡ true → (a ≡ true) × (b ≡ false)
 both_so true false so = (refl, refl)
 both_so true true so = absurd cc
 both_so false b so = absurd cc

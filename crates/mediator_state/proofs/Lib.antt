@@ -9,4 +9,5 @@ pub mod Judging
 pub mod SameLaws
 pub mod CallLaws
 pub mod AdvanceCalls
+pub mod AdvanceJudging
 pub mod PullLaws

@@ -53,6 +53,8 @@ each_as t u h limits sub others all one q = by_number (q == sub) refl where
 pub pull_stands : (d : Engine) (t : Table) (h : List Entry) (sub now target : ℕ) (answer : Option (List ℕ)) → Stands d h → is_live sub h ≡ true → ((q : ℕ) → q ≢ sub → at t q ≡ at d.subscriptions q) → t.served ≡ d.subscriptions.served → Related (PullsOne now target answer) (at d.subscriptions sub) (at t sub) → Stands (record d { subscriptions = t }) h
 pull_stands d t h sub now target answer s live others served r = record {
   policy = s.policy;
+  clock = s.clock;
+  groups = s.groups;
   edits = s.edits;
   opened = s.opened;
   begun = s.begun;
@@ -79,7 +81,8 @@ pulls tells old t h sub now target answer s live others served r =
 -- a table that is the same for all that contracts see
 pub same_table : (d : Engine) (t : Table) → SameTable d.subscriptions t → IsSameEngine d (record d { subscriptions = t })
 same_table d t same = record {
-  policy = refl;
+  in_force = refl;
+  groups = λ n g. refl;
   edits = refl;
   opened = refl;
   begun = refl;

@@ -183,10 +183,7 @@ impl<C: Chronicle + Drop> State<C> {
         ensures journaled { C.limits self.new.chronicle ≡ C.limits self.old.chronicle }
         ensures err { IfErr result (λ e. (h : List Entry) → StandsFor C.tells self.old h → RefusesEdit e (C.limits self.old.chronicle) h text.now) }
     {
-        let policy = match Policy::parse(self.engine.alloc, text) {
-            Ok(policy) => policy,
-            Err(fault) => return Err(refusal(fault)),
-        };
+        let policy = read_policy(self.engine.alloc, text)?;
         let in_force = self.engine.with_policy(policy)?;
         let text = PolicyText::new(self.engine.alloc, text)?;
         let entry = Entry::Edit { text };
@@ -370,6 +367,21 @@ fn behind_cuts(alloc: Global, cuts: &[u64], last: Entry) -> Result<Vec<Entry>, A
     }
     entries.push_reserved(last);
     Ok(entries)
+}
+
+ghost use Rattle.std.specs.Prelude.{Ok};
+ghost use Rattle.policy_text.specs.Parsing.{policy_of};
+ghost use Rattle.mediator_state.specs.Calls.{RefusesPolicy};
+
+/// The policy that a text spells.
+fn read_policy(alloc: Global, text: &str) -> Result<Policy, Fault>
+    ensures ok { IfOk result (λ policy. policy_of text.now ≡ Ok policy) }
+    ensures err { IfErr result (λ e. RefusesPolicy e text.now) }
+{
+    match Policy::parse(alloc, text) {
+        Ok(policy) => Ok(policy),
+        Err(fault) => Err(refusal(fault)),
+    }
 }
 
 ghost use Rattle.mediator_state.specs.Refusals.{policy_refusal};

@@ -29,6 +29,11 @@ const WITHOUT_OCTETS: &[u8] = b"\x00\x0a\x00\x2a\x65\x53\xf1\x3c\x00\x00\x00\x00
 \x00\x02\x00\x10\x01\x00\x00\x02\x00\x08\x00\x04\x00\x07\x00\x02\
 \x01\x00\x00\x0a\xc0\x00\x02\x4d\x01\xbb";
 
+/// A template of start, destination port, octets and packets, and one record of it.
+const ONE_FLOW: &[u8] = b"\x00\x0a\x00\x42\x65\x53\xf1\x00\x00\x00\x00\x00\x00\x00\x00\x07\
+\x00\x02\x00\x18\x01\x00\x00\x04\x00\x98\x00\x08\x00\x0b\x00\x02\x00\x01\x00\x08\x00\x02\x00\x04\
+\x01\x00\x00\x1a\x00\x00\x01\x8b\xcf\xe6\xee\xa0\x01\xbb\x00\x00\x00\x00\x00\x00\x00\x64\x00\x00\x00\x01";
+
 const EMPTY: &[u8] = b"\x00\x0a\x00\x10\x65\x53\xf1\x00\x00\x00\x00\x00\x00\x00\x00\x07";
 
 /// A template of interface names; then a message of two records, of which the second goes past its set.
@@ -77,8 +82,9 @@ const PASS: &str =
 const REMOVE: &str =
     "policy 1\nrule for * in * from * to * pass\nrule for * in * from * to * element octetDeltaCount remove\nrule for * in * from * to * element * keep\n";
 
-const AGGREGATES: &str =
-    "policy 1\naggregate web key destinationTransportPort interval 300 grace 60\n";
+/// What goes to each port in five minutes, closed a minute after their end.
+const WEB: &str =
+    "policy 1\naggregate web key destinationTransportPort interval 300 grace 60\nrule for acme in * from * to * aggregate web\n";
 
 /// Domain 8 is withheld from acme, and all else passes.
 const NOT_EIGHT: &str =
@@ -159,18 +165,34 @@ const CASES: &[Case] = &[
         written: b"",
         audit: b"",
     },
+    // Nothing closes, so nothing is written of what counts.
     Case {
-        name: "names_and_policies_are_judged: aggregates",
-        policy: AGGREGATES,
+        name: "aggregates: a record that counts",
+        policy: WEB,
+        subscriber: "acme",
+        turns: 1000,
+        octets: ONE_FLOW,
+        answer: Ok(OfflineReport {
+            messages: 1,
+            records: 1,
+            disclosed: 0,
+        }),
+        written: b"",
+        audit: b"3 0 1 aggregated 1\n",
+    },
+    Case {
+        name: "aggregates: a record without a start",
+        policy: WEB,
         subscriber: "acme",
         turns: 1000,
         octets: ONE_RECORD,
-        answer: Err(OfflineFault::Core(Fault::Policy(PolicyFault {
-            line: 1,
-            kind: FaultKind::UnknownWord,
-        }))),
+        answer: Ok(OfflineReport {
+            messages: 1,
+            records: 1,
+            disclosed: 0,
+        }),
         written: b"",
-        audit: b"",
+        audit: b"3 0 1 withheld 1 no-time\n",
     },
     Case {
         name: "empty_message",

@@ -310,9 +310,9 @@ const HELP: &[Answer<'static>] = &[
         part: "\n  ipmd offline --policy",
     },
     Answer {
-        name: "offline --help: what a policy with aggregates is answered",
+        name: "offline --help: what becomes of aggregates",
         words: &["offline", "--help"],
-        part: "ipmd offline can't carry out yet",
+        part: "no advance closes them here",
     },
     Answer {
         name: "check-policy --help: examples",

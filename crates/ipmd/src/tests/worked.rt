@@ -365,20 +365,6 @@ const RUNS: &[Run<'static>] = &[
         output: "",
         errors: "ipmd: policy line 2: BadPrefix\n",
     },
-    Run {
-        name: "refused_names_and_policies: aggregates",
-        words: &[
-            "offline",
-            "--policy-text",
-            "policy 1;aggregate web key destinationTransportPort interval 300 grace 60",
-            "--subscriber",
-            "acme",
-        ],
-        input: b"",
-        status: 1,
-        output: "",
-        errors: "ipmd: policy line 1: UnknownWord\n",
-    },
 ];
 
 const OFFLINE_HEX_NOW: &[&str] = &[

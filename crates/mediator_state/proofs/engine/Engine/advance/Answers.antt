@@ -1,6 +1,7 @@
-use Rattle.std.proofs.Common.{◌≡◌, ℕ, List, length, subst, sym}
+use Rattle.std.proofs.Common.{◌≡◌, ◌≤◌, ℕ, List, length, subst, sym}
 use Rattle.event_journal.specs.declared.entry.Entry.{Entry}
 use Rattle.mediator_history.specs.Cuts.{after_cuts}
+use Rattle.mediator_history.proofs.CountingLaws.{clock-cuts}
 use Rattle.mediator_state.specs.Standing.{Stands}
 use Rattle.mediator_state.specs.Steps.{CutsInARow}
 use Rattle.mediator_state.proofs.Accepts.{close_cuts_room, ready_to_close, are_closings}
@@ -16,5 +17,5 @@ pub returns-clause-stands : goal.returns-clause-stands
 returns-clause-stands c = λ h so counted ahead judged.
     c.close_due.ensures.stands (after_cuts h c.args.closing.cuts.items)
     (subst (λ ns. Stands c.cut_all.new.self (after_cuts h ns)) c.deref.ensures.value (c.cut_all.ensures.stands h so counted))
-    (clock-at h c.args.closing.cuts.items c.args.t ahead)
+    (subst (λ (n : ℕ). n ≤ c.args.t) (sym (clock-cuts h c.args.closing.cuts.items)) ahead)
     (are_closings c.args.self.now c.cut_all.new.self h c.args.t c.args.closing judged (subst (λ ns. CutsInARow ns c.args.self.now c.cut_all.new.self) c.deref.ensures.value c.cut_all.ensures.row))

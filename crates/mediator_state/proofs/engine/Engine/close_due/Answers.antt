@@ -10,7 +10,7 @@ returns-clause-stands c = λ h so ahead is.
 
 pub returns-clause-untouched : goal.returns-clause-untouched
 returns-clause-untouched c = record {
-  places = places_closed c.args.self.now _ c.requires.room.history (map shown c.args.shares.items) c.requires.room.stands c.give.ensures.each;
+  places = places_closed c.args.self.now (record c.args.self.now { subscriptions = c.give.new.self; groups = c.close.new.self; in_force = c.advance.new.self }) c.requires.room.history (map shown c.args.shares.items) c.requires.room.stands c.give.ensures.each;
   drained = refl;
   limits = refl;
   audit_limit = refl;
