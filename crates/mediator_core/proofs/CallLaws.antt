@@ -8,7 +8,7 @@ use Rattle.subscriber_stream.specs.declared.limits.Limits.{Limits as Streamed}
 use Rattle.subscriber_stream.specs.Message.{built, place_after}
 use Rattle.disclosure_audit.specs.declared.entry.AuditEntry.{AuditEntry}
 use Rattle.event_journal.specs.declared.entry.Entry.{Entry}
-use Rattle.event_journal.specs.declared.entry.Entry.TheVariants.{Open, Close, Message, Edit, Subscribe, Unsubscribe}
+use Rattle.event_journal.specs.declared.entry.Entry.TheVariants.{Open, Close, Message, Edit, Subscribe, Unsubscribe, Advance}
 use Rattle.event_journal.specs.Kept.{Kept}
 use Rattle.event_journal.specs.Room.{Limits as Journaled, HasRoomAfter}
 use Rattle.mediator_history.specs.Subscriptions.{begins, is_live, subscriptions_begun}
@@ -27,7 +27,7 @@ use Rattle.mediator_state.specs.Calls as state
 use Rattle.mediator_calls.specs.declared.limits.Limits.{Limits}
 use Rattle.mediator_core.specs.Mediation.{Place, Mediation, place_at, noted_at, journal_limits}
 use Rattle.mediator_core.specs.View.{view_of, tells, limits_of, StandsForJournal}
-use Rattle.mediator_core.specs.Calls.{GoesOn, Opens, Closes, with_cuts, Receives, RefusesReceive, Edits, Subscribes, Unsubscribes, Pulls, IsStatusOf, Drains}
+use Rattle.mediator_core.specs.Calls.{GoesOn, Opens, Closes, with_cuts, Receives, RefusesReceive, Edits, Subscribes, Unsubscribes, Advances, RefusesAdvance, Pulls, IsStatusOf, Drains}
 use Rattle.mediator_core.specs.Sound.{IsSound}
 use Rattle.mediator_core.proofs.Places.{place_is, within, unplaced_at, cuts_are, places_same}
 
@@ -122,7 +122,7 @@ closes s t session stands closed untouched journaled = record { opened = closed.
 pub edits : (s t : State Kept) (text : List ℕ) (n : ℕ) → StandsForJournal s → state.Edits tells limits_of s s.chronicle.entries text n t → IsUntouched s.engine t.engine → t.chronicle.limits ≡ s.chronicle.limits → Edits (view_of s) text n (view_of t)
 edits s t text n stands edited untouched journaled = record {
   policy = edited.policy;
-  accepted = edited.accepted;
+  spelled = edited.spelled;
   number = edited.number;
   goes_on = goes_on s t (Edit text ∷ []) stands edited.accepts untouched journaled;
 }
@@ -156,30 +156,53 @@ unsubscribes s t sub stands over others drained streams audit journaled = record
 
 -- ---- a message
 
-with_cuts_are : (s : State Kept) → StandsForJournal s → (session number : ℕ) (octets : List ℕ) → state.with_cuts s.engine s.chronicle.entries session number octets ≡ with_cuts (view_of s) session number octets
-with_cuts_are s stands session number octets = ap (λ (cuts : List Entry). cuts ++ Message session number octets ∷ []) (cuts_are s stands (Message session number octets))
+with_cuts_are : (s : State Kept) → StandsForJournal s → (entry : Entry) → state.with_cuts s.engine s.chronicle.entries entry ≡ with_cuts (view_of s) entry
+with_cuts_are s stands entry = ap (λ (cuts : List Entry). cuts ++ entry ∷ []) (cuts_are s stands entry)
+
+goes_on_with_cuts : (s t : State Kept) (entry : Entry) → StandsForJournal s → AcceptsNext s (state.with_cuts s.engine s.chronicle.entries entry) t → IsUntouched s.engine t.engine → t.chronicle.limits ≡ s.chronicle.limits → GoesOn (view_of s) (with_cuts (view_of s) entry) (view_of t)
+goes_on_with_cuts s t entry stands accepts untouched journaled =
+    goes_on s t (with_cuts (view_of s) entry) stands (subst (λ (more : List Entry). AcceptsNext s more t) (with_cuts_are s stands entry) accepts) untouched journaled
 
 pub receives : (s t : State Kept) (session number : ℕ) (octets : List ℕ) (r : Receipt) → StandsForJournal s → state.Receives tells limits_of s s.chronicle.entries session number octets r t → IsUntouched s.engine t.engine → t.chronicle.limits ≡ s.chronicle.limits → Receives (view_of s) session number octets r (view_of t)
 receives s t session number octets r stands got untouched journaled = record {
   next = got.next;
   meaning = got.meaning;
   means = got.means;
-  goes_on = goes_on s t (with_cuts (view_of s) session number octets) stands (subst (λ (more : List Entry). AcceptsNext s more t) (with_cuts_are s stands session number octets) got.accepts) untouched journaled;
+  goes_on = goes_on_with_cuts s t (Message session number octets) stands got.accepts untouched journaled;
   receipt = got.receipt ∙ ap (λ (cuts : List Entry). receipt_of (length s.chronicle.entries) (length cuts) got.meaning) (cuts_are s stands (Message session number octets));
 }
 
-pub refuses_receive : (why : Fault) (s : State Kept) (session number : ℕ) (octets : List ℕ) → StandsForJournal s → state.RefusesReceive why s.chronicle.limits s.engine s.chronicle.entries session number octets → RefusesReceive why (view_of s) session number octets
-refuses_receive fault.JournalFull s session number octets stands r =
-    (r.0, r.1, λ room. r.2 (subst (λ (more : List Entry). HasRoomAfter s.chronicle.limits s.chronicle.entries more) (sym (with_cuts_are s stands session number octets)) room))
-refuses_receive (fault.AuditFull need room) s session number octets stands r =
-    let same = with_cuts_are s stands session number octets in (
-      r.0,
-      r.1,
-      subst (λ (more : List Entry). HasRoomAfter s.chronicle.limits s.chronicle.entries more) same r.2,
-      subst (λ (more : List Entry). (noted : List AuditEntry) × (audit_list (s.chronicle.entries ++ more) ≡ audit_list s.chronicle.entries ++ noted) × (need ≡ length noted)) same r.3,
-      subst (λ (waiting : List AuditEntry). room + length waiting ≡ s.engine.audit.limit) stands.stands.audit.waiting r.4,
-      r.5,
+-- there is no room for the entry and its cuts
+no_room : (s : State Kept) (entry : Entry) → StandsForJournal s → (HasRoomAfter s.chronicle.limits s.chronicle.entries (state.with_cuts s.engine s.chronicle.entries entry) → ⊥) → HasRoomAfter s.chronicle.limits s.chronicle.entries (with_cuts (view_of s) entry) → ⊥
+no_room s entry stands lacks room = lacks (subst (λ (more : List Entry). HasRoomAfter s.chronicle.limits s.chronicle.entries more) (sym (with_cuts_are s stands entry)) room)
+
+-- the audit entries of these entries behind a history are so many
+abbrev Notes : List Entry → List Entry → ℕ → Type 0
+Notes h more need = (noted : List AuditEntry) × (audit_list (h ++ more) ≡ audit_list h ++ noted) × (need ≡ length noted)
+
+-- there is room for the entry and its cuts, but the audit has none
+abbrev LacksAuditFor : State Kept → List Entry → ℕ → ℕ → Type 0
+LacksAuditFor s more need room =
+    HasRoomAfter s.chronicle.limits s.chronicle.entries more × Notes s.chronicle.entries more need × (room + length s.engine.audit.standing.entries ≡ s.engine.audit.limit) × (room < need)
+
+abbrev LacksAuditSeen : Mediation → List Entry → ℕ → ℕ → Type 0
+LacksAuditSeen m more need room =
+    HasRoomAfter (journal_limits m.limits) m.history more × Notes m.history more need × (room + length (noted_at m) ≡ m.limits.audit) × (room < need)
+
+no_audit : (s : State Kept) (entry : Entry) (need room : ℕ) → StandsForJournal s → LacksAuditFor s (state.with_cuts s.engine s.chronicle.entries entry) need room → LacksAuditSeen (view_of s) (with_cuts (view_of s) entry) need room
+no_audit s entry need room stands r =
+    let same = with_cuts_are s stands entry in (
+      subst (λ (more : List Entry). HasRoomAfter s.chronicle.limits s.chronicle.entries more) same r.0,
+      subst (λ (more : List Entry). Notes s.chronicle.entries more need) same r.1,
+      subst (λ (waiting : List AuditEntry). room + length waiting ≡ s.engine.audit.limit) stands.stands.audit.waiting r.2,
+      r.3,
     )
+
+pub refuses_receive : (why : Fault) (s : State Kept) (session number : ℕ) (octets : List ℕ) → StandsForJournal s → state.RefusesReceive why s.chronicle.limits s.engine s.chronicle.entries session number octets → RefusesReceive why (view_of s) session number octets
+refuses_receive fault.JournalFull s session number octets stands r = (r.0, r.1, no_room s (Message session number octets) stands r.2)
+refuses_receive (fault.AuditFull need room) s session number octets stands r =
+    let lacks = no_audit s (Message session number octets) need room stands (r.2, r.3, r.4, r.5) in
+    (r.0, r.1, lacks.0, lacks.1, lacks.2, lacks.3)
 refuses_receive fault.OutOfMemory s session number octets stands r = r
 refuses_receive fault.UnknownSession s session number octets stands r = r
 refuses_receive (fault.OutOfTurn expected) s session number octets stands r = r
@@ -188,6 +211,30 @@ refuses_receive (fault.Policy why) s session number octets stands r = r
 refuses_receive fault.BadName s session number octets stands r = r
 refuses_receive (fault.AlreadySubscribed sub) s session number octets stands r = r
 refuses_receive fault.UnknownSub s session number octets stands r = r
+refuses_receive (fault.ClockBack last) s session number octets stands r = r
+
+-- ---- an advance of the clock
+
+pub advances : (s t : State Kept) (time : ℕ) → StandsForJournal s → state.Advances tells limits_of s s.chronicle.entries time t → IsUntouched s.engine t.engine → t.chronicle.limits ≡ s.chronicle.limits → Advances (view_of s) time (view_of t)
+advances s t time stands advanced untouched journaled = record {
+  ahead = advanced.ahead;
+  goes_on = goes_on_with_cuts s t (Advance time) stands advanced.accepts untouched journaled;
+}
+
+pub refuses_advance : (why : Fault) (s : State Kept) (time : ℕ) → StandsForJournal s → state.RefusesAdvance why s.chronicle.limits s.engine s.chronicle.entries time → RefusesAdvance why (view_of s) time
+refuses_advance (fault.ClockBack last) s time stands r = r
+refuses_advance fault.JournalFull s time stands r = (r.0, no_room s (Advance time) stands r.1)
+refuses_advance (fault.AuditFull need room) s time stands r =
+    let lacks = no_audit s (Advance time) need room stands (r.1, r.2, r.3, r.4) in
+    (r.0, lacks.0, lacks.1, lacks.2, lacks.3)
+refuses_advance fault.OutOfMemory s time stands r = r
+refuses_advance fault.UnknownSession s time stands r = absurd r
+refuses_advance (fault.OutOfTurn expected) s time stands r = absurd r
+refuses_advance (fault.Malformed why) s time stands r = absurd r
+refuses_advance (fault.Policy why) s time stands r = absurd r
+refuses_advance fault.BadName s time stands r = absurd r
+refuses_advance (fault.AlreadySubscribed sub) s time stands r = absurd r
+refuses_advance fault.UnknownSub s time stands r = absurd r
 
 -- ---- what is handed out
 

@@ -13,7 +13,7 @@ use Rattle.stream_meaning.specs.Served.{messages_in, place_from}
 use Rattle.stream_meaning.specs.HandedOut.{AreHandedOut}
 use Rattle.stream_meaning.proofs.Handing.{none_handed_out, handed_given, handed_answer}
 use Rattle.event_journal.specs.declared.entry.Entry.{Entry}
-use Rattle.event_journal.specs.declared.entry.Entry.TheVariants.{Open, Close, Message, Edit, Subscribe, Unsubscribe, Cut}
+use Rattle.event_journal.specs.declared.entry.Entry.TheVariants.{Open, Close, Message, Edit, Subscribe, Unsubscribe, Advance, Cut}
 use Rattle.mediator_history.specs.Subscriptions.{begins, is_live, subscribed_in, subscriptions_begun}
 use Rattle.mediator_history.specs.Disclosed.{given_at, disclosed}
 use Rattle.mediator_calls.specs.declared.limits.Limits.{Limits}
@@ -53,9 +53,9 @@ stays_off sub h more none off = by_test (is_live sub (h ++ more)) refl where
 unswitched : (sub : ℕ) (h more : List Entry) → HasNone (begins sub) more → BeginsNone sub h more
 unswitched sub h more none on = sym (last_of-append (begins sub) false h more ∙ last_of-none (begins sub) (is_live sub h) more none) ∙ on
 
-cuts_switch_none : (sub session number : ℕ) (octets : List ℕ) (subs : List ℕ) → HasNone (begins sub) (map Cut subs ++ Message session number octets ∷ [])
-cuts_switch_none sub session number octets [] = (refl, tt)
-cuts_switch_none sub session number octets (x ∷ xs) = (refl, cuts_switch_none sub session number octets xs)
+cuts_switch_none : (sub : ℕ) (entry : Entry) (subs : List ℕ) → begins sub entry ≡ None → HasNone (begins sub) (map Cut subs ++ entry ∷ [])
+cuts_switch_none sub entry [] none = (none, tt)
+cuts_switch_none sub entry (x ∷ xs) none = (refl, cuts_switch_none sub entry xs none)
 
 -- an end begins none
 ends_none : (sub s : ℕ) (h : List Entry) → BeginsNone sub h (Unsubscribe s ∷ [])
@@ -174,13 +174,16 @@ holds_after sub old (call.Close session) reply.Closed new messages p is h =
     silent sub old (call.Close session) reply.Closed new messages p refl refl (holds_on sub old new (Close session.0 ∷ []) messages p is.goes_on (unswitched sub old.history (Close session.0 ∷ []) (refl, tt)) h)
 holds_after sub old (call.Receive session number message) (reply.Received receipt) new messages p is h =
     silent sub old (call.Receive session number message) (reply.Received receipt) new messages p refl refl
-    (holds_on sub old new _ messages p is.goes_on (unswitched sub old.history _ (cuts_switch_none sub session.0 number message _)) h)
+    (holds_on sub old new _ messages p is.goes_on (unswitched sub old.history _ (cuts_switch_none sub (Message session.0 number message) _ refl)) h)
 holds_after sub old (call.Edit text) (reply.Edited edits) new messages p is h =
     silent sub old (call.Edit text) (reply.Edited edits) new messages p refl refl (holds_on sub old new _ messages p is.goes_on (unswitched sub old.history _ (refl, tt)) h)
 holds_after sub old (call.Subscribe name) (reply.Subscribed s) new messages p is h =
     silent sub old (call.Subscribe name) (reply.Subscribed s) new messages p refl refl (holds_begun sub s.0 old new _ messages p is h)
 holds_after sub old (call.Unsubscribe s) reply.Unsubscribed new messages p is h =
     silent sub old (call.Unsubscribe s) reply.Unsubscribed new messages p refl refl (holds_on sub old new (Unsubscribe s.0 ∷ []) messages p is.goes_on (ends_none sub s.0 old.history) h)
+holds_after sub old (call.Advance t) reply.Advanced new messages p is h =
+    silent sub old (call.Advance t) reply.Advanced new messages p refl refl
+    (holds_on sub old new _ messages p is.goes_on (unswitched sub old.history _ (cuts_switch_none sub (Advance t) _ refl)) h)
 holds_after sub old (call.Pull s now target) (reply.Pulled answer) new messages p is h =
     let one = pulled_by sub s.0 now target answer old new messages p is h (s.0 == sub) refl in
     record { after = one.after; answers = one.answered }
@@ -195,6 +198,7 @@ holds_after sub old (call.Receive session number message) (reply.Refused why) ne
 holds_after sub old (call.Edit text) (reply.Refused why) new messages p is h = silent sub old (call.Edit text) (reply.Refused why) new messages p refl refl (refused_holds sub old new messages p is.1 h)
 holds_after sub old (call.Subscribe name) (reply.Refused why) new messages p is h = silent sub old (call.Subscribe name) (reply.Refused why) new messages p refl refl (refused_holds sub old new messages p is.1 h)
 holds_after sub old (call.Unsubscribe s) (reply.Refused why) new messages p is h = silent sub old (call.Unsubscribe s) (reply.Refused why) new messages p refl refl (refused_holds sub old new messages p is.1 h)
+holds_after sub old (call.Advance t) (reply.Refused why) new messages p is h = silent sub old (call.Advance t) (reply.Refused why) new messages p refl refl (refused_holds sub old new messages p is.1 h)
 holds_after sub old (call.Pull s now target) (reply.Refused why) new messages p is h = silent sub old (call.Pull s now target) (reply.Refused why) new messages p refl refl (refused_holds sub old new messages p is.1 h)
 holds_after sub old (call.Status s) (reply.Refused why) new messages p is h = silent sub old (call.Status s) (reply.Refused why) new messages p refl refl (refused_holds sub old new messages p is.1 h)
 holds_after sub old (call.DrainAudit most) (reply.Refused why) new messages p is h = silent sub old (call.DrainAudit most) (reply.Refused why) new messages p refl refl (refused_holds sub old new messages p is.1 h)

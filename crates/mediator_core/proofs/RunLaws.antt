@@ -17,10 +17,9 @@ use Rattle.stream_meaning.specs.HandedOut.{AreHandedOut}
 use Rattle.stream_meaning.proofs.Handing.{handed_answer, handed_means, handed_whole}
 use Rattle.disclosure_audit.specs.declared.entry.AuditEntry.{AuditEntry}
 use Rattle.event_journal.specs.declared.entry.Entry.{Entry}
-use Rattle.event_journal.specs.declared.entry.Entry.TheVariants.{Message, Cut}
+use Rattle.event_journal.specs.declared.entry.Entry.TheVariants.{Message, Advance, Cut}
 use Rattle.mediator_history.specs.Subscriptions.{is_live, served}
 use Rattle.mediator_history.specs.Cuts.{is_cut_by}
-use Rattle.mediator_state.specs.declared.receipt.Receipt.{Receipt}
 use Rattle.mediator_history.specs.Disclosed.{disclosed}
 use Rattle.mediator_history.specs.Auditing.{audit_at, audit_list}
 use Rattle.mediator_calls.specs.declared.limits.Limits.{Limits}
@@ -29,7 +28,7 @@ use Rattle.mediator_calls.specs.declared.call.Call.TheVariants as call
 use Rattle.mediator_calls.specs.declared.call.Reply.{Reply}
 use Rattle.mediator_calls.specs.declared.call.Reply.TheVariants as reply
 use Rattle.mediator_core.specs.Mediation.{Mediation, started, place_at, waiting_at, noted_at, stream_limits}
-use Rattle.mediator_core.specs.Calls.{GoesOn, with_cuts, Receives, Drains}
+use Rattle.mediator_core.specs.Calls.{GoesOn, with_cuts, Drains}
 use Rattle.mediator_core.specs.Runs.{Answers, Runs, entry_in, entries_of, is_of_call, answer_in, answers_to, handed_to, GiveUntilNone, MeanFront, drained_in, drained_by, asked_in, Ask}
 use Rattle.mediator_core.specs.Headline.{HistoryIsTheCalls, HandedIsDisclosed, HandedIsFront, DrainedIsAudited, IsBuiltFromDisclosed}
 use Rattle.mediator_core.specs.Sound.{IsSound}
@@ -142,18 +141,17 @@ none_added old new same = ap (filter is_of_call) same ∙ sym (append-nil (filte
 refused_adds : (old new : Mediation) → new ≡ old → filter is_of_call new.history ≡ filter is_of_call old.history ++ []
 refused_adds old new same = none_added old new (ap (λ (m : Mediation). m.history) same)
 
-received_entry : (old new : Mediation) (session number : ℕ) (octets : List ℕ) (receipt : Receipt) → Receives old session number octets receipt new → filter is_of_call new.history ≡ filter is_of_call old.history ++ Message session number octets ∷ []
-received_entry old new session number octets receipt is =
-    entries_on old new (with_cuts old session number octets) (Message session number octets ∷ []) is.goes_on
-    (no_call (filter (is_cut_by (stream_limits old.limits) old.history (Message session number octets) (waiting_at old)) (served old.history)) (Message session number octets) refl)
+with_cuts_adds : (old new : Mediation) (e : Entry) → is_of_call e ≡ true → GoesOn old (with_cuts old e) new → filter is_of_call new.history ≡ filter is_of_call old.history ++ e ∷ []
+with_cuts_adds old new e is on = entries_on old new (with_cuts old e) (e ∷ []) on (no_call (filter (is_cut_by (stream_limits old.limits) old.history e (waiting_at old)) (served old.history)) e is)
 
 entry_added : (old : Mediation) (c : Call) (r : Reply) (new : Mediation) → Answers old c r new → filter is_of_call new.history ≡ filter is_of_call old.history ++ entry_in c r
 entry_added old call.Open (reply.Opened session) new is = entries_on old new _ _ is.goes_on refl
 entry_added old (call.Close session) reply.Closed new is = entries_on old new _ _ is.goes_on refl
-entry_added old (call.Receive session number message) (reply.Received receipt) new is = received_entry old new session.0 number message receipt is
+entry_added old (call.Receive session number message) (reply.Received receipt) new is = with_cuts_adds old new (Message session.0 number message) refl is.goes_on
 entry_added old (call.Edit text) (reply.Edited edits) new is = entries_on old new _ _ is.goes_on refl
 entry_added old (call.Subscribe name) (reply.Subscribed sub) new is = entries_on old new _ _ is.goes_on refl
 entry_added old (call.Unsubscribe sub) reply.Unsubscribed new is = entries_on old new _ _ is.goes_on refl
+entry_added old (call.Advance t) reply.Advanced new is = with_cuts_adds old new (Advance t) refl is.goes_on
 entry_added old (call.Pull sub now target) (reply.Pulled answer) new is = none_added old new is.history
 entry_added old (call.Status sub) (reply.Stands status) new is = refused_adds old new is.1
 entry_added old (call.DrainAudit most) (reply.Drained out) new is = none_added old new is.history
@@ -163,6 +161,7 @@ entry_added old (call.Receive session number message) (reply.Refused why) new is
 entry_added old (call.Edit text) (reply.Refused why) new is = refused_adds old new is.1
 entry_added old (call.Subscribe name) (reply.Refused why) new is = refused_adds old new is.1
 entry_added old (call.Unsubscribe sub) (reply.Refused why) new is = refused_adds old new is.1
+entry_added old (call.Advance t) (reply.Refused why) new is = refused_adds old new is.1
 entry_added old (call.Pull sub now target) (reply.Refused why) new is = refused_adds old new is.1
 entry_added old (call.Status sub) (reply.Refused why) new is = refused_adds old new is.1
 entry_added old (call.DrainAudit most) (reply.Refused why) new is = refused_adds old new is.1
@@ -248,6 +247,7 @@ drained_after old (call.Receive session number message) (reply.Received receipt)
 drained_after old (call.Edit text) (reply.Edited edits) new out is d = drained_on old new _ out is.goes_on d
 drained_after old (call.Subscribe name) (reply.Subscribed sub) new out is d = drained_on old new _ out is.goes_on d
 drained_after old (call.Unsubscribe sub) reply.Unsubscribed new out is d = drained_on old new _ out is.goes_on d
+drained_after old (call.Advance t) reply.Advanced new out is d = drained_on old new _ out is.goes_on d
 drained_after old (call.Pull sub now target) (reply.Pulled answer) new out is d = drained_same old new out is.history is.drained d
 drained_after old (call.Status sub) (reply.Stands status) new out is d = drained_refused old new out is.1 d
 drained_after old (call.DrainAudit most) (reply.Drained more) new out is d = drained_more old new most more.items out is d
@@ -257,6 +257,7 @@ drained_after old (call.Receive session number message) (reply.Refused why) new 
 drained_after old (call.Edit text) (reply.Refused why) new out is d = drained_refused old new out is.1 d
 drained_after old (call.Subscribe name) (reply.Refused why) new out is d = drained_refused old new out is.1 d
 drained_after old (call.Unsubscribe sub) (reply.Refused why) new out is d = drained_refused old new out is.1 d
+drained_after old (call.Advance t) (reply.Refused why) new out is d = drained_refused old new out is.1 d
 drained_after old (call.Pull sub now target) (reply.Refused why) new out is d = drained_refused old new out is.1 d
 drained_after old (call.Status sub) (reply.Refused why) new out is d = drained_refused old new out is.1 d
 drained_after old (call.DrainAudit most) (reply.Refused why) new out is d = drained_refused old new out is.1 d

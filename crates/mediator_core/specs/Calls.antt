@@ -1,15 +1,17 @@
 -- What the calls of a mediator answer, and what they leave.
-use Rattle.std.specs.Prelude.{◌≡◌, ◌≢◌, ℕ, ◌+◌, ◌<◌, ◌^◌, true, List, [], ◌∷◌, ◌++◌, length, take, Option, Ok}
+use Rattle.std.specs.Prelude.{◌≡◌, ◌≢◌, ℕ, ◌+◌, ◌<◌, ◌≤◌, ◌^◌, true, List, [], ◌∷◌, ◌++◌, length, take, Option, Ok}
 use Rattle.ipfix_session.specs.Meaning.{Meaning, meaning_of}
 use Rattle.policy_text.specs.Policies.{Meaning as Policy}
+use Rattle.policy_text.specs.Parsing.{policy_of}
 use Rattle.policy_text.specs.Naming.{is_name}
 use Rattle.subscriber_stream.specs.Message.{built, place_after}
 use Rattle.disclosure_audit.specs.declared.entry.AuditEntry.{AuditEntry}
 use Rattle.event_journal.specs.declared.entry.Entry.{Entry}
-use Rattle.event_journal.specs.declared.entry.Entry.TheVariants.{Open, Close, Message, Edit, Subscribe, Unsubscribe}
+use Rattle.event_journal.specs.declared.entry.Entry.TheVariants.{Open, Close, Message, Edit, Subscribe, Unsubscribe, Advance}
 use Rattle.event_journal.specs.Room.{HasRoomAfter}
 use Rattle.mediator_history.specs.Sessions.{is_open, messages_of, sessions_opened}
 use Rattle.mediator_history.specs.Subscriptions.{edits_made, is_live, subscriptions_begun}
+use Rattle.mediator_history.specs.Counting.{clock_of}
 use Rattle.mediator_history.specs.Disclosed.{disclosed}
 use Rattle.mediator_history.specs.Auditing.{audit_list}
 use Rattle.mediator_history.specs.Cuts.{cuts_before}
@@ -19,7 +21,7 @@ use Rattle.mediator_state.specs.declared.receipt.Receipt.{Receipt}
 use Rattle.mediator_state.specs.declared.receipt.Status.{Status}
 use Rattle.mediator_state.specs.Planning.{IsNext, RefusesMessage}
 use Rattle.mediator_state.specs.Accepting.{receipt_of}
-use Rattle.mediator_state.specs.Calls.{LacksRoomAfter, HasMeaning, IsAccepted, IsFree, IsStatus}
+use Rattle.mediator_state.specs.Calls.{LacksRoomAfter, HasMeaning, IsFree, IsStatus}
 use Rattle.mediator_core.specs.Mediation.{Mediation, place_at, waiting_at, noted_at, stream_limits, journal_limits}
 
 -- behind the history there was room for these entries, and it goes on with them; nothing is handed out or drained
@@ -46,38 +48,56 @@ pub record Closes (old : Mediation) (session : ℕ) (new : Mediation) : Type 0 w
 
 -- ---- messages
 
--- the cuts that the message makes, in the order of the subscriptions' numbers
-abbrev pub cuts_of : Mediation → ℕ → ℕ → List ℕ → List Entry
-cuts_of m session number octets = cuts_before (stream_limits m.limits) m.history (Message session number octets) (waiting_at m)
+-- the cuts that a message or an advance of the clock makes, in the order of the subscriptions' numbers
+abbrev pub cuts_of : Mediation → Entry → List Entry
+cuts_of m entry = cuts_before (stream_limits m.limits) m.history entry (waiting_at m)
 
--- these cuts, and the message
-abbrev pub with_cuts : Mediation → ℕ → ℕ → List ℕ → List Entry
-with_cuts m session number octets = cuts_of m session number octets ++ Message session number octets ∷ []
+-- these cuts, and the entry itself
+abbrev pub with_cuts : Mediation → Entry → List Entry
+with_cuts m entry = cuts_of m entry ++ entry ∷ []
 
 -- the message is the next of its session, it and its cuts are accepted, and this is its receipt
 pub record Receives (old : Mediation) (session number : ℕ) (octets : List ℕ) (r : Receipt) (new : Mediation) : Type 0 where
   pub next : IsNext old.history session number
   pub meaning : Meaning
   pub means : meaning_of (messages_of session old.history) octets ≡ Ok meaning
-  pub goes_on : GoesOn old (with_cuts old session number octets) new
-  pub receipt : r ≡ receipt_of (length old.history) (length (cuts_of old session number octets)) meaning
+  pub goes_on : GoesOn old (with_cuts old (Message session number octets)) new
+  pub receipt : r ≡ receipt_of (length old.history) (length (cuts_of old (Message session number octets))) meaning
 
 -- first its own refusals, then the journal is judged, and then the audit, whose need and room are told
 abbrev pub RefusesReceive : Fault → Mediation → ℕ → ℕ → List ℕ → Type 0
 RefusesReceive fault.JournalFull m session number octets =
-    IsNext m.history session number × HasMeaning m.history session octets × (HasRoomAfter (journal_limits m.limits) m.history (with_cuts m session number octets) → ⊥)
+    IsNext m.history session number × HasMeaning m.history session octets × (HasRoomAfter (journal_limits m.limits) m.history (with_cuts m (Message session number octets)) → ⊥)
 RefusesReceive (fault.AuditFull need room) m session number octets =
-    IsNext m.history session number × HasMeaning m.history session octets × HasRoomAfter (journal_limits m.limits) m.history (with_cuts m session number octets)
-    × ((noted : List AuditEntry) × (audit_list (m.history ++ with_cuts m session number octets) ≡ audit_list m.history ++ noted) × (need ≡ length noted))
+    IsNext m.history session number × HasMeaning m.history session octets × HasRoomAfter (journal_limits m.limits) m.history (with_cuts m (Message session number octets))
+    × ((noted : List AuditEntry) × (audit_list (m.history ++ with_cuts m (Message session number octets)) ≡ audit_list m.history ++ noted) × (need ≡ length noted))
     × (room + length (noted_at m) ≡ m.limits.audit) × (room < need)
 RefusesReceive why m session number octets = RefusesMessage why m.history session number octets
+
+-- ---- the clock
+
+-- the time isn't before that of the last advance, and the advance and its cuts are accepted
+pub record Advances (old : Mediation) (t : ℕ) (new : Mediation) : Type 0 where
+  pub ahead : clock_of old.history ≤ t
+  pub goes_on : GoesOn old (with_cuts old (Advance t)) new
+
+-- the clock stands later; else the journal is judged, and then the audit, whose need and room are told; want of memory says nothing
+abbrev pub RefusesAdvance : Fault → Mediation → ℕ → Type 0
+RefusesAdvance (fault.ClockBack last) m t = (last ≡ clock_of m.history) × (t < last)
+RefusesAdvance fault.JournalFull m t = (clock_of m.history ≤ t) × (HasRoomAfter (journal_limits m.limits) m.history (with_cuts m (Advance t)) → ⊥)
+RefusesAdvance (fault.AuditFull need room) m t =
+    (clock_of m.history ≤ t) × HasRoomAfter (journal_limits m.limits) m.history (with_cuts m (Advance t))
+    × ((noted : List AuditEntry) × (audit_list (m.history ++ with_cuts m (Advance t)) ≡ audit_list m.history ++ noted) × (need ≡ length noted))
+    × (room + length (noted_at m) ≡ m.limits.audit) × (room < need)
+RefusesAdvance fault.OutOfMemory m t = Unit {0}
+RefusesAdvance _ m t = ⊥
 
 -- ---- policies
 
 -- the number of edits so far
 pub record Edits (old : Mediation) (text : List ℕ) (n : ℕ) (new : Mediation) : Type 0 where
   pub policy : Policy
-  pub accepted : IsAccepted text policy
+  pub spelled : policy_of text ≡ Ok policy
   pub number : n ≡ edits_made old.history + 1
   pub goes_on : GoesOn old (Edit text ∷ []) new
 

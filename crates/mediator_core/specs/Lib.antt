@@ -11,6 +11,7 @@ pub use Rattle.stream_meaning.specs.Means
 pub use Rattle.mediator_history.specs.Sessions
 pub use Rattle.mediator_history.specs.Subscriptions
 pub use Rattle.mediator_history.specs.Accepted
+pub use Rattle.mediator_history.specs.Counting
 pub use Rattle.mediator_history.specs.Disclosed
 pub use Rattle.mediator_history.specs.Auditing
 pub use Rattle.mediator_history.specs.Cuts

@@ -16,7 +16,7 @@ use Rattle.mediator_calls.specs.declared.call.Call.TheVariants as call
 use Rattle.mediator_calls.specs.declared.call.Reply.{Reply}
 use Rattle.mediator_calls.specs.declared.call.Reply.TheVariants as reply
 use Rattle.mediator_core.specs.Mediation.{Mediation, journal_limits}
-use Rattle.mediator_core.specs.Calls.{Opens, RefusesOpen, Closes, Receives, RefusesReceive, Edits, Subscribes, Unsubscribes, Pulls, IsStatusOf, Drains}
+use Rattle.mediator_core.specs.Calls.{Opens, RefusesOpen, Closes, Receives, RefusesReceive, Edits, Subscribes, Unsubscribes, Advances, RefusesAdvance, Pulls, IsStatusOf, Drains}
 use Rattle.mediator_core.specs.Refusals.{RefusesStatus, RefusesDrain}
 
 -- ---- a call and its reply
@@ -29,6 +29,7 @@ Refuses m (call.Receive session number message) why = RefusesReceive why m sessi
 Refuses m (call.Edit text) why = RefusesEdit why (journal_limits m.limits) m.history (string_bytes text)
 Refuses m (call.Subscribe name) why = RefusesSubscribe why (journal_limits m.limits) m.history (string_bytes name)
 Refuses m (call.Unsubscribe sub) why = RefusesUnsubscribe why (journal_limits m.limits) m.history sub.0
+Refuses m (call.Advance t) why = RefusesAdvance why m t
 Refuses m (call.Pull sub now target) why = RefusesPull why m.history sub.0
 Refuses m (call.Status sub) why = RefusesStatus why m.history sub.0
 Refuses m (call.DrainAudit most) why = RefusesDrain why
@@ -42,6 +43,7 @@ Answers old (call.Receive session number message) (reply.Received receipt) new =
 Answers old (call.Edit text) (reply.Edited edits) new = Edits old (string_bytes text) edits new
 Answers old (call.Subscribe name) (reply.Subscribed sub) new = Subscribes old (string_bytes name) sub.0 new
 Answers old (call.Unsubscribe sub) reply.Unsubscribed new = Unsubscribes old sub.0 new
+Answers old (call.Advance t) reply.Advanced new = Advances old t new
 Answers old (call.Pull sub now target) (reply.Pulled answer) new = Pulls old sub.0 now target answer new
 Answers old (call.Status sub) (reply.Stands status) new = IsStatusOf old sub.0 status × (new ≡ old)
 Answers old (call.DrainAudit most) (reply.Drained out) new = Drains old most out.items new
@@ -73,6 +75,7 @@ entry_in (call.Receive session number message) (reply.Received receipt) = entry.
 entry_in (call.Edit text) (reply.Edited edits) = entry.Edit (string_bytes text) ∷ []
 entry_in (call.Subscribe name) (reply.Subscribed sub) = entry.Subscribe sub.0 (string_bytes name) ∷ []
 entry_in (call.Unsubscribe sub) reply.Unsubscribed = entry.Unsubscribe sub.0 ∷ []
+entry_in (call.Advance t) reply.Advanced = entry.Advance t ∷ []
 entry_in _ _ = []
 
 abbrev pub entries_of : List Call → List Reply → List Entry

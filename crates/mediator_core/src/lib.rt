@@ -1,5 +1,5 @@
 //! The mediator: IPFIX messages of any number of exporters' sessions in, and for each subscription out again what a policy
-//! discloses to it, with an audit of what was kept back.
+//! discloses to it, records and closed aggregates, with an audit of what was kept back.
 //!
 //! - `mediator`: [`Mediator`], with its calls.
 //! - `transcript`: [`run`], a list of calls on a new mediator, and its [`Transcript`]; [`Call`] and [`Reply`] are calls and
@@ -13,14 +13,15 @@
 //! streamed and that no place or drained count is past its end (`sound`): its type keeps that its state stands for its
 //! journal.
 //!
-//! Proved of [`run`], for every list of calls and any limits that are allowed, without a clock: each reply is that of its
-//! call, one after another from a mediator before any call (`steps`); the history's entries are those of the accepted
-//! calls, in order, beside the cuts (`history`); what a live subscription was handed, with the messages of any further
-//! pulls up to one that gives none, means by RFC 7011 exactly what the history discloses to it, and each Sequence Number
-//! counts the records before it (`disclosed`); of one that ended, a front of that (`front`); the audit entries that were
-//! drained, with those that wait, are the audit list (`audited`); a subscription's answers are built from its pulls, each
-//! with what was disclosed to it by then (`secret`). What is disclosed stays the same where rules that name others are left
-//! out of edits, entries of others out of the history, or where values that are denied change (`laws`).
+//! Proved of [`run`], for every list of calls and any limits that are allowed: each reply is that of its call, one after
+//! another from a mediator before any call (`steps`); the history's entries are those of the accepted calls, in order,
+//! beside the cuts (`history`); what a live subscription was handed, with the messages of any further pulls up to one that
+//! gives none, means by RFC 7011 exactly what the history discloses to it, the aggregates that advances of the clock closed
+//! among it, and each Sequence Number counts the records before it (`disclosed`); of one that ended, a front of that
+//! (`front`); the audit entries that were drained, with those that wait, are the audit list (`audited`); a subscription's
+//! answers are built from its pulls, each with what was disclosed to it by then (`secret`). What is disclosed stays the same
+//! where rules that name others are left out of edits, entries of others out of the history, or where values that are
+//! denied change (`laws`).
 #![tactic(auto)]
 
 mod laws;

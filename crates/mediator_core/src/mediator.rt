@@ -5,7 +5,7 @@ ghost use Rattle.mediator_state.specs.Calls.{RefusesClose, RefusesEdit, RefusesS
 ghost use Rattle.mediator_core.specs.Mediation.{started, journal_limits};
 ghost use Rattle.mediator_calls.specs.Limited.{AreAllowed, RefusesLimits};
 ghost use Rattle.mediator_core.specs.Sound.{IsSound};
-ghost use Rattle.mediator_core.specs.Calls.{Opens, RefusesOpen, Closes, Receives, RefusesReceive, Edits, Subscribes, Unsubscribes, Pulls, IsStatusOf, Drains};
+ghost use Rattle.mediator_core.specs.Calls.{Opens, RefusesOpen, Closes, Receives, RefusesReceive, Edits, Subscribes, Unsubscribes, Advances, RefusesAdvance, Pulls, IsStatusOf, Drains};
 
 use bytes::Bytes;
 use disclosure_audit::AuditEntry;
@@ -119,10 +119,10 @@ impl Mediator {
     }
 
     /// Puts the policy of a text in force, and answers how many edits there were. What was accepted before is judged by the
-    /// policy of its time.
+    /// policy of its time, and running groups close as they stand.
     ///
     /// # Errors
-    /// The text is no policy, or one with aggregates, which are not carried out yet; the journal is full, or memory ran out.
+    /// The text is no policy; the journal is full, or memory ran out.
     pub fn edit(&mut self, text: &str) -> Result<u64, Fault>
         ensures ok { IfOk result (λ edits. Edits self.old text.now edits self.new) }
         ensures same { OnErr result (self.new ≡ self.old) }
@@ -156,6 +156,20 @@ impl Mediator {
         ensures err { IfErr result (λ e. RefusesUnsubscribe e (journal_limits self.old.limits) self.old.history sub.0) }
     {
         self.state.unsubscribe(sub.0)
+    }
+
+    /// Advances the clock to `t`, in milliseconds since 1970: each running group whose interval's end and grace it comes to is
+    /// closed, and its subscription is given the group's record. A subscription whose limits leave no room for what it
+    /// would be given is cut before the advance.
+    ///
+    /// # Errors
+    /// The clock stands later; the journal is full, or the audit; or memory ran out.
+    pub fn advance(&mut self, t: u64) -> Result<(), Fault>
+        ensures ok { OnOk result (Advances self.old t self.new) }
+        ensures same { OnErr result (self.new ≡ self.old) }
+        ensures err { IfErr result (λ e. RefusesAdvance e self.old t) }
+    {
+        self.state.advance(t)
     }
 
     /// Builds a live subscription's next message, with the Export Time `now`, in seconds since 1970, of at most `target`

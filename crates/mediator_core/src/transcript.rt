@@ -51,6 +51,10 @@ impl Mediator {
                 Ok(()) => Reply::Unsubscribed,
                 Err(fault) => Reply::Refused(fault),
             },
+            Call::Advance { t } => match self.advance(t) {
+                Ok(()) => Reply::Advanced,
+                Err(fault) => Reply::Refused(fault),
+            },
             Call::Pull { sub, now, target } => match self.pull(sub, now, target) {
                 Ok(answer) => Reply::Pulled(answer),
                 Err(fault) => Reply::Refused(fault),
