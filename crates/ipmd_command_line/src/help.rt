@@ -21,6 +21,8 @@ Each line of the audit names a message (the first is 3), a record in it (the fir
 subscription (1), and what was kept back by which rule; rule 0 stands for no rule at all:
   3 0 1 removed 2:7          of record 0 the field at place 2 (the first is 0), by rule 7
   3 1 1 withheld 0 rule      record 1, since no rule lets it pass
+  3 2 1 aggregated 4         record 2 counts in the aggregate that rule 4 names; its sums are not
+                             written, since ipmd offline has no clock that closes them
 
 What standard error says, and what to do:
   ipmd: framing BadVersion   no message of version 10 stands there: the input is not IPFIX
@@ -32,8 +34,6 @@ What standard error says, and what to do:
   ipmd: BadName              the subscriber's name is not 1 to 32 of a-z, 0-9, - and _,
                              beginning with a letter
   ipmd: policy line N: KIND  line N of the policy is at fault; see ipmd check-policy --help
-                             (line 1: UnknownWord also where the policy defines an aggregate,
-                             which ipmd offline can't carry out yet)
   ipmd: Cut                  the records for the subscriber have more than 65,280 layouts, so that
                              no template ID is left
   ipmd: device               a file or a stream can't be opened, read or written (a folder, a

@@ -25,8 +25,8 @@
 //! failed is the one that the fault names (`sound`, `fails`). However a run ends, it has read no more octets than
 //! `turns` reads of 65,536 give.
 //!
-//! Where it answers `Ok`, or a fault after it began to read, the job was one to accept: its text spells a policy
-//! without aggregates, its name is one, and the journal has room for both. The laws are those above.
+//! Where it answers `Ok`, or a fault after it began to read, the job was one to accept: its text spells a policy, its
+//! name is one, and the journal has room for both. The laws are those above.
 #![tactic(auto)]
 
 mod delivery;

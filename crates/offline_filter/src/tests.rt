@@ -71,14 +71,22 @@ const TWO_DOMAINS: &[u8] = b"\x00\x0a\x00\x32\x65\x53\xf1\x00\x00\x00\x00\x00\x0
 \x00\x02\x00\x14\x01\x00\x00\x03\x00\x08\x00\x04\x00\x07\x00\x02\x00\x01\x00\x04\
 \x01\x00\x00\x0e\xc0\x00\x02\x4d\x01\xbb\x00\x00\x05\xdc";
 
+/// Starts in seconds and destination ports of two records; then a message with a start alone.
+const TWO_STARTS: &[u8] = b"\x00\x0a\x00\x30\x65\x53\xf1\x00\x00\x00\x00\x00\x00\x00\x00\x07\
+\x00\x02\x00\x10\x01\x00\x00\x02\x00\x96\x00\x04\x00\x0b\x00\x02\
+\x01\x00\x00\x10\x00\x00\x00\x00\x01\xbb\x65\x53\xf1\x00\x00\x50\
+\x00\x0a\x00\x24\x65\x53\xf1\x00\x00\x00\x00\x02\x00\x00\x00\x07\
+\x00\x02\x00\x0c\x01\x01\x00\x01\x00\x96\x00\x04\x01\x01\x00\x08\x65\x53\xf1\x00";
+
 const PASS: &str =
     "policy 1\nrule for * in * from * to * pass\nrule for * in * from * to * element * keep\n";
 
 const REMOVE: &str =
     "policy 1\nrule for * in * from * to * pass\nrule for * in * from * to * element octetDeltaCount remove\nrule for * in * from * to * element * keep\n";
 
+/// Sums for each destination port, in the shortest intervals and without a grace.
 const AGGREGATES: &str =
-    "policy 1\naggregate web key destinationTransportPort interval 300 grace 60\n";
+    "policy 1\naggregate web key destinationTransportPort interval 1 grace 0\nrule for * in * from * to * aggregate web\n";
 
 /// Domain 8 is withheld from acme, and all else passes.
 const NOT_EIGHT: &str =
@@ -160,17 +168,44 @@ const CASES: &[Case] = &[
         audit: b"",
     },
     Case {
-        name: "names_and_policies_are_judged: aggregates",
+        name: "names_and_policies_are_judged: a policy",
+        policy: "policy 2\n",
+        subscriber: "Acme",
+        turns: 1000,
+        octets: ONE_RECORD,
+        answer: Err(OfflineFault::Core(Fault::Policy(NO_HEADER))),
+        written: b"",
+        audit: b"",
+    },
+    // Nothing closes without a clock: what counts is named in the audit alone, and a start in the first second of 1970 isn't
+    // late.
+    Case {
+        name: "aggregates: counted, and without a port",
+        policy: AGGREGATES,
+        subscriber: "acme",
+        turns: 1000,
+        octets: TWO_STARTS,
+        answer: Ok(OfflineReport {
+            messages: 2,
+            records: 3,
+            disclosed: 0,
+        }),
+        written: b"",
+        audit: b"3 0 1 aggregated 1\n3 1 1 aggregated 1\n4 0 1 withheld 1 no-key\n",
+    },
+    Case {
+        name: "aggregates: without a start",
         policy: AGGREGATES,
         subscriber: "acme",
         turns: 1000,
         octets: ONE_RECORD,
-        answer: Err(OfflineFault::Core(Fault::Policy(PolicyFault {
-            line: 1,
-            kind: FaultKind::UnknownWord,
-        }))),
+        answer: Ok(OfflineReport {
+            messages: 1,
+            records: 1,
+            disclosed: 0,
+        }),
         written: b"",
-        audit: b"",
+        audit: b"3 0 1 withheld 1 no-time\n",
     },
     Case {
         name: "empty_message",

@@ -310,9 +310,9 @@ const HELP: &[Answer<'static>] = &[
         part: "\n  ipmd offline --policy",
     },
     Answer {
-        name: "offline --help: what a policy with aggregates is answered",
+        name: "offline --help: what becomes of an aggregated record",
         words: &["offline", "--help"],
-        part: "ipmd offline can't carry out yet",
+        part: "3 2 1 aggregated 4",
     },
     Answer {
         name: "check-policy --help: examples",

@@ -366,18 +366,18 @@ const RUNS: &[Run<'static>] = &[
         errors: "ipmd: policy line 2: BadPrefix\n",
     },
     Run {
-        name: "refused_names_and_policies: aggregates",
+        name: "refused_names_and_policies: an aggregate that no line defines",
         words: &[
             "offline",
             "--policy-text",
-            "policy 1;aggregate web key destinationTransportPort interval 300 grace 60",
+            "policy 1;rule for * in * from * to * aggregate web",
             "--subscriber",
             "acme",
         ],
         input: b"",
         status: 1,
         output: "",
-        errors: "ipmd: policy line 1: UnknownWord\n",
+        errors: "ipmd: policy line 2: UnknownAggregate\n",
     },
 ];
 
