@@ -5,3 +5,4 @@ pub mod SumLaws
 pub mod EntryLaws
 pub mod RunningLaws
 pub mod ClosingLaws
+pub mod OrderLaws

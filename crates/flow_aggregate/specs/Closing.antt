@@ -4,6 +4,7 @@ use Rattle.std.specs.Prelude.{ℕ, List, [], ◌∷◌, map, filter}
 use Rattle.std.specs.declared.cmp.Ordering.{Ordering}
 use Rattle.std.specs.declared.cmp.Ordering.TheVariants.{Less, Equal, Greater}
 use Rattle.ipfix_template.specs.DataRecord.{DataRecord}
+use Rattle.flow_aggregate.specs.declared.closed.ClosedAggregate.{ClosedAggregate}
 use Rattle.flow_aggregate.specs.Sums.{totals}
 use Rattle.flow_aggregate.specs.Groups.{Group, Counted, group_of}
 use Rattle.flow_aggregate.specs.GroupOrder.{group_cmp}
@@ -28,6 +29,10 @@ in_order (g ∷ gs) = put_group g (in_order gs)
 -- the groups of these records in order, each once
 abbrev pub groups_of : List Counted → List Group
 groups_of counted = in_order (map group_of counted)
+
+-- the record of a closed group
+abbrev pub record_of : ClosedAggregate → DataRecord
+record_of c = closed_record c.group c.sums
 
 -- the record of one of these groups
 abbrev pub closed_of : List Counted → Group → DataRecord

@@ -4,7 +4,7 @@ ghost use Rattle.std.specs.Arc.{arc_value};
 ghost use Rattle.std.specs.List.{sum_by};
 ghost use Rattle.flow_aggregate.specs.Values.{registered, full_width};
 ghost use Rattle.flow_aggregate.specs.Groups.{HaveWidths};
-ghost use Rattle.flow_aggregate.specs.Closed.{field, key_fields, sum_fields, closed_template, key_values, number_values, closed_values, closed_record};
+ghost use Rattle.flow_aggregate.specs.Closed.{field, key_fields, sum_fields, closed_template, key_values, number_values, closed_values};
 
 use crate::definition::Definition;
 use crate::group::{Group, width_of};
@@ -31,6 +31,7 @@ pub struct ClosedAggregate {
 
 impl ClosedAggregate {
     ghost use Rattle.flow_aggregate.specs.Running.{closed_one};
+    ghost use Rattle.flow_aggregate.specs.Closing.{record_of};
 
     pub(crate) fn new(group: Group, sums: Sums) -> ClosedAggregate
         ensures { result ≡ closed_one group sums }
@@ -50,7 +51,7 @@ impl ClosedAggregate {
     /// # Errors
     /// Want of memory.
     pub fn record(&self, alloc: Global) -> Result<Record, AllocError>
-        ensures { IfOk result (λ r. r ≡ closed_record self.now.group self.now.sums) }
+        ensures { IfOk result (λ r. r ≡ record_of self.now) }
     {
         let template = closed_template(alloc, self.group.definition())?;
         let values = self.values(alloc)?;

@@ -4,7 +4,8 @@ ghost use Rattle.std.specs.List.{IsDistinct};
 ghost use Rattle.std.specs.Map.{keys_of};
 ghost use Rattle.flow_aggregate.specs.Groups.{Group as OneGroup, Counted};
 ghost use Rattle.flow_aggregate.specs.GroupOrder.{same_group, group_cmp};
-ghost use Rattle.flow_aggregate.specs.Running.{sums_at, StandsFor, is_due, staying, AreClosed, due_one, due_of};
+ghost use Rattle.flow_aggregate.specs.Running.{sums_at, StandsFor, is_due, staying, due_one, due_of};
+ghost use Rattle.flow_aggregate.specs.Closing.{record_of, closed_by};
 ghost use Rattle.flow_aggregate.specs.Counts.{Count as OneCount, count_of, has_place, HavePlaces, with_count};
 
 use crate::closed::ClosedAggregate;
@@ -39,7 +40,7 @@ impl Model for Running {
 impl Running {
     /// No group.
     pub fn new(alloc: Global) -> Running
-        ensures { StandsFor result [] }
+        ensures { result ≡ [] }
     {
         Running {
             alloc,
@@ -85,7 +86,7 @@ impl Running {
     /// # Errors
     /// Want of memory.
     pub fn closing(&self, t: u64) -> Result<Vec<ClosedAggregate>, AllocError>
-        ensures { IfOk result (λ closed. (counted : List Counted) → StandsFor self.now counted → AreClosed t counted closed.items) }
+        ensures { IfOk result (λ closed. (counted : List Counted) → StandsFor self.now counted → map record_of closed.items ≡ closed_by t counted) }
     {
         let mut closed = self.due(t)?;
         closed.sort_unstable_by(

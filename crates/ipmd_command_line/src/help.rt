@@ -21,8 +21,8 @@ Each line of the audit names a message (the first is 3), a record in it (the fir
 subscription (1), and what was kept back by which rule; rule 0 stands for no rule at all:
   3 0 1 removed 2:7          of record 0 the field at place 2 (the first is 0), by rule 7
   3 1 1 withheld 0 rule      record 1, since no rule lets it pass
-  3 2 1 aggregated 4         record 2 counts in the aggregate that rule 4 names; its sums are not
-                             written, since ipmd offline has no clock that closes them
+  3 2 1 aggregated 4         record 2 counts in the aggregate of rule 4, whose sums are not
+                             written, since no advance closes them here; see ipmd replay --help
 
 What standard error says, and what to do:
   ipmd: framing BadVersion   no message of version 10 stands there: the input is not IPFIX
@@ -79,6 +79,8 @@ lines that begin with # are skipped. What each is answered where it is done:
   edit POLICY                      ok EDITS; in POLICY each ; stands for a line end
   subscribe NAME                   ok SUB
   unsubscribe SUB                  ok
+  advance T                        ok; the clock's time, in milliseconds since 1970, by which the
+                                   intervals of aggregates are closed
   pull SUB NOW TARGET              ok OCTETS, or ok none
   status SUB                       ok QUEUED HANDED SHAPES live, or the same with cut
   audit MOST                       ok COUNT, and COUNT lines of the audit
@@ -94,6 +96,7 @@ A call that is refused changes nothing, and is answered err with its name:
   err BadName                      no name
   err AlreadySubscribed SUB        a live subscription has this name
   err UnknownSub                   no live subscription has this number
+  err ClockBack LAST               the clock stands at LAST already
   err JournalFull                  the limits ENTRIES or OCTETS leave no room
   err AuditFull NEED ROOM          the limit AUDIT leaves room for ROOM entries
   err OutOfMemory                  no memory is left

@@ -109,6 +109,10 @@ advanced tells limits old new e count sizes h t c entries position stands counts
       };
     }
 
+-- the clock stands no later than the time
+pub ahead_of : (e : Engine) (h : List Entry) (t last : ℕ) → Stands e h → last ≡ e.in_force.clock → last ≤ t → clock_of h ≤ t
+ahead_of e h t last so is ahead = subst (λ (n : ℕ). n ≤ t) (is ∙ so.clock) ahead
+
 -- what was found out, where the cuts were lent as a slice
 pub closing_found : (e : Engine) (h : List Entry) (t : ℕ) (c : Closing) (entries : List Entry) (seen : List ℕ) → clock_of h ≤ t → IsJudged e h (Advance t) c.cuts.items (map shown c.shares.items) []
     → entries ≡ map Cut seen ++ Advance t ∷ [] → seen ≡ c.cuts.items → IsClosing e h t c entries

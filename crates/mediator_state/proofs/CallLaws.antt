@@ -4,11 +4,13 @@ use Rattle.std.specs.Prelude.{◌↔◌, IsTrue, OnErr}
 use Rattle.std.specs.Result.{IsErr, IsErrAnd, IfErr}
 use Rattle.std.proofs.lemmas.List.{length-map}
 use Rattle.policy_text.specs.Naming.{is_name}
+use Rattle.policy_text.specs.Parsing.{policy_of}
+use Rattle.policy_text.specs.Policies.{Meaning as Policy}
 use Rattle.ipfix_session.specs.Meaning.{meaning_of}
 use Rattle.disclosure_audit.specs.declared.entry.AuditEntry.{AuditEntry}
 use Rattle.event_journal.specs.Sizes.{history_octets, IsCountOf}
 use Rattle.event_journal.specs.declared.entry.Entry.{Entry}
-use Rattle.event_journal.specs.declared.entry.Entry.TheVariants.{Message, Subscribe, Cut}
+use Rattle.event_journal.specs.declared.entry.Entry.TheVariants.{Message, Edit, Subscribe, Cut}
 use Rattle.event_journal.specs.Room.{Limits as Journaled, HasRoom, HasRoomAfter}
 use Rattle.mediator_history.specs.Sessions.{is_open, messages_of}
 use Rattle.mediator_history.specs.Subscriptions.{subscriptions_begun}
@@ -26,7 +28,7 @@ use Rattle.mediator_state.specs.Standing.{Stands, StandsSomewhere}
 use Rattle.mediator_state.specs.Seen.{waiting_of, IsSameEngine}
 use Rattle.mediator_state.specs.Planning.{IsPlan, IsNext, RefusesMessage}
 use Rattle.mediator_state.specs.Accepting.{LacksAudit, IsPlannedFor, receipt_of}
-use Rattle.mediator_state.specs.Calls.{StandsFor, StandsForSome, Accepts, LacksRoom, LacksRoomAfter, with_cuts, HasMeaning, RefusesReceive, Receives, IsFree, RefusesSubscribe}
+use Rattle.mediator_state.specs.Calls.{StandsFor, StandsForSome, Accepts, LacksRoom, LacksRoomAfter, with_cuts, HasMeaning, RefusesReceive, Receives, IsFree, RefusesEdit, RefusesSubscribe}
 use Rattle.mediator_state.proofs.SameLaws.{stands_same, plan_same}
 
 -- ---- what keeps the history counts it
@@ -239,6 +241,22 @@ refused_subscribe (fault.AlreadySubscribed sub) limits count sizes h name n writ
 refused_subscribe fault.UnknownSub limits count sizes h name n written next is c named free lacks = absurd lacks
 refused_subscribe (fault.ClockBack last) limits count sizes h name n written next is c named free lacks = absurd lacks
 refused_subscribe (fault.AuditFull need room) limits count sizes h name n written next is c named free lacks = absurd lacks
+
+-- ---- why an edit is refused
+
+pub refused_edit : (e : Fault) (limits : Journaled) (count sizes : ℕ) (h : List Entry) (text written : List ℕ) (policy : Policy) → written ≡ text → IsCountOf h count sizes → policy_of text ≡ Ok policy → LacksRoom e limits count sizes (Edit written ∷ []) → RefusesEdit e limits h text
+refused_edit fault.JournalFull limits count sizes h text written policy is c spelled lacks =
+    (record { policy = policy; spelled = spelled }, subst (λ (w : List ℕ). LacksRoomAfter fault.JournalFull limits h (Edit w ∷ [])) is (lacks_after fault.JournalFull limits count sizes h (Edit written ∷ []) c lacks))
+refused_edit fault.OutOfMemory limits count sizes h text written policy is c spelled lacks = tt
+refused_edit fault.UnknownSession limits count sizes h text written policy is c spelled lacks = absurd lacks
+refused_edit (fault.OutOfTurn expected) limits count sizes h text written policy is c spelled lacks = absurd lacks
+refused_edit (fault.Malformed why) limits count sizes h text written policy is c spelled lacks = absurd lacks
+refused_edit (fault.Policy why) limits count sizes h text written policy is c spelled lacks = absurd lacks
+refused_edit fault.BadName limits count sizes h text written policy is c spelled lacks = absurd lacks
+refused_edit (fault.AlreadySubscribed sub) limits count sizes h text written policy is c spelled lacks = absurd lacks
+refused_edit fault.UnknownSub limits count sizes h text written policy is c spelled lacks = absurd lacks
+refused_edit (fault.ClockBack last) limits count sizes h text written policy is c spelled lacks = absurd lacks
+refused_edit (fault.AuditFull need room) limits count sizes h text written policy is c spelled lacks = absurd lacks
 
 pub refused_memory : (e : Fault) (limits : Journaled) (h : List Entry) (name : List ℕ) → e ≡ fault.OutOfMemory → is_name name ≡ true → IsFree h name → RefusesSubscribe e limits h name
 refused_memory e limits h name is named free = rw is (named, free, tt)

@@ -1,5 +1,5 @@
 -- What an advance of the clock does, and what its steps want.
-use Rattle.std.specs.Prelude.{◌≡◌, ℕ, ◌≤◌, List, [], length, map}
+use Rattle.std.specs.Prelude.{◌≡◌, ℕ, ◌≤◌, List, [], length, map, filter, not}
 use Rattle.std.specs.List.{AllByRecursion}
 use Rattle.ipfix_template.specs.DataRecord.{DataRecord}
 use Rattle.event_journal.specs.declared.entry.Entry.{Entry}
@@ -7,7 +7,7 @@ use Rattle.event_journal.specs.declared.entry.Entry.TheVariants.{Advance}
 use Rattle.mediator_history.specs.Subscriptions.{served}
 use Rattle.mediator_history.specs.Disclosed.{given_at}
 use Rattle.record_sharing.specs.Sharing.{shown}
-use Rattle.live_subscriptions.specs.Table.{HasSpare, AreReady}
+use Rattle.live_subscriptions.specs.Table.{Table, lacks_room_at, HasSpare, AreReady}
 use Rattle.mediator_state.specs.declared.engine.Engine.{Engine}
 use Rattle.mediator_state.specs.declared.closing.Closing.{Closing}
 use Rattle.mediator_state.specs.Standing.{Stands}
@@ -17,6 +17,11 @@ use Rattle.mediator_state.specs.Accepting.{HasAuditFor}
 -- what an advance to t closes for one that is served
 abbrev pub closing_share : List Entry → ℕ → ℕ × List ℕ → ℕ × List DataRecord
 closing_share h t who = (who.0, given_at who.0 h (Advance t))
+
+-- shares are parted into the numbers of those for which there is no room, and the others
+pub record AreParted (t : Table) (all : List (ℕ × List DataRecord)) (cuts : List ℕ) (left : List (ℕ × List DataRecord)) : Type 0 where
+  pub cutting : cuts ≡ map (λ s. s.0) (filter (lacks_room_at t) all)
+  pub leaving : left ≡ filter (λ s. not (lacks_room_at t s)) all
 
 -- room was made for what an advance does
 pub record HasRoomToClose (e : Engine) (c : Closing) : Type 0 where

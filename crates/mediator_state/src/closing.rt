@@ -1,9 +1,7 @@
 //! What an advance of the clock would do, found out before anything is changed.
-ghost use Rattle.std.specs.Prelude.{◌≡◌, ℕ, List, [], map, not, filter, IfOk};
-ghost use Rattle.std.specs.List.{AllByRecursion};
+ghost use Rattle.std.specs.Prelude.{◌≡◌, ℕ, List, [], map, IfOk};
 ghost use Rattle.event_journal.specs.declared.entry.Entry.{Entry};
 ghost use Rattle.event_journal.specs.declared.entry.Entry.TheVariants.{Advance};
-ghost use Rattle.mediator_history.specs.Subscriptions.{served};
 ghost use Rattle.record_sharing.specs.Sharing.{shown};
 
 use crate::engine::Engine;
@@ -21,10 +19,10 @@ pub(crate) struct Closing {
 }
 
 impl Engine {
-    ghost use Rattle.live_subscriptions.specs.Table.{told, lacks_room_at};
+    ghost use Rattle.live_subscriptions.specs.Table.{told};
     ghost use Rattle.mediator_state.specs.Standing.{Stands};
-    ghost use Rattle.mediator_state.specs.Planning.{IsJudged, share_at, AreStreamed};
-    ghost use Rattle.mediator_state.specs.Advancing.{closing_share};
+    ghost use Rattle.mediator_state.specs.Planning.{IsJudged};
+    ghost use Rattle.mediator_state.specs.Advancing.{closing_share, AreParted};
 
     /// What an advance of the clock to `t` would do as the next entry, with the cuts before it.
     ///
@@ -34,39 +32,32 @@ impl Engine {
         ensures { IfOk result (λ c. (h : List Entry) → Stands self.now h → IsJudged self.now h (Advance t) c.cuts.items (map shown c.shares.items) []) }
     {
         let served = self.subscriptions.served()?;
-        let mut shares = self.closing_shares(t, &served)?;
-        let cuts = self.subscriptions.without_room(&shares)?;
-        self.drop_those_without_room(&mut shares);
-        see_shares(&shares);
-        Ok(Closing { cuts, shares })
+        let closing = self.close_for(t, &served)?;
+        see_shares(&closing.shares);
+        Ok(closing)
     }
 
-    /// What it closes for each that is served.
+    /// What it closes for each that is served, where the limits leave room for that; the others are cut.
     ///
     /// # Errors
     /// Want of memory.
-    fn closing_shares(&self, t: u64, served: &[Served<'_>]) -> Result<Vec<Share>, AllocError>
-        ensures { IfOk result (λ v. (h : List Entry) → Stands self.now h → map shown v.items ≡ map (closing_share h t) (map told served.now)) }
+    fn close_for(&self, t: u64, served: &[Served<'_>]) -> Result<Closing, AllocError>
+        ensures { IfOk result (λ c. (h : List Entry) → Stands self.now h → AreParted self.now.subscriptions (map (closing_share h t) (map told served.now)) c.cuts.items (map shown c.shares.items)) }
     {
+        let mut cuts = Vec::new(self.alloc);
         let mut shares = Vec::new(self.alloc);
         'served: for who in served {
             let given = self.groups.closing(who.sub, t)?;
-            shares.push(Share {
+            let share = Share {
                 sub: who.sub,
                 given,
-            })?;
+            };
+            if self.subscriptions.lacks_room(&share) {
+                cuts.push(who.sub)?;
+            } else {
+                shares.push(share)?;
+            }
         }
-        Ok(shares)
-    }
-
-    /// Drops the shares for which the limits of their subscriptions leave no room.
-    fn drop_those_without_room(&self, shares: &mut Vec<Share>)
-        ensures { map shown shares.new.items ≡ filter (λ s. not (lacks_room_at self.now.subscriptions s)) (map shown shares.old.items) }
-    {
-        shares.retain(
-            |share: &Share| -> bool
-                ensures { result ≡ not (lacks_room_at self.entry.now.subscriptions (shown share.now)) }
-            { !self.subscriptions.lacks_room(share) },
-        );
+        Ok(Closing { cuts, shares })
     }
 }

@@ -1,11 +1,10 @@
-//! The worked cases. A row of them is a state's limits, the calls, and what each must answer.
+//! The worked cases. A row of them is a state's limits, the calls, and what each must answer. Those of aggregates stand in
+//! `aggregates`.
 use crate::octets::{
-    DISCLOSED, EMPTY, FIRST_ALONE, FIRST_CLOSED, LATE_FLOW, LATER_CLOSED, LATER_FLOW,
-    LENGTH_FIFTEEN, LONG_NAME, MOST_CLOSED, NAMES, NEXT_RECORD, NEXT_THREE, ONE_CLOSED,
-    ONE_CLOSED_NEXT, ONE_FLOW, ONE_RECORD, ONE_RECORD_NUMBERED_FIVE, ONE_RECORD_OF_EIGHT,
-    PORTS_CLOSED, RECORD_ALONE, SECOND_ALONE, SECOND_CLOSED, SHORT_HEADER, SHORT_PORTS, SHORT_SET,
-    SHORT_TEMPLATE, TEMPLATE_ALONE, THREE_FLOWS, THREE_RECORDS, TWO_DISCLOSED, TWO_RECORDS,
-    UNEVEN_FLOWS, VERSION_NINE, WITHDRAWN,
+    DISCLOSED, EMPTY, FIRST_ALONE, LENGTH_FIFTEEN, LONG_NAME, NAMES, NEXT_RECORD, NEXT_THREE,
+    ONE_RECORD, ONE_RECORD_NUMBERED_FIVE, ONE_RECORD_OF_EIGHT, RECORD_ALONE, SECOND_ALONE,
+    SHORT_HEADER, SHORT_SET, SHORT_TEMPLATE, TEMPLATE_ALONE, THREE_RECORDS, TWO_DISCLOSED,
+    TWO_RECORDS, VERSION_NINE, WITHDRAWN,
 };
 use ipfix_message::DecodeError;
 use ipfix_session::{Gap, ReadError, Skips};
@@ -52,26 +51,14 @@ pub(crate) struct Case {
 const PASS: &str =
     "policy 1\nrule for * in * from * to * pass\nrule for * in * from * to * element * keep\n";
 
-const WITHHOLD: &str =
+pub(crate) const WITHHOLD: &str =
     "policy 1\nrule for * in * from * to * withhold\nrule for * in * from * to * pass\nrule for * in * from * to * element * keep\n";
 
 /// Domain 8 is withheld from acme, and all else passes.
 const NOT_EIGHT: &str =
     "policy 1\nrule for acme in 8 from * to * withhold\nrule for * in * from * to * pass\nrule for * in * from * to * element * keep\n";
 
-/// What goes to each port in five minutes, closed a minute after their end.
-const WEB: &str =
-    "policy 1\naggregate web key destinationTransportPort interval 300 grace 60\nrule for acme in * from * to * aggregate web\n";
-
-/// The same, closed at their end.
-const WEB_AT_ONCE: &str =
-    "policy 1\naggregate web key destinationTransportPort interval 300 grace 0\nrule for acme in * from * to * aggregate web\n";
-
-/// The same aggregate as the first, and everything withheld.
-const WEB_WITHHELD: &str =
-    "policy 1\naggregate web key destinationTransportPort interval 300 grace 60\nrule for * in * from * to * withhold\n";
-
-const HUNDRED: Limits = Limits {
+pub(crate) const HUNDRED: Limits = Limits {
     queue: 100,
     shapes: 100,
     audit: 100,
@@ -88,19 +75,6 @@ const THREE_RECORDS_WAIT: Limits = Limits {
     queue: 3,
     shapes: 100,
     audit: 100,
-};
-
-const ONE_RECORD_WAITS: Limits = Limits {
-    queue: 1,
-    shapes: 100,
-    audit: 100,
-};
-
-/// At most one record may wait for a subscription, and three entries in the audit.
-const THREE_ENTRIES_WAIT: Limits = Limits {
-    queue: 1,
-    shapes: 100,
-    audit: 3,
 };
 
 const NO_RECORD_WAITS: Limits = Limits {
@@ -162,16 +136,6 @@ const NO_HEADER: Fault = Fault::Policy(PolicyFault {
     kind: FaultKind::NoHeader,
 });
 
-/// The ends of the first and the second interval, each with its grace, a millisecond before the first, and the first without
-/// its grace.
-const FIRST_END: u64 = 1_700_000_460_000;
-
-const BEFORE_FIRST_END: u64 = 1_700_000_459_999;
-
-const SECOND_END: u64 = 1_700_000_760_000;
-
-const FIRST_END_AT_ONCE: u64 = 1_700_000_400_000;
-
 /// A policy that passes everything, acme, and a session: entries 0 to 2.
 const BEGIN: &[Step] = &[
     Step::Edit(PASS, Ok(1)),
@@ -181,13 +145,6 @@ const BEGIN: &[Step] = &[
 
 /// The same without the policy.
 const BEGIN_UNEDITED: &[Step] = &[Step::Subscribe("acme", Ok(1)), Step::Open(Ok(1))];
-
-/// A policy that adds everything up for acme, acme, and a session.
-const BEGIN_WEB: &[Step] = &[
-    Step::Edit(WEB, Ok(1)),
-    Step::Subscribe("acme", Ok(1)),
-    Step::Open(Ok(1)),
-];
 
 /// The same with beta behind acme.
 const BEGIN_TWO: &[Step] = &[
@@ -426,44 +383,6 @@ pub(crate) static CASES: &[Case] = &[
             Step::Audit(10, &["3 0 1 cut\n"]),
         ],
     },
-    // The clock stays where it was: an earlier advance, which closes one record, has room.
-    Case {
-        name: "full_limits: no room for the cut of an advance",
-        limits: ONE_RECORD_WAITS,
-        entries: 5,
-        octets: 1_000_000,
-        begin: BEGIN_WEB,
-        steps: &[
-            Step::Accept(1, 0, THREE_FLOWS, 3, 3),
-            Step::Advance(SECOND_END, Err(Fault::JournalFull)),
-            Step::Served(1, 0, 0, 0),
-            Step::Advance(FIRST_END, Ok(())),
-            Step::Pull(1, 1400, Ok(Some(FIRST_CLOSED))),
-        ],
-    },
-    Case {
-        name: "full_limits: the audit and the cut of an advance",
-        limits: THREE_ENTRIES_WAIT,
-        entries: 1000,
-        octets: 1_000_000,
-        begin: BEGIN_WEB,
-        steps: &[
-            Step::Accept(1, 0, THREE_FLOWS, 3, 3),
-            Step::Advance(SECOND_END, Err(Fault::AuditFull { need: 1, room: 0 })),
-            Step::Served(1, 0, 0, 0),
-            Step::Audit(1, &["3 0 1 aggregated 1\n"]),
-            Step::Advance(SECOND_END, Ok(())),
-            Step::WasCut(1, 0, 0, 0),
-            Step::Audit(
-                10,
-                &[
-                    "3 1 1 aggregated 1\n",
-                    "3 2 1 aggregated 1\n",
-                    "4 0 1 cut\n",
-                ],
-            ),
-        ],
-    },
     Case {
         name: "full_limits: the audit",
         limits: ONE_ENTRY_WAITS,
@@ -651,166 +570,6 @@ pub(crate) static CASES: &[Case] = &[
             ),
             Step::Accept(1, 1, NEXT_RECORD, 6, 1),
             Step::Pull(1, 1400, Ok(Some(TWO_DISCLOSED))),
-        ],
-    },
-    // Intervals are closed as their ends and the grace behind them come, and what starts in a closed one is late.
-    Case {
-        name: "aggregate_web",
-        limits: HUNDRED,
-        entries: 1000,
-        octets: 1_000_000,
-        begin: BEGIN_WEB,
-        steps: &[
-            Step::Accept(1, 0, THREE_FLOWS, 3, 3),
-            Step::Served(1, 0, 0, 0),
-            Step::Audit(
-                10,
-                &[
-                    "3 0 1 aggregated 1\n",
-                    "3 1 1 aggregated 1\n",
-                    "3 2 1 aggregated 1\n",
-                ],
-            ),
-            Step::Advance(BEFORE_FIRST_END, Ok(())),
-            Step::Served(1, 0, 0, 0),
-            Step::Advance(FIRST_END, Ok(())),
-            Step::Served(1, 1, 0, 1),
-            Step::Pull(1, 1400, Ok(Some(FIRST_CLOSED))),
-            Step::Accept(1, 1, LATE_FLOW, 6, 1),
-            Step::Audit(10, &["6 0 1 withheld 1 late\n"]),
-            Step::Advance(SECOND_END, Ok(())),
-            Step::Pull(1, 1400, Ok(Some(SECOND_CLOSED))),
-            Step::Advance(u64::MAX, Ok(())),
-            Step::Pull(1, 1400, Ok(None)),
-            Step::Served(1, 0, 2, 1),
-        ],
-    },
-    Case {
-        name: "sums_and_order: the greatest sum, and what doesn't count",
-        limits: HUNDRED,
-        entries: 1000,
-        octets: 1_000_000,
-        begin: BEGIN_WEB,
-        steps: &[
-            Step::Accept(1, 0, UNEVEN_FLOWS, 3, 4),
-            Step::Audit(
-                10,
-                &[
-                    "3 0 1 aggregated 1\n",
-                    "3 1 1 aggregated 1\n",
-                    "3 2 1 withheld 1 no-key\n",
-                    "3 3 1 withheld 1 no-time\n",
-                ],
-            ),
-            Step::Advance(FIRST_END, Ok(())),
-            Step::Pull(1, 1400, Ok(Some(MOST_CLOSED))),
-            Step::Pull(1, 1400, Ok(None)),
-        ],
-    },
-    Case {
-        name: "sums_and_order: by the key, at full width",
-        limits: HUNDRED,
-        entries: 1000,
-        octets: 1_000_000,
-        begin: BEGIN_WEB,
-        steps: &[
-            Step::Accept(1, 0, SHORT_PORTS, 3, 2),
-            Step::Advance(FIRST_END, Ok(())),
-            Step::Pull(1, 1400, Ok(Some(PORTS_CLOSED))),
-        ],
-    },
-    // What counted before an edit closes as it stands, whether or not the edit keeps the aggregate.
-    Case {
-        name: "edit_keeps_groups: the aggregate stays",
-        limits: HUNDRED,
-        entries: 1000,
-        octets: 1_000_000,
-        begin: BEGIN_WEB,
-        steps: &[
-            Step::Accept(1, 0, ONE_FLOW, 3, 1),
-            Step::Edit(WEB_WITHHELD, Ok(2)),
-            Step::Accept(1, 1, LATER_FLOW, 5, 1),
-            Step::Advance(FIRST_END, Ok(())),
-            Step::Pull(1, 1400, Ok(Some(ONE_CLOSED))),
-            Step::Pull(1, 1400, Ok(None)),
-            Step::Audit(10, &["3 0 1 aggregated 1\n", "5 0 1 withheld 1 rule\n"]),
-        ],
-    },
-    Case {
-        name: "edit_keeps_groups: the aggregate goes",
-        limits: HUNDRED,
-        entries: 1000,
-        octets: 1_000_000,
-        begin: BEGIN_WEB,
-        steps: &[
-            Step::Accept(1, 0, ONE_FLOW, 3, 1),
-            Step::Edit(WITHHOLD, Ok(2)),
-            Step::Accept(1, 1, LATER_FLOW, 5, 1),
-            Step::Advance(FIRST_END, Ok(())),
-            Step::Pull(1, 1400, Ok(Some(ONE_CLOSED))),
-            Step::Pull(1, 1400, Ok(None)),
-            Step::Audit(10, &["3 0 1 aggregated 1\n", "5 0 1 withheld 1 rule\n"]),
-        ],
-    },
-    // With another grace it is another aggregate, with groups of its own.
-    Case {
-        name: "changed_grace",
-        limits: HUNDRED,
-        entries: 1000,
-        octets: 1_000_000,
-        begin: BEGIN_WEB,
-        steps: &[
-            Step::Accept(1, 0, ONE_FLOW, 3, 1),
-            Step::Edit(WEB_AT_ONCE, Ok(2)),
-            Step::Accept(1, 1, LATER_FLOW, 5, 1),
-            Step::Advance(FIRST_END_AT_ONCE, Ok(())),
-            Step::Pull(1, 1400, Ok(Some(LATER_CLOSED))),
-            Step::Advance(FIRST_END, Ok(())),
-            Step::Pull(1, 1400, Ok(Some(ONE_CLOSED_NEXT))),
-            Step::Audit(10, &["3 0 1 aggregated 1\n", "5 0 1 aggregated 1\n"]),
-        ],
-    },
-    // An advance that closes too much cuts the subscription, whose groups are gone. Under its name another one begins.
-    Case {
-        name: "aggregate_cut",
-        limits: ONE_RECORD_WAITS,
-        entries: 1000,
-        octets: 1_000_000,
-        begin: BEGIN_WEB,
-        steps: &[
-            Step::Accept(1, 0, THREE_FLOWS, 3, 3),
-            Step::Advance(SECOND_END, Ok(())),
-            Step::WasCut(1, 0, 0, 0),
-            Step::Pull(1, 1400, Ok(None)),
-            Step::Audit(
-                10,
-                &[
-                    "3 0 1 aggregated 1\n",
-                    "3 1 1 aggregated 1\n",
-                    "3 2 1 aggregated 1\n",
-                    "4 0 1 cut\n",
-                ],
-            ),
-            Step::Accept(1, 1, LATE_FLOW, 6, 1),
-            Step::Unsubscribe(1, Ok(())),
-            Step::Subscribe("acme", Ok(2)),
-            Step::Advance(u64::MAX, Ok(())),
-            Step::Pull(2, 1400, Ok(None)),
-        ],
-    },
-    Case {
-        name: "aggregate_unsubscribed",
-        limits: HUNDRED,
-        entries: 1000,
-        octets: 1_000_000,
-        begin: BEGIN_WEB,
-        steps: &[
-            Step::Accept(1, 0, ONE_FLOW, 3, 1),
-            Step::Unsubscribe(1, Ok(())),
-            Step::Subscribe("acme", Ok(2)),
-            Step::Advance(FIRST_END, Ok(())),
-            Step::Pull(2, 1400, Ok(None)),
-            Step::Served(2, 0, 0, 0),
         ],
     },
 ];

@@ -1,4 +1,5 @@
 //! The worked cases as lists of calls: `run` replies to each call what a state answers.
+use crate::aggregates::AGGREGATES;
 use crate::cases::{CASES, Case, Step};
 use crate::worked::{are_lines, is_message, plain, status};
 use bytes::Bytes;
@@ -191,6 +192,14 @@ fn expect_case(rt: &impl Abort, alloc: Global, case: &Case) -> Result<(), AllocE
 #[test]
 fn calls_as_a_list(rt: HostRuntime) -> Result<(), Fail> {
     for case in CASES {
+        expect_case(&rt, rt.alloc(), case)?;
+    }
+    Ok(())
+}
+
+#[test]
+fn aggregates_as_a_list(rt: HostRuntime) -> Result<(), Fail> {
+    for case in AGGREGATES {
         expect_case(&rt, rt.alloc(), case)?;
     }
     Ok(())

@@ -2,6 +2,7 @@
 ghost use Rattle.std.specs.Prelude.{[], IfOk};
 ghost use Rattle.mediator_state.specs.Calls.{StandsForSome};
 
+use crate::aggregates::AGGREGATES;
 use crate::calls;
 use crate::cases::{CASES, Case, Step};
 use bytes::Bytes;
@@ -192,6 +193,14 @@ fn expect_both(rt: &impl Abort, alloc: Global, case: &Case) -> Result<(), AllocE
 #[test]
 fn worked_cases(rt: HostRuntime) -> Result<(), Fail> {
     for case in CASES {
+        expect_both(&rt, rt.alloc(), case)?;
+    }
+    Ok(())
+}
+
+#[test]
+fn worked_cases_of_aggregates(rt: HostRuntime) -> Result<(), Fail> {
+    for case in AGGREGATES {
         expect_both(&rt, rt.alloc(), case)?;
     }
     Ok(())

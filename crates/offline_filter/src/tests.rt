@@ -29,6 +29,18 @@ const WITHOUT_OCTETS: &[u8] = b"\x00\x0a\x00\x2a\x65\x53\xf1\x3c\x00\x00\x00\x00
 \x00\x02\x00\x10\x01\x00\x00\x02\x00\x08\x00\x04\x00\x07\x00\x02\
 \x01\x00\x00\x0a\xc0\x00\x02\x4d\x01\xbb";
 
+/// A template of start, destination port, octets and packets, and one record of it.
+const ONE_FLOW: &[u8] = b"\x00\x0a\x00\x42\x65\x53\xf1\x00\x00\x00\x00\x00\x00\x00\x00\x07\
+\x00\x02\x00\x18\x01\x00\x00\x04\x00\x98\x00\x08\x00\x0b\x00\x02\x00\x01\x00\x08\x00\x02\x00\x04\
+\x01\x00\x00\x1a\x00\x00\x01\x8b\xcf\xe6\xee\xa0\x01\xbb\x00\x00\x00\x00\x00\x00\x00\x64\x00\x00\x00\x01";
+
+/// Starts in seconds and destination ports of two records, the first in the first second of 1970; then a start alone.
+const STARTS: &[u8] = b"\x00\x0a\x00\x30\x65\x53\xf1\x00\x00\x00\x00\x00\x00\x00\x00\x07\
+\x00\x02\x00\x10\x01\x00\x00\x02\x00\x96\x00\x04\x00\x0b\x00\x02\
+\x01\x00\x00\x10\x00\x00\x00\x00\x01\xbb\x65\x53\xf1\x00\x00\x50\
+\x00\x0a\x00\x24\x65\x53\xf1\x00\x00\x00\x00\x02\x00\x00\x00\x07\
+\x00\x02\x00\x0c\x01\x01\x00\x01\x00\x96\x00\x04\x01\x01\x00\x08\x65\x53\xf1\x00";
+
 const EMPTY: &[u8] = b"\x00\x0a\x00\x10\x65\x53\xf1\x00\x00\x00\x00\x00\x00\x00\x00\x07";
 
 /// A template of interface names; then a message of two records, of which the second goes past its set.
@@ -71,22 +83,19 @@ const TWO_DOMAINS: &[u8] = b"\x00\x0a\x00\x32\x65\x53\xf1\x00\x00\x00\x00\x00\x0
 \x00\x02\x00\x14\x01\x00\x00\x03\x00\x08\x00\x04\x00\x07\x00\x02\x00\x01\x00\x04\
 \x01\x00\x00\x0e\xc0\x00\x02\x4d\x01\xbb\x00\x00\x05\xdc";
 
-/// Starts in seconds and destination ports of two records; then a message with a start alone.
-const TWO_STARTS: &[u8] = b"\x00\x0a\x00\x30\x65\x53\xf1\x00\x00\x00\x00\x00\x00\x00\x00\x07\
-\x00\x02\x00\x10\x01\x00\x00\x02\x00\x96\x00\x04\x00\x0b\x00\x02\
-\x01\x00\x00\x10\x00\x00\x00\x00\x01\xbb\x65\x53\xf1\x00\x00\x50\
-\x00\x0a\x00\x24\x65\x53\xf1\x00\x00\x00\x00\x02\x00\x00\x00\x07\
-\x00\x02\x00\x0c\x01\x01\x00\x01\x00\x96\x00\x04\x01\x01\x00\x08\x65\x53\xf1\x00";
-
 const PASS: &str =
     "policy 1\nrule for * in * from * to * pass\nrule for * in * from * to * element * keep\n";
 
 const REMOVE: &str =
     "policy 1\nrule for * in * from * to * pass\nrule for * in * from * to * element octetDeltaCount remove\nrule for * in * from * to * element * keep\n";
 
-/// Sums for each destination port, in the shortest intervals and without a grace.
-const AGGREGATES: &str =
-    "policy 1\naggregate web key destinationTransportPort interval 1 grace 0\nrule for * in * from * to * aggregate web\n";
+/// What goes to each port in five minutes, closed a minute after their end.
+const WEB: &str =
+    "policy 1\naggregate web key destinationTransportPort interval 300 grace 60\nrule for acme in * from * to * aggregate web\n";
+
+/// The same in the shortest intervals, closed at their end.
+const SHORTEST: &str =
+    "policy 1\naggregate web key destinationTransportPort interval 1 grace 0\nrule for acme in * from * to * aggregate web\n";
 
 /// Domain 8 is withheld from acme, and all else passes.
 const NOT_EIGHT: &str =
@@ -168,7 +177,7 @@ const CASES: &[Case] = &[
         audit: b"",
     },
     Case {
-        name: "names_and_policies_are_judged: a policy",
+        name: "names_and_policies_are_judged: a policy before the name",
         policy: "policy 2\n",
         subscriber: "Acme",
         turns: 1000,
@@ -177,25 +186,24 @@ const CASES: &[Case] = &[
         written: b"",
         audit: b"",
     },
-    // Nothing closes without a clock: what counts is named in the audit alone, and a start in the first second of 1970 isn't
-    // late.
+    // Nothing closes, so nothing is written of what counts.
     Case {
-        name: "aggregates: counted, and without a port",
-        policy: AGGREGATES,
+        name: "aggregates: a record that counts",
+        policy: WEB,
         subscriber: "acme",
         turns: 1000,
-        octets: TWO_STARTS,
+        octets: ONE_FLOW,
         answer: Ok(OfflineReport {
-            messages: 2,
-            records: 3,
+            messages: 1,
+            records: 1,
             disclosed: 0,
         }),
         written: b"",
-        audit: b"3 0 1 aggregated 1\n3 1 1 aggregated 1\n4 0 1 withheld 1 no-key\n",
+        audit: b"3 0 1 aggregated 1\n",
     },
     Case {
-        name: "aggregates: without a start",
-        policy: AGGREGATES,
+        name: "aggregates: a record without a start",
+        policy: WEB,
         subscriber: "acme",
         turns: 1000,
         octets: ONE_RECORD,
@@ -206,6 +214,20 @@ const CASES: &[Case] = &[
         }),
         written: b"",
         audit: b"3 0 1 withheld 1 no-time\n",
+    },
+    Case {
+        name: "aggregates: none is late, and one without the key",
+        policy: SHORTEST,
+        subscriber: "acme",
+        turns: 1000,
+        octets: STARTS,
+        answer: Ok(OfflineReport {
+            messages: 2,
+            records: 3,
+            disclosed: 0,
+        }),
+        written: b"",
+        audit: b"3 0 1 aggregated 1\n3 1 1 aggregated 1\n4 0 1 withheld 1 no-key\n",
     },
     Case {
         name: "empty_message",

@@ -310,9 +310,9 @@ const HELP: &[Answer<'static>] = &[
         part: "\n  ipmd offline --policy",
     },
     Answer {
-        name: "offline --help: what becomes of an aggregated record",
+        name: "offline --help: what becomes of aggregates",
         words: &["offline", "--help"],
-        part: "3 2 1 aggregated 4",
+        part: "no advance closes them here",
     },
     Answer {
         name: "check-policy --help: examples",

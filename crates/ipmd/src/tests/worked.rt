@@ -365,20 +365,6 @@ const RUNS: &[Run<'static>] = &[
         output: "",
         errors: "ipmd: policy line 2: BadPrefix\n",
     },
-    Run {
-        name: "refused_names_and_policies: an aggregate that no line defines",
-        words: &[
-            "offline",
-            "--policy-text",
-            "policy 1;rule for * in * from * to * aggregate web",
-            "--subscriber",
-            "acme",
-        ],
-        input: b"",
-        status: 1,
-        output: "",
-        errors: "ipmd: policy line 2: UnknownAggregate\n",
-    },
 ];
 
 const OFFLINE_HEX_NOW: &[&str] = &[

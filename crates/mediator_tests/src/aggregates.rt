@@ -1,0 +1,250 @@
+//! The worked cases of aggregates, and of the clock that closes them.
+use crate::cases::{Case, HUNDRED, Step, WITHHOLD};
+use crate::octets::{
+    FIRST_CLOSED, LATE_FLOW, LATER_CLOSED, LATER_FLOW, MOST_CLOSED, ONE_CLOSED, ONE_CLOSED_NEXT,
+    ONE_FLOW, PORTS_CLOSED, SECOND_CLOSED, SHORT_PORTS, THREE_FLOWS, UNEVEN_FLOWS,
+};
+use mediator_state::{Fault, Limits};
+
+/// What goes to each port in five minutes, closed a minute after their end.
+const WEB: &str =
+    "policy 1\naggregate web key destinationTransportPort interval 300 grace 60\nrule for acme in * from * to * aggregate web\n";
+
+/// The same, closed at their end.
+const WEB_AT_ONCE: &str =
+    "policy 1\naggregate web key destinationTransportPort interval 300 grace 0\nrule for acme in * from * to * aggregate web\n";
+
+/// The same aggregate as the first, and everything withheld.
+const WEB_WITHHELD: &str =
+    "policy 1\naggregate web key destinationTransportPort interval 300 grace 60\nrule for * in * from * to * withhold\n";
+
+const ONE_RECORD_WAITS: Limits = Limits {
+    queue: 1,
+    shapes: 100,
+    audit: 100,
+};
+
+/// At most one record may wait for a subscription, and three entries in the audit.
+const THREE_ENTRIES_WAIT: Limits = Limits {
+    queue: 1,
+    shapes: 100,
+    audit: 3,
+};
+
+/// The ends of the first and the second interval, each with its grace, a millisecond before the first, and the first without
+/// its grace.
+const FIRST_END: u64 = 1_700_000_460_000;
+
+const BEFORE_FIRST_END: u64 = 1_700_000_459_999;
+
+const SECOND_END: u64 = 1_700_000_760_000;
+
+const FIRST_END_AT_ONCE: u64 = 1_700_000_400_000;
+
+/// A policy that adds everything up for acme, acme, and a session.
+const BEGIN_WEB: &[Step] = &[
+    Step::Edit(WEB, Ok(1)),
+    Step::Subscribe("acme", Ok(1)),
+    Step::Open(Ok(1)),
+];
+
+pub(crate) static AGGREGATES: &[Case] = &[
+    // Intervals are closed as their ends and the grace behind them come, and what starts in a closed one is late.
+    Case {
+        name: "aggregate_web",
+        limits: HUNDRED,
+        entries: 1000,
+        octets: 1_000_000,
+        begin: BEGIN_WEB,
+        steps: &[
+            Step::Accept(1, 0, THREE_FLOWS, 3, 3),
+            Step::Served(1, 0, 0, 0),
+            Step::Audit(
+                10,
+                &[
+                    "3 0 1 aggregated 1\n",
+                    "3 1 1 aggregated 1\n",
+                    "3 2 1 aggregated 1\n",
+                ],
+            ),
+            Step::Advance(BEFORE_FIRST_END, Ok(())),
+            Step::Served(1, 0, 0, 0),
+            Step::Advance(FIRST_END, Ok(())),
+            Step::Served(1, 1, 0, 1),
+            Step::Pull(1, 1400, Ok(Some(FIRST_CLOSED))),
+            Step::Accept(1, 1, LATE_FLOW, 6, 1),
+            Step::Audit(10, &["6 0 1 withheld 1 late\n"]),
+            Step::Advance(SECOND_END, Ok(())),
+            Step::Pull(1, 1400, Ok(Some(SECOND_CLOSED))),
+            Step::Advance(u64::MAX, Ok(())),
+            Step::Pull(1, 1400, Ok(None)),
+            Step::Served(1, 0, 2, 1),
+        ],
+    },
+    Case {
+        name: "sums_and_order: the greatest sum, and what doesn't count",
+        limits: HUNDRED,
+        entries: 1000,
+        octets: 1_000_000,
+        begin: BEGIN_WEB,
+        steps: &[
+            Step::Accept(1, 0, UNEVEN_FLOWS, 3, 4),
+            Step::Audit(
+                10,
+                &[
+                    "3 0 1 aggregated 1\n",
+                    "3 1 1 aggregated 1\n",
+                    "3 2 1 withheld 1 no-key\n",
+                    "3 3 1 withheld 1 no-time\n",
+                ],
+            ),
+            Step::Advance(FIRST_END, Ok(())),
+            Step::Pull(1, 1400, Ok(Some(MOST_CLOSED))),
+            Step::Pull(1, 1400, Ok(None)),
+        ],
+    },
+    Case {
+        name: "sums_and_order: by the key, at full width",
+        limits: HUNDRED,
+        entries: 1000,
+        octets: 1_000_000,
+        begin: BEGIN_WEB,
+        steps: &[
+            Step::Accept(1, 0, SHORT_PORTS, 3, 2),
+            Step::Advance(FIRST_END, Ok(())),
+            Step::Pull(1, 1400, Ok(Some(PORTS_CLOSED))),
+        ],
+    },
+    // What counted before an edit closes as it stands, whether or not the edit keeps the aggregate.
+    Case {
+        name: "edit_keeps_groups: the aggregate stays",
+        limits: HUNDRED,
+        entries: 1000,
+        octets: 1_000_000,
+        begin: BEGIN_WEB,
+        steps: &[
+            Step::Accept(1, 0, ONE_FLOW, 3, 1),
+            Step::Edit(WEB_WITHHELD, Ok(2)),
+            Step::Accept(1, 1, LATER_FLOW, 5, 1),
+            Step::Advance(FIRST_END, Ok(())),
+            Step::Pull(1, 1400, Ok(Some(ONE_CLOSED))),
+            Step::Pull(1, 1400, Ok(None)),
+            Step::Audit(10, &["3 0 1 aggregated 1\n", "5 0 1 withheld 1 rule\n"]),
+        ],
+    },
+    Case {
+        name: "edit_keeps_groups: the aggregate goes",
+        limits: HUNDRED,
+        entries: 1000,
+        octets: 1_000_000,
+        begin: BEGIN_WEB,
+        steps: &[
+            Step::Accept(1, 0, ONE_FLOW, 3, 1),
+            Step::Edit(WITHHOLD, Ok(2)),
+            Step::Accept(1, 1, LATER_FLOW, 5, 1),
+            Step::Advance(FIRST_END, Ok(())),
+            Step::Pull(1, 1400, Ok(Some(ONE_CLOSED))),
+            Step::Pull(1, 1400, Ok(None)),
+            Step::Audit(10, &["3 0 1 aggregated 1\n", "5 0 1 withheld 1 rule\n"]),
+        ],
+    },
+    // With another grace it is another aggregate, with groups of its own.
+    Case {
+        name: "changed_grace",
+        limits: HUNDRED,
+        entries: 1000,
+        octets: 1_000_000,
+        begin: BEGIN_WEB,
+        steps: &[
+            Step::Accept(1, 0, ONE_FLOW, 3, 1),
+            Step::Edit(WEB_AT_ONCE, Ok(2)),
+            Step::Accept(1, 1, LATER_FLOW, 5, 1),
+            Step::Advance(FIRST_END_AT_ONCE, Ok(())),
+            Step::Pull(1, 1400, Ok(Some(LATER_CLOSED))),
+            Step::Advance(FIRST_END, Ok(())),
+            Step::Pull(1, 1400, Ok(Some(ONE_CLOSED_NEXT))),
+            Step::Audit(10, &["3 0 1 aggregated 1\n", "5 0 1 aggregated 1\n"]),
+        ],
+    },
+    // An advance that closes too much cuts the subscription, whose groups are gone. Under its name another one begins.
+    Case {
+        name: "aggregate_cut",
+        limits: ONE_RECORD_WAITS,
+        entries: 1000,
+        octets: 1_000_000,
+        begin: BEGIN_WEB,
+        steps: &[
+            Step::Accept(1, 0, THREE_FLOWS, 3, 3),
+            Step::Advance(SECOND_END, Ok(())),
+            Step::WasCut(1, 0, 0, 0),
+            Step::Pull(1, 1400, Ok(None)),
+            Step::Audit(
+                10,
+                &[
+                    "3 0 1 aggregated 1\n",
+                    "3 1 1 aggregated 1\n",
+                    "3 2 1 aggregated 1\n",
+                    "4 0 1 cut\n",
+                ],
+            ),
+            Step::Accept(1, 1, LATE_FLOW, 6, 1),
+            Step::Unsubscribe(1, Ok(())),
+            Step::Subscribe("acme", Ok(2)),
+            Step::Advance(u64::MAX, Ok(())),
+            Step::Pull(2, 1400, Ok(None)),
+        ],
+    },
+    Case {
+        name: "aggregate_unsubscribed",
+        limits: HUNDRED,
+        entries: 1000,
+        octets: 1_000_000,
+        begin: BEGIN_WEB,
+        steps: &[
+            Step::Accept(1, 0, ONE_FLOW, 3, 1),
+            Step::Unsubscribe(1, Ok(())),
+            Step::Subscribe("acme", Ok(2)),
+            Step::Advance(FIRST_END, Ok(())),
+            Step::Pull(2, 1400, Ok(None)),
+            Step::Served(2, 0, 0, 0),
+        ],
+    },
+    // The clock stays where it was: an earlier advance, which closes one record, has room.
+    Case {
+        name: "full_limits: no room for the cut of an advance",
+        limits: ONE_RECORD_WAITS,
+        entries: 5,
+        octets: 1_000_000,
+        begin: BEGIN_WEB,
+        steps: &[
+            Step::Accept(1, 0, THREE_FLOWS, 3, 3),
+            Step::Advance(SECOND_END, Err(Fault::JournalFull)),
+            Step::Served(1, 0, 0, 0),
+            Step::Advance(FIRST_END, Ok(())),
+            Step::Pull(1, 1400, Ok(Some(FIRST_CLOSED))),
+        ],
+    },
+    Case {
+        name: "full_limits: the audit and the cut of an advance",
+        limits: THREE_ENTRIES_WAIT,
+        entries: 1000,
+        octets: 1_000_000,
+        begin: BEGIN_WEB,
+        steps: &[
+            Step::Accept(1, 0, THREE_FLOWS, 3, 3),
+            Step::Advance(SECOND_END, Err(Fault::AuditFull { need: 1, room: 0 })),
+            Step::Served(1, 0, 0, 0),
+            Step::Audit(1, &["3 0 1 aggregated 1\n"]),
+            Step::Advance(SECOND_END, Ok(())),
+            Step::WasCut(1, 0, 0, 0),
+            Step::Audit(
+                10,
+                &[
+                    "3 1 1 aggregated 1\n",
+                    "3 2 1 aggregated 1\n",
+                    "4 0 1 cut\n",
+                ],
+            ),
+        ],
+    },
+];

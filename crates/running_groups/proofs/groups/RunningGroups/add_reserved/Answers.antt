@@ -1,0 +1,13 @@
+use Rattle.std.proofs.Common.{rules}
+use Rattle.running_groups.proofs.TableLaws.{added_there, added_nowhere}
+use Rattle.running_groups.proofs.groups.RunningGroups.add_reserved.Goals.{in-Some, in_default}
+use Rattle.running_groups.proofs.groups.RunningGroups.add_reserved.Goals as goal
+
+pub returns-clause-adds : goal.returns-clause-adds
+returns-clause-adds c before more stands of = elim c.match-get_mut.branch [
+  | in-Some w ↦ rw w.self-inside-is
+      (added_there c.args.self.now c.self.inside.by_number.entries _ c.args.sub w.in-Some.groups.now w.add_reserved.new.self before more c.self.view_is (search rules) (search rules)
+      (λ stood. w.add_reserved.ensures before more stood of) stands)
+  | in_default w ↦ rw w.self-inside-is
+      (added_nowhere c.args.self.now c.self.inside.by_number.entries _ c.args.sub c.args.counts.items before more c.self.view_is (search rules) (search rules) c.requires of stands)
+]

@@ -1,0 +1,127 @@
+//! The table of the groups that are still open.
+ghost use Rattle.std.specs.Prelude.{◌≡◌, ◌≢◌, ◌++◌, ℕ, List, [], true, map, IfOk, OnOk};
+ghost use Rattle.flow_aggregate.specs.Groups.{Group, Counted};
+ghost use Rattle.flow_aggregate.specs.Running.{sums_at, StandsFor, staying};
+ghost use Rattle.flow_aggregate.specs.Counts.{Count as OneCount, count_of, HavePlaces};
+ghost use Rattle.flow_aggregate.specs.Closing.{record_of, closed_by};
+ghost use Rattle.running_groups.specs.Table.{has_groups, groups_at};
+
+use flow_aggregate::{ClosedAggregate, Count, Running};
+use ipfix_template::Record;
+use std::alloc::{AllocError, Global};
+use std::collections::BTreeMap;
+use std::marker::Model;
+
+/// The groups that are still open, by the numbers of the subscriptions that are to have their records.
+#[derive(Drop)]
+pub struct RunningGroups {
+    alloc: Global,
+    by_number: BTreeMap<u64, Running>,
+}
+
+impl Model for RunningGroups {
+    ghost use Rattle.std.specs.Prelude.{List, ℕ};
+    ghost use Rattle.flow_aggregate.specs.Running.{Entries};
+
+    ghost Value = { List (ℕ × Entries) };
+
+    ghost view = { λ r. r.by_number.entries };
+}
+
+impl RunningGroups {
+    /// No group. What it comes to keep is taken from `alloc`.
+    pub fn new(alloc: Global) -> RunningGroups
+        ensures { (q : ℕ) → groups_at result q ≡ [] }
+    {
+        RunningGroups {
+            alloc,
+            by_number: BTreeMap::new(alloc),
+        }
+    }
+
+    /// Makes ready for these to be added to a subscription's groups.
+    ///
+    /// # Errors
+    /// Want of memory; no sum changes, and what was reserved before stays so.
+    pub fn reserve(&mut self, sub: u64, counts: &[Count]) -> Result<(), AllocError>
+        ensures same { (q : ℕ) (g : Group) → sums_at (groups_at self.new q) g ≡ sums_at (groups_at self.old q) g }
+        ensures kept { (q : ℕ) (more : List OneCount) → HavePlaces (groups_at self.old q) more → HavePlaces (groups_at self.new q) more }
+        ensures ok { OnOk result (HavePlaces (groups_at self.new sub) counts.now) }
+    {
+        self.make(sub)?;
+        match self.by_number.get_mut(&sub) {
+            Some(groups) => groups.reserve(counts),
+            None => unreachable!(),
+        }
+    }
+
+    /// Adds what records count to a subscription's groups, for which places were reserved since groups were last closed. It
+    /// takes no memory.
+    pub fn add_reserved(&mut self, sub: u64, counts: Vec<Count>)
+        requires { HavePlaces (groups_at self.old sub) counts.items }
+        ensures adds { (before more : List Counted) → StandsFor (groups_at self.old sub) before → counts.items ≡ map count_of more → StandsFor (groups_at self.new sub) (before ++ more) }
+        ensures others { (q : ℕ) → q ≢ sub → groups_at self.new q ≡ groups_at self.old q }
+    {
+        if let Some(groups) = self.by_number.get_mut(&sub) {
+            groups.add_reserved(counts);
+        }
+    }
+
+    /// The records of the groups that an advance of the clock to `t` closes of a subscription, in their order.
+    ///
+    /// # Errors
+    /// Want of memory.
+    pub fn closing(&self, sub: u64, t: u64) -> Result<Vec<Record>, AllocError>
+        ensures { IfOk result (λ v. (counted : List Counted) → StandsFor (groups_at self.now sub) counted → v.items ≡ closed_by t counted) }
+    {
+        match self.by_number.get(&sub) {
+            Some(groups) => records_of(self.alloc, &groups.closing(t)?),
+            None => Ok(Vec::new(self.alloc)),
+        }
+    }
+
+    /// Drops the groups that an advance of the clock to `t` closes. It takes no memory. What was reserved before is so no
+    /// more.
+    pub fn close(&mut self, t: u64)
+        ensures { (q : ℕ) (counted : List Counted) → StandsFor (groups_at self.old q) counted → StandsFor (groups_at self.new q) (staying t counted) }
+    {
+        self.by_number.retain(
+            |_sub: &u64, groups: &mut Running| -> bool
+                ensures { (result ≡ true) × ((counted : List Counted) → StandsFor groups.old counted → StandsFor groups.new (staying t counted)) }
+            {
+                groups.close(t);
+                true
+            },
+        );
+    }
+
+    /// Takes out the groups of a subscription. It takes no memory.
+    pub fn remove(&mut self, sub: u64)
+        ensures gone { groups_at self.new sub ≡ [] }
+        ensures others { (q : ℕ) → q ≢ sub → groups_at self.new q ≡ groups_at self.old q }
+    {
+        let _ = self.by_number.remove(&sub);
+    }
+
+    /// Makes room for a subscription's groups, where it has none yet.
+    fn make(&mut self, sub: u64) -> Result<(), AllocError>
+        ensures same { (q : ℕ) → groups_at self.new q ≡ groups_at self.old q }
+        ensures ok { OnOk result (has_groups self.new sub ≡ true) }
+    {
+        if !self.by_number.contains_key(&sub) {
+            self.by_number.insert(sub, Running::new(self.alloc))?;
+        }
+        Ok(())
+    }
+}
+
+/// The records of these groups.
+fn records_of(alloc: Global, closed: &[ClosedAggregate]) -> Result<Vec<Record>, AllocError>
+    ensures { IfOk result (λ v. v.items ≡ map record_of closed.now) }
+{
+    let mut records = Vec::new(alloc);
+    for one in closed {
+        records.push(one.record(alloc)?)?;
+    }
+    Ok(records)
+}
