@@ -24,7 +24,7 @@ use Rattle.policy_text.specs.Policies.{Aggregate}
 use Rattle.flow_aggregate.specs.declared.sums.Sums.{Sums}
 use Rattle.flow_aggregate.specs.Values.{full_width, flow_start_milliseconds, flow_end_milliseconds, octet_delta_count, packet_delta_count, delta_flow_count}
 use Rattle.flow_aggregate.specs.Groups.{Group, IsGroup, HaveWidths}
-use Rattle.flow_aggregate.specs.Closed.{field, key_fields, sum_fields, closed_template, key_values, number_values, closed_values, closed_record, end_of}
+use Rattle.flow_aggregate.specs.Closed.{HasTemplate, field, key_fields, sum_fields, closed_template, key_values, number_values, closed_values, closed_record, end_of}
 use Rattle.flow_aggregate.proofs.WidthLaws.{kind_narrow}
 
 -- ---- the key's values, one more
@@ -186,3 +186,7 @@ pub values_found : (g : Group) (s : Sums) (key : List Element) (octets : List �
 unfolding closed_values
 values_found g s key octets start interval values all is-key is-octets is-start is-interval is-values is-all =
     rw (is-all, is-values, is-key, is-octets, is-start, is-interval) refl
+
+-- of a copy of the key
+pub template_of_copy : (key copy : List Element) (t : Template) → copy ≡ key → HasTemplate key t → HasTemplate copy t
+template_of_copy key copy t same is = rw same is

@@ -4,5 +4,6 @@ pub mod PlacingLaws
 pub mod SumLaws
 pub mod EntryLaws
 pub mod RunningLaws
+pub mod DueLaws
 pub mod ClosingLaws
 pub mod OrderLaws

@@ -62,10 +62,10 @@ found_in_order v (c ∷ cs) q =
     ∙ find-put group_cmp group_total q (group_of c) (v (group_of c)) (valued v (groups_of cs))
     ∙ ap (λ b. cond b (Some (v (group_of c))) (find group_cmp q (valued v (groups_of cs)))) (sym (group_ties q (group_of c)))
     ∙ by (same_group q (group_of c)) refl (found_in_order v cs q) where
-  by : (b : Bool) → same_group q (group_of c) ≡ b → find group_cmp q (valued v (groups_of cs)) ≡ if_any (of_group q cs) (v q)
-      → cond b (Some (v (group_of c))) (find group_cmp q (valued v (groups_of cs))) ≡ if_any (cond b (c ∷ of_group q cs) (of_group q cs)) (v q)
-  by true is rest = ap (λ (x : Group). Some (v x)) (sym (same_group-is q (group_of c) is))
-  by false is rest = rest
+      by : (b : Bool) → same_group q (group_of c) ≡ b → find group_cmp q (valued v (groups_of cs)) ≡ if_any (of_group q cs) (v q)
+          → cond b (Some (v (group_of c))) (find group_cmp q (valued v (groups_of cs))) ≡ if_any (cond b (c ∷ of_group q cs) (of_group q cs)) (v q)
+      by true is rest = ap (λ (x : Group). Some (v x)) (sym (same_group-is q (group_of c) is))
+      by false is rest = rest
 
 -- ---- the list of the definition
 

@@ -1,5 +1,5 @@
 -- The record of a closed group (RFC 7015, section 5: an Aggregated Flow with its key, its interval and its counters).
-use Rattle.std.specs.Prelude.{ℕ, ◌+◌, List, [], ◌∷◌, ◌++◌, map, take, drop}
+use Rattle.std.specs.Prelude.{◌≡◌, ℕ, ◌+◌, List, [], ◌∷◌, ◌++◌, map, take, drop}
 use Rattle.ipfix_octets.specs.Octets.{be_octets}
 use Rattle.ipfix_element.specs.Element.{Element}
 use Rattle.ipfix_template.specs.declared.field.FieldSpec.{FieldSpec}
@@ -23,6 +23,10 @@ abbrev pub sum_fields : List FieldSpec
 sum_fields =
     field flow_start_milliseconds 8 ∷ field flow_end_milliseconds 8
     ∷ field octet_delta_count 8 ∷ field packet_delta_count 8 ∷ field delta_flow_count 8 ∷ []
+
+-- the template of the records of an aggregate with this key
+abbrev pub HasTemplate : List Element → Template → Type 0
+HasTemplate key t = t ≡ record { fields = key_fields key ++ sum_fields; scope = 0 }
 
 unfoldable pub closed_template : Aggregate → Template
 closed_template a = record { fields = key_fields a.key ++ sum_fields; scope = 0 }

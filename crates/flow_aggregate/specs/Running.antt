@@ -1,7 +1,7 @@
 -- What running groups stand for, and what an advance of the clock closes. Both are said of the records that were counted, and
 -- not of the groups that are kept (RFC 7015, section 4.1; the grace and the order are this project's own).
-use Rattle.std.specs.Prelude.{◌≡◌, ℕ, Bool, List, [], ◌∷◌, ◌++◌, map, filter, not, Option, Some, None, nat_le, if◌then◌else◌}
-use Rattle.std.specs.List.{IsDistinct}
+use Rattle.std.specs.Prelude.{◌≡◌, ◌≤◌, ℕ, Bool, List, [], ◌∷◌, ◌++◌, map, filter, not, Option, Some, None, nat_le, if◌then◌else◌}
+use Rattle.std.specs.List.{IsDistinct, AllByRecursion}
 use Rattle.std.specs.List.Sorted.{IsSortedByKey}
 use Rattle.std.specs.Map.{lookup, keys_of}
 use Rattle.ipfix_template.specs.DataRecord.{DataRecord}
@@ -79,6 +79,10 @@ pub record AreClosed (t : ℕ) (counted : List Counted) (closed : List ClosedAgg
   pub sums : (g : Group) → sums_in closed g ≡ closed_sums t counted g
 
 -- ---- what is closed of the entries
+
+-- no group is due before this time
+abbrev pub NoneDueBefore : ℕ → Entries → Type 0
+NoneDueBefore time entries = AllByRecursion (λ g. time ≤ closes_at g.definition g.start) (keys_of entries)
 
 abbrev pub closed_one : Group → Sums → ClosedAggregate
 closed_one g s = record { group = g; sums = s }

@@ -1,26 +1,16 @@
 //! Closed groups, and their records.
-ghost use Rattle.std.specs.Prelude.{◌≡◌, ◌≤◌, ◌<◌, ◌++◌, ◌∷◌, [], length, IfOk, OnOk};
-ghost use Rattle.std.specs.Arc.{arc_value};
+ghost use Rattle.std.specs.Prelude.{◌≡◌, ◌++◌, length, IfOk, OnOk};
 ghost use Rattle.std.specs.List.{sum_by};
-ghost use Rattle.flow_aggregate.specs.Values.{registered, full_width};
-ghost use Rattle.flow_aggregate.specs.Groups.{HaveWidths};
-ghost use Rattle.flow_aggregate.specs.Closed.{field, key_fields, sum_fields, closed_template, key_values, number_values, closed_values};
+ghost use Rattle.flow_aggregate.specs.Values.{full_width};
+ghost use Rattle.flow_aggregate.specs.Closed.{key_values, number_values, closed_values};
 
-use crate::definition::Definition;
 use crate::group::{Group, width_of};
 use crate::sums::Sums;
-use crate::values::{
-    DELTA_FLOW_COUNT, FLOW_END_MILLISECONDS, FLOW_START_MILLISECONDS, MILLISECONDS,
-    OCTET_DELTA_COUNT, PACKET_DELTA_COUNT,
-};
+use crate::values::MILLISECONDS;
 use bytes::Bytes;
 use ipfix_element::ElementId;
-use ipfix_template::{FieldSpec, Fields, Record, Template, Values};
+use ipfix_template::{Record, Values};
 use std::alloc::{AllocError, Global};
-use std::sync::Arc;
-
-/// The octets of an interval's ends and of a sum.
-const NUMBER_OCTETS: u16 = 8;
 
 /// A group that is closed: no further record counts in it.
 #[derive(Drop)]
@@ -53,7 +43,7 @@ impl ClosedAggregate {
     pub fn record(&self, alloc: Global) -> Result<Record, AllocError>
         ensures { IfOk result (λ r. r ≡ record_of self.now) }
     {
-        let template = closed_template(alloc, self.group.definition())?;
+        let template = self.group.definition().closed_template()?;
         let values = self.values(alloc)?;
         Ok(Record::new(template, Values::from_vec(values)))
     }
@@ -72,55 +62,6 @@ impl ClosedAggregate {
         put_numbers(alloc, &numbers, &mut values)?;
         Ok(values)
     }
-}
-
-/// The template of an aggregate's records.
-#[tactic(auto, unfolding(crate::specs::Closed::closed_template))]
-fn closed_template(alloc: Global, definition: &Definition) -> Result<Arc<Template>, AllocError>
-    ensures { IfOk result (λ t. arc_value t ≡ closed_template definition.now) }
-{
-    let mut specs = Vec::new(alloc);
-    put_key_fields(definition.key(), &mut specs)?;
-    put_sum_fields(&mut specs)?;
-    let fields = match Fields::from_vec(specs) {
-        Ok(fields) => fields,
-        Err(_) => unreachable!(),
-    };
-    Ok(Arc::new(alloc, Template { fields, scope: 0 })?)
-}
-
-fn put_key_fields(key: &[ElementId], specs: &mut Vec<FieldSpec>) -> Result<(), AllocError>
-    ensures { OnOk result (specs.new.items ≡ specs.old.items ++ key_fields key.now) }
-{
-    for element in key {
-        put_field(*element, width_of(*element), specs)?;
-    }
-    Ok(())
-}
-
-/// The interval's start and end, and the sums.
-fn put_sum_fields(specs: &mut Vec<FieldSpec>) -> Result<(), AllocError>
-    ensures { OnOk result (specs.new.items ≡ specs.old.items ++ sum_fields) }
-{
-    put_number_field(FLOW_START_MILLISECONDS, specs)?;
-    put_number_field(FLOW_END_MILLISECONDS, specs)?;
-    put_number_field(OCTET_DELTA_COUNT, specs)?;
-    put_number_field(PACKET_DELTA_COUNT, specs)?;
-    put_number_field(DELTA_FLOW_COUNT, specs)
-}
-
-fn put_number_field(number: u16, specs: &mut Vec<FieldSpec>) -> Result<(), AllocError>
-    requires { number < 32768 }
-    ensures { OnOk result (specs.new.items ≡ specs.old.items ++ field (registered number) 8 ∷ []) }
-{
-    put_field(ElementId::registered(number), NUMBER_OCTETS, specs)
-}
-
-fn put_field(element: ElementId, length: u16, specs: &mut Vec<FieldSpec>) -> Result<(), AllocError>
-    ensures { OnOk result (specs.new.items ≡ specs.old.items ++ field element length ∷ []) }
-{
-    specs.push(FieldSpec { element, length })?;
-    Ok(())
 }
 
 /// Appends the values of the key's elements, which stay where they are in its octets.

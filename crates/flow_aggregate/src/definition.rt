@@ -3,10 +3,14 @@ ghost use Rattle.std.specs.Prelude.{◌≡◌, ◌≤◌, true, length, IfOk};
 ghost use Rattle.std.specs.List.{AllByRecursion};
 ghost use Rattle.ipfix_element.specs.Kinds.{kind_of};
 ghost use Rattle.policy_text.specs.Classes.{is_key_kind};
+ghost use Rattle.std.specs.Arc.{arc_value};
 ghost use Rattle.flow_aggregate.specs.Groups.{IsSummed};
+ghost use Rattle.flow_aggregate.specs.Closed.{closed_template};
 
+use crate::closed_template::template_for;
 use bytes::Bytes;
 use ipfix_element::ElementId;
+use ipfix_template::Template;
 use policy_text::AggregateDef;
 use std::alloc::{AllocError, Global};
 use std::marker::Model;
@@ -20,18 +24,21 @@ pub struct Definition {
     grace: u32,
     name: Bytes,
     key: Arc<Vec<ElementId>>,
+    // That of the records of its closed groups.
+    closed: Arc<Template>,
 }
 
 impl Model for Definition {
     ghost use Rattle.std.specs.Arc.{arc_value};
     ghost use Rattle.policy_text.specs.Policies.{Aggregate};
     ghost use Rattle.flow_aggregate.specs.Groups.{IsSummed};
+    ghost use Rattle.flow_aggregate.specs.Closed.{HasTemplate};
 
     ghost Value = { Aggregate };
 
     ghost view = { λ d. record { name = d.name; key = (arc_value d.key).items; interval = d.interval; grace = d.grace } };
 
-    ghost invariant = { λ d. IsSummed (record { name = d.name; key = (arc_value d.key).items; interval = d.interval; grace = d.grace }) };
+    ghost invariant = { λ d. IsSummed (record { name = d.name; key = (arc_value d.key).items; interval = d.interval; grace = d.grace }) × HasTemplate (arc_value d.key).items (arc_value d.closed) };
 }
 
 impl Definition {
@@ -44,11 +51,13 @@ impl Definition {
         ensures { IfOk result (λ d. d ≡ definition.now) }
     {
         let key = copy_of(alloc, definition.key())?;
+        let closed = template_for(alloc, definition.key())?;
         Ok(Definition {
             interval: definition.interval(),
             grace: definition.grace(),
             name: Bytes::copy_from_slice(alloc, definition.name().as_bytes())?,
             key: Arc::new(alloc, key)?,
+            closed,
         })
     }
 
@@ -64,7 +73,19 @@ impl Definition {
             grace: self.grace,
             name: self.name.clone()?,
             key: self.key.clone()?,
+            closed: self.closed.clone()?,
         })
+    }
+
+    /// Another hold of the template of its closed groups' records.
+    ///
+    /// # Errors
+    /// Want of memory for the count of its holds.
+    #[tactic(auto, unfolding(crate::specs::Closed::closed_template))]
+    pub(crate) fn closed_template(&self) -> Result<Arc<Template>, AllocError>
+        ensures { IfOk result (λ t. arc_value t ≡ closed_template self.now) }
+    {
+        Ok(self.closed.clone()?)
     }
 
     /// The octets of its name.

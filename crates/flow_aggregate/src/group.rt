@@ -2,6 +2,7 @@
 ghost use Rattle.std.specs.Prelude.{◌≡◌, ◌+◌, ◌≤◌, ◌<◌, ◌^◌, ◌++◌, true, length, IfOk, OnOk};
 ghost use Rattle.flow_aggregate.specs.Values.{full_width};
 ghost use Rattle.flow_aggregate.specs.Groups.{wide_value, key_octets, group_of, counted_as, IsGroup};
+ghost use Rattle.flow_aggregate.specs.Placing.{closes_at};
 ghost use Rattle.flow_aggregate.specs.Running.{IsPlaced, is_due};
 
 use crate::definition::Definition;
@@ -56,12 +57,19 @@ impl Group {
         })
     }
 
-    /// Whether an advance of the clock to `t` comes to the end of the interval and the grace behind it.
+    /// Where its interval ends and the grace behind it is over.
+    pub(crate) fn closes_at(&self) -> u64
+        ensures { result ≡ closes_at self.now.definition self.now.start }
+    {
+        let seconds = self.definition().interval() + self.definition().grace();
+        self.start() + u64::from(seconds) * MILLISECONDS
+    }
+
+    /// Whether an advance of the clock to `t` comes to that time.
     pub(crate) fn is_due(&self, t: u64) -> bool
         ensures { result ≡ is_due t self.now }
     {
-        let seconds = self.definition().interval() + self.definition().grace();
-        self.start() + u64::from(seconds) * MILLISECONDS <= t
+        self.closes_at() <= t
     }
 
     /// Where the interval starts.

@@ -6,7 +6,7 @@
 //! - `running`: [`Running`], the groups that are still open; it adds records and closes groups.
 //! - `definition`: [`Definition`], an aggregate's definition, made ready for records to be counted in it.
 //! - `count`: [`Count`], what a record adds, and to which group.
-//! - `closed`: [`ClosedAggregate`], a closed group with its sums, and its record.
+//! - `closed`, `closed_template`: [`ClosedAggregate`], a closed group with its sums, and its record.
 //! - `group`, `group_order`: what groups are, which are one, and their order.
 //! - `sums`, `values`: the counters, and the first value of an element in a record.
 //!
@@ -14,11 +14,12 @@
 //! `Running::reserve` changes no sum, and what was reserved before stays so; `add_reserved`, which can't fail, makes groups
 //! that stand for some records stand for these and the records that the counts are of; `closing` answers the groups of those
 //! records that the advance comes to, each once, in their order, with the sums of their records, capped at 2^64-1
-//! (`AreClosed`, which looks at the records that were added and at no group); after `close` they stand for the others.
+//! (`closed_by`, which looks at the records that were added and at no group); after `close` they stand for the others.
 //! `ClosedAggregate::record` is the record of the group and its sums, each value at full width.
 #![tactic(auto)]
 
 mod closed;
+mod closed_template;
 mod count;
 mod definition;
 mod group;

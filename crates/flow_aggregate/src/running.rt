@@ -4,7 +4,7 @@ ghost use Rattle.std.specs.List.{IsDistinct};
 ghost use Rattle.std.specs.Map.{keys_of};
 ghost use Rattle.flow_aggregate.specs.Groups.{Group as OneGroup, Counted};
 ghost use Rattle.flow_aggregate.specs.GroupOrder.{same_group, group_cmp};
-ghost use Rattle.flow_aggregate.specs.Running.{sums_at, StandsFor, is_due, staying, due_one, due_of};
+ghost use Rattle.flow_aggregate.specs.Running.{sums_at, StandsFor, is_due, staying, NoneDueBefore, due_one, due_of};
 ghost use Rattle.flow_aggregate.specs.Closing.{record_of, closed_by};
 ghost use Rattle.flow_aggregate.specs.Counts.{Count as OneCount, count_of, has_place, HavePlaces, with_count};
 
@@ -27,14 +27,18 @@ pub struct Running {
     alloc: Global,
     // A group without sums was made for what is yet to be added.
     groups: IndexMap<Group, Option<Sums>>,
+    // No group is due before this time, so that until then none is looked at.
+    earliest: u64,
 }
 
 impl Model for Running {
-    ghost use Rattle.flow_aggregate.specs.Running.{Entries};
+    ghost use Rattle.flow_aggregate.specs.Running.{Entries, NoneDueBefore};
 
     ghost Value = { Entries };
 
     ghost view = { λ r. r.groups.entries };
+
+    ghost invariant = { λ r. NoneDueBefore r.earliest r.groups.entries };
 }
 
 impl Running {
@@ -45,6 +49,7 @@ impl Running {
         Running {
             alloc,
             groups: IndexMap::new(alloc),
+            earliest: u64::MAX,
         }
     }
 
@@ -77,7 +82,10 @@ impl Running {
     pub fn close(&mut self, t: u64)
         ensures { (counted : List Counted) → StandsFor self.old counted → StandsFor self.new (staying t counted) }
     {
-        self.keep_open(t);
+        if self.earliest <= t {
+            self.keep_open(t);
+            self.earliest = self.first_due();
+        }
     }
 
     /// The groups that an advance of the clock to `t` closes: those whose interval's end, and the grace behind it, it
@@ -103,13 +111,31 @@ impl Running {
         ensures unique { IsDistinct same_group (keys_of self.now) }
     {
         let mut due = Vec::new(self.alloc);
-        for place in 0..self.groups.len() {
+        let count = self.groups.len();
+        if t < self.earliest {
+            return Ok(due);
+        }
+        for place in 0..count {
             let Some((group, sums)) = self.groups.get_index(place) else {
                 unreachable!()
             };
             put_due(t, group, sums, &mut due)?;
         }
         Ok(due)
+    }
+
+    /// When the first group is due.
+    fn first_due(&self) -> u64
+        ensures { NoneDueBefore result self.now }
+    {
+        let mut first = u64::MAX;
+        for place in 0..self.groups.len() {
+            let Some((group, _)) = self.groups.get_index(place) else {
+                unreachable!()
+            };
+            first = first.min(group.closes_at());
+        }
+        first
     }
 
     fn keep_open(&mut self, t: u64)
@@ -130,6 +156,7 @@ impl Running {
     {
         if !self.groups.contains_key(group) {
             self.groups.insert(group.share()?, None)?;
+            self.earliest = self.earliest.min(group.closes_at());
         }
         Ok(())
     }

@@ -1,5 +1,5 @@
 //! What a message adds to running groups, subscription by subscription.
-ghost use Rattle.std.specs.Prelude.{◌≡◌, ◌++◌, ℕ, List, map, OnOk};
+ghost use Rattle.std.specs.Prelude.{◌≡◌, ◌≢◌, ◌++◌, ℕ, List, map, OnOk};
 ghost use Rattle.std.specs.List.{AllByRecursion};
 ghost use Rattle.flow_aggregate.specs.Groups.{Group, Counted};
 ghost use Rattle.flow_aggregate.specs.Counts.{count_of};
@@ -32,7 +32,17 @@ pub(crate) fn count_all(groups: &mut RunningGroups, tallies: Vec<Tally>)
     ensures { (q : ℕ) (before more : List Counted) → StandsFor (groups_at groups.old q) before → added_to q (map tallied tallies.items) ≡ map count_of more
         → StandsFor (groups_at groups.new q) (before ++ more) }
 {
-    'tallies: for Tally { sub, counts } in tallies {
-        groups.add_reserved(sub, counts);
+    'tallies: for tally in tallies {
+        count_one(groups, tally);
     }
+}
+
+/// Adds to the groups of one subscription.
+fn count_one(groups: &mut RunningGroups, tally: Tally)
+    requires { HaveGroups groups.old (tallied tally) }
+    ensures adds { (before more : List Counted) → StandsFor (groups_at groups.old tally.sub) before → tally.counts.items ≡ map count_of more → StandsFor (groups_at groups.new tally.sub) (before ++ more) }
+    ensures others { (q : ℕ) → q ≢ tally.sub → groups_at groups.new q ≡ groups_at groups.old q }
+{
+    let Tally { sub, counts } = tally;
+    groups.add_reserved(sub, counts);
 }

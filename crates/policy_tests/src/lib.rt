@@ -7,12 +7,15 @@
 //! - `audits`: of `disclosure_audit`.
 //! - `journals`: of `event_journal`.
 //! - `sharing`: of `record_sharing`.
+//! - `groups`: of `running_groups`.
 #![tactic(auto)]
 
 #[cfg(test)]
 mod audits;
 #[cfg(test)]
 mod disclosures;
+#[cfg(test)]
+mod groups;
 #[cfg(test)]
 mod journals;
 #[cfg(test)]

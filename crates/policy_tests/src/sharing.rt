@@ -2,7 +2,7 @@
 use disclosure_audit::What;
 use ipfix_session::Session;
 use policy_text::Policy;
-use record_sharing::{Served, Shares};
+use record_sharing::{InForce, Served, Shares};
 use std::alloc::Global;
 use std::process::Abort;
 use std::test::Fail;
@@ -34,7 +34,8 @@ fn shared(alloc: Global) -> Result<Shares, Fail> {
     if read.records.len() > 1 {
         return Err(Fail::new("more than one record"));
     }
-    Ok(Shares::of_records(alloc, &policy, 7, &read.records, &served)?)
+    let in_force = InForce::since(alloc, policy, 0)?;
+    Ok(Shares::of_records(alloc, &in_force, 7, &read.records, &served)?)
 }
 
 /// The subscriptions with the number of records that each is given.

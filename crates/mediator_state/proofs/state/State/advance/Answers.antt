@@ -13,7 +13,7 @@ use Rattle.mediator_state.proofs.state.State.advance.Goals as goal
 pub returns-then-not-room-clause-err : goal.returns-then-not-room-clause-err
 returns-then-not-room-clause-err g c = λ h s.
     closing_full (g.C.Chronicle.limits c.args.self.now.chronicle) (g.C.Chronicle.count c.args.self.now.chronicle) (g.C.Chronicle.octets c.args.self.now.chronicle) c.args.self.now.engine h c.args.t c.in_ok-closing.closing c.in_ok-entries.entries.items (g.met.C.Chronicle.counted c.args.self.now.chronicle h s.told)
-    (closing_found c.args.self.now.engine h c.args.t c.in_ok-closing.closing c.in_ok-entries.entries.items c.deref.result.now (ahead_of c.args.self.now.engine h c.args.t c.clock-last.result s.stands c.clock-last.ensures (omega (arith, c.if-lt.false))) (c.in_ok-closing.ensures h s.stands) c.in_ok-entries.ensures c.deref.ensures.value)
+    (closing_found c.args.self.now.engine h c.args.t c.in_ok-closing.closing c.in_ok-entries.entries.items c.deref.result.now (ahead_of c.args.self.now.engine h c.args.t c.clock-last.result s.stands c.clock-last.ensures (omega (arith, c.if-t-last.false))) (c.in_ok-closing.ensures h s.stands) c.in_ok-entries.ensures c.deref.ensures.value)
     (full_where c.room.result (g.C.Chronicle.limits c.args.self.now.chronicle) (g.C.Chronicle.count c.args.self.now.chronicle) (g.C.Chronicle.octets c.args.self.now.chronicle) c.deref-2.result.now c.in_ok-entries.entries.items c.room.ensures c.deref-2.ensures.value c.if-not-room.true)
 
 pub returns-in_err-make_room_to_close-clause-same : goal.returns-in_err-make_room_to_close-clause-same
@@ -25,7 +25,7 @@ returns-in_err-make_room_to_close-clause-err g c =
     (λ e is h s.
     subst (λ (why : Fault). RefusesAdvance why (g.C.Chronicle.limits c.args.self.now.chronicle) c.args.self.now.engine h c.args.t) (sym is)
     (closing_audit c.in_err-make_room_to_close.field-0.0 (g.C.Chronicle.limits c.args.self.now.chronicle) (g.C.Chronicle.count c.args.self.now.chronicle) (g.C.Chronicle.octets c.args.self.now.chronicle) c.args.self.now.engine h c.args.t c.in_ok-closing.closing c.in_ok-entries.entries.items (g.met.C.Chronicle.counted c.args.self.now.chronicle h s.told)
-    (closing_found c.args.self.now.engine h c.args.t c.in_ok-closing.closing c.in_ok-entries.entries.items c.deref.result.now (ahead_of c.args.self.now.engine h c.args.t c.clock-last.result s.stands c.clock-last.ensures (omega (arith, c.if-lt.false))) (c.in_ok-closing.ensures h s.stands) c.in_ok-entries.ensures c.deref.ensures.value)
+    (closing_found c.args.self.now.engine h c.args.t c.in_ok-closing.closing c.in_ok-entries.entries.items c.deref.result.now (ahead_of c.args.self.now.engine h c.args.t c.clock-last.result s.stands c.clock-last.ensures (omega (arith, c.if-t-last.false))) (c.in_ok-closing.ensures h s.stands) c.in_ok-entries.ensures c.deref.ensures.value)
     (room_where c.room.result (g.C.Chronicle.limits c.args.self.now.chronicle) (g.C.Chronicle.count c.args.self.now.chronicle) (g.C.Chronicle.octets c.args.self.now.chronicle) c.deref-2.result.now c.in_ok-entries.entries.items c.room.ensures c.deref-2.ensures.value c.if-not-room.false)
     c.in_err-make_room_to_close.ensures.err))
 
@@ -46,7 +46,7 @@ pub returns-clause-ok : goal.returns-clause-ok
 returns-clause-ok g c = λ h s.
     advanced g.C.Chronicle.tells g.C.Chronicle.limits c.args.self.now (record { chronicle = c.append.new.self.chronicle; engine = c.advance.new.self }) c.append.new.self.engine (g.C.Chronicle.count c.args.self.now.chronicle) (g.C.Chronicle.octets c.args.self.now.chronicle) h c.args.t c.in_ok-closing.closing c.in_ok-entries.entries.items c.len-position.result
     s (g.met.C.Chronicle.counted c.args.self.now.chronicle h s.told) c.len-position.ensures.value
-    (closing_found c.args.self.now.engine h c.args.t c.in_ok-closing.closing c.in_ok-entries.entries.items c.deref.result.now (ahead_of c.args.self.now.engine h c.args.t c.clock-last.result s.stands c.clock-last.ensures (omega (arith, c.if-lt.false))) (c.in_ok-closing.ensures h s.stands) c.in_ok-entries.ensures c.deref.ensures.value)
+    (closing_found c.args.self.now.engine h c.args.t c.in_ok-closing.closing c.in_ok-entries.entries.items c.deref.result.now (ahead_of c.args.self.now.engine h c.args.t c.clock-last.result s.stands c.clock-last.ensures (omega (arith, c.if-t-last.false))) (c.in_ok-closing.ensures h s.stands) c.in_ok-entries.ensures c.deref.ensures.value)
     (room_where c.room.result (g.C.Chronicle.limits c.args.self.now.chronicle) (g.C.Chronicle.count c.args.self.now.chronicle) (g.C.Chronicle.octets c.args.self.now.chronicle) c.deref-2.result.now c.in_ok-entries.entries.items c.room.ensures c.deref-2.ensures.value c.if-not-room.false)
     (subst (λ (e : Engine). IsSameEngine c.args.self.now.engine e) (sym c.append.ensures.engine) c.make_room_to_close.ensures.same)
     (c.append.ensures.tells h (c.reserve.ensures.tells h s.told)) c.advance.ensures.stands

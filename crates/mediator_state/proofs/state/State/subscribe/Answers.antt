@@ -1,8 +1,10 @@
 use Rattle.std.proofs.Common.{List, ℕ, sym, ap, ◌∙◌, subst}
 use Rattle.event_journal.specs.declared.entry.Entry.TheVariants.{Subscribe}
 use Rattle.mediator_state.specs.declared.fault.Fault.{Fault}
+use Rattle.mediator_state.specs.Standing.{Stands}
 use Rattle.mediator_state.specs.Calls.{RefusesSubscribe}
-use Rattle.mediator_state.proofs.CallLaws.{refused_memory, refused_subscribe, accepts_one, err_gives}
+use Rattle.mediator_state.proofs.CallLaws.{refused_memory, refused_subscribe, accepts_one, err_gives, on_err}
+use Rattle.mediator_state.proofs.SameLaws.{stands_same}
 use Rattle.mediator_state.proofs.state.State.subscribe.Goals as goal
 
 pub returns-in_err-copy-clause-err : goal.returns-in_err-copy-clause-err

@@ -1,0 +1,73 @@
+//! Many groups, which one advance of the clock closes.
+use ipfix_session::Session;
+use policy_text::Policy;
+use record_sharing::{InForce, Served, Shares, Tally};
+use running_groups::RunningGroups;
+use std::alloc::{AllocError, Global};
+use std::process::Abort;
+use std::test::Fail;
+
+const POLICY: &str = "policy 1
+aggregate ports key sourceTransportPort interval 60 grace 5
+rule for * in * from * to * aggregate ports
+";
+
+/// A header and a template of flow start and source port, and the header of a Data Set with 6,250 records.
+const BEFORE_RECORDS: &[u8] =
+    b"\x00\x0a\xf4\x48\x65\x53\xf1\x00\x00\x00\x00\x00\x00\x00\x00\x07\x00\x02\x00\x10\x01\x00\x00\x02\x00\x98\x00\x08\x00\x07\x00\x02\x01\x00\xf4\x28";
+
+/// A message of 6,250 records that start in this minute, each from a port of its own.
+fn message(alloc: Global, minute: u8) -> Result<Vec<u8>, AllocError> {
+    let mut octets = Vec::new(alloc);
+    octets.extend_from_slice(BEFORE_RECORDS)?;
+    let start = u64::from(minute) * 60_000;
+    for port in 0..6250_u16 {
+        octets.extend_from_slice(&start.to_be_bytes())?;
+        octets.extend_from_slice(&port.to_be_bytes())?;
+    }
+    Ok(octets)
+}
+
+/// What the records of such a message add to the aggregates of one subscription.
+fn shared(alloc: Global, in_force: &InForce, minute: u8) -> Result<Shares, Fail> {
+    let read = Session::new(alloc).apply(&message(alloc, minute)?)?;
+    if read.records.len() > 6250 {
+        return Err(Fail::new("too many records"));
+    }
+    let served = [Served {
+        sub: 1,
+        name: "acme",
+    }];
+    Ok(Shares::of_records(alloc, in_force, 7, &read.records, &served)?)
+}
+
+fn add(groups: &mut RunningGroups, tally: Tally) -> Result<(), AllocError> {
+    let Tally { sub, counts } = tally;
+    groups.reserve(sub, &counts)?;
+    groups.add_reserved(sub, counts);
+    Ok(())
+}
+
+fn add_all(groups: &mut RunningGroups, found: Shares) -> Result<(), AllocError> {
+    for tally in found.tallies {
+        add(groups, tally)?;
+    }
+    Ok(())
+}
+
+#[test]
+fn one_advance_closes_a_hundred_thousand_groups(rt: HostRuntime) -> Result<(), Fail> {
+    let in_force = InForce::since(rt.alloc(), Policy::parse(rt.alloc(), POLICY)?, 0)?;
+    let mut groups = RunningGroups::new(rt.alloc());
+    for minute in 0..16_u8 {
+        add_all(&mut groups, shared(rt.alloc(), &in_force, minute)?)?;
+    }
+    assert_eq!(rt; groups.closing(1, 64_999)?.len(), 0);
+    assert_eq!(rt; groups.closing(1, 65_000)?.len(), 6250);
+    assert_eq!(rt; groups.closing(1, 965_000)?.len(), 100_000);
+    groups.close(905_000);
+    assert_eq!(rt; groups.closing(1, 965_000)?.len(), 6250);
+    groups.remove(1);
+    assert_eq!(rt; groups.closing(1, 965_000)?.len(), 0);
+    Ok(())
+}
