@@ -10,4 +10,5 @@ pub mod Opened
 pub mod DueLaws
 pub mod Restated
 pub mod PlainLaws
+pub mod UnclosedLaws
 pub mod Framed

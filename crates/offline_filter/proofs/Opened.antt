@@ -113,7 +113,7 @@ pub opened : (d : Run) (a b c : State Counted) (job : OfflineJob) (n k i : ℕ) 
 opened d a b c job n k i same messages records sent m ab e bc s cd o = record {
   job_is = same;
   job_accepted = record {
-    policy = record { policy = (e [] m.stands).policy; accepted = (e [] m.stands).accepted };
+    policy = record { policy = (e [] m.stands).policy; spelled = (e [] m.stands).spelled };
     name = named.named;
     room = room;
   };
@@ -167,7 +167,7 @@ pub subscribe_refused : (f : Fault) (a b : State Counted) (job : OfflineJob) (n 
 subscribe_refused f a b job n m ab e = by f
   where
     policy : HasPolicy job.policy.now
-    policy = record { policy = (e [] m.stands).policy; accepted = (e [] m.stands).accepted }
+    policy = record { policy = (e [] m.stands).policy; spelled = (e [] m.stands).spelled }
 
     room : HasRoomAfter journal_limits [] (edited job)
     room = subst (λ l. HasRoomAfter l [] (edited job)) m.journal (e [] m.stands).accepts.room
@@ -188,7 +188,7 @@ open_refused f a b c job n k m ab e bc s = by f
   where
     by : (g : Fault) → LacksRoomAfter g c.chronicle.limits (Edit job.policy.now ∷ Subscribe 1 job.name.now ∷ []) (Open 1 ∷ []) → RefusesJob g job
     by fault.JournalFull x = (
-      record { policy = (e [] m.stands).policy; accepted = (e [] m.stands).accepted },
+      record { policy = (e [] m.stands).policy; spelled = (e [] m.stands).spelled },
       inr (
         (s (edited job) (edited_stands a b job n m e)).named,
         λ all. x (subst (λ l. HasRoomAfter l (Edit job.policy.now ∷ Subscribe 1 job.name.now ∷ []) (Open 1 ∷ [])) (sym (bc.journaled ∙ ab.journaled ∙ m.journal)) (room_open job all)),

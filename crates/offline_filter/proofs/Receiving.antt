@@ -12,6 +12,7 @@ use Rattle.sequences.proofs.BeforeLaws.{last_of-push}
 use Rattle.ipfix_session.specs.Meaning.{meaning_of, domain_of}
 use Rattle.subscriber_stream.specs.declared.limits.Limits.{Limits}
 use Rattle.subscriber_stream.specs.Parts.{parts, records_in}
+use Rattle.policy_text.specs.Policies.{Aggregate}
 use Rattle.flow_anonymize.specs.Outcome.{Outcome, Passes, Aggregates, Withholds}
 use Rattle.disclosure_audit.specs.declared.entry.AuditEntry.{AuditEntry}
 use Rattle.disclosure_audit.specs.declared.entry.What.TheVariants.{Cut as CutOff}
@@ -21,9 +22,10 @@ use Rattle.event_journal.specs.declared.entry.Entry.TheVariants.{Message, Cut}
 use Rattle.event_journal.specs.Room.{HasRoomAfter}
 use Rattle.event_journal.specs.Sizes.{history_octets}
 use Rattle.mediator_history.specs.Sessions.{messages_of, opens}
-use Rattle.mediator_history.specs.Subscriptions.{is_live, is_served, subscribed_in, served}
+use Rattle.mediator_history.specs.Subscriptions.{policy_in_force, is_live, is_served, subscribed_in, served}
 use Rattle.mediator_history.specs.Accepted.{Accepted, records_meant, records_at, accepted_as, accepted_at, accepted}
-use Rattle.mediator_history.specs.Disclosed.{outcome_for, given_at, disclosed}
+use Rattle.mediator_history.specs.Counting.{outcome_for, clock_of}
+use Rattle.mediator_history.specs.Disclosed.{given_at, disclosed}
 use Rattle.mediator_history.specs.Auditing.{audit_of, audit_at, audit_list, audit_entry, kept_back}
 use Rattle.mediator_history.specs.Cuts.{overflows, is_cut_by, cuts_before}
 use Rattle.mediator_history.proofs.HistoryLaws.{flat_map-push, is_served-message, subscribed-message, accepted-push, audit-push, octets-push}
@@ -94,7 +96,7 @@ same_cuts d h octets so =
     ∙ cuts_alone stream_limits h (next_message h octets) (waiting_of d.state.engine) (λ sub. 0) (served_alone h so.alone so.serving)
     (none_waits h d.state.engine.limits (at d.state.engine.subscriptions 1) (so.state.stands.subscriptions 1) so.place)
 
-pub same_entries : (d : Run) (h : List Entry) (octets : List ℕ) → Stands d h (end_of h) → with_cuts d.state.engine h 1 d.messages octets ≡ cuts_by h octets ++ next_message h octets ∷ []
+pub same_entries : (d : Run) (h : List Entry) (octets : List ℕ) → Stands d h (end_of h) → with_cuts d.state.engine h (Message 1 d.messages octets) ≡ cuts_by h octets ++ next_message h octets ∷ []
 same_entries d h octets so =
     ap (λ (cuts : List Entry). cuts ++ Message 1 d.messages octets ∷ []) (same_cuts d h octets so)
     ∙ ap (λ n. cuts_by h octets ++ Message 1 n octets ∷ []) so.messages
@@ -111,11 +113,11 @@ few_each : {X A : Type 0} (f : X → List A) → ((x : X) → length (f x) ≤ 1
 few_each f few [] = omega arith
 few_each f few (x ∷ xs) = rw (flat_map-cons f x xs) (omega (arith, length-append (f x) (flat_map f xs), few x, few_each f few xs))
 
-noted-few : (before : List Entry) (a : Accepted) (o : Outcome) → length (map (audit_entry a.position a.index 1) (kept_back o)) ≤ 1
-noted-few before a (Passes kept []) = omega arith
-noted-few before a (Passes kept (field ∷ fields)) = omega arith
-noted-few before a (Aggregates rule definition) = omega arith
-noted-few before a (Withholds rule reason) = omega arith
+noted-few : (aggregates : List Aggregate) (clock : ℕ) (a : Accepted) (o : Outcome) → length (map (audit_entry a.position a.index 1) (kept_back aggregates clock a.flow o)) ≤ 1
+noted-few aggregates clock a (Passes kept []) = omega arith
+noted-few aggregates clock a (Passes kept (field ∷ fields)) = omega arith
+noted-few aggregates clock a (Aggregates rule place) = omega arith
+noted-few aggregates clock a (Withholds rule reason) = omega arith
 
 accepted-many : (h : List Entry) (octets : List ℕ) → length (accepted_at h (next_message h octets)) ≡ length (records_meant (meaning_of (messages_of 1 h) octets))
 accepted-many h octets =
@@ -127,7 +129,7 @@ noted_few h octets alone =
     omega (arith, few_each (λ a. flat_map (audit_of h a) (served h)) each (accepted_at h (next_message h octets)), accepted-many h octets, few_records (messages_of 1 h) octets)
   where
     each : (a : Accepted) → length (flat_map (audit_of h a) (served h)) ≤ 1
-    each a = rw alone (omega (arith, noted-few h a (outcome_for 1 h a.domain a.flow), length-append (audit_of h a 1) [], ap length (flat_map-cons (audit_of h a) 1 [])))
+    each a = rw alone (omega (arith, noted-few (policy_in_force h).aggregates (clock_of h) a (outcome_for 1 h a.domain a.flow), length-append (audit_of h a 1) [], ap length (flat_map-cons (audit_of h a) 1 [])))
 
 -- after a cut of the only subscription that is served, a message adds nothing to the audit
 audit_after_cut : (h : List Entry) (octets : List ℕ) (number : ℕ) → flat_map subscribed_in h ≡ 1 ∷ [] → audit_at (h ++ Cut 1 ∷ []) (Message 1 number octets) ≡ []
@@ -257,8 +259,8 @@ records_fit old new octets r had receives =
     got : calls.Receives tells (λ t. t.limits) old.state had.history 1 old.messages octets r new.state
     got = receives had.history had.stands.state
 
-    room : HasRoomAfter journal_limits had.history (with_cuts old.state.engine had.history 1 old.messages octets)
-    room = subst (λ l. HasRoomAfter l had.history (with_cuts old.state.engine had.history 1 old.messages octets)) had.stands.limited.journal got.accepts.room
+    room : HasRoomAfter journal_limits had.history (with_cuts old.state.engine had.history (Message 1 old.messages octets))
+    room = subst (λ l. HasRoomAfter l had.history (with_cuts old.state.engine had.history (Message 1 old.messages octets))) had.stands.limited.journal got.accepts.room
 
     long : length octets ≤ 2 ^ 40
     long = omega (arith, room.octets_fit, ap history_octets (same_entries old had.history octets had.stands), octets-push (cuts_by had.history octets) (next_message had.history octets))
@@ -298,10 +300,10 @@ few_noted old new octets r had t = by (one_or_none had.history octets (served_al
 pub refused : (e : Fault) (old : Run) (octets : List ℕ) → HasDelivered old → ((h : List Entry) → StandsFor tells old.state h → RefusesReceive e old.state.chronicle.limits old.state.engine h 1 old.messages octets) → Refuses e old octets
 refused e old octets had refuses = record { after = λ h so small. by e h so (refuses h so.state) }
   where
-    judged : (h : List Entry) → Stands old h (end_of h) → HasRoomAfter old.state.chronicle.limits h (with_cuts old.state.engine h 1 old.messages octets) → HasRoomAfter journal_limits h (cuts_by h octets ++ next_message h octets ∷ [])
+    judged : (h : List Entry) → Stands old h (end_of h) → HasRoomAfter old.state.chronicle.limits h (with_cuts old.state.engine h (Message 1 old.messages octets)) → HasRoomAfter journal_limits h (cuts_by h octets ++ next_message h octets ∷ [])
     judged h so room = subst (λ l. HasRoomAfter l h (cuts_by h octets ++ next_message h octets ∷ [])) so.limited.journal (subst (HasRoomAfter old.state.chronicle.limits h) (same_entries old h octets so) room)
 
-    back : (h : List Entry) → Stands old h (end_of h) → HasRoomAfter journal_limits h (cuts_by h octets ++ next_message h octets ∷ []) → HasRoomAfter old.state.chronicle.limits h (with_cuts old.state.engine h 1 old.messages octets)
+    back : (h : List Entry) → Stands old h (end_of h) → HasRoomAfter journal_limits h (cuts_by h octets ++ next_message h octets ∷ []) → HasRoomAfter old.state.chronicle.limits h (with_cuts old.state.engine h (Message 1 old.messages octets))
     back h so room = subst (HasRoomAfter old.state.chronicle.limits h) (sym (same_entries old h octets so)) (subst (λ l. HasRoomAfter l h (cuts_by h octets ++ next_message h octets ∷ [])) (sym so.limited.journal) room)
 
     by : (f : Fault) (h : List Entry) → Stands old h (end_of h) → RefusesReceive f old.state.chronicle.limits old.state.engine h 1 old.messages octets → RefusesMessage f h octets

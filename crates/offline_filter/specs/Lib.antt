@@ -12,6 +12,7 @@ pub mod Failing
 pub mod Lines
 pub mod Offline
 pub mod PlainHistory
+pub mod Unclosed
 pub mod HandsOut
 pub mod Due
 pub mod Opening

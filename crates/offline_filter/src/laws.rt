@@ -19,3 +19,18 @@ pub fn due_is_built()
 pub fn accepted_messages_are_the_history()
     ensures { (job : OfflineJob) (messages : List (List ℕ)) → AreAccepted job [] messages → history_of job messages ≡ plain_history job messages }
 {}
+
+ghost use Rattle.std.specs.List.{AllByRecursion};
+ghost use Rattle.sequences.specs.Before.{HasNone};
+ghost use Rattle.mediator_history.specs.Counting.{clock_in};
+ghost use Rattle.mediator_history.specs.Auditing.{audit_list};
+ghost use Rattle.offline_filter.specs.Offline.{disclosed_by};
+ghost use Rattle.offline_filter.specs.Unclosed.{passing_by, IsNotLate};
+
+/// A run makes no advance of the clock, so no group of an aggregate closes: what is disclosed are the records that pass and no
+/// others, and the audit says of none that it is late.
+pub fn nothing_closes()
+    ensures clock { (job : OfflineJob) (messages : List (List ℕ)) → HasNone clock_in (history_of job messages) }
+    ensures passing { (job : OfflineJob) (messages : List (List ℕ)) → disclosed_by job messages ≡ passing_by job messages }
+    ensures early { (job : OfflineJob) (messages : List (List ℕ)) → AllByRecursion IsNotLate (audit_list (history_of job messages)) }
+{}

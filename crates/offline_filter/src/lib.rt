@@ -7,8 +7,9 @@
 //! - `run`: the state of a mediator with one session and one subscription; `handling`, `delivery` and `recording` say
 //!   what is done with a message.
 //! - [`laws`]: over the definitions that the contract of [`offline`] cites, with no code behind them:
-//!   [`due_is_built`], that what is due are the messages that are built one after another, and
-//!   [`accepted_messages_are_the_history`], that the history of a run has its messages alone.
+//!   [`due_is_built`], that what is due are the messages that are built one after another,
+//!   [`accepted_messages_are_the_history`], that the history of a run has its messages alone, and [`nothing_closes`], that
+//!   what counts in aggregates is disclosed to nobody.
 //!
 //! Proved of `offline`, over any `Source` and `Sink` that have not failed yet. Where it answers `Ok` (`filters`): the
 //! octets read are whole messages, each was accepted after those before it; what was written are message by message
@@ -25,8 +26,8 @@
 //! failed is the one that the fault names (`sound`, `fails`). However a run ends, it has read no more octets than
 //! `turns` reads of 65,536 give.
 //!
-//! Where it answers `Ok`, or a fault after it began to read, the job was one to accept: its text spells a policy
-//! without aggregates, its name is one, and the journal has room for both. The laws are those above.
+//! Where it answers `Ok`, or a fault after it began to read, the job was one to accept: its text spells a policy, its
+//! name is one, and the journal has room for both. The laws are those above.
 #![tactic(auto)]
 
 mod delivery;
@@ -39,7 +40,7 @@ mod run;
 
 pub use engine::offline;
 pub use job::{OfflineFault, OfflineJob, OfflineReport};
-pub use laws::{accepted_messages_are_the_history, due_is_built};
+pub use laws::{accepted_messages_are_the_history, due_is_built, nothing_closes};
 pub use mediator_state::Fault;
 pub use message_intake::FramingFault;
 pub use octet_devices::{Device, Failed, Sink, Source};

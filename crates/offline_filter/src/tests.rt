@@ -34,6 +34,13 @@ const ONE_FLOW: &[u8] = b"\x00\x0a\x00\x42\x65\x53\xf1\x00\x00\x00\x00\x00\x00\x
 \x00\x02\x00\x18\x01\x00\x00\x04\x00\x98\x00\x08\x00\x0b\x00\x02\x00\x01\x00\x08\x00\x02\x00\x04\
 \x01\x00\x00\x1a\x00\x00\x01\x8b\xcf\xe6\xee\xa0\x01\xbb\x00\x00\x00\x00\x00\x00\x00\x64\x00\x00\x00\x01";
 
+/// Starts in seconds and destination ports of two records, the first in the first second of 1970; then a start alone.
+const STARTS: &[u8] = b"\x00\x0a\x00\x30\x65\x53\xf1\x00\x00\x00\x00\x00\x00\x00\x00\x07\
+\x00\x02\x00\x10\x01\x00\x00\x02\x00\x96\x00\x04\x00\x0b\x00\x02\
+\x01\x00\x00\x10\x00\x00\x00\x00\x01\xbb\x65\x53\xf1\x00\x00\x50\
+\x00\x0a\x00\x24\x65\x53\xf1\x00\x00\x00\x00\x02\x00\x00\x00\x07\
+\x00\x02\x00\x0c\x01\x01\x00\x01\x00\x96\x00\x04\x01\x01\x00\x08\x65\x53\xf1\x00";
+
 const EMPTY: &[u8] = b"\x00\x0a\x00\x10\x65\x53\xf1\x00\x00\x00\x00\x00\x00\x00\x00\x07";
 
 /// A template of interface names; then a message of two records, of which the second goes past its set.
@@ -85,6 +92,10 @@ const REMOVE: &str =
 /// What goes to each port in five minutes, closed a minute after their end.
 const WEB: &str =
     "policy 1\naggregate web key destinationTransportPort interval 300 grace 60\nrule for acme in * from * to * aggregate web\n";
+
+/// The same in the shortest intervals, closed at their end.
+const SHORTEST: &str =
+    "policy 1\naggregate web key destinationTransportPort interval 1 grace 0\nrule for acme in * from * to * aggregate web\n";
 
 /// Domain 8 is withheld from acme, and all else passes.
 const NOT_EIGHT: &str =
@@ -165,6 +176,16 @@ const CASES: &[Case] = &[
         written: b"",
         audit: b"",
     },
+    Case {
+        name: "names_and_policies_are_judged: a policy before the name",
+        policy: "policy 2\n",
+        subscriber: "Acme",
+        turns: 1000,
+        octets: ONE_RECORD,
+        answer: Err(OfflineFault::Core(Fault::Policy(NO_HEADER))),
+        written: b"",
+        audit: b"",
+    },
     // Nothing closes, so nothing is written of what counts.
     Case {
         name: "aggregates: a record that counts",
@@ -193,6 +214,20 @@ const CASES: &[Case] = &[
         }),
         written: b"",
         audit: b"3 0 1 withheld 1 no-time\n",
+    },
+    Case {
+        name: "aggregates: none is late, and one without the key",
+        policy: SHORTEST,
+        subscriber: "acme",
+        turns: 1000,
+        octets: STARTS,
+        answer: Ok(OfflineReport {
+            messages: 2,
+            records: 3,
+            disclosed: 0,
+        }),
+        written: b"",
+        audit: b"3 0 1 aggregated 1\n3 1 1 aggregated 1\n4 0 1 withheld 1 no-key\n",
     },
     Case {
         name: "empty_message",
