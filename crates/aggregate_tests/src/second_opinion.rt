@@ -42,7 +42,7 @@ fn message(alloc: Global, list: &[Flow]) -> Result<Vec<u8>, AllocError> {
     let mut octets = Vec::new(alloc);
     octets.extend_from_slice(BEFORE_RECORDS)?;
     for flow in list {
-        let start = u64::from(flow.minute) * 60_000 + u64::from(flow.port);
+        let start = (u64::from(flow.minute) * 60_000).saturating_add(u64::from(flow.port));
         octets.extend_from_slice(&start.to_be_bytes())?;
         octets.extend_from_slice(&flow.port.to_be_bytes())?;
         octets.extend_from_slice(&flow.octets.to_be_bytes())?;
