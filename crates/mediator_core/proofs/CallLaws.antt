@@ -274,4 +274,5 @@ is_sound s stands = record {
   streamable = stands.stands.small.streamable;
   places = within s stands;
   drained = stands.stands.audit.within;
+  numbered = stands.stands.numbered;
 }

@@ -16,6 +16,7 @@ pub use Rattle.mediator_history.specs.Disclosed
 pub use Rattle.mediator_history.specs.Auditing
 pub use Rattle.mediator_history.specs.Cuts
 pub use Rattle.mediator_state.specs.Planning
+pub use Rattle.mediator_state.specs.Standing as StateStanding
 pub use Rattle.mediator_state.specs.Accepting
 pub use Rattle.mediator_state.specs.Calls as StateCalls
 pub mod Mediation

@@ -10,8 +10,8 @@
 //! audit entries were drained, its limits): an accepted call answers what the history says and goes on with just its
 //! entry, behind just the cuts that it makes (`ok`); a refused one changes nothing (`same`), and its fault is the first
 //! cause that stands (`err`). `journal` is the history (`entries`), and every mediator keeps that what is disclosed can be
-//! streamed and that no place or drained count is past its end (`sound`): its type keeps that its state stands for its
-//! journal.
+//! streamed, that no place or drained count is past its end and that no number of a session or a subscription comes again
+//! (`sound`): its type keeps that its state stands for its journal.
 //!
 //! Proved of [`run`], for every list of calls and any limits that are allowed: each reply is that of its call, one after
 //! another from a mediator before any call (`steps`); the history's entries are those of the accepted calls, in order,
