@@ -1,0 +1,93 @@
+//! Which places of a journal have their receipt.
+ghost use Rattle.std.specs.Prelude.{◌≡◌, ◌↔◌, ◌++◌, ◌∷◌, [], ◌≤◌, true, List, length, slice_get, Some, IfOk, IfErr, OnOk, IsTrue};
+ghost use Rattle.event_journal.specs.declared.entry.Entry.{Entry};
+ghost use Rattle.mediator_history.specs.Numbers.{is_in};
+ghost use Rattle.entry_receipts.specs.declared.kept.KeptEntry.{KeptEntry};
+ghost use Rattle.entry_receipts.specs.Receipts.{positions, all_kept};
+ghost use Rattle.entry_receipts.specs.Marking.{AreMarked, count_of};
+
+use crate::kept::KeptEntry;
+use event_journal::Journal;
+use std::alloc::{AllocError, Global};
+use std::marker::Model;
+
+/// A mark for each entry of a journal from a place on, set where a receipt of it was shown. Contracts see the place and the
+/// marks.
+#[derive(Drop)]
+pub struct Marks {
+    from: u64,
+    marks: Vec<bool>,
+}
+
+impl Model for Marks {
+    ghost use Rattle.entry_receipts.specs.Marking.{Marked, marked_as};
+
+    ghost Value = { Marked };
+
+    ghost view = { λ m. marked_as m.from m.marks.items };
+}
+
+impl Marks {
+    /// Marks for the entries from a place on, none of them set.
+    ///
+    /// # Errors
+    /// Want of memory.
+    pub fn new(alloc: Global, journal: &Journal, from: u64) -> Result<Marks, AllocError>
+        requires within { from ≤ length journal.now.entries }
+        ensures from { IfOk result (λ marks. marks.from ≡ from) }
+        ensures none { IfOk result (λ marks. AreMarked marks journal.now.entries []) }
+    {
+        let places = (journal.len() - from) as usize;
+        let marks = Vec::from_elem(alloc, false, places)?;
+        Ok(Marks { from, marks })
+    }
+
+    /// Sets the marks of one handle's receipts, which are those of its calls in their order.
+    ///
+    /// # Errors
+    /// The position of the first receipt whose entry doesn't stand there, or stands before the place or before an earlier
+    /// one of the same handle, or was marked before. Some marks of the handle may be set then.
+    pub fn mark(&mut self, journal: &Journal, kept: &[KeptEntry]) -> Result<(), u64>
+        ensures from { self.new.from ≡ self.old.from }
+        ensures ok { OnOk result ((handles : List (List KeptEntry)) → AreMarked self.old journal.now.entries handles → AreMarked self.new journal.now.entries (handles ++ kept.now ∷ [])) }
+        ensures err { IfErr result (λ position. is_in position (positions kept.now) ≡ true) }
+    {
+        let mut floor = self.from;
+        for receipt in kept {
+            if receipt.position < floor || !stands(journal, receipt) {
+                return Err(receipt.position);
+            }
+            let place = (receipt.position - self.from) as usize;
+            match self.marks.get_mut(place) {
+                Some(mark) if !*mark => *mark = true,
+                _ => return Err(receipt.position),
+            }
+            floor = receipt.position + 1;
+        }
+        Ok(())
+    }
+
+    /// How many marks are set: as many as there were receipts.
+    pub fn count(&self) -> u64
+        ensures value { result ≡ count_of self.now }
+        ensures receipts { (h : List Entry) (handles : List (List KeptEntry)) → AreMarked self.now h handles → result ≡ length (all_kept handles) }
+    {
+        let mut count = 0;
+        for mark in &self.marks {
+            if *mark {
+                count += 1;
+            }
+        }
+        count
+    }
+}
+
+/// Whether the entry stands in the journal at its position.
+fn stands(journal: &Journal, receipt: &KeptEntry) -> bool
+    ensures { IsTrue result ↔ (slice_get journal.now.entries receipt.now.position ≡ Some receipt.now.entry) }
+{
+    match journal.get(receipt.position) {
+        Some(entry) => *entry == receipt.entry,
+        None => false,
+    }
+}
