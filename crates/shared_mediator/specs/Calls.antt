@@ -1,0 +1,50 @@
+-- What the calls add to what lies under the lock, and why they refuse.
+use Rattle.std.specs.Prelude.{◌≡◌, ℕ, ◌+◌, ◌<◌, ◌×◌, true, false, not, Option, Some, None}
+use Rattle.mediator_history.specs.Subscriptions.{is_live, is_served}
+use Rattle.mediator_state.specs.declared.fault.Fault.TheVariants.{UnknownSub}
+use Rattle.mediator_core.specs.Mediation.{waiting_at}
+use Rattle.mediator_core.specs.Calls.{RefusesOpen}
+use Rattle.counted_mediator.specs.Counted.{Counts}
+use Rattle.shared_mediator.specs.Locked.{Locked}
+use Rattle.shared_mediator.specs.declared.fault.HandleFault.{HandleFault}
+use Rattle.shared_mediator.specs.declared.fault.HandleFault.TheVariants as handle
+use Rattle.shared_mediator.specs.declared.delivery.Waited.{Waited}
+use Rattle.shared_mediator.specs.declared.delivery.Waited.TheVariants as waited
+
+-- so many entries and records more are counted, and so many records are those of subscriptions that have ended; so many handles more
+-- of each kind are made
+pub record Makes (entries handed gone exporters deliveries admins : ℕ) (old new : Locked) : Type 0 where
+  pub counts : Counts old.counted entries handed gone new.counted
+  pub handles : new.handles ≡ old.handles
+  pub exporters_are : new.exporters ≡ old.exporters + exporters
+  pub deliveries_are : new.deliveries ≡ old.deliveries + deliveries
+  pub admins_are : new.admins ≡ old.admins + admins
+  pub stopped : new.stopped ≡ old.stopped
+
+-- and no handle more
+abbrev pub Adds : ℕ → ℕ → ℕ → Locked → Locked → Type 0
+Adds entries handed gone old new = Makes entries handed gone 0 0 0 old new
+
+-- as many of the kind were made as there may be; or the mediator opens no session
+abbrev pub RefusesExporter : HandleFault → Locked → Type 0
+RefusesExporter handle.NoHandle d = d.exporters ≡ d.handles
+RefusesExporter (handle.Core why) d = (d.exporters < d.handles) × RefusesOpen why d.counted.core
+
+-- no such subscription is live; or as many of the kind were made as there may be
+abbrev pub RefusesDelivery : HandleFault → Locked → ℕ → Type 0
+RefusesDelivery handle.NoHandle d sub = (is_live sub d.counted.core.history ≡ true) × (d.deliveries ≡ d.handles)
+RefusesDelivery (handle.Core why) d sub = (why ≡ UnknownSub) × (is_live sub d.counted.core.history ≡ false)
+
+abbrev pub RefusesAdmin : HandleFault → Locked → Type 0
+RefusesAdmin handle.NoHandle d = d.admins ≡ d.handles
+RefusesAdmin (handle.Core why) d = ⊥
+
+-- the first that is so: something waits for the subscription, it has ended, it was cut, or all is to stop; or none is
+abbrev pub IsWaited : Locked → ℕ → Option Waited → Type 0
+IsWaited d sub (Some waited.Queued) = (is_live sub d.counted.core.history ≡ true) × (0 < waiting_at d.counted.core sub)
+IsWaited d sub (Some waited.Gone) = is_live sub d.counted.core.history ≡ false
+IsWaited d sub (Some waited.Cut) = (is_live sub d.counted.core.history ≡ true) × (waiting_at d.counted.core sub ≡ 0) × (is_served sub d.counted.core.history ≡ false)
+IsWaited d sub (Some waited.Stopped) =
+    (is_live sub d.counted.core.history ≡ true) × (waiting_at d.counted.core sub ≡ 0) × (is_served sub d.counted.core.history ≡ true) × (d.stopped ≡ true)
+IsWaited d sub None =
+    (is_live sub d.counted.core.history ≡ true) × (waiting_at d.counted.core sub ≡ 0) × (is_served sub d.counted.core.history ≡ true) × (d.stopped ≡ false)

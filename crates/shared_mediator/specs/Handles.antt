@@ -1,0 +1,65 @@
+-- What handles keep.
+use Rattle.std.specs.Prelude.{◌≡◌, ℕ, ◌+◌, ◌×◌, Bool, true, false, List, [], ◌∷◌, ◌++◌, length, take, drop, sum_by, Some}
+use Rattle.std.specs.List.{AllByRecursion}
+use Rattle.ipfix_template.specs.DataRecord.{DataRecord}
+use Rattle.subscriber_stream.specs.Parts.{parts, records_in}
+use Rattle.subscriber_stream.specs.Message.{built, taken}
+use Rattle.event_journal.specs.declared.entry.Entry.{Entry}
+use Rattle.event_journal.specs.declared.entry.Entry.TheVariants.{Message}
+use Rattle.entry_receipts.specs.declared.kept.KeptEntry.{KeptEntry}
+use Rattle.counted_mediator.specs.declared.handed.Handed.{Handed}
+use Rattle.counted_mediator.specs.Counted.{has_receipt}
+
+-- ---- entries
+
+abbrev pub HasReceipt : KeptEntry → Type 0
+HasReceipt k = has_receipt k.entry ≡ true
+
+-- the session's message of this number
+pub record IsMessage (session number : ℕ) (k : KeptEntry) : Type 0 where
+  pub octets : List ℕ
+  pub entry_is : k.entry ≡ Message session number octets
+
+-- the session's messages, from this number on
+abbrev pub AreMessages : ℕ → ℕ → List KeptEntry → Type 0
+AreMessages session number [] = Unit {0}
+AreMessages session number (k ∷ kept) = IsMessage session number k × AreMessages session (number + 1) kept
+
+-- one part, as much as it keeps receipts, which are those of the session's messages from the first on
+pub record IsExporting (session : ℕ) (kept : List KeptEntry) (parts share : ℕ) : Type 0 where
+  pub part : parts ≡ 1
+  pub amount : share ≡ length kept
+  pub messages : AreMessages session 0 kept
+
+-- one part, as much as it keeps entries
+pub record IsAdministering (kept : List KeptEntry) (parts share : ℕ) : Type 0 where
+  pub part : parts ≡ 1
+  pub amount : share ≡ length kept
+  pub entries : AllByRecursion HasReceipt kept
+
+-- the entry is kept behind the others, with a position
+pub record KeepsEntry (old : List KeptEntry) (entry : Entry) (new : List KeptEntry) : Type 0 where
+  pub position : ℕ
+  pub kept : new ≡ old ++ record { position = position; entry = entry } ∷ []
+
+-- ---- records
+
+abbrev pub records_kept : List Handed → ℕ
+records_kept kept = sum_by (λ h. h.records) kept
+
+-- one part, as much as its messages have records
+pub record IsDelivering (kept : List Handed) (parts share : ℕ) : Type 0 where
+  pub part : parts ≡ 1
+  pub amount : share ≡ records_kept kept
+
+-- the message is the one built for this Export Time and target at some place of some list, and these are its records
+pub record IsBuilt (now target : ℕ) (h : Handed) : Type 0 where
+  pub listed : List DataRecord
+  pub place : ℕ
+  pub message : Some h.message ≡ built listed place now target
+  pub records : h.records ≡ length (records_in (take (taken listed place target) (drop place (parts listed))))
+
+-- such a message is kept behind the others; or none is
+abbrev pub KeepsHanded : List Handed → ℕ → ℕ → Bool → List Handed → Type 0
+KeepsHanded old now target false new = new ≡ old
+KeepsHanded old now target true new = (h : Handed) × IsBuilt now target h × (new ≡ old ++ h ∷ [])

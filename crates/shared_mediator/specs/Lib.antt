@@ -1,0 +1,34 @@
+pub use Rattle.mediator_calls.specs.Limited
+pub use Rattle.event_journal.specs.Sizes
+pub use Rattle.event_journal.specs.Room
+pub use Rattle.ipfix_session.specs.Meaning as SessionMeaning
+pub use Rattle.policy_text.specs.Parsing
+pub use Rattle.subscriber_stream.specs.Parts
+pub use Rattle.subscriber_stream.specs.Message
+pub use Rattle.subscriber_stream.specs.Calls as StreamCalls
+pub use Rattle.stream_meaning.specs.Served
+pub use Rattle.stream_meaning.specs.Means
+pub use Rattle.mediator_history.specs.Sessions
+pub use Rattle.mediator_history.specs.Subscriptions
+pub use Rattle.mediator_history.specs.Accepted
+pub use Rattle.mediator_history.specs.Counting
+pub use Rattle.mediator_history.specs.Disclosed
+pub use Rattle.mediator_history.specs.Auditing
+pub use Rattle.mediator_history.specs.Cuts
+pub use Rattle.mediator_state.specs.Planning
+pub use Rattle.mediator_state.specs.Standing as StateStanding
+pub use Rattle.mediator_state.specs.Accepting
+pub use Rattle.mediator_state.specs.Calls as StateCalls
+pub use Rattle.mediator_core.specs.Mediation
+pub use Rattle.mediator_core.specs.Sound
+pub use Rattle.mediator_core.specs.Calls as MediatorCalls
+pub use Rattle.mediator_core.specs.Refusals
+pub use Rattle.entry_receipts.specs.Receipts
+pub use Rattle.entry_receipts.specs.Marking
+pub use Rattle.counted_mediator.specs.Counted
+pub use Rattle.counted_mediator.specs.Handing
+pub mod Locked
+pub mod Keeping
+pub mod Handles
+pub mod Calls
+pub mod Closing

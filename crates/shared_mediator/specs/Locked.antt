@@ -1,0 +1,49 @@
+-- What contracts see of what lies under the lock, and of the handles.
+use Rattle.std.specs.Prelude.{ℕ, Bool, List}
+use Rattle.entry_receipts.specs.declared.kept.KeptEntry.{KeptEntry}
+use Rattle.counted_mediator.specs.declared.handed.Handed.{Handed}
+use Rattle.counted_mediator.specs.Counted.{Counted}
+
+-- the counted mediator, how many handles of each kind there may be, how many were made, and whether all is to stop
+pub record Locked : Type 0 where
+  pub counted : Counted
+  pub handles : ℕ
+  pub exporters : ℕ
+  pub deliveries : ℕ
+  pub admins : ℕ
+  pub stopped : Bool
+
+abbrev pub locked_as : Counted → ℕ → ℕ → ℕ → ℕ → Bool → Locked
+locked_as counted handles exporters deliveries admins stopped = record {
+  counted = counted;
+  handles = handles;
+  exporters = exporters;
+  deliveries = deliveries;
+  admins = admins;
+  stopped = stopped;
+}
+
+-- a book's total, and the parts and the amount of the share that isn't given out
+pub record Ledgered : Type 0 where
+  pub total : ℕ
+  pub parts_left : ℕ
+  pub amount_left : ℕ
+
+abbrev pub ledgered_as : ℕ → ℕ → ℕ → Ledgered
+ledgered_as total parts amount = record { total = total; parts_left = parts; amount_left = amount }
+
+-- an exporter's session, and what it keeps
+pub record Exporting : Type 0 where
+  pub session : ℕ
+  pub kept : List KeptEntry
+
+abbrev pub exporting_as : ℕ → List KeptEntry → Exporting
+exporting_as session kept = record { session = session; kept = kept }
+
+-- a delivery's subscription, and the messages that it keeps
+pub record Delivering : Type 0 where
+  pub sub : ℕ
+  pub kept : List Handed
+
+abbrev pub delivering_as : ℕ → List Handed → Delivering
+delivering_as sub kept = record { sub = sub; kept = kept }

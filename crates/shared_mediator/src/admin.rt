@@ -1,0 +1,199 @@
+//! An administrator's handle.
+ghost use Rattle.std.specs.Prelude.{◌≡◌, [], length, IfOk, OnOk, OnErr};
+ghost use Rattle.event_journal.specs.declared.entry.Entry.TheVariants.{Edit, Subscribe, Unsubscribe, Advance};
+ghost use Rattle.shared_mediator.specs.Handles.{KeepsEntry};
+
+use crate::ledgers::{EntryLedger, RecordLedger};
+use crate::shared::SharedMediator;
+use disclosure_audit::AuditEntry;
+use entry_receipts::KeptEntry;
+use event_journal::{Entry, PolicyText};
+use mediator_calls::{SubId, UnknownSub};
+use mediator_state::{Fault, Status};
+use policy_text::{Name, is_name};
+use std::alloc::{AllocError, Global};
+use std::marker::Model;
+use std::sync::Wait;
+use std::sync::ledger::Share;
+
+/// An administrator of a shared mediator, with the receipts of its calls. It is used with the mediator that made it.
+///
+/// Contracts see the receipts: its share of the ledger is their number.
+#[derive(Drop)]
+pub struct AdminHandle<E: EntryLedger> {
+    pub(crate) alloc: Global,
+    pub(crate) kept: Vec<KeptEntry>,
+    pub(crate) share: Share<E>,
+}
+
+impl<E: EntryLedger> Model for AdminHandle<E> {
+    ghost use Rattle.std.specs.Prelude.{List};
+    ghost use Rattle.entry_receipts.specs.declared.kept.KeptEntry.{KeptEntry};
+    ghost use Rattle.shared_mediator.specs.Handles.{IsAdministering};
+
+    ghost Value = { List KeptEntry };
+
+    ghost view = { λ h. h.kept.items };
+
+    ghost invariant = { λ h. IsAdministering h.kept.items h.share.parts h.share.amount };
+}
+
+impl<E: EntryLedger> AdminHandle<E> {
+    /// A handle that has made no call.
+    pub(crate) fn new(alloc: Global, share: Share<E>) -> AdminHandle<E>
+        requires part { share.parts ≡ 1 }
+        requires none { share.amount ≡ 0 }
+        ensures { result ≡ [] }
+    {
+        AdminHandle {
+            alloc,
+            kept: Vec::new(alloc),
+            share,
+        }
+    }
+
+    /// The receipts of its calls, in order.
+    pub fn kept(&self) -> &[KeptEntry]
+        ensures { result.now ≡ self.now }
+    {
+        self.kept.as_slice()
+    }
+
+    /// Puts a policy in force, and answers how many edits there were.
+    ///
+    /// # Errors
+    /// Those of `Mediator::edit`; and memory for the receipt. Then nothing has changed.
+    pub fn edit<H: RecordLedger>(
+        &mut self,
+        rt: &impl Wait,
+        shared: &SharedMediator<E, H>,
+        text: &str,
+    ) -> Result<u64, Fault>
+        ensures kept { OnOk result (KeepsEntry self.old (Edit text.now) self.new) }
+        ensures same { OnErr result (self.new ≡ self.old) }
+    {
+        let copy = PolicyText::new(self.alloc, text)?;
+        self.kept.reserve(1)?;
+        let accepted = shared.desk.lock(rt).edit(&mut self.share, text)?;
+        self.kept.push_reserved(KeptEntry {
+            position: accepted.position,
+            entry: Entry::Edit { text: copy },
+        });
+        Ok(accepted.number)
+    }
+
+    /// Begins a subscription under a name.
+    ///
+    /// # Errors
+    /// Those of `Mediator::subscribe`; and memory for the receipt. Then nothing has changed.
+    pub fn subscribe<H: RecordLedger>(
+        &mut self,
+        rt: &impl Wait,
+        shared: &SharedMediator<E, H>,
+        name: &str,
+    ) -> Result<SubId, Fault>
+        ensures kept { IfOk result (λ sub. KeepsEntry self.old (Subscribe sub.0 name.now) self.new) }
+        ensures same { OnErr result (self.new ≡ self.old) }
+    {
+        if !is_name(name) {
+            return Err(Fault::BadName);
+        }
+        let copy = Name::new(self.alloc, name.as_bytes())?;
+        self.kept.reserve(1)?;
+        let accepted = shared.desk.lock(rt).subscribe(&mut self.share, name)?;
+        self.kept.push_reserved(KeptEntry {
+            position: accepted.position,
+            entry: Entry::Subscribe {
+                sub: accepted.number,
+                name: copy,
+            },
+        });
+        Ok(SubId(accepted.number))
+    }
+
+    /// Ends a subscription. A wait of its delivery ends.
+    ///
+    /// # Errors
+    /// Those of `Mediator::unsubscribe`; and memory for the receipt. Then nothing has changed.
+    pub fn unsubscribe<H: RecordLedger>(
+        &mut self,
+        rt: &impl Wait,
+        shared: &SharedMediator<E, H>,
+        sub: SubId,
+    ) -> Result<(), Fault>
+        ensures kept { OnOk result (KeepsEntry self.old (Unsubscribe sub.0) self.new) }
+        ensures same { OnErr result (self.new ≡ self.old) }
+    {
+        self.kept.reserve(1)?;
+        let position = shared.desk.lock(rt).unsubscribe(&mut self.share, sub)?;
+        shared.moved.notify_all();
+        self.kept.push_reserved(KeptEntry {
+            position,
+            entry: Entry::Unsubscribe { sub: sub.0 },
+        });
+        Ok(())
+    }
+
+    /// Advances the clock to `t`, in milliseconds since 1970.
+    ///
+    /// # Errors
+    /// Those of `Mediator::advance`; and memory for the receipt. Then nothing has changed.
+    pub fn advance<H: RecordLedger>(
+        &mut self,
+        rt: &impl Wait,
+        shared: &SharedMediator<E, H>,
+        t: u64,
+    ) -> Result<(), Fault>
+        ensures kept { OnOk result (KeepsEntry self.old (Advance t) self.new) }
+        ensures same { OnErr result (self.new ≡ self.old) }
+    {
+        self.kept.reserve(1)?;
+        let position = shared.desk.lock(rt).advance(&mut self.share, t)?;
+        shared.moved.notify_all();
+        self.kept.push_reserved(KeptEntry {
+            position,
+            entry: Entry::Advance { t },
+        });
+        Ok(())
+    }
+
+    /// Hands out the oldest `most` of the audit's entries that wait, or all if there are fewer.
+    ///
+    /// # Errors
+    /// Want of memory.
+    pub fn drain_audit<H: RecordLedger>(
+        &self,
+        rt: &impl Wait,
+        shared: &SharedMediator<E, H>,
+        most: u32,
+    ) -> Result<Vec<AuditEntry>, AllocError> {
+        shared.desk.lock(rt).drain_audit(most)
+    }
+
+    /// How a live subscription stands.
+    ///
+    /// # Errors
+    /// No subscription with this number is live.
+    pub fn status<H: RecordLedger>(
+        &self,
+        rt: &impl Wait,
+        shared: &SharedMediator<E, H>,
+        sub: SubId,
+    ) -> Result<Status, UnknownSub> {
+        shared.desk.lock(rt).status(sub)
+    }
+
+    /// Ends all waits of deliveries for which nothing is queued, now and from now on.
+    pub fn stop<H: RecordLedger>(&self, rt: &impl Wait, shared: &SharedMediator<E, H>) {
+        shared.desk.lock(rt).stop();
+        shared.moved.notify_all();
+    }
+
+    /// Its share.
+    pub(crate) fn into_share(self) -> Share<E>
+        ensures part { result.parts ≡ 1 }
+        ensures amount { result.amount ≡ length self }
+    {
+        self.share
+    }
+}

@@ -1,0 +1,312 @@
+//! What lies under the lock.
+ghost use Rattle.std.specs.Prelude.{◌≡◌, ◌+◌, ◌*◌, ◌<◌, ◌×◌, true, length, IfOk, IfErr, OnOk, OnErr};
+ghost use Rattle.mediator_history.specs.Subscriptions.{is_live};
+ghost use Rattle.mediator_state.specs.Calls.{RefusesClose, RefusesEdit, RefusesSubscribe, RefusesUnsubscribe};
+ghost use Rattle.mediator_core.specs.Mediation.{journal_limits};
+ghost use Rattle.mediator_core.specs.Calls.{Opens, Closes, Receives, RefusesReceive, Edits, Subscribes, Unsubscribes, Advances, RefusesAdvance, IsStatusOf, Drains};
+ghost use Rattle.counted_mediator.specs.Counted.{counted_as, handed_at, handed_live};
+ghost use Rattle.counted_mediator.specs.Handing.{HandsOut, RefusesHanding, records_of};
+ghost use Rattle.shared_mediator.specs.Locked.{locked_as};
+ghost use Rattle.shared_mediator.specs.Calls.{Makes, Adds, RefusesExporter, RefusesDelivery, RefusesAdmin, IsWaited};
+
+use crate::delivery::Waited;
+use crate::fault::HandleFault;
+use crate::ledgers::{EntryLedger, RecordLedger};
+use bytes::Bytes;
+use counted_mediator::{CountedMediator, Handed, PullFault};
+use disclosure_audit::AuditEntry;
+use mediator_calls::{SessionId, SubId, UnknownSub};
+use mediator_core::Mediator;
+use mediator_state::{Fault, Receipt, Status};
+use std::alloc::AllocError;
+use std::marker::Model;
+use std::sync::ledger::{Blank, Book, Share};
+
+/// A mediator, the books of what the handles' calls added to it, and the shares that no handle has.
+///
+/// Contracts see the counted mediator, how many handles there are and may be, and whether all is to stop. The books' totals
+/// are the mediator's counts: that is kept.
+#[derive(Drop)]
+pub(crate) struct Desk<E: EntryLedger, H: RecordLedger> {
+    pub(crate) counted: CountedMediator,
+    pub(crate) handles: u64,
+    pub(crate) exporters: u64,
+    pub(crate) deliveries: u64,
+    pub(crate) admins: u64,
+    pub(crate) stopped: bool,
+    pub(crate) entries: Book<E>,
+    pub(crate) handed: Book<H>,
+    pub(crate) entries_left: Share<E>,
+    pub(crate) handed_left: Share<H>,
+}
+
+impl<E: EntryLedger, H: RecordLedger> Model for Desk<E, H> {
+    ghost use Rattle.shared_mediator.specs.Locked.{Locked, locked_as, ledgered_as};
+    ghost use Rattle.shared_mediator.specs.Keeping.{IsKept};
+
+    ghost Value = { Locked };
+
+    ghost view = { λ d. locked_as d.counted d.handles d.exporters d.deliveries d.admins d.stopped };
+
+    ghost invariant = { λ d. IsKept E.all E.before H.all (locked_as d.counted d.handles d.exporters d.deliveries d.admins d.stopped) (ledgered_as d.entries.total d.entries_left.parts d.entries_left.amount) (ledgered_as d.handed.total d.handed_left.parts d.handed_left.amount) };
+}
+
+/// What was accepted: the entry's position in the journal, and the number that the call answers.
+#[derive(Clone, Copy, Debug, PartialEq, Eq)]
+pub(crate) struct Accepted {
+    pub(crate) position: u64,
+    pub(crate) number: u64,
+}
+
+impl<E: EntryLedger, H: RecordLedger> Desk<E, H> {
+    /// A desk with no handle yet.
+    pub(crate) fn new(
+        mediator: Mediator,
+        handles: u64,
+        entries: Blank,
+        handed: Blank,
+    ) -> Desk<E, H>
+        requires fresh { handed_live mediator ≡ 0 }
+        requires before { E.before ≡ mediator.history }
+        requires entries_name { entries.name ≡ E.name }
+        requires entries_parts { (entries.parts ≡ E.parts) × (E.parts ≡ E.all) × (E.all ≡ 2 * handles + 1) }
+        requires handed_name { handed.name ≡ H.name }
+        requires handed_parts { (handed.parts ≡ H.parts) × (H.parts ≡ H.all) × (H.all ≡ handles + 1) }
+        ensures { result ≡ locked_as (counted_as mediator (length mediator.history) 0) handles 0 0 0 false }
+    {
+        let (entries, entries_left) = entries.open::<E>();
+        let (handed, handed_left) = handed.open::<H>();
+        Desk {
+            counted: CountedMediator::new(mediator),
+            handles,
+            exporters: 0,
+            deliveries: 0,
+            admins: 0,
+            stopped: false,
+            entries,
+            handed,
+            entries_left,
+            handed_left,
+        }
+    }
+
+    /// Opens a session, with a share for its exporter.
+    pub(crate) fn exporter(&mut self) -> Result<(SessionId, Share<E>), HandleFault>
+        ensures ok { IfOk result (λ given. Opens self.old.counted.core given.0.0 self.new.counted.core) }
+        ensures counts { OnOk result (Makes 0 0 0 1 0 0 self.old self.new) }
+        ensures share { IfOk result (λ given. (given.1.parts ≡ 1) × (given.1.amount ≡ 0)) }
+        ensures same { OnErr result (self.new ≡ self.old) }
+        ensures err { IfErr result (λ e. RefusesExporter e self.old) }
+    {
+        if self.exporters == self.handles {
+            return Err(HandleFault::NoHandle);
+        }
+        let session = match self.counted.open() {
+            Ok(session) => session,
+            Err(fault) => return Err(HandleFault::Core(fault)),
+        };
+        self.exporters += 1;
+        Ok((session, self.entries_left.split_off(1, 0)))
+    }
+
+    /// A share for a delivery to a live subscription.
+    pub(crate) fn delivery(&mut self, sub: SubId) -> Result<Share<H>, HandleFault>
+        ensures live { OnOk result (is_live sub.0 self.old.counted.core.history ≡ true) }
+        ensures counts { OnOk result (Makes 0 0 0 0 1 0 self.old self.new) }
+        ensures share { IfOk result (λ share. (share.parts ≡ 1) × (share.amount ≡ 0)) }
+        ensures same { OnErr result (self.new ≡ self.old) }
+        ensures err { IfErr result (λ e. RefusesDelivery e self.old sub.0) }
+    {
+        if self.counted.status(sub).is_err() {
+            return Err(HandleFault::Core(Fault::UnknownSub));
+        }
+        if self.deliveries == self.handles {
+            return Err(HandleFault::NoHandle);
+        }
+        self.deliveries += 1;
+        Ok(self.handed_left.split_off(1, 0))
+    }
+
+    /// A share for an administrator.
+    pub(crate) fn admin(&mut self) -> Result<Share<E>, HandleFault>
+        ensures counts { OnOk result (Makes 0 0 0 0 0 1 self.old self.new) }
+        ensures share { IfOk result (λ share. (share.parts ≡ 1) × (share.amount ≡ 0)) }
+        ensures same { OnErr result (self.new ≡ self.old) }
+        ensures err { IfErr result (λ e. RefusesAdmin e self.old) }
+    {
+        if self.admins == self.handles {
+            return Err(HandleFault::NoHandle);
+        }
+        self.admins += 1;
+        Ok(self.entries_left.split_off(1, 0))
+    }
+
+    /// Accepts a session's next message, and adds it to a share.
+    pub(crate) fn receive(
+        &mut self,
+        share: &mut Share<E>,
+        session: SessionId,
+        number: u64,
+        message: Bytes,
+    ) -> Result<Receipt, Fault>
+        requires part { 0 < share.old.parts }
+        ensures ok { IfOk result (λ receipt. Receives self.old.counted.core session.0 number message receipt self.new.counted.core) }
+        ensures counts { OnOk result (Adds 1 0 0 self.old self.new) }
+        ensures share { OnOk result (share.new.amount ≡ share.old.amount + 1) }
+        ensures part { share.new.parts ≡ share.old.parts }
+        ensures same { OnErr result ((self.new ≡ self.old) × (share.new ≡ share.old)) }
+        ensures err { IfErr result (λ e. RefusesReceive e self.old.counted.core session.0 number message) }
+    {
+        let receipt = self.counted.receive(session, number, message)?;
+        self.entries.add(share, 1);
+        Ok(receipt)
+    }
+
+    /// Closes a session.
+    pub(crate) fn close(&mut self, session: SessionId) -> Result<(), Fault>
+        ensures ok { OnOk result (Closes self.old.counted.core session.0 self.new.counted.core) }
+        ensures counts { OnOk result (Adds 0 0 0 self.old self.new) }
+        ensures same { OnErr result (self.new ≡ self.old) }
+        ensures err { IfErr result (λ e. RefusesClose e (journal_limits self.old.counted.core.limits) self.old.counted.core.history session.0) }
+    {
+        self.counted.close(session)
+    }
+
+    /// Builds a subscription's next message, and adds its records to a share.
+    pub(crate) fn pull(
+        &mut self,
+        share: &mut Share<H>,
+        sub: SubId,
+        now: u32,
+        target: u16,
+    ) -> Result<Option<Handed>, PullFault>
+        requires part { 0 < share.old.parts }
+        ensures ok { IfOk result (λ answer. HandsOut self.old.counted sub.0 now target answer self.new.counted) }
+        ensures counts { IfOk result (λ answer. Adds 0 (records_of answer) 0 self.old self.new) }
+        ensures share { IfOk result (λ answer. share.new.amount ≡ share.old.amount + records_of answer) }
+        ensures part { share.new.parts ≡ share.old.parts }
+        ensures same { OnErr result ((self.new ≡ self.old) × (share.new ≡ share.old)) }
+        ensures err { IfErr result (λ e. RefusesHanding e self.old.counted sub.0) }
+    {
+        match self.counted.pull(sub, now, target) {
+            Ok(Some(handed)) => {
+                self.handed.add(share, handed.records);
+                Ok(Some(handed))
+            }
+            Ok(None) => Ok(None),
+            Err(fault) => Err(fault),
+        }
+    }
+
+    /// What a wait of this subscription's delivery ends with, if it ends now.
+    pub(crate) fn waited(&self, sub: SubId) -> Option<Waited>
+        ensures { IsWaited self.now sub.0 result }
+    {
+        match self.counted.status(sub) {
+            Err(_) => Some(Waited::Gone),
+            Ok(status) if status.queued > 0 => Some(Waited::Queued),
+            Ok(status) if status.cut => Some(Waited::Cut),
+            Ok(_) if self.stopped => Some(Waited::Stopped),
+            Ok(_) => None,
+        }
+    }
+
+    /// Puts a policy in force, and adds the edit to a share.
+    pub(crate) fn edit(&mut self, share: &mut Share<E>, text: &str) -> Result<Accepted, Fault>
+        requires part { 0 < share.old.parts }
+        ensures ok { IfOk result (λ accepted. Edits self.old.counted.core text.now accepted.number self.new.counted.core) }
+        ensures last { IfOk result (λ accepted. accepted.position + 1 ≡ length self.new.counted.core.history) }
+        ensures counts { OnOk result (Adds 1 0 0 self.old self.new) }
+        ensures share { OnOk result (share.new.amount ≡ share.old.amount + 1) }
+        ensures part { share.new.parts ≡ share.old.parts }
+        ensures same { OnErr result ((self.new ≡ self.old) × (share.new ≡ share.old)) }
+        ensures err { IfErr result (λ e. RefusesEdit e (journal_limits self.old.counted.core.limits) self.old.counted.core.history text.now) }
+    {
+        let position = self.counted.len();
+        let number = self.counted.edit(text)?;
+        self.entries.add(share, 1);
+        Ok(Accepted { position, number })
+    }
+
+    /// Begins a subscription, and adds that to a share.
+    pub(crate) fn subscribe(
+        &mut self,
+        share: &mut Share<E>,
+        name: &str,
+    ) -> Result<Accepted, Fault>
+        requires part { 0 < share.old.parts }
+        ensures ok { IfOk result (λ accepted. Subscribes self.old.counted.core name.now accepted.number self.new.counted.core) }
+        ensures last { IfOk result (λ accepted. accepted.position + 1 ≡ length self.new.counted.core.history) }
+        ensures counts { OnOk result (Adds 1 0 0 self.old self.new) }
+        ensures share { OnOk result (share.new.amount ≡ share.old.amount + 1) }
+        ensures part { share.new.parts ≡ share.old.parts }
+        ensures same { OnErr result ((self.new ≡ self.old) × (share.new ≡ share.old)) }
+        ensures err { IfErr result (λ e. RefusesSubscribe e (journal_limits self.old.counted.core.limits) self.old.counted.core.history name.now) }
+    {
+        let position = self.counted.len();
+        let sub = self.counted.subscribe(name)?;
+        self.entries.add(share, 1);
+        Ok(Accepted {
+            position,
+            number: sub.0,
+        })
+    }
+
+    /// Ends a subscription, adds that to a share, and answers the entry's position.
+    pub(crate) fn unsubscribe(&mut self, share: &mut Share<E>, sub: SubId) -> Result<u64, Fault>
+        requires part { 0 < share.old.parts }
+        ensures ok { OnOk result (Unsubscribes self.old.counted.core sub.0 self.new.counted.core) }
+        ensures last { IfOk result (λ position. position + 1 ≡ length self.new.counted.core.history) }
+        ensures counts { OnOk result (Adds 1 0 (handed_at self.old.counted.core sub.0) self.old self.new) }
+        ensures share { OnOk result (share.new.amount ≡ share.old.amount + 1) }
+        ensures part { share.new.parts ≡ share.old.parts }
+        ensures same { OnErr result ((self.new ≡ self.old) × (share.new ≡ share.old)) }
+        ensures err { IfErr result (λ e. RefusesUnsubscribe e (journal_limits self.old.counted.core.limits) self.old.counted.core.history sub.0) }
+    {
+        let position = self.counted.len();
+        self.counted.unsubscribe(sub)?;
+        self.entries.add(share, 1);
+        Ok(position)
+    }
+
+    /// Advances the clock, adds that to a share, and answers the entry's position: the last one, behind the cuts that the
+    /// advance makes.
+    pub(crate) fn advance(&mut self, share: &mut Share<E>, t: u64) -> Result<u64, Fault>
+        requires part { 0 < share.old.parts }
+        ensures ok { OnOk result (Advances self.old.counted.core t self.new.counted.core) }
+        ensures last { IfOk result (λ position. position + 1 ≡ length self.new.counted.core.history) }
+        ensures counts { OnOk result (Adds 1 0 0 self.old self.new) }
+        ensures share { OnOk result (share.new.amount ≡ share.old.amount + 1) }
+        ensures part { share.new.parts ≡ share.old.parts }
+        ensures same { OnErr result ((self.new ≡ self.old) × (share.new ≡ share.old)) }
+        ensures err { IfErr result (λ e. RefusesAdvance e self.old.counted.core t) }
+    {
+        self.counted.advance(t)?;
+        self.entries.add(share, 1);
+        Ok(self.counted.len() - 1)
+    }
+
+    /// Hands out audit entries.
+    pub(crate) fn drain_audit(&mut self, most: u32) -> Result<Vec<AuditEntry>, AllocError>
+        ensures ok { IfOk result (λ out. Drains self.old.counted.core most out.items self.new.counted.core) }
+        ensures counts { OnOk result (Adds 0 0 0 self.old self.new) }
+        ensures same { OnErr result (self.new ≡ self.old) }
+    {
+        self.counted.drain_audit(most)
+    }
+
+    /// How a live subscription stands.
+    pub(crate) fn status(&self, sub: SubId) -> Result<Status, UnknownSub>
+        ensures ok { IfOk result (λ status. IsStatusOf self.now.counted.core sub.0 status) }
+        ensures err { OnErr result (is_live sub.0 self.now.counted.core.history ≡ false) }
+    {
+        self.counted.status(sub)
+    }
+
+    /// All is to stop: a wait for which nothing is queued ends.
+    pub(crate) fn stop(&mut self)
+        ensures { self.new ≡ locked_as self.old.counted self.old.handles self.old.exporters self.old.deliveries self.old.admins true }
+    {
+        self.stopped = true;
+    }
+}

@@ -1,0 +1,120 @@
+//! An exporter's handle.
+ghost use Rattle.std.specs.Prelude.{◌≡◌, ◌++◌, ◌∷◌, [], length, IfOk, OnErr};
+ghost use Rattle.event_journal.specs.declared.entry.Entry.TheVariants.{Message};
+ghost use Rattle.shared_mediator.specs.Locked.{exporting_as};
+
+use crate::ledgers::{EntryLedger, RecordLedger};
+use crate::shared::SharedMediator;
+use bytes::Bytes;
+use entry_receipts::KeptEntry;
+use event_journal::Entry;
+use mediator_calls::SessionId;
+use mediator_state::{Fault, Receipt};
+use std::alloc::Global;
+use std::marker::Model;
+use std::sync::Wait;
+use std::sync::ledger::Share;
+
+/// One exporter's session on a shared mediator, with the receipts of its messages. It is used with the mediator that made
+/// it.
+///
+/// Contracts see the session's number, and the receipts: those of its messages from the first on, and its share of the
+/// ledger is their number.
+#[derive(Drop)]
+pub struct ExporterHandle<E: EntryLedger> {
+    pub(crate) session: SessionId,
+    pub(crate) kept: Vec<KeptEntry>,
+    pub(crate) share: Share<E>,
+}
+
+impl<E: EntryLedger> Model for ExporterHandle<E> {
+    ghost use Rattle.shared_mediator.specs.Locked.{Exporting, exporting_as};
+    ghost use Rattle.shared_mediator.specs.Handles.{IsExporting};
+
+    ghost Value = { Exporting };
+
+    ghost view = { λ h. exporting_as h.session.0 h.kept.items };
+
+    ghost invariant = { λ h. IsExporting h.session.0 h.kept.items h.share.parts h.share.amount };
+}
+
+impl<E: EntryLedger> ExporterHandle<E> {
+    /// A handle that has offered nothing.
+    pub(crate) fn new(alloc: Global, session: SessionId, share: Share<E>) -> ExporterHandle<E>
+        requires part { share.parts ≡ 1 }
+        requires none { share.amount ≡ 0 }
+        ensures { result ≡ exporting_as session.0 [] }
+    {
+        ExporterHandle {
+            session,
+            kept: Vec::new(alloc),
+            share,
+        }
+    }
+
+    /// The number of its session.
+    pub fn session(&self) -> SessionId
+        ensures { result.0 ≡ self.now.session }
+    {
+        self.session
+    }
+
+    /// The receipts of its messages, in order.
+    pub fn kept(&self) -> &[KeptEntry]
+        ensures { result.now ≡ self.now.kept }
+    {
+        self.kept.as_slice()
+    }
+
+    /// Offers the session's next message, and keeps its receipt: the message with the position in the journal that the
+    /// mediator answered.
+    ///
+    /// # Errors
+    /// Those of `Mediator::receive`; and memory for the receipt. Then nothing has changed.
+    pub fn offer<H: RecordLedger>(
+        &mut self,
+        rt: &impl Wait,
+        shared: &SharedMediator<E, H>,
+        message: Bytes,
+    ) -> Result<Receipt, Fault>
+        ensures kept { IfOk result (λ receipt. self.new.kept ≡ self.old.kept ++ record { position = receipt.position; entry = Message self.old.session (length self.old.kept) message } ∷ []) }
+        ensures session { self.new.session ≡ self.old.session }
+        ensures same { OnErr result (self.new ≡ self.old) }
+    {
+        let octets = message.clone()?;
+        self.kept.reserve(1)?;
+        let number = self.kept.len() as u64;
+        let receipt =
+            shared.desk.lock(rt).receive(&mut self.share, self.session, number, message)?;
+        shared.moved.notify_all();
+        self.kept.push_reserved(KeptEntry {
+            position: receipt.position,
+            entry: Entry::Message {
+                session: self.session.0,
+                number,
+                octets,
+            },
+        });
+        Ok(receipt)
+    }
+
+    /// Closes the session. Its receipts stay.
+    ///
+    /// # Errors
+    /// Those of `Mediator::close`: the session stays open then.
+    pub fn end<H: RecordLedger>(
+        &self,
+        rt: &impl Wait,
+        shared: &SharedMediator<E, H>,
+    ) -> Result<(), Fault> {
+        shared.desk.lock(rt).close(self.session)
+    }
+
+    /// Its share.
+    pub(crate) fn into_share(self) -> Share<E>
+        ensures part { result.parts ≡ 1 }
+        ensures amount { result.amount ≡ length self.kept }
+    {
+        self.share
+    }
+}

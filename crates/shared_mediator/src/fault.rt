@@ -1,0 +1,61 @@
+//! Why no handle is given, and why a mediator isn't given back.
+
+use mediator_state::Fault;
+use std::alloc::AllocError;
+use std::error::Error;
+use std::fmt::{self, Display, Formatter, Write};
+
+/// Why no handle is given. Its text is its name, or the mediator's fault.
+#[derive(Clone, Copy, Debug, PartialEq, Eq)]
+pub enum HandleFault {
+    /// As many handles of the kind were made as there may be.
+    NoHandle,
+    /// The mediator's own refusal.
+    Core(Fault),
+}
+
+impl Error for HandleFault {}
+
+impl Display for HandleFault {
+    fn fmt<W: Write>(&self, f: &mut Formatter<W>) -> fmt::Result {
+        match self {
+            HandleFault::NoHandle => f.write_str("NoHandle"),
+            HandleFault::Core(fault) => fault.fmt(f),
+        }
+    }
+}
+
+/// Why a mediator isn't given back.
+#[derive(Clone, Copy, Debug, PartialEq, Eq)]
+pub enum CloseFault {
+    /// A handle that was made isn't among those handed in.
+    MissingHandle,
+    /// What the handle kept at this position doesn't stand there, is from before the lock, was kept twice, or stands out of
+    /// order. Exporters count first, from 0, and then admins.
+    Mismatch { handle: u64, position: u64 },
+    /// Want of memory.
+    OutOfMemory,
+}
+
+impl Error for CloseFault {}
+
+impl Display for CloseFault {
+    fn fmt<W: Write>(&self, f: &mut Formatter<W>) -> fmt::Result {
+        f.write_str(match self {
+            CloseFault::MissingHandle => "MissingHandle",
+            CloseFault::Mismatch { .. } => "Mismatch",
+            CloseFault::OutOfMemory => "OutOfMemory",
+        })
+    }
+}
+
+impl From<AllocError> for CloseFault {
+    ghost use Rattle.std.specs.Prelude.{◌≡◌};
+    ghost use Rattle.shared_mediator.specs.declared.fault.CloseFault.TheVariants.{OutOfMemory};
+
+    ghost from_gives = { λ _ e. e ≡ OutOfMemory };
+
+    fn from(_e: AllocError) -> CloseFault {
+        CloseFault::OutOfMemory
+    }
+}

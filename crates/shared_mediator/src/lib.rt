@@ -1,0 +1,44 @@
+//! A mediator that threads share: one lock, and handles by which exporters offer messages, deliveries pull them and
+//! administrators do the rest, each in a thread of its own. The logic is `mediator_core`'s; this crate locks, calls and lets
+//! go.
+//!
+//! - `shared`: [`SharedMediator`]. `closing`: `SharedMediator::close`, with [`Closed`].
+//! - `exporter`, `delivery`, `admin`: [`ExporterHandle`], [`DeliveryHandle`] with [`Waited`], and [`AdminHandle`].
+//! - `desk`: what lies under the lock, and what each call does there. `ledgers`: [`EntryLedger`] and [`RecordLedger`].
+//! - `fault`: [`HandleFault`] and [`CloseFault`].
+//!
+//! Proved: whenever the lock is taken, its mediator's state stands for its journal (`mediator_core`), one book's total is the
+//! number of messages, edits, begins and ends of subscriptions and advances of the clock that came since `new`, and the
+//! other's is the number of records handed to the subscriptions that have ended and to those that are live (the type that
+//! lies under the lock keeps it). Each call under the lock answers and leaves what the mediator's does (`ok`, `same`,
+//! `err`), and adds to its handle's share just what it added to the mediator (`counts`, `share`).
+//!
+//! Of a handle's calls (`kept`): `offer` keeps the message, under the handle's session and with its number, at the position
+//! of the receipt that it answers; an administrator's edit, subscribe, unsubscribe and advance keep the entry of their own
+//! argument with a position; `pull` keeps a message that is built for its Export Time and target at some place of some list,
+//! and its share rises by the records in that. A refusal keeps nothing more (`same`).
+//!
+//! `close` answers Ok only where each receipt stands in the journal at its position, none from before `new`, no two at one
+//! position, each handle's own in their order, and where each entry since `new` that is to have a receipt has one
+//! (`receipts`); `accepted` and `handed` are the sums of what exporters and deliveries keep.
+//!
+//! No clause can say what lies under a lock at the moment at which a public call takes it, so what a call through a handle
+//! answers beyond that is shown by tests. Nothing promises that a thread gets on or that a wait ends.
+#![tactic(auto)]
+
+mod admin;
+mod closing;
+mod delivery;
+mod desk;
+mod exporter;
+mod fault;
+mod ledgers;
+mod shared;
+
+pub use admin::AdminHandle;
+pub use closing::Closed;
+pub use delivery::{DeliveryHandle, Waited};
+pub use exporter::ExporterHandle;
+pub use fault::{CloseFault, HandleFault};
+pub use ledgers::{EntryLedger, RecordLedger};
+pub use shared::SharedMediator;

@@ -1,0 +1,84 @@
+//! A mediator that threads share.
+ghost use Rattle.std.specs.Prelude.{◌≡◌, ◌+◌, ◌*◌, ◌×◌, [], IfOk};
+ghost use Rattle.counted_mediator.specs.Counted.{handed_live};
+
+use crate::admin::AdminHandle;
+use crate::delivery::DeliveryHandle;
+use crate::desk::Desk;
+use crate::exporter::ExporterHandle;
+use crate::fault::HandleFault;
+use crate::ledgers::{EntryLedger, RecordLedger};
+use mediator_calls::SubId;
+use mediator_core::Mediator;
+use std::alloc::Global;
+use std::sync::ledger::Blank;
+use std::sync::{Condvar, Mutex, Wait};
+
+/// A mediator under a lock. Threads call it through handles, each of which is one thread's own: exporters offer messages,
+/// deliveries pull them, administrators do the rest.
+#[derive(Drop)]
+pub struct SharedMediator<E: EntryLedger, H: RecordLedger> {
+    pub(crate) alloc: Global,
+    pub(crate) desk: Mutex<Desk<E, H>>,
+    /// Signalled when something was queued, a subscription ended or was cut, or all is to stop.
+    pub(crate) moved: Condvar,
+}
+
+impl<E: EntryLedger, H: RecordLedger> SharedMediator<E, H> {
+    /// Puts a mediator under a lock, for at most so many handles of each kind. No live subscription of it was handed a
+    /// record yet. `entries` and `handed` name the ledgers of what its handles' calls add.
+    pub fn new(
+        alloc: Global,
+        mediator: Mediator,
+        handles: u64,
+        entries: Blank,
+        handed: Blank,
+    ) -> SharedMediator<E, H>
+        requires fresh { handed_live mediator ≡ 0 }
+        requires before { E.before ≡ mediator.history }
+        requires entries_name { entries.name ≡ E.name }
+        requires entries_parts { (entries.parts ≡ E.parts) × (E.parts ≡ E.all) × (E.all ≡ 2 * handles + 1) }
+        requires handed_name { handed.name ≡ H.name }
+        requires handed_parts { (handed.parts ≡ H.parts) × (H.parts ≡ H.all) × (H.all ≡ handles + 1) }
+    {
+        SharedMediator {
+            alloc,
+            desk: Mutex::new(Desk::new(mediator, handles, entries, handed)),
+            moved: Condvar::new(),
+        }
+    }
+
+    /// Opens a session of an exporter, and gives its handle.
+    ///
+    /// # Errors
+    /// As many exporters' handles were made as there may be; or those of `Mediator::open`.
+    pub fn exporter(&self, rt: &impl Wait) -> Result<ExporterHandle<E>, HandleFault>
+        ensures { IfOk result (λ handle. handle.kept ≡ []) }
+    {
+        let (session, share) = self.desk.lock(rt).exporter()?;
+        Ok(ExporterHandle::new(self.alloc, session, share))
+    }
+
+    /// Gives a handle for the delivery to a live subscription.
+    ///
+    /// # Errors
+    /// No such subscription is live; or as many deliveries' handles were made as there may be.
+    pub fn delivery(&self, rt: &impl Wait, sub: SubId) -> Result<DeliveryHandle<H>, HandleFault>
+        ensures sub { IfOk result (λ handle. handle.sub ≡ sub.0) }
+        ensures none { IfOk result (λ handle. handle.kept ≡ []) }
+    {
+        let share = self.desk.lock(rt).delivery(sub)?;
+        Ok(DeliveryHandle::new(self.alloc, sub, share))
+    }
+
+    /// Gives a handle for an administrator.
+    ///
+    /// # Errors
+    /// As many administrators' handles were made as there may be.
+    pub fn admin(&self, rt: &impl Wait) -> Result<AdminHandle<E>, HandleFault>
+        ensures { IfOk result (λ handle. handle ≡ []) }
+    {
+        let share = self.desk.lock(rt).admin()?;
+        Ok(AdminHandle::new(self.alloc, share))
+    }
+}
