@@ -1,5 +1,5 @@
 -- What is so where a mediator is given back.
-use Rattle.std.specs.Prelude.{◌≡◌, ℕ, ◌×◌, List, ◌++◌, map, length, take, sum_by}
+use Rattle.std.specs.Prelude.{◌≡◌, ℕ, List, ◌++◌, map, length, take, sum_by}
 use Rattle.event_journal.specs.declared.entry.Entry.{Entry}
 use Rattle.entry_receipts.specs.declared.kept.KeptEntry.{KeptEntry}
 use Rattle.entry_receipts.specs.Receipts.{all_kept, AreReceipts, AreComplete}

@@ -1,5 +1,5 @@
 -- What handles keep.
-use Rattle.std.specs.Prelude.{◌≡◌, ℕ, ◌+◌, ◌×◌, Bool, true, false, List, [], ◌∷◌, ◌++◌, length, take, drop, sum_by, Some}
+use Rattle.std.specs.Prelude.{◌≡◌, ℕ, ◌+◌, Bool, true, false, List, [], ◌∷◌, ◌++◌, length, take, drop, sum_by, Some}
 use Rattle.std.specs.List.{AllByRecursion}
 use Rattle.ipfix_template.specs.DataRecord.{DataRecord}
 use Rattle.subscriber_stream.specs.Parts.{parts, records_in}

@@ -1,5 +1,5 @@
 //! The end of sharing: all handles come back, and their receipts are held against the journal.
-ghost use Rattle.std.specs.Prelude.{◌≡◌, ◌≢◌, ◌+◌, ◌×◌, ◌++◌, List, map, length, IfOk, IfErr, OnOk};
+ghost use Rattle.std.specs.Prelude.{◌≡◌, ◌≢◌, ◌+◌, ◌++◌, List, map, length, IfOk, IfErr, OnOk};
 ghost use Rattle.entry_receipts.specs.declared.kept.KeptEntry.{KeptEntry};
 ghost use Rattle.entry_receipts.specs.Marking.{Marked, AreMarked};
 ghost use Rattle.counted_mediator.specs.Counted.{entries_of};

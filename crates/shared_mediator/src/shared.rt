@@ -1,5 +1,5 @@
 //! A mediator that threads share.
-ghost use Rattle.std.specs.Prelude.{◌≡◌, ◌+◌, ◌*◌, ◌×◌, [], IfOk};
+ghost use Rattle.std.specs.Prelude.{◌≡◌, ◌+◌, ◌*◌, [], IfOk};
 ghost use Rattle.counted_mediator.specs.Counted.{handed_live};
 
 use crate::admin::AdminHandle;
