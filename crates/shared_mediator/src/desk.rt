@@ -1,5 +1,5 @@
 //! What lies under the lock.
-ghost use Rattle.std.specs.Prelude.{◌≡◌, ◌+◌, ◌*◌, ◌<◌, true, length, IfOk, IfErr, OnOk, OnErr};
+ghost use Rattle.std.specs.Prelude.{◌≡◌, ◌+◌, ◌*◌, ◌<◌, true, false, length, IfOk, IfErr, OnOk, OnErr};
 ghost use Rattle.mediator_history.specs.Subscriptions.{is_live};
 ghost use Rattle.mediator_state.specs.Calls.{RefusesClose, RefusesEdit, RefusesSubscribe, RefusesUnsubscribe};
 ghost use Rattle.mediator_core.specs.Mediation.{journal_limits};
