@@ -1,7 +1,7 @@
 -- Where there are as many receipts as entries that are to have one, each of those has its own.
-use Rattle.std.proofs.Common.{◌≡◌, ℕ, ◌+◌, ◌-◌, ◌<◌, ◌≤◌, Bool, true, false, List, [], ◌∷◌, ◌++◌, length, map, drop, slice_get, filter, option_map, Some, ◌||◌, refl, sym, ap, ◌∙◌, arith}
+use Rattle.std.proofs.Common.{◌≡◌, ℕ, ◌+◌, ◌-◌, ◌<◌, Bool, true, false, List, [], ◌∷◌, ◌++◌, length, map, drop, slice_get, filter, option_map, Some, ◌||◌, refl, sym, ap, ◌∙◌, arith}
 use Rattle.std.specs.Prelude.{◌==◌}
-use Rattle.std.specs.List.{flat_map, AllByRecursion}
+use Rattle.std.specs.List.{AllByRecursion}
 use Rattle.std.proofs.lemmas.Bool.{eqb-true, false≢true}
 use Rattle.std.proofs.lemmas.List.{length-drop, length-map}
 use Rattle.std.proofs.lemmas.Option.{same_Some, slice_get_within, slice_get-map}
@@ -23,7 +23,7 @@ shown : (from : ℕ) (h : List Entry) (wanted : Entry → Bool) (p : ℕ) (ks : 
 shown from h wanted p [] stand all is = absurd (false≢true is)
 shown from h wanted p (k ∷ ks) stand all is = by_test (k.position == p) refl (shown from h wanted p ks stand.1 all.1) is where
   by_test : (same : Bool) → (k.position == p) ≡ same → (is_in p (positions ks) ≡ true → (e : Entry) × (slice_get h p ≡ Some e) × (wanted e ≡ true)) → (same || is_in p (positions ks)) ≡ true → (e : Entry) × (slice_get h p ≡ Some e) × (wanted e ≡ true)
-  by_test true same others is = (k.entry, (ap (slice_get h) (sym (eqb-true k.position p same)) ∙ stand.0.there, all.0))
+  by_test true same others is = (k.entry, ap (slice_get h) (sym (eqb-true k.position p same)) ∙ stand.0.there, all.0)
   by_test false same others is = others is
 
 pub complete : (wanted : Entry → Bool) (m : Marked) (h : List Entry) (handles : List (List KeptEntry)) → AreMarked m h handles
@@ -31,21 +31,28 @@ pub complete : (wanted : Entry → Bool) (m : Marked) (h : List Entry) (handles 
 complete wanted m h handles so all as_many p e behind there is =
     ap (λ x. is_in x (positions (all_kept handles))) (sym place)
     ∙ same_Some (is_in (m.from + (p - m.from)) (positions (all_kept handles))) true (sym (so.marked (p - m.from) low) ∙ ap (λ (t : List Bool). slice_get t (p - m.from)) same ∙ answered (p - m.from) e there_too ∙ ap Some is) where
-  place : m.from + (p - m.from) ≡ p
-  place = omega (arith, behind)
-  low : p - m.from < length m.marks
-  low = omega (arith, behind, so.as_long, slice_get_within h p e there)
-  there_too : slice_get h (m.from + (p - m.from)) ≡ Some e
-  there_too = ap (slice_get h) place ∙ there
-  answers : List Bool
-  answers = map wanted (drop m.from h)
-  answered : (i : ℕ) (x : Entry) → slice_get h (m.from + i) ≡ Some x → slice_get (map wanted (drop m.from h)) i ≡ Some (wanted x)
-  answered i x at = slice_get-map wanted (drop m.from h) i ∙ ap (option_map wanted) (get_drop m.from i h ∙ at)
-  long : length m.marks ≡ length (map wanted (drop m.from h))
-  long = let dropped : length (map wanted (drop m.from h)) ≡ length h - m.from = length-map (drop m.from h) wanted ∙ length-drop m.from h in omega (arith, so.as_long)
-  below : (i : ℕ) → slice_get m.marks i ≡ Some true → slice_get (map wanted (drop m.from h)) i ≡ Some true
-  below i set_here =
-    let found = shown m.from h wanted (m.from + i) (all_kept handles) so.receipts.stand all (same_Some (is_in (m.from + i) (positions (all_kept handles))) true (sym (so.marked i (slice_get_within m.marks i true set_here)) ∙ set_here)) in
-    answered i found.0 found.1 ∙ ap Some found.2
-  same : m.marks ≡ map wanted (drop m.from h)
-  same = covered m.marks (map wanted (drop m.from h)) long below (count_handles m h handles so ∙ sym as_many ∙ count_passing wanted (drop m.from h))
+      place : m.from + (p - m.from) ≡ p
+      place = omega (arith, behind)
+
+      low : p - m.from < length m.marks
+      low = omega (arith, behind, so.as_long, slice_get_within h p e there)
+
+      there_too : slice_get h (m.from + (p - m.from)) ≡ Some e
+      there_too = ap (slice_get h) place ∙ there
+
+      answers : List Bool
+      answers = map wanted (drop m.from h)
+
+      answered : (i : ℕ) (x : Entry) → slice_get h (m.from + i) ≡ Some x → slice_get (map wanted (drop m.from h)) i ≡ Some (wanted x)
+      answered i x at = slice_get-map wanted (drop m.from h) i ∙ ap (option_map wanted) (get_drop m.from i h ∙ at)
+
+      long : length m.marks ≡ length (map wanted (drop m.from h))
+      long = let dropped : length (map wanted (drop m.from h)) ≡ length h - m.from = length-map (drop m.from h) wanted ∙ length-drop m.from h in omega (arith, so.as_long)
+
+      below : (i : ℕ) → slice_get m.marks i ≡ Some true → slice_get (map wanted (drop m.from h)) i ≡ Some true
+      below i set_here =
+          let found = shown m.from h wanted (m.from + i) (all_kept handles) so.receipts.stand all (same_Some (is_in (m.from + i) (positions (all_kept handles))) true (sym (so.marked i (slice_get_within m.marks i true set_here)) ∙ set_here)) in
+          answered i found.0 found.1 ∙ ap Some found.2
+
+      same : m.marks ≡ map wanted (drop m.from h)
+      same = covered m.marks (map wanted (drop m.from h)) long below (count_handles m h handles so ∙ sym as_many ∙ count_passing wanted (drop m.from h))

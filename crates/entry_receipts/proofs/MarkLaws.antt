@@ -1,5 +1,5 @@
 -- What marks say of the receipts that set them, as long as receipts come.
-use Rattle.std.proofs.Common.{◌≡◌, ◌≢◌, ℕ, zero, suc, ◌+◌, ◌-◌, ◌<◌, ◌≤◌, Bool, true, false, cond, List, [], ◌∷◌, ◌++◌, length, map, take, drop, get_or, set, slice_get, filter, replicate, Some, None, ◌||◌, refl, sym, ap, ◌∙◌, subst, append_assoc, append-nil, arith}
+use Rattle.std.proofs.Common.{◌≡◌, ◌≢◌, ℕ, zero, suc, ◌+◌, ◌-◌, ◌<◌, ◌≤◌, Bool, true, false, List, [], ◌∷◌, ◌++◌, length, take, drop, get_or, set, slice_get, filter, replicate, Some, ◌||◌, inl, inr, refl, sym, ap, ◌∙◌, subst, append_assoc, append-nil, arith}
 use Rattle.std.specs.Prelude.{◌==◌}
 use Rattle.std.specs.List.{AllByRecursion}
 use Rattle.std.proofs.lemmas.Bool.{eq-eqb, ne_eqb, cases_eq, false≢true, or_right, or_left}
@@ -42,21 +42,26 @@ count_positions from marks [] distinct within marked = none_set marks marked
 count_positions from marks (p ∷ ps) distinct within marked =
     count_unset marks (p - from) here
     ∙ ap suc (count_positions from (set marks (p - from) false) ps distinct.1 (subst (λ n. AllByRecursion (λ q. (from ≤ q) × (q < from + n)) ps) (sym long) within.1) others) where
-  long : length (set marks (p - from) false) ≡ length marks
-  long = length-set marks (p - from) false
-  place : from + (p - from) ≡ p
-  place = omega (arith, within.0.0)
-  inside : p - from < length marks
-  inside = omega (arith, within.0.0, within.0.1)
-  here : slice_get marks (p - from) ≡ Some true
-  here = marked (p - from) inside ∙ ap Some (or_left (p == from + (p - from)) (is_in (from + (p - from)) ps) (eq-eqb p (from + (p - from)) (sym place)))
-  others : (i : ℕ) → i < length (set marks (p - from) false) → slice_get (set marks (p - from) false) i ≡ Some (is_in (from + i) ps)
-  others i below = elim (cases_eq i (p - from)) [
-      inl same ↦ ap (slice_get (set marks (p - from) false)) same ∙ get_set_same marks (p - from) false inside ∙ ap Some (sym (ap (λ k. is_in (from + k) ps) same ∙ ap (λ x. is_in x ps) place ∙ not_in p ps distinct.0))
-    | inr other ↦
-      let low : i < length marks = omega (arith, long) in
-      let apart_from : p ≡ from + i → ⊥ = λ e. other (omega arith) in
-      get_set_other marks (p - from) i false other ∙ marked i low ∙ ap (λ (b : Bool). Some (b || is_in (from + i) ps)) (ne_eqb p (from + i) apart_from) ]
+      long : length (set marks (p - from) false) ≡ length marks
+      long = length-set marks (p - from) false
+
+      place : from + (p - from) ≡ p
+      place = omega (arith, within.0.0)
+
+      inside : p - from < length marks
+      inside = omega (arith, within.0.0, within.0.1)
+
+      here : slice_get marks (p - from) ≡ Some true
+      here = marked (p - from) inside ∙ ap Some (or_left (p == from + (p - from)) (is_in (from + (p - from)) ps) (eq-eqb p (from + (p - from)) (sym place)))
+
+      others : (i : ℕ) → i < length (set marks (p - from) false) → slice_get (set marks (p - from) false) i ≡ Some (is_in (from + i) ps)
+      others i below = elim (cases_eq i (p - from)) [
+        | inl same ↦ ap (slice_get (set marks (p - from) false)) same ∙ get_set_same marks (p - from) false inside ∙ ap Some (sym (ap (λ k. is_in (from + k) ps) same ∙ ap (λ x. is_in x ps) place ∙ not_in p ps distinct.0))
+        | inr other ↦
+            let low : i < length marks = omega (arith, long) in
+            let apart_from : p ≡ from + i → ⊥ = λ e. other (omega arith) in
+            get_set_other marks (p - from) i false other ∙ marked i low ∙ ap (λ (b : Bool). Some (b || is_in (from + i) ps)) (ne_eqb p (from + i) apart_from)
+      ]
 
 -- ---- the receipts of all handles in one list, each handle's order left aside
 
@@ -74,38 +79,45 @@ all_within from marks h (k ∷ ks) as_long stand = ((stand.0.behind, omega (arit
 pub count_marked : (from : ℕ) (marks : List Bool) (h : List Entry) (kept : List KeptEntry) → AreMarkedAs from marks h kept → length (filter (λ b. b) marks) ≡ length kept
 count_marked from marks h kept so =
     count_positions from marks (positions kept) so.once (all_within from marks h kept so.as_long so.stand) so.marked ∙ length_positions kept where
-  length_positions : (ks : List KeptEntry) → length (positions ks) ≡ length ks
-  length_positions [] = refl
-  length_positions (k ∷ ks) = ap suc (length_positions ks)
+      length_positions : (ks : List KeptEntry) → length (positions ks) ≡ length ks
+      length_positions [] = refl
+      length_positions (k ∷ ks) = ap suc (length_positions ks)
 
 -- one receipt more, at a place that is not marked
 pub one_more : (from : ℕ) (marks : List Bool) (h : List Entry) (kept : List KeptEntry) (k : KeptEntry)
     → from ≤ k.position → slice_get h k.position ≡ Some k.entry → slice_get marks (k.position - from) ≡ Some false
     → AreMarkedAs from marks h kept → AreMarkedAs from (set marks (k.position - from) true) h (kept ++ k ∷ [])
 one_more from marks h kept k behind there free so = record {
-    as_long = ap (λ n. from + n) long ∙ so.as_long;
-    stand = AllByRecursion-append (Stands from h) kept (k ∷ []) so.stand (record { behind = behind; there = there }, tt);
-    once = subst AreDistinct (sym pushed) (distinct_push (positions kept) k.position so.once (apart k.position (positions kept) new));
-    marked = marked
-  } where
+  as_long = ap (λ n. from + n) long ∙ so.as_long;
+  stand = AllByRecursion-append (Stands from h) kept (k ∷ []) so.stand (record { behind = behind; there = there }, tt);
+  once = subst AreDistinct (sym pushed) (distinct_push (positions kept) k.position so.once (apart k.position (positions kept) new));
+  marked = marked;
+} where
   pushed : positions (kept ++ k ∷ []) ≡ positions kept ++ k.position ∷ []
   pushed = map-append (λ (x : KeptEntry). x.position) kept (k ∷ [])
+
   long : length (set marks (k.position - from) true) ≡ length marks
   long = length-set marks (k.position - from) true
+
   place : from + (k.position - from) ≡ k.position
   place = omega (arith, behind)
+
   inside : k.position - from < length marks
   inside = slice_get_within marks (k.position - from) false free
+
   new : is_in k.position (positions kept) ≡ false
   new = ap (λ x. is_in x (positions kept)) (sym place) ∙ same_Some (is_in (from + (k.position - from)) (positions kept)) false (sym (so.marked (k.position - from) inside) ∙ free)
+
   is_pushed : (x : ℕ) → is_in x (positions (kept ++ k ∷ [])) ≡ (is_in x (positions kept) || (k.position == x))
   is_pushed x = ap (is_in x) pushed ∙ is_in-append x (positions kept) (k.position ∷ []) ∙ ap (λ (b : Bool). is_in x (positions kept) || b) (is_in-one x k.position)
+
   or_false : (b : Bool) → (b || false) ≡ b
   or_false true = refl
   or_false false = refl
+
   marked : (i : ℕ) → i < length (set marks (k.position - from) true) → slice_get (set marks (k.position - from) true) i ≡ Some (is_in (from + i) (positions (kept ++ k ∷ [])))
   marked i below = elim (cases_eq i (k.position - from)) [
-      inl same ↦
+    | inl same ↦
         let at : k.position ≡ from + i = sym (ap (λ n. from + n) same ∙ place) in
         ap (slice_get (set marks (k.position - from) true)) same ∙ get_set_same marks (k.position - from) true inside
         ∙ ap Some (sym (is_pushed (from + i) ∙ or_right (is_in (from + i) (positions kept)) (k.position == from + i) (eq-eqb k.position (from + i) at)))
@@ -113,7 +125,8 @@ one_more from marks h kept k behind there free so = record {
         let low : i < length marks = omega (arith, long) in
         let apart_from : k.position ≡ from + i → ⊥ = λ e. other (omega arith) in
         get_set_other marks (k.position - from) i true other ∙ so.marked i low
-        ∙ ap Some (sym (is_pushed (from + i) ∙ ap (λ (b : Bool). is_in (from + i) (positions kept) || b) (ne_eqb k.position (from + i) apart_from) ∙ or_false (is_in (from + i) (positions kept)))) ]
+        ∙ ap Some (sym (is_pushed (from + i) ∙ ap (λ (b : Bool). is_in (from + i) (positions kept) || b) (ne_eqb k.position (from + i) apart_from) ∙ or_false (is_in (from + i) (positions kept))))
+  ]
 
 -- ---- from the list to the handles and back
 
@@ -126,24 +139,24 @@ all_kept_push handles kept = flat_map-push (λ (x : List KeptEntry). x) handles 
 with_handle : (from : ℕ) (marks : List Bool) (h : List Entry) (handles : List (List KeptEntry)) (kept : List KeptEntry)
     → AllByRecursion (AreInOrder from) handles → AreInOrder from kept → AreMarkedAs from marks h (all_kept handles ++ kept) → AreMarked (marked_as from marks) h (handles ++ kept ∷ [])
 with_handle from marks h handles kept in_order last so = record {
-    as_long = so.as_long;
-    receipts = record {
-        stand = subst (AllByRecursion (Stands from h)) (sym (all_kept_push handles kept)) so.stand;
-        once = subst (λ (ks : List KeptEntry). AreDistinct (positions ks)) (sym (all_kept_push handles kept)) so.once;
-        in_order = AllByRecursion-append (AreInOrder from) handles (kept ∷ []) in_order (last, tt)
-      };
-    marked = subst (λ (ks : List KeptEntry). (i : ℕ) → i < length marks → slice_get marks i ≡ Some (is_in (from + i) (positions ks))) (sym (all_kept_push handles kept)) so.marked
-  }
+  as_long = so.as_long;
+  receipts = record {
+    stand = subst (AllByRecursion (Stands from h)) (sym (all_kept_push handles kept)) so.stand;
+    once = subst (λ (ks : List KeptEntry). AreDistinct (positions ks)) (sym (all_kept_push handles kept)) so.once;
+    in_order = AllByRecursion-append (AreInOrder from) handles (kept ∷ []) in_order (last, tt);
+  };
+  marked = subst (λ (ks : List KeptEntry). (i : ℕ) → i < length marks → slice_get marks i ≡ Some (is_in (from + i) (positions ks))) (sym (all_kept_push handles kept)) so.marked;
+}
 
 pub count_handles : (m : Marked) (h : List Entry) (handles : List (List KeptEntry)) → AreMarked m h handles → length (filter (λ b. b) m.marks) ≡ length (all_kept handles)
 count_handles m h handles so = count_marked m.from m.marks h (all_kept handles) (as_list m h handles so)
 
 pub none_marked : (from : ℕ) (h : List Entry) → from ≤ length h → AreMarked (marked_as from (replicate (length h - from) false)) h []
 none_marked from h within = record {
-    as_long = let long : length (replicate (length h - from) false) ≡ length h - from = length-replicate (length h - from) false in omega (arith, within);
-    receipts = record { stand = tt; once = tt; in_order = tt };
-    marked = λ i below. get_replicate (length h - from) i below
-  } where
+  as_long = let long : length (replicate (length h - from) false) ≡ length h - from = length-replicate (length h - from) false in omega (arith, within);
+  receipts = record { stand = tt; once = tt; in_order = tt };
+  marked = λ i below. get_replicate (length h - from) i below;
+} where
   get_replicate : (n i : ℕ) → i < length (replicate n false) → slice_get (replicate n false) i ≡ Some false
   get_replicate zero i below = absurd (omega arith)
   get_replicate (suc n) zero below = refl
@@ -160,11 +173,11 @@ pub record IsMarking (old : Marked) (h : List Entry) (kept : List KeptEntry) (i 
 
 pub marking_starts : (old : Marked) (h : List Entry) (kept : List KeptEntry) → IsMarking old h kept 0 old.from old.marks
 marking_starts old h kept = record {
-    behind = omega arith;
-    so_far = λ handles so. subst (AreMarkedAs old.from old.marks h) (sym (append-nil (all_kept handles))) (as_list old h handles so);
-    in_order = λ rest is. is;
-    ordered = λ rest is. is
-  }
+  behind = omega arith;
+  so_far = λ handles so. subst (AreMarkedAs old.from old.marks h) (sym (append-nil (all_kept handles))) (as_list old h handles so);
+  in_order = λ rest is. is;
+  ordered = λ rest is. is;
+}
 
 -- the receipt at the place
 front_read : (kept : List KeptEntry) (i : ℕ) (k : KeptEntry) → i < length kept → k ≡ get_or kept i k → take (i + 1) kept ≡ take i kept ++ k ∷ []
@@ -184,15 +197,17 @@ pub marking_goes_on : (old : Marked) (h : List Entry) (kept : List KeptEntry) (i
     → floor ≤ k.position → slice_get h k.position ≡ Some k.entry → slice_get marks (k.position - old.from) ≡ Some false
     → IsMarking old h kept i floor marks → IsMarking old h kept (i + 1) (k.position + 1) (set marks (k.position - old.from) true)
 marking_goes_on old h kept i floor marks k low is high there free so = record {
-    behind = omega (arith, so.behind, high);
-    so_far = λ handles before. subst (AreMarkedAs old.from (set marks (k.position - old.from) true) h) (append_assoc (all_kept handles) (take i kept) (k ∷ []) ∙ ap (λ (t : List KeptEntry). all_kept handles ++ t) (sym front)) (one_more old.from marks h (all_kept handles ++ take i kept) k behind there free (so.so_far handles before));
-    in_order = λ rest is_next. subst (AreInOrder old.from) (sym (whole rest)) (so.in_order (k ∷ rest) (high, is_next));
-    ordered = λ rest all. (so.ordered (k ∷ rest) (subst (AreInOrder old.from) (whole rest) all)).1
-  } where
+  behind = omega (arith, so.behind, high);
+  so_far = λ handles before. subst (AreMarkedAs old.from (set marks (k.position - old.from) true) h) (append_assoc (all_kept handles) (take i kept) (k ∷ []) ∙ ap (λ (t : List KeptEntry). all_kept handles ++ t) (sym front)) (one_more old.from marks h (all_kept handles ++ take i kept) k behind there free (so.so_far handles before));
+  in_order = λ rest is_next. subst (AreInOrder old.from) (sym (whole rest)) (so.in_order (k ∷ rest) (high, is_next));
+  ordered = λ rest all. (so.ordered (k ∷ rest) (subst (AreInOrder old.from) (whole rest) all)).1;
+} where
   behind : old.from ≤ k.position
   behind = omega (arith, so.behind, high)
+
   front : take (i + 1) kept ≡ take i kept ++ k ∷ []
   front = front_read kept i k low is
+
   whole : (rest : List KeptEntry) → take (i + 1) kept ++ rest ≡ take i kept ++ (k ∷ rest)
   whole rest = ap (λ (t : List KeptEntry). t ++ rest) front ∙ append_assoc (take i kept) (k ∷ []) rest
 
@@ -200,10 +215,10 @@ pub marking_ends : (old : Marked) (h : List Entry) (kept : List KeptEntry) (i fl
     → (handles : List (List KeptEntry)) → AreMarked old h handles → AreMarked (marked_as old.from marks) h (handles ++ kept ∷ [])
 marking_ends old h kept i floor marks end so handles before =
     with_handle old.from marks h handles kept before.receipts.in_order
-        (subst (AreInOrder old.from) (append-nil (take i kept) ∙ all) (so.in_order [] tt))
-        (subst (λ (t : List KeptEntry). AreMarkedAs old.from marks h (all_kept handles ++ t)) all (so.so_far handles before)) where
-  all : take i kept ≡ kept
-  all = take_all i kept end
+    (subst (AreInOrder old.from) (append-nil (take i kept) ∙ all) (so.in_order [] tt))
+    (subst (λ (t : List KeptEntry). AreMarkedAs old.from marks h (all_kept handles ++ t)) all (so.so_far handles before)) where
+      all : take i kept ≡ kept
+      all = take_all i kept end
 
 -- ---- a receipt that is refused can't stand behind the others
 
@@ -221,8 +236,10 @@ free_at : (from : ℕ) (marks : List Bool) (h : List Entry) (kept : List KeptEnt
 free_at from marks h kept k rest so stands once = so.marked (k.position - from) inside ∙ ap Some (ap (λ x. is_in x (positions kept)) place ∙ new) where
   place : from + (k.position - from) ≡ k.position
   place = omega (arith, stands.behind)
+
   inside : k.position - from < length marks
   inside = omega (arith, so.as_long, stands.behind, slice_get_within h k.position k.entry stands.there)
+
   new : is_in k.position (positions kept) ≡ false
   new = new_at (positions kept) k.position (positions rest) (subst AreDistinct (map-append (λ (x : KeptEntry). x.position) kept (k ∷ rest)) once)
 
@@ -232,12 +249,15 @@ pub marking_refuses : (old : Marked) (h : List Entry) (kept : List KeptEntry) (i
     → (handles : List (List KeptEntry)) → AreMarked old h handles → AreReceipts old.from h (handles ++ kept ∷ []) → ⊥
 marking_refuses old h kept i floor marks k low is so refused handles before receipts =
     refused (so.ordered (k ∷ drop (i + 1) kept) (subst (AreInOrder old.from) split order)).0 stands.there
-        (free_at old.from marks h (all_kept handles ++ take i kept) k (drop (i + 1) kept) (so.so_far handles before) stands (subst (λ (ks : List KeptEntry). AreDistinct (positions ks)) whole receipts.once)) where
-  split : kept ≡ take i kept ++ k ∷ drop (i + 1) kept
-  split = split_read kept i k low is
-  whole : all_kept (handles ++ kept ∷ []) ≡ (all_kept handles ++ take i kept) ++ k ∷ drop (i + 1) kept
-  whole = all_kept_push handles kept ∙ ap (λ (t : List KeptEntry). all_kept handles ++ t) split ∙ sym (append_assoc (all_kept handles) (take i kept) (k ∷ drop (i + 1) kept))
-  order : AreInOrder old.from kept
-  order = all_at (AreInOrder old.from) handles kept [] receipts.in_order
-  stands : Stands old.from h k
-  stands = all_at (Stands old.from h) (all_kept handles ++ take i kept) k (drop (i + 1) kept) (subst (AllByRecursion (Stands old.from h)) whole receipts.stand)
+    (free_at old.from marks h (all_kept handles ++ take i kept) k (drop (i + 1) kept) (so.so_far handles before) stands (subst (λ (ks : List KeptEntry). AreDistinct (positions ks)) whole receipts.once)) where
+      split : kept ≡ take i kept ++ k ∷ drop (i + 1) kept
+      split = split_read kept i k low is
+
+      whole : all_kept (handles ++ kept ∷ []) ≡ (all_kept handles ++ take i kept) ++ k ∷ drop (i + 1) kept
+      whole = all_kept_push handles kept ∙ ap (λ (t : List KeptEntry). all_kept handles ++ t) split ∙ sym (append_assoc (all_kept handles) (take i kept) (k ∷ drop (i + 1) kept))
+
+      order : AreInOrder old.from kept
+      order = all_at (AreInOrder old.from) handles kept [] receipts.in_order
+
+      stands : Stands old.from h k
+      stands = all_at (Stands old.from h) (all_kept handles ++ take i kept) k (drop (i + 1) kept) (subst (AllByRecursion (Stands old.from h)) whole receipts.stand)

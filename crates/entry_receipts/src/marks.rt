@@ -51,7 +51,7 @@ impl Marks {
     pub fn mark(&mut self, journal: &Journal, kept: &[KeptEntry]) -> Result<(), u64>
         ensures from { self.new.from ≡ self.old.from }
         ensures ok { OnOk result ((handles : List (List KeptEntry)) → AreMarked self.old journal.now.entries handles → AreMarked self.new journal.now.entries (handles ++ kept.now ∷ [])) }
-        ensures kept { IfErr result (λ position. is_in position (positions kept.now) ≡ true) }
+        ensures named { IfErr result (λ position. is_in position (positions kept.now) ≡ true) }
         ensures err { OnErr result ((handles : List (List KeptEntry)) → AreMarked self.old journal.now.entries handles → AreReceipts self.old.from journal.now.entries (handles ++ kept.now ∷ []) → ⊥) }
     {
         let mut floor = self.from;
