@@ -1,11 +1,14 @@
 -- Where there are as many receipts as entries that are to have one, each of those has its own.
-use Rattle.std.proofs.Common.{◌≡◌, ℕ, ◌+◌, ◌-◌, ◌<◌, Bool, true, false, List, [], ◌∷◌, ◌++◌, length, map, drop, slice_get, filter, option_map, Some, ◌||◌, refl, sym, ap, ◌∙◌, arith}
+use Rattle.std.proofs.Common.{◌≡◌, ℕ, ◌+◌, ◌-◌, ◌<◌, Bool, true, false, List, [], ◌∷◌, ◌++◌, length, map, take, drop, get_or, slice_get, filter, option_map, sum_by, Some, ◌||◌, refl, sym, ap, ◌∙◌, subst, append_assoc, arith}
 use Rattle.std.specs.Prelude.{◌==◌}
 use Rattle.std.specs.List.{AllByRecursion}
 use Rattle.std.proofs.lemmas.Bool.{eqb-true, false≢true}
-use Rattle.std.proofs.lemmas.List.{length-drop, length-map}
+use Rattle.std.proofs.lemmas.List.{length-append, length-drop, length-map, map-append, take_more}
+use Rattle.std.proofs.lemmas.List.Concat.{flat_map-cons}
+use Rattle.std.proofs.lemmas.List.Sums.{sum_by-cons}
 use Rattle.std.proofs.lemmas.Option.{same_Some, slice_get_within, slice_get-map}
 use Rattle.std.proofs.lemmas.Grind.{flat_map-append}
+use Rattle.sequences.proofs.ListLaws.{AllByRecursion-append}
 use Rattle.event_journal.specs.declared.entry.Entry.{Entry}
 use Rattle.mediator_history.specs.Numbers.{is_in}
 use Rattle.entry_receipts.specs.declared.kept.KeptEntry.{KeptEntry}
@@ -16,6 +19,25 @@ use Rattle.entry_receipts.proofs.MarkLaws.{count_handles}
 
 pub all_kept_append : (a b : List (List KeptEntry)) → all_kept (a ++ b) ≡ all_kept a ++ all_kept b
 all_kept_append a b = flat_map-append (λ (kept : List KeptEntry). kept) a b
+
+-- as many receipts as all handles keep
+pub length_all_kept : (handles : List (List KeptEntry)) → length (all_kept handles) ≡ sum_by (λ (kept : List KeptEntry). length kept) handles
+length_all_kept [] = refl
+length_all_kept (kept ∷ handles) =
+    ap length (flat_map-cons (λ (x : List KeptEntry). x) kept handles) ∙ length-append kept (all_kept handles) ∙ ap (λ n. length kept + n) (length_all_kept handles)
+    ∙ sym (sum_by-cons (λ (x : List KeptEntry). length x) kept handles)
+
+-- what holds of each receipt of each handle
+pub all_of_handles : (P : KeptEntry → Type 0) (handles : List (List KeptEntry)) → AllByRecursion (AllByRecursion P) handles → AllByRecursion P (all_kept handles)
+all_of_handles P [] all = tt
+all_of_handles P (kept ∷ handles) all = subst (AllByRecursion P) (sym (flat_map-cons (λ (x : List KeptEntry). x) kept handles)) (AllByRecursion-append P kept (all_kept handles) all.0 (all_of_handles P handles all.1))
+
+-- a loop over handles x, behind others, once `mark` was called with what the next one keeps
+pub marked_next : {A : Type 0} (kept_of : A → List KeptEntry) (m : Marked) (h : List Entry) (others : List (List KeptEntry)) (xs : List A) (i : ℕ) (x : A) → i < length xs → x ≡ get_or xs i x
+    → AreMarked m h ((others ++ map kept_of (take i xs)) ++ kept_of x ∷ []) → AreMarked m h (others ++ map kept_of (take (i + 1) xs))
+marked_next {A} kept_of m h others xs i x low is so = subst (AreMarked m h) (append_assoc others (map kept_of (take i xs)) (kept_of x ∷ []) ∙ ap (λ (t : List (List KeptEntry)). others ++ t) (sym front)) so where
+  front : map kept_of (take (i + 1) xs) ≡ map kept_of (take i xs) ++ kept_of x ∷ []
+  front = ap (map kept_of) (take_more xs i x low ∙ ap (λ (y : A). take i xs ++ y ∷ []) (sym is)) ∙ map-append kept_of (take i xs) (x ∷ [])
 
 -- the entry at a position that a receipt has
 shown : (from : ℕ) (h : List Entry) (wanted : Entry → Bool) (p : ℕ) (ks : List KeptEntry) → AllByRecursion (Stands from h) ks → AllByRecursion (λ k. wanted k.entry ≡ true) ks → is_in p (positions ks) ≡ true

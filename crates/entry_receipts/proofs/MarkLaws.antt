@@ -11,7 +11,7 @@ use Rattle.mediator_history.specs.Numbers.{is_in, AreDistinct}
 use Rattle.mediator_history.proofs.HistoryLaws.{flat_map-push}
 use Rattle.mediator_history.proofs.ListFilters.{is_in-append, distinct_push}
 use Rattle.entry_receipts.specs.declared.kept.KeptEntry.{KeptEntry}
-use Rattle.entry_receipts.specs.Receipts.{Stands, positions, AreInOrder, all_kept, AreReceipts}
+use Rattle.entry_receipts.specs.Receipts.{Stands, positions, AreInOrder, all_kept, AreReceipts, IsFirstRefused}
 use Rattle.entry_receipts.specs.Marking.{Marked, AreMarked, marked_as}
 use Rattle.entry_receipts.proofs.MarkLists.{get_set_same, get_set_other, count_unset, none_set}
 
@@ -133,7 +133,7 @@ one_more from marks h kept k behind there free so = record {
 as_list : (m : Marked) (h : List Entry) (handles : List (List KeptEntry)) → AreMarked m h handles → AreMarkedAs m.from m.marks h (all_kept handles)
 as_list m h handles so = record { as_long = so.as_long; stand = so.receipts.stand; once = so.receipts.once; marked = so.marked }
 
-all_kept_push : (handles : List (List KeptEntry)) (kept : List KeptEntry) → all_kept (handles ++ kept ∷ []) ≡ all_kept handles ++ kept
+pub all_kept_push : (handles : List (List KeptEntry)) (kept : List KeptEntry) → all_kept (handles ++ kept ∷ []) ≡ all_kept handles ++ kept
 all_kept_push handles kept = flat_map-push (λ (x : List KeptEntry). x) handles kept
 
 with_handle : (from : ℕ) (marks : List Bool) (h : List Entry) (handles : List (List KeptEntry)) (kept : List KeptEntry)
@@ -243,21 +243,40 @@ free_at from marks h kept k rest so stands once = so.marked (k.position - from) 
   new : is_in k.position (positions kept) ≡ false
   new = new_at (positions kept) k.position (positions rest) (subst AreDistinct (map-append (λ (x : KeptEntry). x.position) kept (k ∷ rest)) once)
 
+-- the receipts tried begin with those so far and the one at the place
+refuses : (old : Marked) (h : List Entry) (kept : List KeptEntry) (i floor : ℕ) (marks : List Bool) (k : KeptEntry) (tried rest : List KeptEntry) → tried ≡ take i kept ++ k ∷ rest
+    → IsMarking old h kept i floor marks
+    → (floor ≤ k.position → slice_get h k.position ≡ Some k.entry → slice_get marks (k.position - old.from) ≡ Some false → ⊥)
+    → (handles : List (List KeptEntry)) → AreMarked old h handles → AreReceipts old.from h (handles ++ tried ∷ []) → ⊥
+refuses old h kept i floor marks k tried rest split so refused handles before receipts =
+    refused (so.ordered (k ∷ rest) (subst (AreInOrder old.from) split order)).0 stands.there
+    (free_at old.from marks h (all_kept handles ++ take i kept) k rest (so.so_far handles before) stands (subst (λ (ks : List KeptEntry). AreDistinct (positions ks)) whole receipts.once)) where
+      whole : all_kept (handles ++ tried ∷ []) ≡ (all_kept handles ++ take i kept) ++ k ∷ rest
+      whole = all_kept_push handles tried ∙ ap (λ (t : List KeptEntry). all_kept handles ++ t) split ∙ sym (append_assoc (all_kept handles) (take i kept) (k ∷ rest))
+
+      order : AreInOrder old.from tried
+      order = all_at (AreInOrder old.from) handles tried [] receipts.in_order
+
+      stands : Stands old.from h k
+      stands = all_at (Stands old.from h) (all_kept handles ++ take i kept) k rest (subst (AllByRecursion (Stands old.from h)) whole receipts.stand)
+
 pub marking_refuses : (old : Marked) (h : List Entry) (kept : List KeptEntry) (i floor : ℕ) (marks : List Bool) (k : KeptEntry) → i < length kept → k ≡ get_or kept i k
     → IsMarking old h kept i floor marks
     → (floor ≤ k.position → slice_get h k.position ≡ Some k.entry → slice_get marks (k.position - old.from) ≡ Some false → ⊥)
     → (handles : List (List KeptEntry)) → AreMarked old h handles → AreReceipts old.from h (handles ++ kept ∷ []) → ⊥
-marking_refuses old h kept i floor marks k low is so refused handles before receipts =
-    refused (so.ordered (k ∷ drop (i + 1) kept) (subst (AreInOrder old.from) split order)).0 stands.there
-    (free_at old.from marks h (all_kept handles ++ take i kept) k (drop (i + 1) kept) (so.so_far handles before) stands (subst (λ (ks : List KeptEntry). AreDistinct (positions ks)) whole receipts.once)) where
-      split : kept ≡ take i kept ++ k ∷ drop (i + 1) kept
-      split = split_read kept i k low is
+marking_refuses old h kept i floor marks k low is so refused = refuses old h kept i floor marks k kept (drop (i + 1) kept) (split_read kept i k low is) so refused
 
-      whole : all_kept (handles ++ kept ∷ []) ≡ (all_kept handles ++ take i kept) ++ k ∷ drop (i + 1) kept
-      whole = all_kept_push handles kept ∙ ap (λ (t : List KeptEntry). all_kept handles ++ t) split ∙ sym (append_assoc (all_kept handles) (take i kept) (k ∷ drop (i + 1) kept))
-
-      order : AreInOrder old.from kept
-      order = all_at (AreInOrder old.from) handles kept [] receipts.in_order
-
-      stands : Stands old.from h k
-      stands = all_at (Stands old.from h) (all_kept handles ++ take i kept) k (drop (i + 1) kept) (subst (AllByRecursion (Stands old.from h)) whole receipts.stand)
+-- those before it could still be ones of the journal
+pub refused_first : (old : Marked) (h : List Entry) (kept : List KeptEntry) (i floor : ℕ) (marks : List Bool) (k : KeptEntry) → i < length kept → k ≡ get_or kept i k
+    → IsMarking old h kept i floor marks
+    → (floor ≤ k.position → slice_get h k.position ≡ Some k.entry → slice_get marks (k.position - old.from) ≡ Some false → ⊥)
+    → (handles : List (List KeptEntry)) → AreMarked old h handles → IsFirstRefused old.from h handles kept k.position
+refused_first old h kept i floor marks k low is so refused handles before = record {
+  before = take i kept;
+  refused = k;
+  after = drop (i + 1) kept;
+  kept_is = split_read kept i k low is;
+  at = refl;
+  fit = (with_handle old.from marks h handles (take i kept) before.receipts.in_order (subst (AreInOrder old.from) (append-nil (take i kept)) (so.in_order [] tt)) (so.so_far handles before)).receipts;
+  unfit = refuses old h kept i floor marks k (take i kept ++ k ∷ []) [] refl so refused handles before;
+}

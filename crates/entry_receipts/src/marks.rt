@@ -1,10 +1,10 @@
 //! Which places of a journal have their receipt.
-ghost use Rattle.std.specs.Prelude.{◌≡◌, ◌↔◌, ◌++◌, ◌∷◌, [], ◌-◌, ◌<◌, ◌≤◌, true, false, List, length, slice_get, slice_set, Some, IfOk, IfErr, OnOk, OnErr, IsTrue};
+ghost use Rattle.std.specs.Prelude.{◌≡◌, ◌↔◌, ◌++◌, ◌∷◌, [], ◌-◌, ◌<◌, ◌≤◌, true, false, List, length, slice_get, slice_set, Some, IfOk, IfErr, OnOk, IsTrue};
 ghost use Rattle.event_journal.specs.declared.entry.Entry.{Entry};
 ghost use Rattle.event_journal.specs.declared.limits.TheConstants.{MOST_ENTRIES};
 ghost use Rattle.mediator_history.specs.Numbers.{is_in};
 ghost use Rattle.entry_receipts.specs.declared.kept.KeptEntry.{KeptEntry};
-ghost use Rattle.entry_receipts.specs.Receipts.{positions, all_kept, AreReceipts};
+ghost use Rattle.entry_receipts.specs.Receipts.{positions, all_kept, AreReceipts, IsFirstRefused};
 ghost use Rattle.entry_receipts.specs.Marking.{AreMarked, count_of};
 
 use crate::kept::KeptEntry;
@@ -51,8 +51,8 @@ impl Marks {
     pub fn mark(&mut self, journal: &Journal, kept: &[KeptEntry]) -> Result<(), u64>
         ensures from { self.new.from ≡ self.old.from }
         ensures ok { OnOk result ((handles : List (List KeptEntry)) → AreMarked self.old journal.now.entries handles → AreMarked self.new journal.now.entries (handles ++ kept.now ∷ [])) }
-        ensures named { IfErr result (λ position. is_in position (positions kept.now) ≡ true) }
-        ensures err { OnErr result ((handles : List (List KeptEntry)) → AreMarked self.old journal.now.entries handles → AreReceipts self.old.from journal.now.entries (handles ++ kept.now ∷ []) → ⊥) }
+        ensures err { IfErr result (λ position. (is_in position (positions kept.now) ≡ true) × ((handles : List (List KeptEntry)) → AreMarked self.old journal.now.entries handles → AreReceipts self.old.from journal.now.entries (handles ++ kept.now ∷ []) → ⊥)) }
+        ensures first { IfErr result (λ position. (handles : List (List KeptEntry)) → AreMarked self.old journal.now.entries handles → IsFirstRefused self.old.from journal.now.entries handles kept.now position) }
     {
         let mut floor = self.from;
         for receipt in kept {

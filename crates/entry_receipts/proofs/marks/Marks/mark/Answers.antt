@@ -1,22 +1,30 @@
-use Rattle.std.proofs.Common.{◌≡◌, ◌+◌, ◌-◌, true, false, slice_get, set, Some, sym, ap, ◌∙◌, subst, arith}
+use Rattle.std.proofs.Common.{◌≡◌, ◌+◌, ◌-◌, ◌≤◌, true, false, slice_get, set, Some, sym, ap, ◌∙◌, subst, arith}
 use Rattle.std.proofs.lemmas.Bool.{iff_false}
-use Rattle.entry_receipts.proofs.MarkLaws.{IsMarking, marking_goes_on, marking_refuses, is_kept}
+use Rattle.entry_receipts.proofs.MarkLaws.{IsMarking, marking_goes_on, marking_refuses, refused_first, is_kept}
 use Rattle.entry_receipts.proofs.marks.Marks.mark.Goals as goal
-use Rattle.entry_receipts.proofs.marks.Marks.mark.Goals.{then-position-floor-via-then-position-floor, then-position-floor-via-else-position-floor+then-not-stands, then-position-floor-via-else-position-floor+else-not-stands+then-not-set}
+use Rattle.entry_receipts.proofs.marks.Marks.mark.Goals.{Joined-then-position-floor, then-position-floor-via-then-position-floor, then-position-floor-via-else-position-floor+then-not-stands, then-position-floor-via-else-position-floor+else-not-stands+then-not-set}
 
-pub returns-then-position-floor-clause-named : goal.returns-then-position-floor-clause-named
-returns-then-position-floor-clause-named c = is_kept c.args.kept.now c.loop-receipt.receipt-index c.receipt-item.result c.loop-receipt-test.true c.receipt-item.is
+-- one of the three tests failed
+failed : (c : Joined-then-position-floor) → c.loop-receipt.floor ≤ c.receipt-item.result.position → slice_get c.args.journal.now.entries c.receipt-item.result.position ≡ Some c.receipt-item.result.entry
+    → slice_get c.loop-receipt.self.marks (c.receipt-item.result.position - c.args.self.now.from) ≡ Some false → ⊥
+failed c high there free = elim c.then-position-floor.branch [
+  | then-position-floor-via-then-position-floor w ↦ omega (arith, w.if-position-floor.true)
+  | then-position-floor-via-else-position-floor+then-not-stands w ↦ iff_false w.stands.ensures.there w.if-not-stands.true there
+  | then-position-floor-via-else-position-floor+else-not-stands+then-not-set w ↦
+      iff_false w.set.ensures.free w.if-not-set.true (ap (λ n. slice_get c.loop-receipt.self.marks (c.receipt-item.result.position - n)) c.loop-receipt.invariant.from ∙ free)
+]
 
 pub returns-then-position-floor-clause-err : goal.returns-then-position-floor-clause-err
-returns-then-position-floor-clause-err c handles =
-    marking_refuses c.args.self.now c.args.journal.now.entries c.args.kept.now c.loop-receipt.receipt-index c.loop-receipt.floor c.loop-receipt.self.marks c.receipt-item.result
-    c.loop-receipt-test.true c.receipt-item.is c.loop-receipt.invariant.marking
-    (λ high there free. elim c.then-position-floor.branch [
-      | then-position-floor-via-then-position-floor w ↦ omega (arith, w.if-position-floor.true)
-      | then-position-floor-via-else-position-floor+then-not-stands w ↦ iff_false w.stands.ensures.there w.if-not-stands.true there
-      | then-position-floor-via-else-position-floor+else-not-stands+then-not-set w ↦
-          iff_false w.set.ensures.free w.if-not-set.true (ap (λ n. slice_get c.loop-receipt.self.marks (c.receipt-item.result.position - n)) c.loop-receipt.invariant.from ∙ free)
-    ]) handles
+returns-then-position-floor-clause-err c = (
+  is_kept c.args.kept.now c.loop-receipt.receipt-index c.receipt-item.result c.loop-receipt-test.true c.receipt-item.is,
+  marking_refuses c.args.self.now c.args.journal.now.entries c.args.kept.now c.loop-receipt.receipt-index c.loop-receipt.floor c.loop-receipt.self.marks c.receipt-item.result
+      c.loop-receipt-test.true c.receipt-item.is c.loop-receipt.invariant.marking (failed c),
+)
+
+pub returns-then-position-floor-clause-first : goal.returns-then-position-floor-clause-first
+returns-then-position-floor-clause-first c =
+    refused_first c.args.self.now c.args.journal.now.entries c.args.kept.now c.loop-receipt.receipt-index c.loop-receipt.floor c.loop-receipt.self.marks c.receipt-item.result
+    c.loop-receipt-test.true c.receipt-item.is c.loop-receipt.invariant.marking (failed c)
 
 pub loop-receipt-preserved : goal.loop-receipt-preserved
 loop-receipt-preserved c =
