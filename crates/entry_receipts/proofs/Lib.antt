@@ -1,0 +1,3 @@
+pub mod MarkLists
+pub mod MarkLaws
+pub mod Complete

@@ -1,5 +1,5 @@
 -- Receipts of a journal: whoever made a call keeps its entry, and the position at which the entry stands.
-use Rattle.std.specs.Prelude.{◌≡◌, ℕ, ◌+◌, ◌≤◌, Bool, true, List, [], ◌∷◌, map, Some, slice_get}
+use Rattle.std.specs.Prelude.{◌≡◌, ℕ, ◌+◌, ◌≤◌, Bool, true, List, [], ◌∷◌, ◌++◌, map, Some, slice_get}
 use Rattle.std.specs.List.{flat_map, AllByRecursion}
 use Rattle.event_journal.specs.declared.entry.Entry.{Entry}
 use Rattle.mediator_history.specs.Numbers.{is_in, AreDistinct}
@@ -33,3 +33,13 @@ pub record AreReceipts (from : ℕ) (h : List Entry) (handles : List (List KeptE
 abbrev pub AreComplete : (Entry → Bool) → ℕ → List Entry → List (List KeptEntry) → Type 0
 AreComplete wanted from h handles =
     (p : ℕ) (e : Entry) → from ≤ p → slice_get h p ≡ Some e → wanted e ≡ true → is_in p (positions (all_kept handles)) ≡ true
+
+-- the receipt at the position is the first of the handle that is none of the journal's beside those of the other handles and those before it
+pub record IsFirstRefused (from : ℕ) (h : List Entry) (handles : List (List KeptEntry)) (kept : List KeptEntry) (position : ℕ) : Type 0 where
+  pub before : List KeptEntry
+  pub refused : KeptEntry
+  pub after : List KeptEntry
+  pub kept_is : kept ≡ before ++ refused ∷ after
+  pub at : refused.position ≡ position
+  pub fit : AreReceipts from h (handles ++ before ∷ [])
+  pub unfit : AreReceipts from h (handles ++ (before ++ refused ∷ []) ∷ []) → ⊥

@@ -1,9 +1,10 @@
 //! Which places of a journal have their receipt.
-ghost use Rattle.std.specs.Prelude.{◌≡◌, ◌↔◌, ◌++◌, ◌∷◌, [], ◌≤◌, true, List, length, slice_get, Some, IfOk, IfErr, OnOk, IsTrue};
+ghost use Rattle.std.specs.Prelude.{◌≡◌, ◌↔◌, ◌++◌, ◌∷◌, [], ◌-◌, ◌<◌, ◌≤◌, true, false, List, length, slice_get, slice_set, Some, IfOk, IfErr, OnOk, IsTrue};
 ghost use Rattle.event_journal.specs.declared.entry.Entry.{Entry};
+ghost use Rattle.event_journal.specs.declared.limits.TheConstants.{MOST_ENTRIES};
 ghost use Rattle.mediator_history.specs.Numbers.{is_in};
 ghost use Rattle.entry_receipts.specs.declared.kept.KeptEntry.{KeptEntry};
-ghost use Rattle.entry_receipts.specs.Receipts.{positions, all_kept};
+ghost use Rattle.entry_receipts.specs.Receipts.{positions, all_kept, AreReceipts, IsFirstRefused};
 ghost use Rattle.entry_receipts.specs.Marking.{AreMarked, count_of};
 
 use crate::kept::KeptEntry;
@@ -50,21 +51,33 @@ impl Marks {
     pub fn mark(&mut self, journal: &Journal, kept: &[KeptEntry]) -> Result<(), u64>
         ensures from { self.new.from ≡ self.old.from }
         ensures ok { OnOk result ((handles : List (List KeptEntry)) → AreMarked self.old journal.now.entries handles → AreMarked self.new journal.now.entries (handles ++ kept.now ∷ [])) }
-        ensures err { IfErr result (λ position. is_in position (positions kept.now) ≡ true) }
+        ensures err { IfErr result (λ position. (is_in position (positions kept.now) ≡ true) × ((handles : List (List KeptEntry)) → AreMarked self.old journal.now.entries handles → AreReceipts self.old.from journal.now.entries (handles ++ kept.now ∷ []) → ⊥)) }
+        ensures first { IfErr result (λ position. (handles : List (List KeptEntry)) → AreMarked self.old journal.now.entries handles → IsFirstRefused self.old.from journal.now.entries handles kept.now position) }
     {
         let mut floor = self.from;
         for receipt in kept {
-            if receipt.position < floor || !stands(journal, receipt) {
-                return Err(receipt.position);
+            let position = receipt.position;
+            if position < floor || !stands(journal, receipt) || !self.set(position) {
+                return Err(position);
             }
-            let place = (receipt.position - self.from) as usize;
-            match self.marks.get_mut(place) {
-                Some(mark) if !*mark => *mark = true,
-                _ => return Err(receipt.position),
-            }
-            floor = receipt.position + 1;
+            floor = position + 1;
         }
         Ok(())
+    }
+
+    /// Sets the mark of a position, and says whether there is one that was not set.
+    fn set(&mut self, position: u64) -> bool
+        requires behind { self.old.from ≤ position }
+        ensures from { self.new.from ≡ self.old.from }
+        ensures free { IsTrue result ↔ (slice_get self.old.marks (position - self.old.from) ≡ Some false) }
+        ensures set { IsTrue result → self.new.marks ≡ slice_set self.old.marks (position - self.old.from) true }
+    {
+        let place = (position - self.from) as usize;
+        let free = place < self.marks.len() && !self.marks[place];
+        if free {
+            self.marks[place] = true;
+        }
+        free
     }
 
     /// How many marks are set: as many as there were receipts.
@@ -72,20 +85,18 @@ impl Marks {
         ensures value { result ≡ count_of self.now }
         ensures receipts { (h : List Entry) (handles : List (List KeptEntry)) → AreMarked self.now h handles → result ≡ length (all_kept handles) }
     {
-        let mut count = 0;
-        for mark in &self.marks {
-            if *mark {
-                count += 1;
-            }
-        }
-        count
+        self.marks.iter().filter(|mark| **mark).count() as u64
     }
 }
 
 /// Whether the entry stands in the journal at its position.
 fn stands(journal: &Journal, receipt: &KeptEntry) -> bool
-    ensures { IsTrue result ↔ (slice_get journal.now.entries receipt.now.position ≡ Some receipt.now.entry) }
+    ensures there { IsTrue result ↔ (slice_get journal.now.entries receipt.now.position ≡ Some receipt.now.entry) }
+    ensures below { IsTrue result → receipt.now.position < MOST_ENTRIES }
 {
+    if receipt.position >= journal.len() {
+        return false;
+    }
     match journal.get(receipt.position) {
         Some(entry) => *entry == receipt.entry,
         None => false,
