@@ -1,0 +1,5 @@
+pub mod Living
+pub mod Receipts
+pub mod Sums
+pub mod Handing
+pub mod Moving
