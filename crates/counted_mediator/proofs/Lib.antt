@@ -3,3 +3,4 @@ pub mod Receipts
 pub mod Sums
 pub mod Handing
 pub mod Moving
+pub mod Pulling

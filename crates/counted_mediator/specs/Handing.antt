@@ -1,5 +1,5 @@
 -- What a pull hands out, and how many records stand in it.
-use Rattle.std.specs.Prelude.{◌≡◌, ℕ, ◌+◌, ◌≤◌, ◌×◌, ◌^◌, true, List, length, take, drop, Option, Some, None, option_map}
+use Rattle.std.specs.Prelude.{◌≡◌, ℕ, ◌+◌, ◌≤◌, ◌^◌, true, List, length, take, drop, Option, Some, None, option_map}
 use Rattle.subscriber_stream.specs.Parts.{parts, records_in}
 use Rattle.subscriber_stream.specs.Message.{taken}
 use Rattle.mediator_history.specs.Subscriptions.{is_live}
