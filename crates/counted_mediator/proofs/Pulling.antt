@@ -1,5 +1,5 @@
 -- What a pull adds to the counts.
-use Rattle.std.proofs.Common.{◌≡◌, ℕ, ◌+◌, ◌≤◌, List, [], ◌∷◌, length, take, drop, Option, Some, None, refl, sym, ap, ◌∙◌, arith}
+use Rattle.std.proofs.Common.{◌≡◌, ℕ, ◌+◌, ◌≤◌, List, [], ◌∷◌, length, take, drop, Option, Some, None, refl, sym, ap, ◌∙◌, subst, arith}
 use Rattle.std.specs.List.{sum_by}
 use Rattle.std.proofs.lemmas.List.Sums.{sum-map}
 use Rattle.subscriber_stream.specs.Parts.{Part, parts, records_in}
@@ -12,7 +12,7 @@ use Rattle.mediator_core.specs.Calls.{Pulls, IsStatusOf}
 use Rattle.mediator_core.specs.Sound.{IsSound}
 use Rattle.mediator_core.proofs.Places.{is_in-live}
 use Rattle.counted_mediator.specs.declared.handed.Handed.{Handed}
-use Rattle.counted_mediator.specs.Counted.{counted_as, receipts_in, handed_at, handed_live, IsCounted, Counts}
+use Rattle.counted_mediator.specs.Counted.{Counted, counted_as, receipts_in, handed_at, handed_live, IsCounted, Counts}
 use Rattle.counted_mediator.specs.Handing.{records_next, HandsOut}
 use Rattle.counted_mediator.proofs.Living.{live_apart}
 use Rattle.counted_mediator.proofs.Sums.{sum_moved}
@@ -68,18 +68,23 @@ none_next m sub now target new is =
     let none : waiting_at m sub ≡ 0 = none_wait now target (length (records_in (take (place_at m sub) (parts (disclosed sub m.history))))) ps is.message in
     omega (arith, none, next_wait m sub target)
 
-pub hands_some : (old new : Mediation) (from gone sub now target : ℕ) (h : Handed) → IsSound old → Pulls old sub now target (Some h.message) new → h.records ≡ records_next old sub target → HandsOut (counted_as old from gone) sub now target (Some h) (counted_as new from gone)
-hands_some old new from gone sub now target h sound is count = record {
-  pulls = is;
-  records = count;
-  counts = counts_after old new from gone h.records sub now target (Some h.message) sound is count;
-}
+pub hands_some : (old new : Mediation) (from gone sub now target : ℕ) (was : Counted) (answer : Option (List ℕ)) (h : Handed) → counted_as old from gone ≡ was → IsSound old → Pulls old sub now target answer new → answer ≡ Some h.message → h.records ≡ records_next old sub target → HandsOut was sub now target (Some h) (counted_as new from gone)
+hands_some old new from gone sub now target was answer h is sound pulled some count =
+    subst (λ (k : Counted). HandsOut k sub now target (Some h) (counted_as new from gone)) is out where
+      out : HandsOut (counted_as old from gone) sub now target (Some h) (counted_as new from gone)
+      out = record {
+        pulls = subst (λ (a : Option (List ℕ)). Pulls old sub now target a new) some pulled;
+        records = count;
+        counts = counts_after old new from gone h.records sub now target answer sound pulled count;
+      }
 
-pub hands_none : (old new : Mediation) (from gone sub now target : ℕ) → IsSound old → Pulls old sub now target None new → HandsOut (counted_as old from gone) sub now target None (counted_as new from gone)
-hands_none old new from gone sub now target sound is =
-    let count : 0 ≡ records_next old sub target = none_next old sub now target new is in
-    record {
-      pulls = is;
+pub hands_none : (old new : Mediation) (from gone sub now target : ℕ) (was : Counted) (answer : Option (List ℕ)) → counted_as old from gone ≡ was → IsSound old → Pulls old sub now target answer new → answer ≡ None → HandsOut was sub now target None (counted_as new from gone)
+hands_none old new from gone sub now target was answer is sound pulled none =
+    let nothing : Pulls old sub now target None new = subst (λ (a : Option (List ℕ)). Pulls old sub now target a new) none pulled in
+    let count : 0 ≡ records_next old sub target = none_next old sub now target new nothing in
+    let out : HandsOut (counted_as old from gone) sub now target None (counted_as new from gone) = record {
+      pulls = nothing;
       records = count;
-      counts = counts_after old new from gone 0 sub now target None sound is count;
-    }
+      counts = counts_after old new from gone 0 sub now target answer sound pulled count;
+    } in
+    subst (λ (k : Counted). HandsOut k sub now target None (counted_as new from gone)) is out
