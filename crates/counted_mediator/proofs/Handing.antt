@@ -7,7 +7,7 @@ use Rattle.sequences.specs.Before.{each_after}
 use Rattle.sequences.proofs.BeforeLaws.{each_with_before-append}
 use Rattle.ipfix_template.specs.DataRecord.{DataRecord}
 use Rattle.subscriber_stream.specs.Parts.{Part, parts, records_in}
-use Rattle.subscriber_stream.specs.Message.{taken, place_after}
+use Rattle.subscriber_stream.specs.Message.{taken}
 use Rattle.subscriber_stream.proofs.CallLaws.{parts_more}
 use Rattle.subscriber_stream.proofs.Standings.{records_in-append}
 use Rattle.event_journal.specs.declared.entry.Entry.{Entry}
