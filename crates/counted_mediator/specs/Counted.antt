@@ -1,5 +1,5 @@
 -- What stands in a mediator's journal since a place in it, and how many records its subscriptions were handed.
-use Rattle.std.specs.Prelude.{◌≡◌, ℕ, ◌+◌, ◌≤◌, Bool, true, false, List, ◌++◌, map, sum, filter, length, take, drop}
+use Rattle.std.specs.Prelude.{◌≡◌, ℕ, ◌+◌, ◌≤◌, Bool, true, false, List, map, sum, filter, length, take, drop}
 use Rattle.subscriber_stream.specs.Parts.{parts, records_in}
 use Rattle.event_journal.specs.declared.entry.Entry.{Entry}
 use Rattle.event_journal.specs.declared.entry.Entry.TheVariants.{Open, Close, Cut}

@@ -208,12 +208,7 @@ impl CountedMediator {
     ///
     /// # Errors
     /// No subscription with this number is live; the count has no room for all that waits; or memory ran out.
-    pub fn pull(
-        &mut self,
-        sub: SubId,
-        now: u32,
-        target: u16,
-    ) -> Result<Option<Handed>, PullFault>
+    pub fn pull(&mut self, sub: SubId, now: u32, target: u16) -> Result<Option<Handed>, PullFault>
         ensures ok { IfOk result (λ answer. HandsOut self.old sub.0 now target answer self.new) }
         ensures same { OnErr result (self.new ≡ self.old) }
         ensures err { IfErr result (λ e. RefusesHanding e self.old sub.0) }
