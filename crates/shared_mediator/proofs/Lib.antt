@@ -1,0 +1,2 @@
+pub mod HandleLaws
+pub mod ClosingLaws

@@ -7,11 +7,15 @@ use Rattle.counted_mediator.specs.Counted.{has_receipt}
 use Rattle.shared_mediator.specs.declared.fault.CloseFault.{CloseFault}
 use Rattle.shared_mediator.specs.declared.fault.CloseFault.TheVariants.{MissingHandle}
 use Rattle.shared_mediator.specs.Locked.{Locked, Exporting, Delivering}
-use Rattle.shared_mediator.specs.Handles.{records_kept}
+use Rattle.shared_mediator.specs.Handles.{AreMessages, records_kept}
 
 -- what the handles keep, the exporters' first
 abbrev pub receipts_of : List Exporting → List (List KeptEntry) → List (List KeptEntry)
 receipts_of exporters admins = map (λ h. h.kept) exporters ++ admins
+
+-- an exporter's receipts are those of its session's messages, from the first on
+abbrev pub KeepsMessages : Exporting → Type 0
+KeepsMessages h = AreMessages h.session 0 h.kept
 
 -- how many messages the exporters have receipts of
 abbrev pub messages_accepted : List Exporting → ℕ

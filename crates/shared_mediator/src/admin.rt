@@ -1,7 +1,8 @@
 //! An administrator's handle.
 ghost use Rattle.std.specs.Prelude.{◌≡◌, [], length, IfOk, OnOk, OnErr};
 ghost use Rattle.event_journal.specs.declared.entry.Entry.TheVariants.{Edit, Subscribe, Unsubscribe, Advance};
-ghost use Rattle.shared_mediator.specs.Handles.{KeepsEntry};
+ghost use Rattle.std.specs.List.{AllByRecursion};
+ghost use Rattle.shared_mediator.specs.Handles.{HasReceipt, KeepsEntry};
 
 use crate::ledgers::{EntryLedger, RecordLedger};
 use crate::shared::SharedMediator;
@@ -54,7 +55,8 @@ impl<E: EntryLedger> AdminHandle<E> {
 
     /// The receipts of its calls, in order.
     pub fn kept(&self) -> &[KeptEntry]
-        ensures { result.now ≡ self.now }
+        ensures value { result.now ≡ self.now }
+        ensures entries { AllByRecursion HasReceipt self.now }
     {
         self.kept.as_slice()
     }

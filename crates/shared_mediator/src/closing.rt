@@ -1,10 +1,12 @@
 //! The end of sharing: all handles come back, and their receipts are held against the journal.
 ghost use Rattle.std.specs.Prelude.{◌≡◌, ◌≢◌, ◌+◌, ◌++◌, List, map, length, IfOk, IfErr, OnOk};
+ghost use Rattle.std.specs.List.{AllByRecursion};
 ghost use Rattle.entry_receipts.specs.declared.kept.KeptEntry.{KeptEntry};
 ghost use Rattle.entry_receipts.specs.Marking.{Marked, AreMarked};
 ghost use Rattle.counted_mediator.specs.Counted.{entries_of};
 ghost use Rattle.shared_mediator.specs.declared.fault.CloseFault.TheVariants.{MissingHandle};
-ghost use Rattle.shared_mediator.specs.Closing.{receipts_of, messages_accepted, entries_kept, records_handed, HasReceipts, AreAll, RefusesClosing};
+ghost use Rattle.shared_mediator.specs.Handles.{HasReceipt};
+ghost use Rattle.shared_mediator.specs.Closing.{KeepsMessages, receipts_of, messages_accepted, entries_kept, records_handed, HasReceipts, AreAll, RefusesClosing};
 
 use crate::admin::AdminHandle;
 use crate::delivery::DeliveryHandle;
@@ -44,6 +46,7 @@ impl<E: EntryLedger, H: RecordLedger> SharedMediator<E, H> {
     ) -> Result<Closed, CloseFault>
         requires all { (E.parts ≡ E.all) × (H.parts ≡ H.all) }
         ensures receipts { IfOk result (λ closed. HasReceipts E.before closed.mediator.history (receipts_of exporters.items admins.items)) }
+        ensures messages { OnOk result (AllByRecursion KeepsMessages exporters.items) }
         ensures accepted { IfOk result (λ closed. closed.accepted ≡ messages_accepted exporters.items) }
         ensures handed { IfOk result (λ closed. closed.handed ≡ records_handed deliveries.items) }
     {
@@ -63,6 +66,7 @@ impl<E: EntryLedger, H: RecordLedger> Desk<E, H> {
         requires all { (E.parts ≡ E.all) × (H.parts ≡ H.all) }
         ensures mediator { IfOk result (λ closed. closed.mediator ≡ self.counted.core) }
         ensures receipts { IfOk result (λ closed. HasReceipts E.before closed.mediator.history (receipts_of exporters.items admins.items)) }
+        ensures messages { OnOk result (AllByRecursion KeepsMessages exporters.items) }
         ensures accepted { IfOk result (λ closed. closed.accepted ≡ messages_accepted exporters.items) }
         ensures handed { IfOk result (λ closed. closed.handed ≡ records_handed deliveries.items) }
         ensures book { OnOk result (entries_kept exporters.items admins.items ≡ entries_of self.counted) }
@@ -105,6 +109,8 @@ fn check<E: EntryLedger>(
     admins: &[AdminHandle<E>],
 ) -> Result<u64, CloseFault>
     ensures marked { OnOk result ((marks : Marked) × (marks.from ≡ counted.now.from) × AreMarked marks counted.now.core.history (receipts_of exporters.now admins.now)) }
+    ensures messages { OnOk result (AllByRecursion KeepsMessages exporters.now) }
+    ensures entries { OnOk result (AllByRecursion (AllByRecursion HasReceipt) admins.now) }
     ensures accepted { IfOk result (λ accepted. accepted ≡ messages_accepted exporters.now) }
     ensures err { IfErr result (λ e. e ≢ MissingHandle) }
 {
@@ -117,6 +123,7 @@ fn check<E: EntryLedger>(
 }
 
 /// Marks the receipts of all exporters.
+#[tactic(auto, using(crate::proofs::HandleLaws::messages_more))]
 fn mark_exporters<E: EntryLedger>(
     marks: &mut Marks,
     journal: &Journal,
@@ -124,6 +131,7 @@ fn mark_exporters<E: EntryLedger>(
 ) -> Result<(), CloseFault>
     ensures from { marks.new.from ≡ marks.old.from }
     ensures ok { OnOk result ((handles : List (List KeptEntry)) → AreMarked marks.old journal.now.entries handles → AreMarked marks.new journal.now.entries (handles ++ map (λ h. h.kept) exporters.now)) }
+    ensures messages { OnOk result (AllByRecursion KeepsMessages exporters.now) }
     ensures err { IfErr result (λ e. e ≢ MissingHandle) }
 {
     let mut handle = 0u64;
@@ -137,6 +145,7 @@ fn mark_exporters<E: EntryLedger>(
 }
 
 /// Marks the receipts of all administrators, the first of which counts as handle `first`.
+#[tactic(auto, using(crate::proofs::HandleLaws::entries_more))]
 fn mark_admins<E: EntryLedger>(
     marks: &mut Marks,
     journal: &Journal,
@@ -145,6 +154,7 @@ fn mark_admins<E: EntryLedger>(
 ) -> Result<(), CloseFault>
     ensures from { marks.new.from ≡ marks.old.from }
     ensures ok { OnOk result ((handles : List (List KeptEntry)) → AreMarked marks.old journal.now.entries handles → AreMarked marks.new journal.now.entries (handles ++ admins.now)) }
+    ensures entries { OnOk result (AllByRecursion (AllByRecursion HasReceipt) admins.now) }
     ensures err { IfErr result (λ e. e ≢ MissingHandle) }
 {
     let mut handle = first;

@@ -2,6 +2,7 @@
 ghost use Rattle.std.specs.Prelude.{◌≡◌, ◌++◌, ◌∷◌, [], length, IfOk, OnErr};
 ghost use Rattle.event_journal.specs.declared.entry.Entry.TheVariants.{Message};
 ghost use Rattle.shared_mediator.specs.Locked.{exporting_as};
+ghost use Rattle.shared_mediator.specs.Handles.{AreMessages};
 
 use crate::ledgers::{EntryLedger, RecordLedger};
 use crate::shared::SharedMediator;
@@ -59,9 +60,10 @@ impl<E: EntryLedger> ExporterHandle<E> {
         self.session
     }
 
-    /// The receipts of its messages, in order.
+    /// The receipts of its messages, in order: the session's messages from the first on.
     pub fn kept(&self) -> &[KeptEntry]
-        ensures { result.now ≡ self.now.kept }
+        ensures value { result.now ≡ self.now.kept }
+        ensures messages { AreMessages self.now.session 0 self.now.kept }
     {
         self.kept.as_slice()
     }

@@ -1,0 +1,52 @@
+-- What is so where a mediator is given back.
+use Rattle.std.proofs.Common.{◌≡◌, ℕ, ◌+◌, ◌-◌, ◌<◌, ◌≤◌, List, [], ◌∷◌, ◌++◌, length, map, take, drop, filter, sum_by, refl, sym, ap, ◌∙◌, subst, arith}
+use Rattle.std.specs.List.{AllByRecursion}
+use Rattle.std.proofs.lemmas.List.{length-append}
+use Rattle.std.proofs.lemmas.List.Concat.{flat_map-cons}
+use Rattle.std.proofs.lemmas.List.Sums.{sum_by-cons}
+use Rattle.sequences.proofs.ListLaws.{AllByRecursion-append}
+use Rattle.event_journal.specs.declared.entry.Entry.{Entry}
+use Rattle.entry_receipts.specs.declared.kept.KeptEntry.{KeptEntry}
+use Rattle.entry_receipts.specs.Receipts.{all_kept, AreReceipts, AreComplete}
+use Rattle.entry_receipts.specs.Marking.{Marked, AreMarked}
+use Rattle.entry_receipts.proofs.Complete.{length_all_kept, all_of_handles, complete}
+use Rattle.counted_mediator.specs.Counted.{Counted, has_receipt, entries_of}
+use Rattle.shared_mediator.specs.Locked.{Exporting}
+use Rattle.shared_mediator.specs.Handles.{HasReceipt}
+use Rattle.shared_mediator.specs.Closing.{KeepsMessages, receipts_of, entries_kept, HasReceipts}
+use Rattle.shared_mediator.proofs.HandleLaws.{have_receipts}
+
+-- the receipts of all are those of the exporters and those of the administrators
+pub entries_add_up : (exporters : List Exporting) (admins : List (List KeptEntry)) → entries_kept exporters admins ≡ sum_by (λ (h : Exporting). length h.kept) exporters + sum_by (λ (kept : List KeptEntry). length kept) admins
+entries_add_up [] admins = let added : entries_kept [] admins ≡ sum_by (λ (kept : List KeptEntry). length kept) admins = length_all_kept admins in omega (arith, added)
+entries_add_up (e ∷ es) admins =
+    ap length (flat_map-cons (λ (kept : List KeptEntry). kept) e.kept (receipts_of es admins)) ∙ length-append e.kept (all_kept (receipts_of es admins)) ∙ ap (λ n. length e.kept + n) (entries_add_up es admins)
+    ∙ sums where
+      sums : length e.kept + (sum_by (λ (h : Exporting). length h.kept) es + sum_by (λ (kept : List KeptEntry). length kept) admins) ≡ sum_by (λ (h : Exporting). length h.kept) (e ∷ es) + sum_by (λ (kept : List KeptEntry). length kept) admins
+      sums = omega (arith, sum_by-cons (λ (h : Exporting). length h.kept) e es)
+
+-- the marks of all, from those of the exporters and those of the administrators
+pub checked : (h j : List Entry) (from : ℕ) (first second third : Marked) (exporters : List Exporting) (admins : List (List KeptEntry)) → j ≡ h → first.from ≡ from → second.from ≡ first.from → third.from ≡ second.from → AreMarked first j []
+    → ((handles : List (List KeptEntry)) → AreMarked first j handles → AreMarked second j (handles ++ map (λ (h : Exporting). h.kept) exporters)) → ((handles : List (List KeptEntry)) → AreMarked second j handles → AreMarked third j (handles ++ admins))
+    → (marks : Marked) × (marks.from ≡ from) × AreMarked marks h (receipts_of exporters admins)
+checked h j from first second third exporters admins journal from_first from_second from_third none more most =
+    (third, from_third ∙ from_second ∙ from_first, subst (λ (x : List Entry). AreMarked third x (receipts_of exporters admins)) journal (most (map (λ (h : Exporting). h.kept) exporters) (more [] none)))
+
+all_have_receipts : (exporters : List Exporting) (admins : List (List KeptEntry)) → AllByRecursion KeepsMessages exporters → AllByRecursion (AllByRecursion HasReceipt) admins → AllByRecursion (AllByRecursion HasReceipt) (receipts_of exporters admins)
+all_have_receipts [] admins messages entries = entries
+all_have_receipts (e ∷ es) admins messages entries = (have_receipts e.session 0 e.kept messages.0, all_have_receipts es admins messages.1 entries)
+
+-- where all shares make up the book, each entry that is to have a receipt has one
+pub closes : (before : List Entry) (c : Counted) (exporters : List Exporting) (admins : List (List KeptEntry)) → c.from ≡ length before → take (length before) c.core.history ≡ before
+    → (marks : Marked) × (marks.from ≡ c.from) × AreMarked marks c.core.history (receipts_of exporters admins) → AllByRecursion KeepsMessages exporters → AllByRecursion (AllByRecursion HasReceipt) admins
+    → entries_kept exporters admins ≡ entries_of c → HasReceipts before c.core.history (receipts_of exporters admins)
+closes before c exporters admins from begins marked messages entries book = record {
+  begins = begins;
+  receipts = subst (λ n. AreReceipts n c.core.history (receipts_of exporters admins)) at marked.2.receipts;
+  complete = subst (λ n. AreComplete has_receipt n c.core.history (receipts_of exporters admins)) at (complete has_receipt marked.0 c.core.history (receipts_of exporters admins) marked.2 (all_of_handles HasReceipt (receipts_of exporters admins) (all_have_receipts exporters admins messages entries)) as_many);
+} where
+  at : marked.0.from ≡ length before
+  at = marked.1 ∙ from
+
+  as_many : length (filter has_receipt (drop marked.0.from c.core.history)) ≡ entries_kept exporters admins
+  as_many = ap (λ n. length (filter has_receipt (drop n c.core.history))) marked.1 ∙ sym book

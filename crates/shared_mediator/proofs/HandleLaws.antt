@@ -1,0 +1,41 @@
+-- What handles keep, as they keep more.
+use Rattle.std.proofs.Common.{◌≡◌, ℕ, ◌+◌, ◌<◌, true, List, [], ◌∷◌, ◌++◌, length, take, get_or, refl, sym, ap, ◌∙◌, subst, arith}
+use Rattle.std.specs.List.{AllByRecursion}
+use Rattle.std.proofs.lemmas.List.{length-append, take_more}
+use Rattle.sequences.proofs.ListLaws.{AllByRecursion-append}
+use Rattle.event_journal.specs.declared.entry.Entry.{Entry}
+use Rattle.event_journal.specs.declared.entry.Entry.TheVariants.{Message}
+use Rattle.entry_receipts.specs.declared.kept.KeptEntry.{KeptEntry}
+use Rattle.counted_mediator.specs.Counted.{has_receipt}
+use Rattle.shared_mediator.specs.Locked.{Exporting}
+use Rattle.shared_mediator.specs.Handles.{HasReceipt, IsMessage, AreMessages, IsExporting}
+use Rattle.shared_mediator.specs.Closing.{KeepsMessages}
+
+-- messages have receipts
+pub have_receipts : (session number : ℕ) (kept : List KeptEntry) → AreMessages session number kept → AllByRecursion HasReceipt kept
+have_receipts session number [] messages = tt
+have_receipts session number (k ∷ kept) messages = (ap has_receipt messages.0.entry_is, have_receipts session (number + 1) kept messages.1)
+
+-- one message more
+pub more_messages : (session number next : ℕ) (kept : List KeptEntry) (k : KeptEntry) → AreMessages session number kept → next ≡ number + length kept → IsMessage session next k → AreMessages session number (kept ++ k ∷ [])
+more_messages session number next [] k messages counted is = (subst (λ n. IsMessage session n k) (omega (arith, counted)) is, tt)
+more_messages session number next (x ∷ kept) k messages counted is = (messages.0, more_messages session (number + 1) next kept k messages.1 (omega (arith, counted)) is)
+
+-- a message was offered, and its receipt is kept
+pub offered : (session number position parts parts_new share share_new : ℕ) (octets : List ℕ) (kept new : List KeptEntry) → IsExporting session kept parts share → number ≡ length kept → parts_new ≡ parts → share_new ≡ share + 1
+    → new ≡ kept ++ record { position = position; entry = Message session number octets } ∷ [] → IsExporting session new parts_new share_new
+offered session number position parts parts_new share share_new octets kept new old counted same_parts more_share is = record {
+  part = same_parts ∙ old.part;
+  amount = more_share ∙ omega (arith, old.amount, ap length is, length-append kept (record { position = position; entry = Message session number octets } ∷ []));
+  messages = subst (AreMessages session 0) (sym is) (more_messages session 0 number kept (record { position = position; entry = Message session number octets }) old.messages (omega (arith, counted)) (record { octets = octets; entry_is = refl }));
+}
+
+all_more : {A : Type 0} (P : A → Type 0) (xs : List A) (i : ℕ) (x : A) → i < length xs → x ≡ get_or xs i x → AllByRecursion P (take i xs) → P x → AllByRecursion P (take (i + 1) xs)
+all_more {A} P xs i x low is before next = subst (AllByRecursion P) (sym (take_more xs i x low ∙ ap (λ (y : A). take i xs ++ y ∷ []) (sym is))) (AllByRecursion-append P (take i xs) (x ∷ []) before (next, tt))
+
+-- loops over handles
+pub messages_more : (xs : List Exporting) (i : ℕ) (x : Exporting) → i < length xs → x ≡ get_or xs i x → AllByRecursion KeepsMessages (take i xs) → AreMessages x.session 0 x.kept → AllByRecursion KeepsMessages (take (i + 1) xs)
+messages_more xs i x low is before next = all_more KeepsMessages xs i x low is before next
+
+pub entries_more : (xs : List (List KeptEntry)) (i : ℕ) (x : List KeptEntry) → i < length xs → x ≡ get_or xs i x → AllByRecursion (AllByRecursion HasReceipt) (take i xs) → AllByRecursion HasReceipt x → AllByRecursion (AllByRecursion HasReceipt) (take (i + 1) xs)
+entries_more xs i x low is before next = all_more (AllByRecursion HasReceipt) xs i x low is before next
