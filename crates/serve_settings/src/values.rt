@@ -27,10 +27,7 @@ pub(crate) fn text_at(alloc: Global, table: &Table, key: Key) -> Result<String, 
 fn text_in<'a>(table: &'a Table, key: Key) -> Option<&'a str>
     ensures { option_map (λ text. text.now) result ≡ text_in key (table_view table.now) }
 {
-    match value_at(table, key) {
-        Some(value) => value.as_str(),
-        None => None,
-    }
+    value_at(table, key)?.as_str()
 }
 
 fn value_at<'a>(table: &'a Table, key: Key) -> Option<&'a Value>
@@ -61,13 +58,8 @@ fn number_in(table: &Table, key: Key, least: u64, most: u64) -> Option<u64>
     ensures least { IfSome result (λ number. least ≤ number) }
     ensures most { IfSome result (λ number. number ≤ most) }
 {
-    match value_at(table, key) {
-        Some(value) => match value.as_integer() {
-            Some(integer) => number_within(integer, least, most),
-            None => None,
-        },
-        None => None,
-    }
+    let integer = value_at(table, key)?.as_integer()?;
+    number_within(integer, least, most)
 }
 
 /// An integer, where it is from `least` to `most`.
@@ -76,10 +68,7 @@ fn number_within(integer: i64, least: u64, most: u64) -> Option<u64>
     ensures least { IfSome result (λ number. least ≤ number) }
     ensures most { IfSome result (λ number. number ≤ most) }
 {
-    if integer < 0 {
-        return None;
-    }
-    let number = integer as u64;
+    let number = u64::try_from(integer).ok()?;
     if least <= number && number <= most {
         Some(number)
     } else {
