@@ -3,7 +3,6 @@
 use super::*;
 use mediator_calls::Limits;
 use std::alloc::{AllocError, Global};
-use std::process::Abort;
 use std::test::Fail;
 
 /// A key and a value at each line.
@@ -135,9 +134,17 @@ fn put_line(text: &mut String, name: &str, value: &str) -> Result<(), AllocError
     text.push('\n')
 }
 
+/// Reads settings, and once more where memory was refused.
+fn read(alloc: Global, text: &str) -> Result<Settings, SettingsFault> {
+    match read_settings(alloc, text) {
+        Err(SettingsFault::OutOfMemory) => read_settings(alloc, text),
+        answer => answer,
+    }
+}
+
 /// The fault of a text.
 fn fault_of(alloc: Global, text: &str) -> Option<SettingsFault> {
-    read_settings(alloc, text).err()
+    read(alloc, text).err()
 }
 
 #[test]
@@ -286,7 +293,7 @@ fn first_fault(rt: HostRuntime) {
 
 #[test]
 fn written_settings(rt: HostRuntime) -> Result<(), Fail> {
-    let settings = read_settings(rt.alloc(), WRITTEN)?;
+    let settings = read(rt.alloc(), WRITTEN)?;
     assert!(rt; has_texts(&settings));
     assert!(rt; has_numbers(&settings));
     assert!(rt; has_collectors(settings.collectors.as_slice(), &COLLECTORS));

@@ -11,7 +11,7 @@ ghost use Rattle.serve_settings.specs.Values.{text_in, text_at, within, number_i
 use crate::fault::SettingsFault;
 use crate::key::Key;
 use crate::settings::Collector;
-use std::alloc::{AllocError, Global};
+use std::alloc::Global;
 use toml::{Table, Value};
 
 /// A copy of the text at a key.
@@ -47,10 +47,7 @@ pub(crate) fn number_at(
     ensures least { IfOk result (λ number. least ≤ number) }
     ensures most { IfOk result (λ number. number ≤ most) }
 {
-    match number_in(table, key, least, most) {
-        Some(number) => Ok(number),
-        None => Err(SettingsFault::Key(key)),
-    }
+    number_in(table, key, least, most).ok_or(SettingsFault::Key(key))
 }
 
 fn number_in(table: &Table, key: Key, least: u64, most: u64) -> Option<u64>
