@@ -1,11 +1,11 @@
 -- What is read of a line, against the lines of the format.
-use Rattle.std.proofs.Common.{◌≡◌, ◌⊎◌, ℕ, ◌^◌, ◌<◌, ◌≤◌, Bool, true, false, cond, codes, eqb, ltb, not, ◌&&◌, List, [], ◌∷◌, ◌++◌, length, Option, Some, None, Result, Ok, Err, refl, sym, ap, subst, ◌∙◌, arith, ⊎_elim, inl, inr}
+use Rattle.std.proofs.Common.{◌≡◌, ◌⊎◌, ℕ, ◌^◌, ◌<◌, ◌≤◌, Bool, true, false, cond, codes, eqb, ltb, not, List, ◌∷◌, ◌++◌, length, Option, Some, None, Result, Ok, Err, refl, sym, ap, subst, ◌∙◌, arith, ⊎_elim, inl, inr}
 use Rattle.std.specs.Prelude.{IfOk, IfErr, IfSome}
 use Rattle.std.specs.Option.{option_map}
 use Rattle.std.specs.List.{list_all}
 use Rattle.std.specs.Str.{bytes_eq}
 use Rattle.std.specs.Fmt.{decimal}
-use Rattle.std.proofs.lemmas.Bool.{and_parts, cases_Bool, eqb-false, ltb-true, ltb-false, lt-ltb, le-ltb, ne_eqb}
+use Rattle.std.proofs.lemmas.Bool.{and_parts, eqb-false, ltb-true, ltb-false, lt-ltb, le-ltb, ne_eqb}
 use Rattle.std.proofs.lemmas.Option.{cond_some, none-some, same_Some}
 use Rattle.std.proofs.lemmas.Slice.Eq.{bytes_eq-Decides}
 use Rattle.sequences.specs.Options.{◌>>=◌}
@@ -20,7 +20,7 @@ use Rattle.call_lists.specs.Lines.{greatest}
 use Rattle.admin_lines.specs.declared.command.Command.{Command}
 use Rattle.admin_lines.specs.Sayings.{Saying, saying}
 use Rattle.admin_lines.specs.Sayings.Saying.{to_edit, to_subscribe, to_unsubscribe, to_advance, to_tell_status, to_drain_audit}
-use Rattle.admin_lines.specs.Grammar.{longest_line, longest_policy, most_audit_entries, IsSubscribeLine, IsAuditLine, AsksFor, IsCommandLine, IsSubscription}
+use Rattle.admin_lines.specs.Grammar.{longest_line, longest_policy, most_audit_entries, IsSubscribeLine, AsksFor, IsCommandLine, IsSubscription}
 use Rattle.admin_lines.specs.Reading.{is_one_word, edit_of, subscribe_of, unsubscribe_of, advance_of, status_of, audit_of, some_entries, command_by, command_of, NamesSubscriber}
 use Rattle.admin_lines.proofs.ArgumentLaws.{lacks_from_test, test_from_lacks}
 
