@@ -17,288 +17,89 @@ enum Wanted {
     Advance(u64),
     Status(u64),
     Audit(u32),
-    Nothing,
-}
-
-/// A line, and what it asks for.
-struct Row {
-    line: &'static [u8],
-    wanted: Wanted,
 }
 
 /// The lines of the worked session, and the least and greatest of each command.
-const COMMANDS: &[Row] = &[
-    Row {
-        line: b"status 1",
-        wanted: Wanted::Status(1),
-    },
-    Row {
-        line: b"subscribe Acme",
-        wanted: Wanted::Subscribe(b"Acme"),
-    },
-    Row {
-        line: b"subscribe acme",
-        wanted: Wanted::Subscribe(b"acme"),
-    },
-    Row {
-        line: b"advance 1000",
-        wanted: Wanted::Advance(1000),
-    },
-    Row {
-        line: b"advance 5",
-        wanted: Wanted::Advance(5),
-    },
-    Row {
-        line: b"audit 10",
-        wanted: Wanted::Audit(10),
-    },
-    Row {
-        line: b"unsubscribe 1",
-        wanted: Wanted::Unsubscribe(1),
-    },
-    Row {
-        line: b"edit 5",
-        wanted: Wanted::Edit(5),
-    },
-    Row {
-        line: b"edit 0",
-        wanted: Wanted::Edit(0),
-    },
-    Row {
-        line: b"edit 1048576",
-        wanted: Wanted::Edit(1_048_576),
-    },
-    Row {
-        line: b"unsubscribe 0",
-        wanted: Wanted::Unsubscribe(0),
-    },
-    Row {
-        line: b"unsubscribe 18446744073709551615",
-        wanted: Wanted::Unsubscribe(u64::MAX),
-    },
-    Row {
-        line: b"advance 0",
-        wanted: Wanted::Advance(0),
-    },
-    Row {
-        line: b"advance 18446744073709551615",
-        wanted: Wanted::Advance(u64::MAX),
-    },
-    Row {
-        line: b"status 0",
-        wanted: Wanted::Status(0),
-    },
-    Row {
-        line: b"status 18446744073709551615",
-        wanted: Wanted::Status(u64::MAX),
-    },
-    Row {
-        line: b"audit 1",
-        wanted: Wanted::Audit(1),
-    },
-    Row {
-        line: b"audit 10000",
-        wanted: Wanted::Audit(10_000),
-    },
+const COMMANDS: &[(&[u8], Wanted)] = &[
+    (b"status 1", Wanted::Status(1)),
+    (b"subscribe Acme", Wanted::Subscribe(b"Acme")),
+    (b"subscribe acme", Wanted::Subscribe(b"acme")),
+    (b"advance 1000", Wanted::Advance(1000)),
+    (b"advance 5", Wanted::Advance(5)),
+    (b"audit 10", Wanted::Audit(10)),
+    (b"unsubscribe 1", Wanted::Unsubscribe(1)),
+    (b"edit 5", Wanted::Edit(5)),
+    (b"edit 0", Wanted::Edit(0)),
+    (b"edit 1048576", Wanted::Edit(1_048_576)),
+    (b"unsubscribe 0", Wanted::Unsubscribe(0)),
+    (
+        b"unsubscribe 18446744073709551615",
+        Wanted::Unsubscribe(u64::MAX),
+    ),
+    (b"advance 0", Wanted::Advance(0)),
+    (b"advance 18446744073709551615", Wanted::Advance(u64::MAX)),
+    (b"status 0", Wanted::Status(0)),
+    (b"status 18446744073709551615", Wanted::Status(u64::MAX)),
+    (b"audit 1", Wanted::Audit(1)),
+    (b"audit 10000", Wanted::Audit(10_000)),
     // Any word may stand for a name, also one of no letters, and one that is no UTF-8.
-    Row {
-        line: b"subscribe 1",
-        wanted: Wanted::Subscribe(b"1"),
-    },
-    Row {
-        line: b"subscribe *",
-        wanted: Wanted::Subscribe(b"*"),
-    },
-    Row {
-        line: b"subscribe a\tb",
-        wanted: Wanted::Subscribe(b"a\tb"),
-    },
-    Row {
-        line: b"subscribe acme\r",
-        wanted: Wanted::Subscribe(b"acme\r"),
-    },
-    Row {
-        line: b"subscribe \xff\xfe",
-        wanted: Wanted::Subscribe(b"\xff\xfe"),
-    },
-    Row {
-        line: b"subscribe \0",
-        wanted: Wanted::Subscribe(b"\0"),
-    },
+    (b"subscribe 1", Wanted::Subscribe(b"1")),
+    (b"subscribe *", Wanted::Subscribe(b"*")),
+    (b"subscribe a\tb", Wanted::Subscribe(b"a\tb")),
+    (b"subscribe acme\r", Wanted::Subscribe(b"acme\r")),
+    (b"subscribe \xff\xfe", Wanted::Subscribe(b"\xff\xfe")),
+    (b"subscribe \0", Wanted::Subscribe(b"\0")),
 ];
 
 /// Lines that are no commands.
-const OTHERS: &[Row] = &[
-    Row {
-        line: b"",
-        wanted: Wanted::Nothing,
-    },
-    Row {
-        line: b" ",
-        wanted: Wanted::Nothing,
-    },
+const OTHERS: &[&[u8]] = &[
+    b"",
+    b" ",
     // No argument, or an empty one.
-    Row {
-        line: b"edit",
-        wanted: Wanted::Nothing,
-    },
-    Row {
-        line: b"edit ",
-        wanted: Wanted::Nothing,
-    },
-    Row {
-        line: b"subscribe",
-        wanted: Wanted::Nothing,
-    },
-    Row {
-        line: b"subscribe ",
-        wanted: Wanted::Nothing,
-    },
-    Row {
-        line: b"unsubscribe",
-        wanted: Wanted::Nothing,
-    },
-    Row {
-        line: b"advance",
-        wanted: Wanted::Nothing,
-    },
-    Row {
-        line: b"status",
-        wanted: Wanted::Nothing,
-    },
-    Row {
-        line: b"audit",
-        wanted: Wanted::Nothing,
-    },
+    b"edit",
+    b"edit ",
+    b"subscribe",
+    b"subscribe ",
+    b"unsubscribe",
+    b"advance",
+    b"status",
+    b"audit",
     // Other spaces than the one between two words.
-    Row {
-        line: b" status 1",
-        wanted: Wanted::Nothing,
-    },
-    Row {
-        line: b"status  1",
-        wanted: Wanted::Nothing,
-    },
-    Row {
-        line: b"status 1 ",
-        wanted: Wanted::Nothing,
-    },
-    Row {
-        line: b"status\t1",
-        wanted: Wanted::Nothing,
-    },
-    Row {
-        line: b"status 1\r",
-        wanted: Wanted::Nothing,
-    },
-    Row {
-        line: b"subscribe  acme",
-        wanted: Wanted::Nothing,
-    },
-    Row {
-        line: b"subscribe acme ",
-        wanted: Wanted::Nothing,
-    },
+    b" status 1",
+    b"status  1",
+    b"status 1 ",
+    b"status\t1",
+    b"status 1\r",
+    b"subscribe  acme",
+    b"subscribe acme ",
     // A word too many.
-    Row {
-        line: b"status 1 1",
-        wanted: Wanted::Nothing,
-    },
-    Row {
-        line: b"subscribe acme now",
-        wanted: Wanted::Nothing,
-    },
+    b"status 1 1",
+    b"subscribe acme now",
     // Numbers in another form.
-    Row {
-        line: b"edit 05",
-        wanted: Wanted::Nothing,
-    },
-    Row {
-        line: b"edit +5",
-        wanted: Wanted::Nothing,
-    },
-    Row {
-        line: b"edit five",
-        wanted: Wanted::Nothing,
-    },
-    Row {
-        line: b"advance -1",
-        wanted: Wanted::Nothing,
-    },
-    Row {
-        line: b"advance 1.5",
-        wanted: Wanted::Nothing,
-    },
-    Row {
-        line: b"status 00",
-        wanted: Wanted::Nothing,
-    },
-    Row {
-        line: b"status 0x1",
-        wanted: Wanted::Nothing,
-    },
-    Row {
-        line: b"status \xff",
-        wanted: Wanted::Nothing,
-    },
+    b"edit 05",
+    b"edit +5",
+    b"edit five",
+    b"advance -1",
+    b"advance 1.5",
+    b"status 00",
+    b"status 0x1",
+    b"status \xff",
     // Numbers out of range.
-    Row {
-        line: b"edit 1048577",
-        wanted: Wanted::Nothing,
-    },
-    Row {
-        line: b"edit 4294967301",
-        wanted: Wanted::Nothing,
-    },
-    Row {
-        line: b"unsubscribe 18446744073709551616",
-        wanted: Wanted::Nothing,
-    },
-    Row {
-        line: b"advance 18446744073709551616",
-        wanted: Wanted::Nothing,
-    },
-    Row {
-        line: b"status 18446744073709551616",
-        wanted: Wanted::Nothing,
-    },
-    Row {
-        line: b"audit 0",
-        wanted: Wanted::Nothing,
-    },
-    Row {
-        line: b"audit 10001",
-        wanted: Wanted::Nothing,
-    },
+    b"edit 1048577",
+    b"edit 4294967301",
+    b"unsubscribe 18446744073709551616",
+    b"advance 18446744073709551616",
+    b"status 18446744073709551616",
+    b"audit 0",
+    b"audit 10001",
     // Other names of commands.
-    Row {
-        line: b"Status 1",
-        wanted: Wanted::Nothing,
-    },
-    Row {
-        line: b"statu 1",
-        wanted: Wanted::Nothing,
-    },
-    Row {
-        line: b"statuses 1",
-        wanted: Wanted::Nothing,
-    },
-    Row {
-        line: b"open 1",
-        wanted: Wanted::Nothing,
-    },
-    Row {
-        line: b"pull 1",
-        wanted: Wanted::Nothing,
-    },
-    Row {
-        line: b"\xff 1",
-        wanted: Wanted::Nothing,
-    },
-    Row {
-        line: b"1",
-        wanted: Wanted::Nothing,
-    },
+    b"Status 1",
+    b"statu 1",
+    b"statuses 1",
+    b"open 1",
+    b"pull 1",
+    b"\xff 1",
+    b"1",
 ];
 
 /// What a line asks for; where memory is refused, it is read again.
@@ -322,36 +123,47 @@ fn is_command(command: &Command, wanted: &Wanted) -> bool {
     }
 }
 
-/// Whether this was read.
-fn is_wanted(read: &Option<Command>, wanted: &Wanted) -> bool {
-    match read {
-        Some(command) => is_command(command, wanted),
-        None => matches!(wanted, Wanted::Nothing),
+/// That the line is read as this command.
+fn expect_command(
+    rt: &impl Abort,
+    alloc: Global,
+    line: &[u8],
+    wanted: &Wanted,
+) -> Result<(), AllocError> {
+    match read(alloc, line)? {
+        Some(command) => assert!(rt; is_command(&command, wanted), "{line:?}"),
+        None => assert!(rt; false, "no command: {line:?}"),
     }
-}
-
-fn expect_read(rt: &impl Abort, alloc: Global, row: &Row) -> Result<(), AllocError> {
-    let command = read(alloc, row.line)?;
-    assert!(rt; is_wanted(&command, &row.wanted), "{:?}", row.line);
     Ok(())
 }
 
-fn expect_rows(rt: &impl Abort, alloc: Global, rows: &[Row]) -> Result<(), AllocError> {
-    for row in rows {
-        expect_read(rt, alloc, row)?;
+fn expect_commands(
+    rt: &impl Abort,
+    alloc: Global,
+    rows: &[(&[u8], Wanted)],
+) -> Result<(), AllocError> {
+    for (line, wanted) in rows {
+        expect_command(rt, alloc, line, wanted)?;
     }
     Ok(())
 }
 
 #[test]
 fn commands(rt: HostRuntime) -> Result<(), Fail> {
-    expect_rows(&rt, rt.alloc(), COMMANDS)?;
+    expect_commands(&rt, rt.alloc(), COMMANDS)?;
+    Ok(())
+}
+
+fn expect_others(rt: &impl Abort, alloc: Global, lines: &[&[u8]]) -> Result<(), AllocError> {
+    for line in lines {
+        assert!(rt; read(alloc, line)?.is_none(), "{line:?}");
+    }
     Ok(())
 }
 
 #[test]
 fn other_lines(rt: HostRuntime) -> Result<(), Fail> {
-    expect_rows(&rt, rt.alloc(), OTHERS)?;
+    expect_others(&rt, rt.alloc(), OTHERS)?;
     Ok(())
 }
 
