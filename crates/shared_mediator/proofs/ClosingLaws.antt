@@ -57,9 +57,9 @@ pub closes_for : (before h : List Entry) (c : Counted) (exporters lent : List Ex
 closes_for before h c exporters lent admins lent_admins history same same_admins from begins marked messages entries book =
     subst (λ (x : List Entry). HasReceipts before x (receipts_of exporters admins)) (sym history)
     (closes before c exporters admins from begins
-      (subst (λ (xs : List Exporting). (marks : Marked) × (marks.from ≡ c.from) × AreMarked marks c.core.history (receipts_of xs admins)) same
-        (subst (λ (xs : List (List KeptEntry)). (marks : Marked) × (marks.from ≡ c.from) × AreMarked marks c.core.history (receipts_of lent xs)) same_admins marked))
-      (subst (AllByRecursion KeepsMessages) same messages) (subst (AllByRecursion (AllByRecursion HasReceipt)) same_admins entries) book)
+    (subst (λ (xs : List Exporting). (marks : Marked) × (marks.from ≡ c.from) × AreMarked marks c.core.history (receipts_of xs admins)) same
+    (subst (λ (xs : List (List KeptEntry)). (marks : Marked) × (marks.from ≡ c.from) × AreMarked marks c.core.history (receipts_of lent xs)) same_admins marked))
+    (subst (AllByRecursion KeepsMessages) same messages) (subst (AllByRecursion (AllByRecursion HasReceipt)) same_admins entries) book)
 
 -- nothing is left of the administrators
 pub none_left : (rest : List (List KeptEntry)) → length rest ≡ 0 → sum_by (λ (kept : List KeptEntry). length kept) rest ≡ 0
