@@ -4,6 +4,7 @@ use Rattle.std.specs.List.{AllByRecursion}
 use Rattle.ipfix_template.specs.DataRecord.{DataRecord}
 use Rattle.subscriber_stream.specs.Parts.{parts, records_in}
 use Rattle.subscriber_stream.specs.Message.{built, taken}
+use Rattle.stream_meaning.specs.Served.{AreStreamable}
 use Rattle.event_journal.specs.declared.entry.Entry.{Entry}
 use Rattle.event_journal.specs.declared.entry.Entry.TheVariants.{Message}
 use Rattle.entry_receipts.specs.declared.kept.KeptEntry.{KeptEntry}
@@ -52,9 +53,11 @@ pub record IsDelivering (kept : List Handed) (parts share : ℕ) : Type 0 where
   pub part : parts ≡ 1
   pub amount : share ≡ records_kept kept
 
--- the message is the one built for this Export Time and target at some place of some list, and these are its records
+-- the message is the one built for this Export Time and target at some place of some list that can be streamed, and these are its
+-- records
 pub record IsBuilt (now target : ℕ) (h : Handed) : Type 0 where
   pub listed : List DataRecord
+  pub streamable : AreStreamable listed
   pub place : ℕ
   pub message : Some h.message ≡ built listed place now target
   pub records : h.records ≡ length (records_in (take (taken listed place target) (drop place (parts listed))))

@@ -3,6 +3,7 @@ ghost use Rattle.std.specs.Prelude.{◌≡◌, ◌+◌, ◌*◌, ◌<◌, true, 
 ghost use Rattle.mediator_history.specs.Subscriptions.{is_live};
 ghost use Rattle.mediator_state.specs.Calls.{RefusesClose, RefusesEdit, RefusesSubscribe, RefusesUnsubscribe};
 ghost use Rattle.mediator_core.specs.Mediation.{journal_limits};
+ghost use Rattle.mediator_core.specs.Sound.{IsSound};
 ghost use Rattle.mediator_core.specs.Calls.{Opens, Closes, Receives, RefusesReceive, Edits, Subscribes, Unsubscribes, Advances, RefusesAdvance, IsStatusOf, Drains};
 ghost use Rattle.counted_mediator.specs.Counted.{counted_as, handed_at, handed_live};
 ghost use Rattle.counted_mediator.specs.Handing.{HandsOut, RefusesHanding, records_of};
@@ -181,6 +182,7 @@ impl<E: EntryLedger, H: RecordLedger> Desk<E, H> {
         target: u16,
     ) -> Result<Option<Handed>, PullFault>
         requires part { 0 < share.old.parts }
+        ensures sound { IsSound self.old.counted.core }
         ensures ok { IfOk result (λ answer. HandsOut self.old.counted sub.0 now target answer self.new.counted) }
         ensures counts { IfOk result (λ answer. Adds 0 (records_of answer) 0 self.old self.new) }
         ensures share { IfOk result (λ answer. share.new.amount ≡ share.old.amount + records_of answer) }
@@ -188,6 +190,7 @@ impl<E: EntryLedger, H: RecordLedger> Desk<E, H> {
         ensures same { OnErr result ((self.new ≡ self.old) × (share.new ≡ share.old)) }
         ensures err { IfErr result (λ e. RefusesHanding e self.old.counted sub.0) }
     {
+        let _journal = self.counted.mediator().journal();
         match self.counted.pull(sub, now, target) {
             Ok(Some(handed)) => {
                 self.handed.add(share, handed.records);
