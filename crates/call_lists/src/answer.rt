@@ -121,14 +121,18 @@ fn status_text(alloc: Global, status: &Status) -> Result<String, AllocError>
     Ok(text)
 }
 
-fn cut_word(cut: bool) -> &'static str
+/// The last word of a status: `cut` where the subscription was cut, else `live`.
+pub fn cut_word(cut: bool) -> &'static str
     ensures { result.now ≡ cut_word cut }
 {
     if cut { "cut" } else { "live" }
 }
 
-/// How many entries there are, and a line for each.
-fn drained_text(alloc: Global, entries: &[AuditEntry]) -> Result<String, AllocError>
+/// The lines of an answer with audit entries: `ok` with their number, and a line for each.
+///
+/// # Errors
+/// Want of memory.
+pub fn drained_text(alloc: Global, entries: &[AuditEntry]) -> Result<String, AllocError>
     ensures { IfOk result (λ text. string_bytes text ≡ drained_text entries.now) }
 {
     let count = entries.len();
@@ -147,7 +151,11 @@ fn put_entries(alloc: Global, text: &mut String, entries: &[AuditEntry]) -> Resu
     Ok(())
 }
 
-fn refusal_text(alloc: Global, why: &Fault) -> Result<String, AllocError>
+/// The line of a refusal: `err`, the name of why, and the numbers or words that belong to it.
+///
+/// # Errors
+/// Want of memory.
+pub fn refusal_text(alloc: Global, why: &Fault) -> Result<String, AllocError>
     ensures { IfOk result (λ text. string_bytes text ≡ refusal_text why.now ++ 10 ∷ []) }
 {
     let mut text = format!(in alloc; "err {why}")?;

@@ -110,7 +110,8 @@ pub(crate) fn cut_at(text: &str, separator: char) -> Option<(&str, &str)>
 }
 
 /// The number that a word writes, decimal and without leading zeros. `None` where it writes none, or more than `most`.
-fn read_number(word: &str, most: u64) -> Option<u64>
+/// The word may be of any length.
+pub fn read_number(word: &str, most: u64) -> Option<u64>
     ensures value { result ≡ number_of most word.now }
     ensures bound { IfSome result (λ n. n ≤ most) }
 {

@@ -1,10 +1,9 @@
 -- What is so where a mediator is given back.
-use Rattle.std.proofs.Common.{◌≡◌, ℕ, ◌+◌, ◌-◌, ◌<◌, ◌≤◌, List, [], ◌∷◌, ◌++◌, length, map, take, drop, filter, sum_by, refl, sym, ap, ◌∙◌, subst, arith}
+use Rattle.std.proofs.Common.{◌≡◌, ℕ, ◌+◌, List, [], ◌∷◌, ◌++◌, length, map, take, drop, filter, sum_by, refl, sym, ap, ◌∙◌, subst, arith}
 use Rattle.std.specs.List.{AllByRecursion}
 use Rattle.std.proofs.lemmas.List.{length-append}
 use Rattle.std.proofs.lemmas.List.Concat.{flat_map-cons}
 use Rattle.std.proofs.lemmas.List.Sums.{sum_by-cons}
-use Rattle.sequences.proofs.ListLaws.{AllByRecursion-append}
 use Rattle.event_journal.specs.declared.entry.Entry.{Entry}
 use Rattle.entry_receipts.specs.declared.kept.KeptEntry.{KeptEntry}
 use Rattle.entry_receipts.specs.Receipts.{all_kept, AreReceipts, AreComplete}
@@ -50,3 +49,19 @@ closes before c exporters admins from begins marked messages entries book = reco
 
   as_many : length (filter has_receipt (drop marked.0.from c.core.history)) ≡ entries_kept exporters admins
   as_many = ap (λ n. length (filter has_receipt (drop n c.core.history))) marked.1 ∙ sym book
+
+-- the same of lists that were handed on
+pub closes_for : (before h : List Entry) (c : Counted) (exporters lent : List Exporting) (admins lent_admins : List (List KeptEntry)) → h ≡ c.core.history → lent ≡ exporters → lent_admins ≡ admins → c.from ≡ length before → take (length before) c.core.history ≡ before
+    → (marks : Marked) × (marks.from ≡ c.from) × AreMarked marks c.core.history (receipts_of lent lent_admins) → AllByRecursion KeepsMessages lent → AllByRecursion (AllByRecursion HasReceipt) lent_admins
+    → entries_kept exporters admins ≡ entries_of c → HasReceipts before h (receipts_of exporters admins)
+closes_for before h c exporters lent admins lent_admins history same same_admins from begins marked messages entries book =
+    subst (λ (x : List Entry). HasReceipts before x (receipts_of exporters admins)) (sym history)
+    (closes before c exporters admins from begins
+    (subst (λ (xs : List Exporting). (marks : Marked) × (marks.from ≡ c.from) × AreMarked marks c.core.history (receipts_of xs admins)) same
+    (subst (λ (xs : List (List KeptEntry)). (marks : Marked) × (marks.from ≡ c.from) × AreMarked marks c.core.history (receipts_of lent xs)) same_admins marked))
+    (subst (AllByRecursion KeepsMessages) same messages) (subst (AllByRecursion (AllByRecursion HasReceipt)) same_admins entries) book)
+
+-- nothing is left of the administrators
+pub none_left : (rest : List (List KeptEntry)) → length rest ≡ 0 → sum_by (λ (kept : List KeptEntry). length kept) rest ≡ 0
+none_left [] none = refl
+none_left (kept ∷ rest) none = absurd (omega (arith, none))

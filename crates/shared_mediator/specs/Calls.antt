@@ -1,5 +1,5 @@
 -- What the calls add to what lies under the lock, and why they refuse.
-use Rattle.std.specs.Prelude.{◌≡◌, ℕ, ◌+◌, ◌<◌, true, false, not, Option, Some, None}
+use Rattle.std.specs.Prelude.{◌≡◌, ℕ, ◌+◌, ◌<◌, true, false, Option, Some, None}
 use Rattle.mediator_history.specs.Subscriptions.{is_live, is_served}
 use Rattle.mediator_state.specs.declared.fault.Fault.TheVariants.{UnknownSub}
 use Rattle.mediator_core.specs.Mediation.{waiting_at}

@@ -50,7 +50,9 @@ impl<E: EntryLedger, H: RecordLedger> SharedMediator<E, H> {
         ensures accepted { IfOk result (λ closed. closed.accepted ≡ messages_accepted exporters.items) }
         ensures handed { IfOk result (λ closed. closed.handed ≡ records_handed deliveries.items) }
     {
-        self.desk.into_inner().close_all(self.alloc, exporters, deliveries, admins)
+        self.desk
+            .into_inner()
+            .close_all(self.alloc, exporters, deliveries, admins)
     }
 }
 
@@ -79,7 +81,12 @@ impl<E: EntryLedger, H: RecordLedger> Desk<E, H> {
         {
             return Err(CloseFault::MissingHandle);
         }
-        let accepted = check(alloc, &self.counted, exporters.as_slice(), admins.as_slice())?;
+        let accepted = check(
+            alloc,
+            &self.counted,
+            exporters.as_slice(),
+            admins.as_slice(),
+        )?;
         let Desk {
             counted,
             mut entries,
@@ -187,10 +194,7 @@ fn joined_entries<E: EntryLedger>(
 }
 
 /// All shares of the records in one.
-fn joined_records<H: RecordLedger>(
-    left: Share<H>,
-    deliveries: Vec<DeliveryHandle<H>>,
-) -> Share<H>
+fn joined_records<H: RecordLedger>(left: Share<H>, deliveries: Vec<DeliveryHandle<H>>) -> Share<H>
     ensures parts { result.parts ≡ left.parts + length deliveries.items }
     ensures amount { result.amount ≡ left.amount + records_handed deliveries.items }
 {

@@ -104,7 +104,11 @@ impl<H: RecordLedger> DeliveryHandle<H> {
         if self.kept.reserve(1).is_err() {
             return Err(PullFault::Core(Fault::OutOfMemory));
         }
-        match shared.desk.lock(rt).pull(&mut self.share, self.sub, now, target)? {
+        match shared
+            .desk
+            .lock(rt)
+            .pull(&mut self.share, self.sub, now, target)?
+        {
             Some(handed) => {
                 self.kept.push_reserved(handed);
                 Ok(true)

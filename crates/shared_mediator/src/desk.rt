@@ -61,12 +61,7 @@ pub(crate) struct Accepted {
 
 impl<E: EntryLedger, H: RecordLedger> Desk<E, H> {
     /// A desk with no handle yet.
-    pub(crate) fn new(
-        mediator: Mediator,
-        handles: u64,
-        entries: Blank,
-        handed: Blank,
-    ) -> Desk<E, H>
+    pub(crate) fn new(mediator: Mediator, handles: u64, entries: Blank, handed: Blank) -> Desk<E, H>
         requires fresh { handed_live mediator ≡ 0 }
         requires before { E.before ≡ mediator.history }
         requires entries_name { entries.name ≡ E.name }
@@ -232,11 +227,7 @@ impl<E: EntryLedger, H: RecordLedger> Desk<E, H> {
     }
 
     /// Begins a subscription, and adds that to a share.
-    pub(crate) fn subscribe(
-        &mut self,
-        share: &mut Share<E>,
-        name: &str,
-    ) -> Result<Accepted, Fault>
+    pub(crate) fn subscribe(&mut self, share: &mut Share<E>, name: &str) -> Result<Accepted, Fault>
         requires part { 0 < share.old.parts }
         ensures ok { IfOk result (λ accepted. Subscribes self.old.counted.core name.now accepted.number self.new.counted.core) }
         ensures last { IfOk result (λ accepted. accepted.position + 1 ≡ length self.new.counted.core.history) }

@@ -86,8 +86,10 @@ impl<E: EntryLedger> ExporterHandle<E> {
         let octets = message.clone()?;
         self.kept.reserve(1)?;
         let number = self.kept.len() as u64;
-        let receipt =
-            shared.desk.lock(rt).receive(&mut self.share, self.session, number, message)?;
+        let receipt = shared
+            .desk
+            .lock(rt)
+            .receive(&mut self.share, self.session, number, message)?;
         shared.moved.notify_all();
         self.kept.push_reserved(KeptEntry {
             position: receipt.position,

@@ -1,5 +1,4 @@
-use Rattle.std.proofs.Common.{◌∙◌, ap, [], List}
-use Rattle.event_journal.specs.declared.entry.Entry.{Entry}
+use Rattle.std.proofs.Common.{◌∙◌, ap, []}
 use Rattle.mediator_core.specs.Mediation.{Mediation}
 use Rattle.shared_mediator.proofs.ClosingLaws.{checked}
 use Rattle.shared_mediator.proofs.closing.check.Goals as goal

@@ -1,9 +1,4 @@
-use Rattle.std.proofs.Common.{◌≡◌, ◌+◌, ◌++◌, List, map, length, take, sum_by}
-use Rattle.entry_receipts.specs.declared.kept.KeptEntry.{KeptEntry}
-use Rattle.entry_receipts.specs.Marking.{AreMarked}
-use Rattle.shared_mediator.specs.Locked.{Exporting}
-use Rattle.shared_mediator.specs.Handles.{records_kept}
-use Rattle.shared_mediator.specs.Closing.{records_handed}
+use Rattle.std.proofs.Common.{◌≡◌, ◌+◌, length, sum_by}
 use Rattle.shared_mediator.proofs.closing.joined_entries.Given as goal
 
 abbrev pub invariant-loop-exporter : goal.invariant-loop-exporter

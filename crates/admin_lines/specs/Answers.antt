@@ -1,0 +1,25 @@
+-- The lines of an answer: words parted by one space, each line with a line feed (10) behind it; all numbers are decimal.
+use Rattle.std.specs.Prelude.{ℕ, List, [], ◌∷◌, ◌++◌, codes}
+use Rattle.std.specs.Fmt.{decimal}
+use Rattle.mediator_state.specs.declared.fault.Fault.TheVariants.{OutOfMemory}
+use Rattle.mediator_state.specs.declared.receipt.Status.{Status}
+use Rattle.call_lists.specs.Answers.{cut_word, drained_text, refusal_text}
+use Rattle.admin_lines.specs.declared.answer.Answer.{Answer}
+use Rattle.admin_lines.specs.declared.answer.Answer.TheVariants as answer
+
+abbrev pub status_text : Status → List ℕ
+status_text status = codes "ok " ++ decimal status.queued ++ codes " " ++ decimal status.handed ++ codes " " ++ cut_word status.cut ++ 10 ∷ []
+
+abbrev pub answer_text : Answer → List ℕ
+answer_text (answer.Edited revision) = codes "ok " ++ decimal revision ++ 10 ∷ []
+answer_text (answer.Subscribed sub) = codes "ok " ++ decimal sub ++ 10 ∷ []
+answer_text answer.Done = codes "ok" ++ 10 ∷ []
+answer_text (answer.Stands status) = status_text status
+answer_text (answer.Drained entries) = drained_text entries.items
+answer_text (answer.Refused why) = refusal_text why ++ 10 ∷ []
+answer_text answer.BadLine = codes "err Line" ++ 10 ∷ []
+answer_text answer.BadText = codes "err Text" ++ 10 ∷ []
+
+-- a call that was refused for want of memory
+abbrev pub refused_for_memory : Answer
+refused_for_memory = answer.Refused OutOfMemory

@@ -1,0 +1,7 @@
+//! Laws over the definitions.
+ghost use Rattle.admin_lines.specs.Grammar.{OneMeaning};
+
+/// No line asks for two things.
+pub fn one_meaning()
+    ensures { OneMeaning }
+{}

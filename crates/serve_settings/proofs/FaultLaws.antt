@@ -1,0 +1,76 @@
+-- The first key at fault, said of each key alone.
+use Rattle.std.proofs.Common.{◌≡◌, ℕ, true, false, not, List, [], ◌∷◌, Option, Some, None, Result, Ok, Err, IfErr, is_some, find, ◌^◌, refl, sym, subst}
+use Rattle.sequences.specs.Results.{◌>>=◌}
+use Rattle.toml.specs.Data.{Members}
+use Rattle.toml.specs.Parse.{parse_document}
+use Rattle.serve_settings.specs.declared.key.Key.{Key}
+use Rattle.serve_settings.specs.declared.key.Key.TheVariants.{Exporters, Admin, Policy, Connections, Target, Queue, Shapes, Audit, JournalEntries, JournalOctets, Turns, Deliver}
+use Rattle.serve_settings.specs.declared.fault.SettingsFault.{SettingsFault}
+use Rattle.serve_settings.specs.declared.fault.SettingsFault.TheVariants as fault
+use Rattle.serve_settings.specs.Asked.{Asked}
+use Rattle.serve_settings.specs.Faults.{has, keys, lacking, IsFaultOf}
+use Rattle.serve_settings.specs.Reading.{limits_in, settings_in}
+use Rattle.serve_settings.specs.Results.{Gives, needed}
+use Rattle.serve_settings.specs.Values.{text_in, number_in, collectors_in}
+
+-- the fault is the first of these keys that a table lacks
+pub record IsFirst (table : Members) (ks : List Key) (f : SettingsFault) : Type 0 where
+  pub key : Key
+  pub fault_is : f ≡ fault.Key key
+  pub first : find (λ k. not (has table k)) ks ≡ Some key
+
+-- a reading of these keys, in their order, fails at the first that the table lacks
+pub record Judges {B : Type 0} (table : Members) (ks : List Key) (read : Result B SettingsFault) : Type 0 where
+  pub judged : IfErr read (IsFirst table ks)
+
+-- a key that is there is passed over
+later : {B : Type 0} (table : Members) (k : Key) (ks : List Key) (read : Result B SettingsFault) → has table k ≡ true → Judges table ks read → Judges table (k ∷ ks) read
+later table k ks (Ok b) is judges = record { judged = tt }
+later table k ks (Err f) is judges = record { judged = record { key = judges.judged.key; fault_is = judges.judged.fault_is; first = rw is judges.judged.first } }
+
+-- a key that isn't is at fault
+here : {B : Type 0} (table : Members) (k : Key) (ks : List Key) → has table k ≡ false → Judges {B = B} table (k ∷ ks) (Err (fault.Key k))
+here table k ks is = record { judged = record { key = k; fault_is = refl; first = rw is refl } }
+
+-- a key is read, and what comes after it judges the keys after it
+step : {A B : Type 0} (table : Members) (k : Key) (ks : List Key) (o : Option A) (go : A → Result B SettingsFault) → has table k ≡ is_some o → ((a : A) → Judges table ks (go a)) → Judges table (k ∷ ks) (needed k o >>= go)
+step table k ks None go is after = here table k ks is
+step table k ks (Some a) go is after = later table k ks (go a) is (after a)
+
+-- the same inside a part that is read for itself
+step-within : {A B C : Type 0} (table : Members) (k : Key) (ks : List Key) (o : Option A) (go : A → Result B SettingsFault) (on : B → Result C SettingsFault) → has table k ≡ is_some o → ((a : A) → Judges table ks (go a >>= on))
+    → Judges table (k ∷ ks) ((needed k o >>= go) >>= on)
+step-within table k ks None go on is after = here table k ks is
+step-within table k ks (Some a) go on is after = later table k ks (go a >>= on) is (after a)
+
+settings_in-judges : (table : Members) → Judges table keys (settings_in table)
+unfolding settings_in limits_in
+settings_in-judges table =
+    step table Exporters _ (text_in Exporters table) _ refl (λ exporters.
+    step table Admin _ (text_in Admin table) _ refl (λ admin.
+    step table Policy _ (text_in Policy table) _ refl (λ policy.
+    step table Connections _ (number_in Connections 1 1000 table) _ refl (λ connections.
+    step table Target _ (number_in Target 16 65535 table) _ refl (λ target.
+    step-within table Queue _ (number_in Queue 1 1000000 table) _ _ refl (λ queue.
+    step-within table Shapes _ (number_in Shapes 1 65280 table) _ _ refl (λ shapes.
+    step-within table Audit _ (number_in Audit 1 10000000 table) _ _ refl (λ audit.
+    step-within table JournalEntries _ (number_in JournalEntries 1 100000000 table) _ _ refl (λ entries.
+    step-within table JournalOctets _ (number_in JournalOctets 1 (2 ^ 40) table) _ _ refl (λ octets.
+    step table Turns _ (number_in Turns 1 1000000000 table) _ refl (λ turns.
+    step table Deliver [] (collectors_in Deliver table) _ refl (λ collectors. record { judged = tt }))))))))))))
+
+of_table : (text : List ℕ) (table : Members) (f : SettingsFault) → parse_document text ≡ Some table → settings_in table ≡ Err f → IsFaultOf f text
+of_table text table f parsed fails = by_first f (subst (λ (r : Result Asked SettingsFault). Judges table keys r) fails (settings_in-judges table)).judged
+  where
+    by_key : (k : Key) → lacking table ≡ Some k → IsFaultOf (fault.Key k) text
+    by_key k first = (table, parsed, first)
+
+    by_first : (f : SettingsFault) → IsFirst table keys f → IsFaultOf f text
+    by_first f first = subst (λ (f : SettingsFault). IsFaultOf f text) (sym first.fault_is) (by_key first.key first.first)
+
+-- what was returned at a fault, of a text that is this table
+pub returned-first : {X : Type 0} (view : X → Asked) (text : List ℕ) (table : Members) (answer : Result X SettingsFault) → parse_document text ≡ Some table → Gives view answer (settings_in table) → IfErr answer (λ f. IsFaultOf f text)
+returned-first view text table (Ok x) parsed gives = tt
+returned-first view text table (Err fault.Toml) parsed gives = of_table text table fault.Toml parsed gives
+returned-first view text table (Err (fault.Key k)) parsed gives = of_table text table (fault.Key k) parsed gives
+returned-first view text table (Err fault.OutOfMemory) parsed gives = tt

@@ -1,0 +1,3 @@
+mod CollectorLaws
+mod FaultLaws
+mod LimitLaws

@@ -1,0 +1,33 @@
+-- Limits that a mediator takes are read.
+use Rattle.std.proofs.Common.{◌≡◌, ℕ, ◌≤◌, ◌^◌, pos, Some, Ok, Result, refl, ap, ◌∙◌, arith}
+use Rattle.std.specs.Prelude.{Option, option_and_then}
+use Rattle.std.proofs.lemmas.Bool.Decides.{nat_tests}
+use Rattle.toml.specs.Data.{Data, Members, integer, as_integer, get_member}
+use Rattle.serve_settings.specs.declared.key.Key.{Key}
+use Rattle.serve_settings.specs.declared.fault.SettingsFault.{SettingsFault}
+use Rattle.serve_settings.specs.declared.key.Key.TheVariants.{Queue, Shapes, Audit, JournalEntries, JournalOctets}
+use Rattle.serve_settings.specs.Laws.{AllowedLimitsAreRead}
+use Rattle.serve_settings.specs.Names.{name_of}
+use Rattle.serve_settings.specs.Reading.{limits_in}
+use Rattle.serve_settings.specs.Results.{needed}
+use Rattle.serve_settings.specs.Values.{within, number_at}
+
+within-stands : (least most n : ℕ) → least ≤ n → n ≤ most → within least most (pos n) ≡ Some n
+within-stands least most n low high = grind (arith, nat_tests)
+
+abbrev read : Key → ℕ → ℕ → Option Data → Result ℕ SettingsFault
+read k least most value = needed k (option_and_then (within least most) (option_and_then as_integer value))
+
+-- a number in its range is read
+number_at-stands : (k : Key) (least most n : ℕ) (table : Members) → get_member (name_of k) table ≡ Some (integer (pos n)) → least ≤ n → n ≤ most → number_at k least most table ≡ Ok n
+number_at-stands k least most n table stands low high = ap (read k least most) stands ∙ ap (needed k) (within-stands least most n low high)
+
+pub allowed_limits_are_read : AllowedLimitsAreRead
+unfolding limits_in
+allowed_limits_are_read table limits allowed has =
+    let queue = number_at-stands Queue 1 1000000 limits.queue table has.queue allowed.some_queue allowed.most_queue in
+    let shapes = number_at-stands Shapes 1 65280 limits.shapes table has.shapes allowed.some_shapes allowed.most_shapes in
+    let audit = number_at-stands Audit 1 10000000 limits.audit table has.audit allowed.some_audit allowed.most_audit in
+    let entries = number_at-stands JournalEntries 1 100000000 limits.entries table has.entries allowed.some_entries allowed.most_entries in
+    let octets = number_at-stands JournalOctets 1 (2 ^ 40) limits.octets table has.octets allowed.some_octets allowed.most_octets in
+    rw (queue, shapes, audit, entries, octets) refl

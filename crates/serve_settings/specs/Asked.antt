@@ -1,0 +1,39 @@
+-- What settings ask for, in texts and numbers.
+use Rattle.std.specs.Prelude.{ℕ, List, map, string_bytes, Vec}
+use Rattle.std.specs.declared.alloc.Global.{Global}
+use Rattle.mediator_calls.specs.declared.limits.Limits.{Limits}
+use Rattle.serve_settings.specs.declared.settings.Settings.{Settings}
+use Rattle.serve_settings.specs.declared.settings.Collector.{Collector}
+
+-- a subscriber's name, and the address of its collector
+abbrev pub Pair : Type 0
+Pair = List ℕ × List ℕ
+
+pub record Asked : Type 0 where
+  pub exporters : List ℕ
+  pub admin : List ℕ
+  pub policy : List ℕ
+  pub connections : ℕ
+  pub target : ℕ
+  pub limits : Limits
+  pub turns : ℕ
+  pub collectors : List Pair
+
+abbrev pub pair : Collector → Pair
+pair collector = (string_bytes collector.subscriber, string_bytes collector.address)
+
+abbrev pub pairs : Vec Collector Global → List Pair
+pairs collectors = map pair collectors.items
+
+-- the same of settings that were read
+abbrev pub asked : Settings → Asked
+asked settings = record {
+  exporters = string_bytes settings.exporters;
+  admin = string_bytes settings.admin;
+  policy = string_bytes settings.policy;
+  connections = settings.connections;
+  target = settings.target;
+  limits = settings.limits;
+  turns = settings.turns;
+  collectors = pairs settings.collectors;
+}

@@ -1,0 +1,38 @@
+-- Which key of settings is at fault, said of each key alone.
+use Rattle.std.specs.Prelude.{◌≡◌, ◌^◌, ℕ, Bool, not, List, [], ◌∷◌, Option, Some, None, is_some, find}
+use Rattle.toml.specs.Data.{Members}
+use Rattle.toml.specs.Parse.{parse_document}
+use Rattle.serve_settings.specs.declared.key.Key.{Key}
+use Rattle.serve_settings.specs.declared.key.Key.TheVariants.{Exporters, Admin, Policy, Connections, Target, Queue, Shapes, Audit, JournalEntries, JournalOctets, Turns, Deliver}
+use Rattle.serve_settings.specs.declared.fault.SettingsFault.{SettingsFault}
+use Rattle.serve_settings.specs.declared.fault.SettingsFault.TheVariants as fault
+use Rattle.serve_settings.specs.Values.{text_in, number_in, collectors_in}
+
+-- whether a table has a value at a key that the key may have
+abbrev pub has : Members → Key → Bool
+has table Exporters = is_some (text_in Exporters table)
+has table Admin = is_some (text_in Admin table)
+has table Policy = is_some (text_in Policy table)
+has table Connections = is_some (number_in Connections 1 1000 table)
+has table Target = is_some (number_in Target 16 65535 table)
+has table Queue = is_some (number_in Queue 1 1000000 table)
+has table Shapes = is_some (number_in Shapes 1 65280 table)
+has table Audit = is_some (number_in Audit 1 10000000 table)
+has table JournalEntries = is_some (number_in JournalEntries 1 100000000 table)
+has table JournalOctets = is_some (number_in JournalOctets 1 (2 ^ 40) table)
+has table Turns = is_some (number_in Turns 1 1000000000 table)
+has table Deliver = is_some (collectors_in Deliver table)
+
+-- the keys, in the order in which they are judged
+abbrev pub keys : List Key
+keys = Exporters ∷ Admin ∷ Policy ∷ Connections ∷ Target ∷ Queue ∷ Shapes ∷ Audit ∷ JournalEntries ∷ JournalOctets ∷ Turns ∷ Deliver ∷ []
+
+-- the first key that a table lacks
+abbrev pub lacking : Members → Option Key
+lacking table = find (λ k. not (has table k)) keys
+
+-- the text is no TOML, or a table that lacks this key and none before it; want of memory says nothing
+abbrev pub IsFaultOf : SettingsFault → List ℕ → Type 0
+IsFaultOf fault.Toml text = parse_document text ≡ None
+IsFaultOf (fault.Key k) text = (table : Members) × (parse_document text ≡ Some table) × (lacking table ≡ Some k)
+IsFaultOf fault.OutOfMemory text = Unit {0}

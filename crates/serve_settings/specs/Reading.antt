@@ -1,0 +1,52 @@
+-- What a text of settings asks for, or its first fault.
+use Rattle.std.specs.Prelude.{ℕ, ◌^◌, List, Option, Some, None, Result, Ok, Err}
+use Rattle.toml.specs.Data.{Members}
+use Rattle.toml.specs.Parse.{parse_document}
+use Rattle.sequences.specs.Results.{◌>>=◌}
+use Rattle.mediator_calls.specs.declared.limits.Limits.{Limits}
+use Rattle.serve_settings.specs.declared.key.Key.TheVariants.{Exporters, Admin, Policy, Connections, Target, Queue, Shapes, Audit, JournalEntries, JournalOctets, Turns}
+use Rattle.serve_settings.specs.declared.fault.SettingsFault.{SettingsFault}
+use Rattle.serve_settings.specs.declared.fault.SettingsFault.TheVariants.{Toml}
+use Rattle.serve_settings.specs.Asked.{Asked}
+use Rattle.serve_settings.specs.Values.{text_at, number_at, collectors_at}
+
+-- the limits of the mediator
+unfoldable pub limits_in : Members → Result Limits SettingsFault
+limits_in table = do
+  queue ← number_at Queue 1 1000000 table
+  shapes ← number_at Shapes 1 65280 table
+  audit ← number_at Audit 1 10000000 table
+  entries ← number_at JournalEntries 1 100000000 table
+  octets ← number_at JournalOctets 1 (2 ^ 40) table
+  Ok (record { queue = queue; shapes = shapes; audit = audit; entries = entries; octets = octets })
+
+-- the settings in a table, or the first key at fault; other keys are ignored
+unfoldable pub settings_in : Members → Result Asked SettingsFault
+settings_in table = do
+  exporters ← text_at Exporters table
+  admin ← text_at Admin table
+  policy ← text_at Policy table
+  connections ← number_at Connections 1 1000 table
+  target ← number_at Target 16 65535 table
+  limits ← limits_in table
+  turns ← number_at Turns 1 1000000000 table
+  collectors ← collectors_at table
+  Ok (record {
+    exporters = exporters;
+    admin = admin;
+    policy = policy;
+    connections = connections;
+    target = target;
+    limits = limits;
+    turns = turns;
+    collectors = collectors;
+  })
+
+-- the table that a text is
+abbrev pub table_of : Option Members → Result Members SettingsFault
+table_of None = Err Toml
+table_of (Some table) = Ok table
+
+-- the settings that a text gives, or its first fault
+abbrev pub settings_of : List ℕ → Result Asked SettingsFault
+settings_of text = table_of (parse_document text) >>= settings_in

@@ -1,0 +1,50 @@
+-- What stands at a key of a table.
+use Rattle.std.specs.Prelude.{ℕ, ℤ, pos, negsuc, nat_le, ◌&&◌, List, [], ◌∷◌, map, Option, Some, None, Result, if◌then◌else◌, option_and_then}
+use Rattle.std.specs.List.Sorted.{IsStrictlySortedBy}
+use Rattle.std.specs.Cmp.Lexicographic.{slice_cmp}
+use Rattle.std.specs.Ordering.{nat_cmp}
+use Rattle.toml.specs.Data.{Members, no_members, member, as_str, as_integer, as_table, get_member}
+use Rattle.sequences.specs.Options.{◌>>=◌}
+use Rattle.serve_settings.specs.declared.key.Key.{Key}
+use Rattle.serve_settings.specs.declared.key.Key.TheVariants as key
+use Rattle.serve_settings.specs.declared.fault.SettingsFault.{SettingsFault}
+use Rattle.serve_settings.specs.Asked.{Pair}
+use Rattle.serve_settings.specs.Names.{name_of}
+use Rattle.serve_settings.specs.Results.{needed}
+
+-- the text at a key
+abbrev pub text_in : Key → Members → Option (List ℕ)
+text_in k table = option_and_then as_str (get_member (name_of k) table)
+
+abbrev pub text_at : Key → Members → Result (List ℕ) SettingsFault
+text_at k table = needed k (text_in k table)
+
+-- a number where it is from least to most
+abbrev pub within : ℕ → ℕ → ℤ → Option ℕ
+within least most (pos n) = if nat_le least n && nat_le n most then Some n else None
+within least most (negsuc n) = None
+
+-- the number at a key, where it is from least to most
+abbrev pub number_in : Key → ℕ → ℕ → Members → Option ℕ
+number_in k least most table = option_and_then (within least most) (option_and_then as_integer (get_member (name_of k) table))
+
+abbrev pub number_at : Key → ℕ → ℕ → Members → Result ℕ SettingsFault
+number_at k least most table = needed k (number_in k least most table)
+
+-- each key of a table is a subscriber, and its value the address, which is a text
+abbrev pub collectors_of : Members → Option (List Pair)
+collectors_of no_members = Some []
+collectors_of (member name value others) = do
+  address ← as_str value
+  more ← collectors_of others
+  Some ((name, address) ∷ more)
+
+abbrev pub collectors_in : Key → Members → Option (List Pair)
+collectors_in k table = option_and_then collectors_of (option_and_then as_table (get_member (name_of k) table))
+
+abbrev pub collectors_at : Members → Result (List Pair) SettingsFault
+collectors_at table = needed key.Deliver (collectors_in key.Deliver table)
+
+-- the subscribers ascend by their octets, so that no two are one
+abbrev pub Ascend : List Pair → Type 0
+Ascend collectors = IsStrictlySortedBy (slice_cmp nat_cmp) (map (λ p. p.0) collectors)

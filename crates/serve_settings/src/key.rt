@@ -1,0 +1,68 @@
+//! The keys of the settings.
+
+use std::fmt::{self, Display, Formatter, Write};
+
+/// A key that settings must have, in the order in which they are judged. Its text is the key as the settings have it.
+#[derive(Clone, Copy, Debug, PartialEq, Eq)]
+pub enum Key {
+    /// Where exporters connect.
+    Exporters,
+    /// Where the admin connects.
+    Admin,
+    /// The file with the first policy.
+    Policy,
+    /// How many connections of exporters are accepted.
+    Connections,
+    /// How long a message to a collector may be.
+    Target,
+    /// The records that may wait for a subscription.
+    Queue,
+    /// The distinct templates of a subscription's records.
+    Shapes,
+    /// The audit entries that may wait.
+    Audit,
+    /// The entries of the journal.
+    JournalEntries,
+    /// The octets that they count for.
+    JournalOctets,
+    /// The reads of a connection.
+    Turns,
+    /// The subscribers, and where their collectors listen.
+    Deliver,
+}
+
+impl Key {
+    ghost use Rattle.std.specs.Prelude.{◌≡◌};
+    ghost use Rattle.serve_settings.specs.Names.{name_of};
+
+    /// The key as the settings have it.
+    pub fn name(self) -> &'static str
+        ensures { result.now ≡ name_of self }
+    {
+        match self {
+            Key::Exporters => "exporters",
+            Key::Admin => "admin",
+            Key::Policy => "policy",
+            Key::Connections => "connections",
+            Key::Target => "target",
+            Key::Queue => "queue",
+            Key::Shapes => "shapes",
+            Key::Audit => "audit",
+            Key::JournalEntries => "journal_entries",
+            Key::JournalOctets => "journal_octets",
+            Key::Turns => "turns",
+            Key::Deliver => "deliver",
+        }
+    }
+}
+
+impl Display for Key {
+    ghost use Rattle.std.specs.Prelude.{Option, Some};
+    ghost use Rattle.serve_settings.specs.Names.{name_of};
+
+    ghost output = { λ key. Some (name_of key) };
+
+    fn fmt<W: Write>(&self, f: &mut Formatter<W>) -> fmt::Result {
+        f.write_str(self.name())
+    }
+}

@@ -1,0 +1,90 @@
+//! Settings, read.
+ghost use Rattle.std.specs.Prelude.{◌≡◌, IfErr, IfOk};
+ghost use Rattle.toml.specs.View.{table_view};
+ghost use Rattle.mediator_calls.specs.Limited.{AreAllowed};
+ghost use Rattle.serve_settings.specs.Asked.{asked, pairs};
+ghost use Rattle.serve_settings.specs.Faults.{IsFaultOf};
+ghost use Rattle.serve_settings.specs.Reading.{limits_in, settings_in, settings_of};
+ghost use Rattle.serve_settings.specs.Results.{Gives};
+ghost use Rattle.serve_settings.specs.Values.{Ascend};
+
+use crate::fault::SettingsFault;
+use crate::key::Key;
+use crate::settings::Settings;
+use crate::values::{collectors_at, number_at, text_at};
+use event_journal::{MOST_ENTRIES, MOST_OCTETS};
+use mediator_calls::Limits;
+use std::alloc::Global;
+use toml::Table;
+
+/// The most connections of exporters that may be accepted.
+const MOST_CONNECTIONS: u64 = 1000;
+
+/// The shortest target: a message's header (RFC 7011, section 3.1).
+const LEAST_TARGET: u64 = 16;
+
+/// The longest target: the longest message (RFC 7011, section 3.1).
+const MOST_TARGET: u64 = 65_535;
+
+/// The most records that may wait for a subscription.
+const MOST_QUEUE: u64 = 1_000_000;
+
+/// The most distinct templates of a subscription's records: there are Template IDs from 256 to 65,535 (RFC 7011, section 3.4.1).
+const MOST_SHAPES: u64 = 65_280;
+
+/// The most audit entries that may wait.
+const MOST_AUDIT: u64 = 10_000_000;
+
+/// The most reads of a connection.
+const MOST_TURNS: u64 = 1_000_000_000;
+
+/// Reads settings from a TOML document, whose keys are those that [`Key`] names. Other keys are ignored.
+///
+/// # Errors
+/// `Toml` where the text is no TOML, `Key` with the first key whose value is missing, of another type or out of its range,
+/// `OutOfMemory`.
+pub fn read_settings(alloc: Global, text: &str) -> Result<Settings, SettingsFault>
+    // What the text gives, or its first fault.
+    ensures exact { Gives asked result (settings_of text.now) }
+    // Which key is at fault: the first that has no value that it may have.
+    ensures first { IfErr result (λ fault. IsFaultOf fault text.now) }
+    // A mediator takes these limits.
+    ensures allowed { IfOk result (λ settings. AreAllowed settings.limits) }
+    // The subscribers ascend by their octets, and none stands twice.
+    ensures sorted { IfOk result (λ settings. Ascend (pairs settings.collectors)) }
+{
+    let table = toml::table_from_str(alloc, text)?;
+    settings_in(alloc, &table)
+}
+
+#[tactic(auto, unfolding(crate::specs::Reading::settings_in))]
+fn settings_in(alloc: Global, table: &Table) -> Result<Settings, SettingsFault>
+    ensures exact { Gives asked result (settings_in (table_view table.now)) }
+    ensures allowed { IfOk result (λ settings. AreAllowed settings.limits) }
+    ensures sorted { IfOk result (λ settings. Ascend (pairs settings.collectors)) }
+{
+    Ok(Settings {
+        exporters: text_at(alloc, table, Key::Exporters)?,
+        admin: text_at(alloc, table, Key::Admin)?,
+        policy: text_at(alloc, table, Key::Policy)?,
+        connections: number_at(table, Key::Connections, 1, MOST_CONNECTIONS)? as u32,
+        target: number_at(table, Key::Target, LEAST_TARGET, MOST_TARGET)? as u16,
+        limits: limits_in(table)?,
+        turns: number_at(table, Key::Turns, 1, MOST_TURNS)?,
+        collectors: collectors_at(alloc, table)?,
+    })
+}
+
+#[tactic(auto, unfolding(crate::specs::Reading::limits_in))]
+fn limits_in(table: &Table) -> Result<Limits, SettingsFault>
+    ensures exact { result ≡ limits_in (table_view table.now) }
+    ensures allowed { IfOk result (λ limits. AreAllowed limits) }
+{
+    Ok(Limits {
+        queue: number_at(table, Key::Queue, 1, MOST_QUEUE)? as u32,
+        shapes: number_at(table, Key::Shapes, 1, MOST_SHAPES)? as u32,
+        audit: number_at(table, Key::Audit, 1, MOST_AUDIT)? as u32,
+        entries: number_at(table, Key::JournalEntries, 1, MOST_ENTRIES)?,
+        octets: number_at(table, Key::JournalOctets, 1, MOST_OCTETS)?,
+    })
+}

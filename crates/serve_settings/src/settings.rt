@@ -1,0 +1,33 @@
+//! What settings say.
+
+use mediator_calls::Limits;
+
+/// How `ipmd serve` is to run.
+#[derive(Debug, Drop)]
+pub struct Settings {
+    /// The address and the port at which exporters connect.
+    pub exporters: String,
+    /// The address and the port at which the admin connects.
+    pub admin: String,
+    /// The path of the file with the first policy.
+    pub policy: String,
+    /// How many connections of exporters are accepted, 1 to 1,000.
+    pub connections: u32,
+    /// How many octets a message to a collector may have, 16 to 65,535.
+    pub target: u16,
+    /// What the mediator may hold.
+    pub limits: Limits,
+    /// How often a connection is read at most, 1 to 1,000,000,000.
+    pub turns: u64,
+    /// The collectors, in the order of their subscribers' octets.
+    pub collectors: Vec<Collector>,
+}
+
+/// Where a subscriber's messages are sent.
+#[derive(Debug, Drop)]
+pub struct Collector {
+    /// The subscriber's name. That it is one that a policy may have is for `subscribe` to judge.
+    pub subscriber: String,
+    /// The address and the port at which the collector listens.
+    pub address: String,
+}

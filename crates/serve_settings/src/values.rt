@@ -1,0 +1,110 @@
+//! What stands at a key of a table.
+ghost use Rattle.std.specs.Prelude.{◌≡◌, ◌≤◌, IfOk, IfSome, option_map, string_bytes};
+ghost use Rattle.toml.specs.Data.{as_str, get_member};
+ghost use Rattle.toml.specs.View.{view, table_view};
+ghost use Rattle.serve_settings.specs.declared.key.Key.TheVariants as key;
+ghost use Rattle.serve_settings.specs.Asked.{pair, pairs};
+ghost use Rattle.serve_settings.specs.Names.{name_of};
+ghost use Rattle.serve_settings.specs.Results.{Gives, needed};
+ghost use Rattle.serve_settings.specs.Values.{text_in, text_at, within, number_in, number_at, collectors_of, collectors_at, Ascend};
+
+use crate::fault::SettingsFault;
+use crate::key::Key;
+use crate::settings::Collector;
+use std::alloc::Global;
+use toml::{Table, Value};
+
+/// A copy of the text at a key.
+pub(crate) fn text_at(alloc: Global, table: &Table, key: Key) -> Result<String, SettingsFault>
+    ensures { Gives string_bytes result (text_at key (table_view table.now)) }
+{
+    match text_in(table, key) {
+        Some(text) => Ok(String::from_str(alloc, text)?),
+        None => Err(SettingsFault::Key(key)),
+    }
+}
+
+fn text_in<'a>(table: &'a Table, key: Key) -> Option<&'a str>
+    ensures { option_map (λ text. text.now) result ≡ text_in key (table_view table.now) }
+{
+    value_at(table, key)?.as_str()
+}
+
+fn value_at<'a>(table: &'a Table, key: Key) -> Option<&'a Value>
+    ensures { option_map (λ value. view value.now) result ≡ get_member (name_of key) (table_view table.now) }
+{
+    table.get(key.name())
+}
+
+/// The number at a key, which has to be from `least` to `most`.
+pub(crate) fn number_at(
+    table: &Table,
+    key: Key,
+    least: u64,
+    most: u64,
+) -> Result<u64, SettingsFault>
+    ensures exact { result ≡ number_at key least most (table_view table.now) }
+    ensures least { IfOk result (λ number. least ≤ number) }
+    ensures most { IfOk result (λ number. number ≤ most) }
+{
+    number_in(table, key, least, most).ok_or(SettingsFault::Key(key))
+}
+
+fn number_in(table: &Table, key: Key, least: u64, most: u64) -> Option<u64>
+    ensures exact { result ≡ number_in key least most (table_view table.now) }
+    ensures least { IfSome result (λ number. least ≤ number) }
+    ensures most { IfSome result (λ number. number ≤ most) }
+{
+    let integer = value_at(table, key)?.as_integer()?;
+    number_within(integer, least, most)
+}
+
+/// An integer, where it is from `least` to `most`.
+fn number_within(integer: i64, least: u64, most: u64) -> Option<u64>
+    ensures exact { result ≡ within least most integer }
+    ensures least { IfSome result (λ number. least ≤ number) }
+    ensures most { IfSome result (λ number. number ≤ most) }
+{
+    let number = u64::try_from(integer).ok()?;
+    if least <= number && number <= most {
+        Some(number)
+    } else {
+        None
+    }
+}
+
+/// The collectors, in the order of their subscribers' octets.
+pub(crate) fn collectors_at(alloc: Global, table: &Table) -> Result<Vec<Collector>, SettingsFault>
+    ensures exact { Gives pairs result (collectors_at (table_view table.now)) }
+    ensures sorted { IfOk result (λ collectors. Ascend (pairs collectors)) }
+{
+    match value_at(table, Key::Deliver) {
+        Some(Value::Table(addresses)) => collectors_in(alloc, addresses),
+        _ => Err(SettingsFault::Key(Key::Deliver)),
+    }
+}
+
+/// A collector for each key of a table, whose value is its address.
+fn collectors_in(alloc: Global, addresses: &Table) -> Result<Vec<Collector>, SettingsFault>
+    ensures exact { Gives pairs result (needed key.Deliver (collectors_of (table_view addresses.now))) }
+    ensures sorted { IfOk result (λ collectors. Ascend (pairs collectors)) }
+{
+    let mut collectors = Vec::new(alloc);
+    'addresses: for (subscriber, value) in addresses.iter() {
+        let collector = collector_of(alloc, subscriber.as_str(), value)?;
+        collectors.push(collector)?;
+    }
+    Ok(collectors)
+}
+
+fn collector_of(alloc: Global, subscriber: &str, value: &Value) -> Result<Collector, SettingsFault>
+    ensures { Gives pair result (needed key.Deliver (option_map (λ address. (subscriber.now, address)) (as_str (view value.now)))) }
+{
+    match value.as_str() {
+        Some(address) => Ok(Collector {
+            subscriber: String::from_str(alloc, subscriber)?,
+            address: String::from_str(alloc, address)?,
+        }),
+        None => Err(SettingsFault::Key(Key::Deliver)),
+    }
+}
