@@ -1,0 +1,12 @@
+pub use Rattle.event_journal.specs.Sizes
+pub use Rattle.ipfix_message.specs.Framing
+pub use Rattle.message_intake.specs.Texts
+pub use Rattle.subscriber_stream.specs.Parts
+pub use Rattle.subscriber_stream.specs.Message
+pub use Rattle.stream_meaning.specs.Served
+pub use Rattle.shared_mediator.specs.Locked
+pub use Rattle.shared_mediator.specs.Handles
+pub mod Faults
+pub mod FaultTexts
+pub mod Serving
+pub mod Delivering
