@@ -1,6 +1,5 @@
-pub use Rattle.event_journal.specs.Sizes
+pub use Rattle.octet_devices.specs.Written
 pub use Rattle.ipfix_message.specs.Framing
-pub use Rattle.message_intake.specs.Texts
 pub use Rattle.subscriber_stream.specs.Parts
 pub use Rattle.subscriber_stream.specs.Message
 pub use Rattle.stream_meaning.specs.Served

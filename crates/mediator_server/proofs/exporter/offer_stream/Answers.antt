@@ -11,7 +11,7 @@ returns-in_err-intake-clause-stops g c =
     err_gives c.from_residual.result c.from_residual.ensures (λ e is. subst (λ x. StopsServing x c.args.turns (g.R.Source.remaining c.args.reader.now) (g.R.Source.remaining c.args.reader.now) c.args.handle.now c.args.handle.now) (sym is) (begins_not c.args.turns (g.R.Source.remaining c.args.reader.now) c.args.handle.now))
 
 pub reads-init : goal.reads-init
-reads-init g c = (reading_starts c.args.turns c.in_ok-intake.intake (g.R.Source.remaining c.args.reader.now) c.args.handle.now c.in_ok-intake.ensures, c.requires.reader, ap length c.kept-before.ensures)
+reads-init g c = (reading_starts c.args.turns c.in_ok-intake.intake (g.R.Source.remaining c.args.reader.now) c.args.handle.now c.in_ok-intake.ensures, c.requires.reader, ap length c.kept-before.ensures.value)
 
 pub returns-in_err-messages-clause-stops : goal.returns-in_err-messages-clause-stops
 returns-in_err-messages-clause-stops g c =
@@ -22,7 +22,7 @@ returns-in_err-messages-clause-stops g c =
 pub returns-in_default-clause-serves : goal.returns-in_default-clause-serves
 returns-in_default-clause-serves g c =
     reading_ends c.args.turns (length c.kept.result.now - length c.kept-before.result.now) c.reads.intake c.next.new.self (g.R.Source.remaining c.args.reader.now) (g.R.Source.remaining c.reads.reader) (g.R.Source.remaining c.next.new.reader) c.args.handle.now c.reads.handle c.reads.invariant.0 (subst (λ o. MatchOption o (Ends c.reads.intake (g.R.Source.remaining c.reads.reader) (g.R.Source.remaining c.next.new.reader) c.next.new.self) (λ out. Takes c.reads.intake (g.R.Source.remaining c.reads.reader) (g.R.Source.remaining c.next.new.reader) out.items c.next.new.self)) c.in_default.is c.in_ok-messages.ensures.ok)
-    (omega (arith, ap length c.kept.ensures, c.reads.invariant.2, receipts_count c.args.handle.now c.reads.handle c.reads.invariant.0.messages c.reads.invariant.0.all.offers))
+    (omega (arith, ap length c.kept.ensures.value, c.reads.invariant.2, receipts_count c.args.handle.now c.reads.handle c.reads.invariant.0.messages c.reads.invariant.0.all.offers))
 
 pub reads-preserved : goal.reads-preserved
 reads-preserved g c = (
