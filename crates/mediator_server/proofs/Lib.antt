@@ -1,0 +1,3 @@
+pub mod Offering
+pub mod Reading
+pub mod Sending

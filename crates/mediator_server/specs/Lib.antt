@@ -1,0 +1,11 @@
+pub use Rattle.octet_devices.specs.Written
+pub use Rattle.ipfix_message.specs.Framing
+pub use Rattle.subscriber_stream.specs.Parts
+pub use Rattle.subscriber_stream.specs.Message
+pub use Rattle.stream_meaning.specs.Served
+pub use Rattle.shared_mediator.specs.Locked
+pub use Rattle.shared_mediator.specs.Handles
+pub mod Faults
+pub mod FaultTexts
+pub mod Serving
+pub mod Delivering

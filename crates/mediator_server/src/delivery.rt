@@ -1,0 +1,123 @@
+//! A subscription's messages.
+ghost use Rattle.std.specs.Prelude.{◌≡◌, ◌+◌, ◌<◌, ◌^◌, false, length, IfOk, IfErr, OnOk};
+ghost use Rattle.std.specs.Io.KnownBytes.{Appends};
+ghost use Rattle.mediator_server.specs.Faults.{writer_after};
+ghost use Rattle.mediator_server.specs.Delivering.{Delivers, FailsToDeliver, Fits, SendsLast, StopsSending, EndsOnWrite};
+
+use crate::clock::Clock;
+use crate::fault::ServeFault;
+use counted_mediator::PullFault;
+use mediator_calls::SubId;
+use octet_devices::{Sink, write_all};
+use shared_mediator::{
+    AdminHandle, DeliveryHandle, EntryLedger, RecordLedger, SharedMediator, Waited,
+};
+use std::sync::Wait;
+
+/// The most octets of a message: its length stands in 16 bits (RFC 7011, section 3.1).
+const LONGEST_MESSAGE: u64 = 65_535;
+
+/// Delivers a subscription: pulls its messages, of at most `target` octets where they can be so short, and writes them, until
+/// nothing is queued and nothing will be; and answers how many octets were sent. Where the writer fails, the subscription is
+/// ended by the administrator's handle; where the mediator refuses that, it stays.
+///
+/// # Errors
+/// The writer failed, after so many octets of all that was pulled; or the mediator refuses a pull, or the octets sent, and those
+/// of one message more, might not be counted in 64 bits.
+pub fn deliver<E: EntryLedger, H: RecordLedger, W: Sink, C: Clock>(
+    rt: &impl Wait,
+    shared: &SharedMediator<E, H>,
+    handle: &mut DeliveryHandle<H>,
+    admin: &mut AdminHandle<E>,
+    writer: &mut W,
+    target: u16,
+    clock: &C,
+) -> Result<u64, ServeFault>
+    requires writer { W.has_failed writer.old ≡ false }
+    ensures delivers { IfOk result (λ sent. Delivers (C.shows clock.now) target sent handle.old handle.new (W.contents writer.old) (W.contents writer.new)) }
+    ensures sound { OnOk result (W.has_failed writer.new ≡ false) }
+    ensures stops { IfErr result (λ e. FailsToDeliver e (C.shows clock.now) target handle.old handle.new (W.contents writer.old) (W.contents writer.new) (W.has_failed writer.new)) }
+    ensures fails { IfErr result (λ e. W.has_failed writer.new ≡ writer_after e) }
+    ensures same { OnOk result (admin.new ≡ admin.old) }
+    ensures gone { IfErr result (λ e. EndsOnWrite e handle.old.sub admin.old admin.new) }
+{
+    match send_messages(rt, shared, handle, writer, target, clock) {
+        Ok(sent) => Ok(sent),
+        Err(fault) => {
+            end_on_write(rt, shared, handle.sub(), admin, fault);
+            Err(fault)
+        }
+    }
+}
+
+/// Ends a subscription where its writer failed. Where the mediator refuses that, it stays.
+fn end_on_write<E: EntryLedger, H: RecordLedger>(
+    rt: &impl Wait,
+    shared: &SharedMediator<E, H>,
+    sub: SubId,
+    admin: &mut AdminHandle<E>,
+    fault: ServeFault,
+)
+    ensures { EndsOnWrite fault sub.0 admin.old admin.new }
+{
+    if let ServeFault::Write { .. } = fault {
+        let _ended = admin.unsubscribe(rt, shared, sub);
+    }
+}
+
+/// Pulls and writes messages until nothing is queued and nothing will be, and answers how many octets were sent.
+///
+/// # Errors
+/// Those of [`deliver`].
+fn send_messages<E: EntryLedger, H: RecordLedger, W: Sink, C: Clock>(
+    rt: &impl Wait,
+    shared: &SharedMediator<E, H>,
+    handle: &mut DeliveryHandle<H>,
+    writer: &mut W,
+    target: u16,
+    clock: &C,
+) -> Result<u64, ServeFault>
+    requires writer { W.has_failed writer.old ≡ false }
+    ensures delivers { IfOk result (λ sent. Delivers (C.shows clock.now) target sent handle.old handle.new (W.contents writer.old) (W.contents writer.new)) }
+    ensures sound { OnOk result (W.has_failed writer.new ≡ false) }
+    ensures stops { IfErr result (λ e. FailsToDeliver e (C.shows clock.now) target handle.old handle.new (W.contents writer.old) (W.contents writer.new) (W.has_failed writer.new)) }
+    ensures fails { IfErr result (λ e. W.has_failed writer.new ≡ writer_after e) }
+{
+    let mut sent = 0u64;
+    'pulls: for _ in rt.forever() {
+        if sent > u64::MAX - LONGEST_MESSAGE {
+            return Err(ServeFault::Core(PullFault::HandedFull));
+        }
+        if handle.pull(rt, shared, clock.now(), target)? {
+            sent = send_last(handle, writer, sent)?;
+        } else if handle.wait(rt, shared) != Waited::Queued {
+            return Ok(sent);
+        }
+    }
+    unreachable!()
+}
+
+/// Writes the message that was pulled last behind so many octets, and answers how many were sent then.
+///
+/// # Errors
+/// The writer failed, after so many octets in all.
+fn send_last<H: RecordLedger, W: Sink>(
+    handle: &DeliveryHandle<H>,
+    writer: &mut W,
+    sent: u64,
+) -> Result<u64, ServeFault>
+    requires some { 0 < length handle.now.kept }
+    requires fits { Fits handle.now.kept sent }
+    ensures ok { IfOk result (λ n. SendsLast handle.now.kept sent n (W.contents writer.old) (W.contents writer.new)) }
+    ensures stays { OnOk result (W.has_failed writer.new ≡ W.has_failed writer.old) }
+    ensures err { IfErr result (λ e. StopsSending e handle.now.kept sent (W.contents writer.old) (W.contents writer.new) (W.has_failed writer.new)) }
+{
+    let kept = handle.kept();
+    let message = kept[kept.len() - 1].message.as_slice();
+    match write_all(writer, message) {
+        Ok(()) => Ok(sent + message.len() as u64),
+        Err(stopped) => Err(ServeFault::Write {
+            sent: sent + stopped.sent as u64,
+        }),
+    }
+}
