@@ -171,36 +171,43 @@ pub(crate) fn crowd<
     })
 }
 
-/// How many entries of a journal are such.
-fn count(journal: &Journal, is_such: fn(&Entry) -> bool) -> u64 {
+/// What made an entry of the journal.
+#[derive(Clone, Copy, Debug, PartialEq, Eq)]
+enum Origin {
+    /// An exporter's message.
+    Message,
+    /// An administrator's call.
+    Admin,
+    /// A queue that was full.
+    Cut,
+    /// The begin or the end of a session.
+    Session,
+}
+
+fn origin_of(entry: &Entry) -> Origin {
+    match entry {
+        Entry::Message { .. } => Origin::Message,
+        Entry::Edit { .. } => Origin::Admin,
+        Entry::Subscribe { .. } => Origin::Admin,
+        Entry::Unsubscribe { .. } => Origin::Admin,
+        Entry::Advance { .. } => Origin::Admin,
+        Entry::Cut { .. } => Origin::Cut,
+        Entry::Open { .. } => Origin::Session,
+        Entry::Close { .. } => Origin::Session,
+    }
+}
+
+/// How many entries of a journal have this origin.
+fn count(journal: &Journal, origin: Origin) -> u64 {
     let mut found = 0u64;
     for position in 0..journal.len() {
         if let Some(entry) = journal.get(position) {
-            if is_such(entry) {
+            if origin_of(entry) == origin {
                 found = found.saturating_add(1);
             }
         }
     }
     found
-}
-
-fn is_message(entry: &Entry) -> bool {
-    matches!(entry, Entry::Message { .. })
-}
-
-fn is_cut(entry: &Entry) -> bool {
-    matches!(entry, Entry::Cut { .. })
-}
-
-/// Whether the entry is one of an administrator's.
-fn is_administered(entry: &Entry) -> bool {
-    match entry {
-        Entry::Edit { .. } => true,
-        Entry::Subscribe { .. } => true,
-        Entry::Unsubscribe { .. } => true,
-        Entry::Advance { .. } => true,
-        _ => false,
-    }
 }
 
 /// How many records all of them took.
@@ -219,9 +226,9 @@ fn expect_counts(rt: &impl Abort, ended: &Ended, journal: &Journal) {
         "{closed:?}"
     );
     assert!(rt; ended.offered == messages);
-    assert!(rt; count(journal, is_message) == messages);
+    assert!(rt; count(journal, Origin::Message) == messages);
     assert!(rt; ended.administered == 1 + NAMES.len() as u64 + 4 * EDITS);
-    assert!(rt; count(journal, is_administered) == ended.administered);
+    assert!(rt; count(journal, Origin::Admin) == ended.administered);
 }
 
 /// Plays the crowd, and answers how many subscriptions were cut.
@@ -237,7 +244,7 @@ fn cuts_of_crowd<R: Threads + Wait + Abort + Sync>(
     let journal = closed.mediator.journal();
     expect_counts(rt, &ended, journal);
     replay(rt, alloc, journal, &ended.taken)?;
-    Ok(count(journal, is_cut))
+    Ok(count(journal, Origin::Cut))
 }
 
 #[test]
