@@ -25,10 +25,14 @@
 
 mod clock;
 mod delivery;
+mod doors;
 mod exporter;
 mod fault;
 mod listening;
+mod machine_clock;
+mod notes;
 mod plan;
+mod service;
 
 pub use clock::Clock;
 pub use delivery::deliver;
