@@ -23,11 +23,13 @@
 //! can look. Nothing promises that a call returns.
 #![tactic(auto)]
 
+mod admin;
 mod clock;
 mod delivery;
 mod exporter;
 mod fault;
 
+pub use admin::serve_admin;
 pub use clock::Clock;
 pub use delivery::deliver;
 pub use exporter::serve_exporter;
