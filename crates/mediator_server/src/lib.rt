@@ -23,6 +23,7 @@
 //! can look. Nothing promises that a call returns.
 #![tactic(auto)]
 
+mod admin;
 mod clock;
 mod delivery;
 mod doors;
@@ -34,6 +35,7 @@ mod notes;
 mod plan;
 mod service;
 
+pub use admin::serve_admin;
 pub use clock::Clock;
 pub use delivery::deliver;
 pub use exporter::serve_exporter;
