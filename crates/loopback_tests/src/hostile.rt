@@ -19,13 +19,13 @@ use std::thread::Threads;
 use std::time::Clock;
 
 /// What a hostile exporter sends, how many messages of it are accepted, and whether it ends itself.
-struct Hostile {
+pub(crate) struct Hostile {
     octets: &'static [u8],
     accepted: u64,
     ends: bool,
 }
 
-const HOSTILE: &[Hostile] = &[
+pub(crate) const HOSTILE: &[Hostile] = &[
     Hostile {
         octets: b"GET / HTTP/1.1\r\nHost: localhost\r\n\r\n",
         accepted: 0,
@@ -78,7 +78,7 @@ const HOSTILE: &[Hostile] = &[
 
 /// How many good exporters there are beside them, and how many messages each of them sends before the hostile ones come, and
 /// again when they are gone.
-const GOOD: u16 = 9;
+pub(crate) const GOOD: u16 = 9;
 
 const MESSAGES: u32 = 10;
 
@@ -111,13 +111,13 @@ fn send_good(rt: &impl Abort, exporters: &[TcpStream], before: u32) {
 
 /// How a server was closed, and what its last collector got.
 #[derive(Drop)]
-struct Ended {
-    closed: Result<Closed, ListenFault>,
+pub(crate) struct Ended {
+    pub(crate) closed: Result<Closed, ListenFault>,
     collected: Vec<u8>,
 }
 
 /// Good exporters send; then hostile ones come and go; then the good ones send more.
-fn hostile_beside_good<
+pub(crate) fn hostile_beside_good<
     R: Net<Listener = TcpListener, Stream = TcpStream>
         + Threads
         + Wait
@@ -243,9 +243,10 @@ const TIGHT: Limits = Limits {
 };
 
 /// So many records of 60,000 octets are more than the system keeps for a collector that takes nothing.
-const BROAD: u32 = 400;
+const BROAD: u32 = 1000;
 
-/// Acme's collector takes nothing, and beta's keeps pace with the exporter. Acme is cut; its connection stays until all is over.
+/// Acme's collector takes nothing, and beta's keeps pace with the exporter, until acme is cut. Its connection stays until all is
+/// over.
 fn one_takes_nothing<
     R: Net<Listener = TcpListener, Stream = TcpStream>
         + Threads
@@ -254,28 +255,32 @@ fn one_takes_nothing<
         + Log
         + Abort
         + Sync,
->(rt: &R, alloc: Global, stage: &Stage) -> Result<Ended, AllocError> {
+>(rt: &R, alloc: Global, stage: &Stage) -> Result<(Ended, u64), AllocError> {
     thread::scope(thread::scope_env(), rt, |scope| {
         let server = scope.spawn(move || run(rt, alloc, &stage.plan, TIGHT))?;
         let (_idle, other) = (collect(rt, stage, 0), collect(rt, stage, 1));
         let admin = reach(rt, stage.plan.admin.as_str());
         let exporter = reach(rt, stage.plan.exporters.as_str());
         let mut collected = Vec::new(alloc);
+        let mut sent = 0u32;
         for n in 0..BROAD {
             send(rt, &exporter, broad(alloc, n)?.as_slice());
             take_message(rt, alloc, &other, &mut collected)?;
+            sent = n + 1;
+            let stands = ask(rt, alloc, &admin, "status 1\n")?;
+            if stands.as_slice().ends_with(b" cut\n") {
+                break;
+            }
         }
-        let stands = ask(rt, alloc, &admin, "status 1\n")?;
-        assert!(rt; stands.as_slice().ends_with(b" cut\n"));
-        expect_answer(rt, alloc, &admin, "status 2\n", b"ok 0 400 live\n")?;
+        assert!(rt; sent < BROAD);
+        let stands = format!(in alloc; "ok 0 {sent} live\n")?;
+        expect_answer(rt, alloc, &admin, "status 2\n", stands.as_str().as_bytes())?;
         drop(exporter);
         drop(admin);
         let rest = take_all(rt, alloc, &other)?;
         assert!(rt; rest.is_empty());
-        Ok(Ended {
-            closed: server.join(rt),
-            collected,
-        })
+        let closed = server.join(rt);
+        Ok((Ended { closed, collected }, sent as u64))
     })
 }
 
@@ -284,7 +289,7 @@ fn collector_takes_nothing(rt: HostRuntime) -> Result<(), Fail> {
     let alloc = rt.alloc();
     let mut stage = set_up(&rt, alloc, PASS, 1, &["acme", "beta"])?;
     stage.plan.target = u16::MAX;
-    let ended = one_takes_nothing(&rt, alloc, &stage)?;
-    expect_end(&rt, alloc, &ended, 2, BROAD as u64, None)?;
+    let (ended, sent) = one_takes_nothing(&rt, alloc, &stage)?;
+    expect_end(&rt, alloc, &ended, 2, sent, None)?;
     Ok(())
 }

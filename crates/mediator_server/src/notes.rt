@@ -4,9 +4,10 @@ use crate::exporter::Counts;
 use crate::fault::ServeFault;
 use crate::plan::Collector;
 use counted_mediator::Handed;
-use log::{Log, info, warn};
+use log::{Log, error, info, warn};
 use shared_mediator::{Closed, HandleFault};
 use std::fmt::{self, Display, Formatter, Write};
+use std::io;
 use std::net::SocketAddr;
 
 /// A fault as notes tell it: by its cause, where it has one.
@@ -21,6 +22,22 @@ impl Display for Cause {
             fault => fault.fmt(f),
         }
     }
+}
+
+/// An address can't be listened on.
+pub(crate) fn cannot_listen(rt: &impl Log, address: &str, why: &io::Error) {
+    error!(rt; "cannot listen on {address}: {why}");
+}
+
+/// A connection couldn't be accepted.
+pub(crate) fn cannot_accept(rt: &impl Log, why: &io::Error) {
+    error!(rt; "cannot accept a connection: {why}");
+}
+
+/// A collector can't be connected to.
+pub(crate) fn cannot_connect(rt: &impl Log, collector: &Collector, why: &io::Error) {
+    let (name, address) = (collector.name.as_str(), collector.address.as_str());
+    error!(rt; "cannot connect to collector {name} {address}: {why}");
 }
 
 /// An exporter has connected, and has a session.
