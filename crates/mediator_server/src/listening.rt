@@ -1,6 +1,7 @@
 //! A server on sockets.
-ghost use Rattle.std.specs.Prelude.{◌≡◌, ◌+◌, ◌*◌};
+ghost use Rattle.std.specs.Prelude.{◌≡◌, ◌+◌, ◌*◌, ◌≤◌, IfOk};
 ghost use Rattle.counted_mediator.specs.Counted.{handed_live};
+ghost use Rattle.mediator_server.specs.Listening.{IsServed};
 
 use crate::notes;
 use crate::plan::Plan;
@@ -106,6 +107,7 @@ pub fn listen<
     R: Net<Listener = TcpListener, Stream = TcpStream> + Threads + Wait + Clock + Log + Sync,
 >(rt: &R, alloc: Global, plan: &Plan, mediator: Mediator) -> Result<Closed, ListenFault>
     requires fresh { handed_live mediator ≡ 0 }
+    ensures { IfOk result (λ closed. IsServed mediator.history closed.mediator.history closed.accepted closed.handed) }
 {
     let handles = handles_for(plan);
     let (entries, handed) = (Blank::new(2 * handles + 1), Blank::new(handles + 1));
@@ -132,6 +134,7 @@ fn listen_with<
     requires entries_parts { (entries.parts ≡ E.parts) × (E.parts ≡ E.all) × (E.all ≡ 2 * handles + 1) }
     requires handed_name { handed.name ≡ H.name }
     requires handed_parts { (handed.parts ≡ H.parts) × (H.parts ≡ H.all) × (H.all ≡ handles + 1) }
+    ensures { IfOk result (λ closed. IsServed mediator.history closed.mediator.history closed.accepted closed.handed) }
 {
     let shared = SharedMediator::<E, H>::new(alloc, mediator, handles, entries, handed);
     let Hands {
