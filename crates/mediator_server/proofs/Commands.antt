@@ -13,17 +13,6 @@ use Rattle.counted_mediator.specs.declared.fault.PullFault.TheVariants as pull
 use Rattle.mediator_server.specs.Faults.{out_of_memory}
 use Rattle.mediator_server.specs.CommandInput.{InputState, ahead, HandsOut, EndsBehind, IsLine, IsBegun, StopsReading, Fills}
 
--- ---- what is pending
-
--- nothing, where all that was read is handed out
-pub none_pending : (from to : ℕ) (piece : List ℕ) → from ≡ to → drop from (take to piece) ≡ []
-none_pending from to piece e = drop_all from (take to piece) (omega (arith, length-take to piece, e))
-
--- the octet at the front, and what is behind it
-pub front_pending : (from to octet : ℕ) (piece : List ℕ) → from < to → to ≤ length piece → octet ≡ get_or piece from octet → drop from (take to piece) ≡ octet ∷ drop (from + 1) (take to piece)
-front_pending from to octet piece lt le is =
-    drop_more (take to piece) from octet (omega (arith, length-take-le to piece le, lt)) ∙ ap (λ x. x ∷ drop (from + 1) (take to piece)) (get_or-take to piece from octet lt ∙ sym is)
-
 -- ---- handed out
 
 pub hands_out_none : (i : InputState) (given : Option (List ℕ)) → HandsOut i given given [] i
