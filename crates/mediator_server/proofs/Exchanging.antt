@@ -1,5 +1,5 @@
 -- Commands that are read and answered one after another, and where that ends or stops.
-use Rattle.std.proofs.Common.{◌≡◌, ◌⊎◌, inl, inr, ℕ, ◌+◌, ◌≤◌, ◌<◌, ◌^◌, Bool, false, List, [], ◌∷◌, ◌++◌, length, take, Option, Some, None, refl, sym, ap, ◌∙◌, subst, append-nil, append_assoc, arith, length-append}
+use Rattle.std.proofs.Common.{◌≡◌, ◌⊎◌, inl, inr, ℕ, ◌+◌, ◌≤◌, ◌<◌, Bool, List, [], ◌∷◌, ◌++◌, length, take, Option, Some, None, refl, sym, ap, ◌∙◌, subst, append-nil, append_assoc, arith, length-append}
 use Rattle.std.specs.Prelude.{IsSome}
 use Rattle.std.specs.List.{AllByRecursion}
 use Rattle.std.specs.Io.KnownBytes.{Consumes, Appends, prepend_known}
@@ -282,8 +282,7 @@ pub stops_replying : (e : ServeFault) (turns : ℕ) (i k : InputState) (count se
     → (so : Serving turns i count sent given mid held holds old before) → Hears reply i mid left k before new → StopsReplying e reply sent holds writes failed → StopsAdmin e turns given left held writes failed old new so.commands
 stops_replying (Write n) turns i k count sent given mid left held holds writes failed old before new reply so hears stops =
     let x : Exchange = exchange_of reply i k mid left before new hears stops.text in
-    let h : Heard turns k so.commands x given left old new = heard turns i k count sent given mid left held holds old before new reply stops.text so hears stops.is in
-    (
+    let h : Heard turns k so.commands x given left old new = heard turns i k count sent given mid left held holds old before new reply stops.text so hears stops.is in (
       x,
       record { rest = k.pending; exchanges = exchanges_of turns k so.commands (x ∷ []) given left old new so.are h.done h.handed },
       subst (λ t. WritesFront held writes t n failed) (sym h.written) (subst (λ m. WritesFront held writes (answered so.commands ++ stops.text) m failed) (sym (place stops.stops.1))
@@ -299,8 +298,7 @@ stops_replying (Write n) turns i k count sent given mid left held holds writes f
     place is = is ∙ ap (λ m. m + stops.stops.0) so.sent_are
 stops_replying (Core pull.HandedFull) turns i k count sent given mid left held holds writes failed old before new reply so hears stops =
     let x : Exchange = exchange_of reply i k mid left before new hears stops.text in
-    let h : Heard turns k so.commands x given left old new = heard turns i k count sent given mid left held holds old before new reply stops.text so hears stops.is in
-    (
+    let h : Heard turns k so.commands x given left old new = heard turns i k count sent given mid left held holds old before new reply stops.text so hears stops.is in (
       x,
       record { rest = k.pending; exchanges = exchanges_of turns k so.commands (x ∷ []) given left old new so.are h.done h.handed },
       subst (λ t. Appends held t (answered so.commands)) (sym stops.stops.0) so.written,

@@ -1,4 +1,4 @@
-use Rattle.std.proofs.Common.{◌≡◌, [], sym, subst, ◌∙◌, Option, true, false}
+use Rattle.std.proofs.Common.{◌≡◌, [], sym, subst}
 use Rattle.std.specs.Prelude.{MatchOption}
 use Rattle.mediator_server.specs.CommandInput.{EndsBehind}
 use Rattle.mediator_server.specs.Answering.{StopsAdmin, Hears}
@@ -10,8 +10,11 @@ use Rattle.mediator_server.proofs.admin.serve_admin.Goals as goal
 pub returns-in_err-input-clause-stops : goal.returns-in_err-input-clause-stops
 returns-in_err-input-clause-stops g c =
     err_gives c.from_residual.result c.from_residual.ensures
-    (λ e is. ([], subst (λ x. StopsAdmin x c.args.turns (g.R.Source.remaining c.args.reader.now) (g.R.Source.remaining c.args.reader.now) (g.W.Sink.contents c.args.writer.now) (g.W.Sink.contents c.args.writer.now) (g.W.Sink.has_failed c.args.writer.now) c.args.handle.now c.args.handle.now []) (sym is)
-    (stops_begun c.args.turns (g.R.Source.remaining c.args.reader.now) (g.W.Sink.contents c.args.writer.now) (g.W.Sink.has_failed c.args.writer.now) c.args.handle.now)))
+    (λ e is. (
+      [],
+      subst (λ x. StopsAdmin x c.args.turns (g.R.Source.remaining c.args.reader.now) (g.R.Source.remaining c.args.reader.now) (g.W.Sink.contents c.args.writer.now) (g.W.Sink.contents c.args.writer.now) (g.W.Sink.has_failed c.args.writer.now) c.args.handle.now c.args.handle.now []) (sym is)
+          (stops_begun c.args.turns (g.R.Source.remaining c.args.reader.now) (g.W.Sink.contents c.args.writer.now) (g.W.Sink.has_failed c.args.writer.now) c.args.handle.now),
+    ))
 
 pub commands-init : goal.commands-init
 commands-init g c =
@@ -46,9 +49,9 @@ commands-preserved g c = (
   tt,
   tt,
   serving_on c.args.turns c.commands.input c.hear.new.input c.commands.count c.commands.sent c.in_ok-sent.sent (g.R.Source.remaining c.args.reader.now) (g.R.Source.remaining c.commands.reader) (g.R.Source.remaining c.hear.new.reader) (g.W.Sink.contents c.args.writer.now) (g.W.Sink.contents c.commands.writer) (g.W.Sink.contents c.reply.new.writer) c.args.handle.now c.commands.handle c.hear.new.handle c.in-Some-2.answer c.commands.invariant.2
-  (subst (λ o. MatchOption o (EndsBehind c.commands.input (g.R.Source.remaining c.commands.reader) (g.R.Source.remaining c.hear.new.reader) [] × (c.hear.new.handle ≡ c.commands.handle)) (λ answer. Hears answer c.commands.input (g.R.Source.remaining c.commands.reader) (g.R.Source.remaining c.hear.new.reader) c.hear.new.input c.commands.handle c.hear.new.handle)) c.in-Some-2.is c.in_ok-answer.ensures.ok)
-  c.in_ok-sent.ensures.ok
-  (λ bad. elim c.match-matches.branch [ in-BadLine w ↦ absurd cc | in_default-matches w ↦ w.in_default-matches.not-BadLine bad ]),
+      (subst (λ o. MatchOption o (EndsBehind c.commands.input (g.R.Source.remaining c.commands.reader) (g.R.Source.remaining c.hear.new.reader) [] × (c.hear.new.handle ≡ c.commands.handle)) (λ answer. Hears answer c.commands.input (g.R.Source.remaining c.commands.reader) (g.R.Source.remaining c.hear.new.reader) c.hear.new.input c.commands.handle c.hear.new.handle)) c.in-Some-2.is c.in_ok-answer.ensures.ok)
+      c.in_ok-sent.ensures.ok
+      (λ bad. elim c.match-matches.branch [ in-BadLine w ↦ absurd cc | in_default-matches w ↦ w.in_default-matches.not-BadLine bad ]),
   c.in_ok-answer.ensures.sound,
   c.in_ok-sent.ensures.sound,
 )
@@ -58,9 +61,9 @@ commands-preserved-else-matches g c = (
   tt,
   tt,
   serving_on c.args.turns c.commands.input c.hear.new.input c.commands.count c.commands.sent c.in_ok-sent.sent (g.R.Source.remaining c.args.reader.now) (g.R.Source.remaining c.commands.reader) (g.R.Source.remaining c.hear.new.reader) (g.W.Sink.contents c.args.writer.now) (g.W.Sink.contents c.commands.writer) (g.W.Sink.contents c.reply.new.writer) c.args.handle.now c.commands.handle c.hear.new.handle c.in-Some-2.answer c.commands.invariant.2
-  (subst (λ o. MatchOption o (EndsBehind c.commands.input (g.R.Source.remaining c.commands.reader) (g.R.Source.remaining c.hear.new.reader) [] × (c.hear.new.handle ≡ c.commands.handle)) (λ answer. Hears answer c.commands.input (g.R.Source.remaining c.commands.reader) (g.R.Source.remaining c.hear.new.reader) c.hear.new.input c.commands.handle c.hear.new.handle)) c.in-Some-2.is c.in_ok-answer.ensures.ok)
-  c.in_ok-sent.ensures.ok
-  (λ bad. elim c.match-matches.branch [ in-BadLine w ↦ absurd cc | in_default-matches w ↦ w.in_default-matches.not-BadLine bad ]),
+      (subst (λ o. MatchOption o (EndsBehind c.commands.input (g.R.Source.remaining c.commands.reader) (g.R.Source.remaining c.hear.new.reader) [] × (c.hear.new.handle ≡ c.commands.handle)) (λ answer. Hears answer c.commands.input (g.R.Source.remaining c.commands.reader) (g.R.Source.remaining c.hear.new.reader) c.hear.new.input c.commands.handle c.hear.new.handle)) c.in-Some-2.is c.in_ok-answer.ensures.ok)
+      c.in_ok-sent.ensures.ok
+      (λ bad. elim c.match-matches.branch [ in-BadLine w ↦ absurd cc | in_default-matches w ↦ w.in_default-matches.not-BadLine bad ]),
   c.in_ok-answer.ensures.sound,
   c.in_ok-sent.ensures.sound,
 )
