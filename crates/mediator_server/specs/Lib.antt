@@ -7,6 +7,7 @@ pub use Rattle.shared_mediator.specs.Locked
 pub use Rattle.shared_mediator.specs.Handles
 pub use Rattle.shared_mediator.specs.Closing
 pub use Rattle.admin_lines.specs.Sayings
+pub use Rattle.admin_lines.specs.Grammar as CommandGrammar
 pub use Rattle.admin_lines.specs.Reading as CommandReading
 pub use Rattle.admin_lines.specs.Answers as AdminAnswers
 pub mod Faults
