@@ -27,8 +27,12 @@ mod clock;
 mod delivery;
 mod exporter;
 mod fault;
+mod listening;
+mod plan;
 
 pub use clock::Clock;
 pub use delivery::deliver;
 pub use exporter::serve_exporter;
 pub use fault::ServeFault;
+pub use listening::{ListenFault, listen};
+pub use plan::{Collector, Plan};
