@@ -126,9 +126,9 @@ Exit status: 0 each call was answered, 1 refused or out of memory, 2 wrong comma
 /// Below the help of `ipmd serve`.
 pub const SERVE: &str = "\
 The settings are a TOML table with all of these keys; any other is ignored:
-  exporters = \"0.0.0.0:4739\"     where exporters connect
-  admin = \"127.0.0.1:4750\"       where the one admin connection is made
-  policy = \"policy.txt\"          the file with the first policy
+  exporters = \"0.0.0.0:4739\"      where exporters connect
+  admin = \"127.0.0.1:4750\"        where the one admin connection is made
+  policy = \"policy.txt\"           the file with the first policy
   connections = 4                 how many exporter connections are accepted, 1 to 1000
   target = 1400                   the most octets of a message to a collector, 16 to 65535
   queue = 65536                   the records that may wait for a subscription, 1 to 1000000
@@ -138,7 +138,7 @@ The settings are a TOML table with all of these keys; any other is ignored:
   journal_octets = 1073741824     the octets of the journal, 1 to 1099511627776
   turns = 1000000000              the reads of one connection, 1 to 1000000000
   [deliver]
-  acme = \"192.0.2.1:4739\"        a subscriber's name, and the address of its collector
+  acme = \"192.0.2.1:4739\"         a subscriber's name, and the address of its collector
 
 It connects to each collector, and takes `connections` connections of exporters and one of the
 admin. When all of these have ended it sends what is queued, and standard output says
