@@ -23,13 +23,19 @@
 //! can look. Nothing promises that a call returns.
 #![tactic(auto)]
 
+mod admin;
 mod clock;
 mod delivery;
+mod doors;
 mod exporter;
 mod fault;
 mod listening;
+mod machine_clock;
+mod notes;
 mod plan;
+mod service;
 
+pub use admin::serve_admin;
 pub use clock::Clock;
 pub use delivery::deliver;
 pub use exporter::serve_exporter;

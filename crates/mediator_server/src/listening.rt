@@ -1,17 +1,22 @@
 //! A server on sockets.
-ghost use Rattle.std.specs.Prelude.{◌≡◌};
+ghost use Rattle.std.specs.Prelude.{◌≡◌, ◌+◌, ◌*◌};
 ghost use Rattle.counted_mediator.specs.Counted.{handed_live};
 
+use crate::notes;
 use crate::plan::Plan;
+use crate::service::{Hands, serve};
 use log::Log;
 use mediator_core::Mediator;
 use mediator_state::Fault;
-use shared_mediator::{CloseFault, Closed};
-use std::alloc::Global;
+use shared_mediator::{CloseFault, Closed, EntryLedger, HandleFault, RecordLedger, SharedMediator};
+use std::alloc::{AllocError, Global};
 use std::error::Error;
 use std::fmt::{self, Display, Formatter, Write};
+use std::io::{self, ErrorKind};
+use std::marker::Brand;
 use std::net::{Net, TcpListener, TcpStream};
 use std::sync::Wait;
+use std::sync::ledger::Blank;
 use std::thread::Threads;
 use std::time::Clock;
 
@@ -44,6 +49,50 @@ impl Display for ListenFault {
     }
 }
 
+impl ListenFault {
+    /// What a refusal at a door is called: memory ran out, or it isn't open.
+    pub(crate) fn at_door(fault: &io::Error) -> ListenFault {
+        match fault.kind() {
+            ErrorKind::OutOfMemory => ListenFault::Core(Fault::OutOfMemory),
+            _ => ListenFault::Bind,
+        }
+    }
+}
+
+impl From<Fault> for ListenFault {
+    fn from(fault: Fault) -> ListenFault {
+        ListenFault::Core(fault)
+    }
+}
+
+impl From<AllocError> for ListenFault {
+    fn from(_e: AllocError) -> ListenFault {
+        ListenFault::Core(Fault::OutOfMemory)
+    }
+}
+
+impl From<HandleFault> for ListenFault {
+    fn from(fault: HandleFault) -> ListenFault {
+        match fault {
+            // Each handle is one thread's own.
+            HandleFault::NoHandle => ListenFault::NoThread,
+            HandleFault::Core(why) => ListenFault::Core(why),
+        }
+    }
+}
+
+/// No plan needs more handles of a kind: there is no memory for so many.
+const MOST_HANDLES: u64 = 0xffff_ffff;
+
+/// How many handles of each kind a plan needs: for its exporters, or for its deliveries and the administrator.
+fn handles_for(plan: &Plan) -> u64
+    ensures { result ≤ 0xffff_ffff }
+{
+    let deliveries = plan.deliver.len() as u64;
+    let admins = deliveries.saturating_add(1);
+    plan.connections.max(admins).min(MOST_HANDLES)
+}
+
 /// Serves a mediator on sockets as the plan says: puts the policy in force, subscribes each collector, connects to it and
 /// delivers to it, serves the exporters that connect and one connection of the administrator, each in a thread of its own; and
 /// gives the mediator back when those have ended and all that was queued is sent.
@@ -55,9 +104,46 @@ impl Display for ListenFault {
 /// can't be connected to; a thread was refused; memory ran out; or the mediator isn't given back. What runs is ended first.
 pub fn listen<
     R: Net<Listener = TcpListener, Stream = TcpStream> + Threads + Wait + Clock + Log + Sync,
->(rt: &R, _alloc: Global, _plan: &Plan, _mediator: Mediator) -> Result<Closed, ListenFault>
-    requires fresh { handed_live _mediator ≡ 0 }
+>(rt: &R, alloc: Global, plan: &Plan, mediator: Mediator) -> Result<Closed, ListenFault>
+    requires fresh { handed_live mediator ≡ 0 }
 {
-    for _ in rt.forever() {}
-    unreachable!()
+    let handles = handles_for(plan);
+    let (entries, handed) = (Blank::new(2 * handles + 1), Blank::new(handles + 1));
+    listen_with::<Brand, Brand, R>(rt, alloc, plan, mediator, handles, entries, handed)
+}
+
+/// The same with these ledgers, for so many handles of each kind.
+fn listen_with<
+    E: EntryLedger + Send + Sync,
+    H: RecordLedger + Send + Sync,
+    R: Net<Listener = TcpListener, Stream = TcpStream> + Threads + Wait + Clock + Log + Sync,
+>(
+    rt: &R,
+    alloc: Global,
+    plan: &Plan,
+    mediator: Mediator,
+    handles: u64,
+    entries: Blank,
+    handed: Blank,
+) -> Result<Closed, ListenFault>
+    requires fresh { handed_live mediator ≡ 0 }
+    requires before { E.before ≡ mediator.history }
+    requires entries_name { entries.name ≡ E.name }
+    requires entries_parts { (entries.parts ≡ E.parts) × (E.parts ≡ E.all) × (E.all ≡ 2 * handles + 1) }
+    requires handed_name { handed.name ≡ H.name }
+    requires handed_parts { (handed.parts ≡ H.parts) × (H.parts ≡ H.all) × (H.all ≡ handles + 1) }
+{
+    let shared = SharedMediator::<E, H>::new(alloc, mediator, handles, entries, handed);
+    let Hands {
+        exporters,
+        deliveries,
+        admins,
+    } = serve(rt, alloc, &shared, plan)?;
+    match shared.close(exporters, deliveries, admins) {
+        Ok(closed) => {
+            notes::totals(rt, &closed);
+            Ok(closed)
+        }
+        Err(fault) => Err(ListenFault::Close(fault)),
+    }
 }

@@ -1,0 +1,105 @@
+//! The notes of a run, a line each: who came and went, and the totals.
+
+use crate::exporter::Counts;
+use crate::fault::ServeFault;
+use crate::plan::Collector;
+use counted_mediator::Handed;
+use log::{Log, info, warn};
+use shared_mediator::{Closed, HandleFault};
+use std::fmt::{self, Display, Formatter, Write};
+use std::net::SocketAddr;
+
+/// A fault as notes tell it: by its cause, where it has one.
+#[derive(Clone, Copy)]
+struct Cause(ServeFault);
+
+impl Display for Cause {
+    fn fmt<W: Write>(&self, f: &mut Formatter<W>) -> fmt::Result {
+        match self.0 {
+            ServeFault::Framing(why) => why.fmt(f),
+            ServeFault::Core(why) => why.fmt(f),
+            fault => fault.fmt(f),
+        }
+    }
+}
+
+/// An exporter has connected, and has a session.
+pub(crate) fn exporter_begins(rt: &impl Log, peer: SocketAddr) {
+    info!(rt; "exporter {peer} connected");
+}
+
+/// No session could be opened for an exporter.
+pub(crate) fn exporter_refused(rt: &impl Log, peer: SocketAddr, why: HandleFault) {
+    warn!(rt; "exporter {peer} refused: {why}");
+}
+
+/// An exporter's connection has ended, after so many messages were accepted.
+pub(crate) fn exporter_ends(
+    rt: &impl Log,
+    peer: SocketAddr,
+    messages: usize,
+    counts: Counts,
+    served: Result<u64, ServeFault>,
+) {
+    let Counts { records, gaps } = counts;
+    match served {
+        Ok(_) =>
+            info!(rt; "exporter {peer} ended: messages {messages} records {records} gaps {gaps}"),
+        Err(fault) => {
+            let why = Cause(fault);
+            warn!(rt; "exporter {peer} failed, {why}: messages {messages} records {records} gaps {gaps}")
+        }
+    }
+}
+
+/// The administrator has connected.
+pub(crate) fn admin_begins(rt: &impl Log, peer: SocketAddr) {
+    info!(rt; "admin {peer} connected");
+}
+
+/// The administrator's connection has ended, after so many commands.
+pub(crate) fn admin_ends(rt: &impl Log, peer: SocketAddr, answered: Result<u64, ServeFault>) {
+    match answered {
+        Ok(commands) => info!(rt; "admin {peer} ended: commands {commands}"),
+        Err(fault) => {
+            let why = Cause(fault);
+            warn!(rt; "admin {peer} failed, {why}")
+        }
+    }
+}
+
+/// A collector is connected to.
+pub(crate) fn collector_begins(rt: &impl Log, collector: &Collector) {
+    let (name, address) = (collector.name.as_str(), collector.address.as_str());
+    info!(rt; "collector {name} {address} connected");
+}
+
+/// A delivery has ended, after these messages were pulled.
+pub(crate) fn collector_ends(
+    rt: &impl Log,
+    collector: &Collector,
+    pulled: &[Handed],
+    sent: Result<u64, ServeFault>,
+) {
+    let (name, address) = (collector.name.as_str(), collector.address.as_str());
+    let records = pulled
+        .iter()
+        .fold(0u64, |sum, handed| sum.saturating_add(handed.records));
+    match sent {
+        Ok(octets) =>
+            info!(rt; "collector {name} {address} ended: octets {octets} records {records}"),
+        Err(ServeFault::Write { sent }) => {
+            warn!(rt; "collector {name} {address} failed, Write: octets {sent} records {records}")
+        }
+        Err(fault) => {
+            let why = Cause(fault);
+            warn!(rt; "collector {name} {address} failed, {why}: records {records}")
+        }
+    }
+}
+
+/// All has ended, and the mediator is given back.
+pub(crate) fn totals(rt: &impl Log, closed: &Closed) {
+    let (accepted, handed) = (closed.accepted, closed.handed);
+    info!(rt; "accepted {accepted} handed {handed}");
+}
