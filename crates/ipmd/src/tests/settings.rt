@@ -1,7 +1,6 @@
 //! `ipmd serve` where nothing is served: its settings are at fault, a file, or what the server begins with.
 
 use super::*;
-use std::net::{TcpListener, TcpStream};
 
 /// A key and its value.
 type Row<'a> = (&'a str, &'a str);
