@@ -1,21 +1,32 @@
 //! An administrator's connection.
-ghost use Rattle.std.specs.Prelude.{◌≡◌, false, IfErr, OnOk};
+ghost use Rattle.std.specs.Prelude.{◌≡◌, ◌+◌, ℕ, List, [], Some, false, length, IfOk, IfErr, OnOk, OnErr, MatchOption};
+ghost use Rattle.std.specs.Io.KnownBytes.{Appends};
+ghost use Rattle.admin_lines.specs.Sayings.{saying};
+ghost use Rattle.admin_lines.specs.Reading.{command_of};
 ghost use Rattle.mediator_server.specs.Faults.{reader_after, writer_after};
+ghost use Rattle.mediator_server.specs.CommandInput.{EndsBehind, StopsReading};
+ghost use Rattle.mediator_server.specs.Answering.{Edits, Subscribes, Unsubscribes, Advances, TellsStatus, DrainsAudit, Exchange, ServesAdmin, StopsAdmin, Performs, Hears, StopsHearing, Replies, StopsReplying, StopsSendingOctets};
 
+use crate::command_input::CommandInput;
 use crate::fault::ServeFault;
-use octet_devices::{Sink, Source};
+use admin_lines::{Answer, Command, answer_text, out_of_memory_text, read_command};
+use counted_mediator::PullFault;
+use mediator_calls::{SubId, UnknownSub};
+use mediator_state::Fault;
+use octet_devices::{Sink, Source, write_all};
 use shared_mediator::{AdminHandle, EntryLedger, RecordLedger, SharedMediator};
-use std::alloc::Global;
+use std::alloc::{AllocError, Global};
+use std::str::from_utf8;
 use std::sync::Wait;
 
 /// Serves an administrator's connection: reads its commands, one line each, by at most so many reads; makes each call by the
-/// handle, and writes its answer then. Answers how many commands were answered; a line that is no command is none of them: it
-/// is answered too, and ends the connection. So does the end of the input between two commands.
+/// handle, and then writes its answer. Answers how many commands were answered. The end of the input between two commands ends
+/// it, and so does a line that is no command: that is answered too, but not counted.
 ///
 /// # Errors
-/// The reader failed; or the input ends inside a command; or its end isn't read within `turns` reads; or the writer failed, after
-/// so many octets of all answers, and the call that was to be answered was made; or memory ran out for what was read, or the
-/// octets sent can't be counted in 64 bits. What the mediator refuses is an answer, and no error.
+/// The reader failed; or the input ends inside a command; or its end isn't read within `turns` reads; or memory ran out for what
+/// was read. Or the writer failed, after so many octets of all answers, or the octets sent can't be counted in 64 bits: then the
+/// call that was to be answered has been made. What the mediator refuses is an answer, and no error.
 pub fn serve_admin<E: EntryLedger, H: RecordLedger, R: Source, W: Sink>(
     rt: &impl Wait,
     alloc: Global,
@@ -27,11 +38,281 @@ pub fn serve_admin<E: EntryLedger, H: RecordLedger, R: Source, W: Sink>(
 ) -> Result<u64, ServeFault>
     requires reader { R.has_failed reader.old ≡ false }
     requires writer { W.has_failed writer.old ≡ false }
+    ensures serves { IfOk result (λ count. ServesAdmin count (R.remaining reader.old) (R.remaining reader.new) (W.contents writer.old) (W.contents writer.new) handle.old handle.new) }
     ensures sound_reader { OnOk result (R.has_failed reader.new ≡ false) }
     ensures sound_writer { OnOk result (W.has_failed writer.new ≡ false) }
+    ensures stops { IfErr result (λ e. (commands : List Exchange) × StopsAdmin e turns (R.remaining reader.old) (R.remaining reader.new) (W.contents writer.old) (W.contents writer.new) (W.has_failed writer.new) handle.old handle.new commands) }
     ensures reader_fails { IfErr result (λ e. R.has_failed reader.new ≡ reader_after e) }
     ensures writer_fails { IfErr result (λ e. W.has_failed writer.new ≡ writer_after e) }
 {
-    for _ in rt.forever() {}
+    let mut input = CommandInput::new(alloc, turns)?;
+    let (mut count, mut sent) = (0u64, 0u64);
+    'commands: for _ in rt.forever() {
+        let Some(answer) = hear(rt, alloc, shared, handle, &mut input, reader)? else {
+            return Ok(count);
+        };
+        sent = reply(alloc, writer, &answer, sent)?;
+        if matches!(answer, Answer::BadLine) {
+            return Ok(count);
+        }
+        count += 1;
+    }
     unreachable!()
+}
+
+/// Reads a line, makes the call that it asks for, and answers what came of it; `None` where the input ended before it.
+///
+/// # Errors
+/// The reader failed; or the input ends inside the command; or no read is left; or memory ran out for what was read. Then no
+/// call was made.
+fn hear<E: EntryLedger, H: RecordLedger, R: Source>(
+    rt: &impl Wait,
+    alloc: Global,
+    shared: &SharedMediator<E, H>,
+    handle: &mut AdminHandle<E>,
+    input: &mut CommandInput,
+    reader: &mut R,
+) -> Result<Option<Answer>, ServeFault>
+    requires reader { R.has_failed reader.old ≡ false }
+    ensures ok { IfOk result (λ found. MatchOption found
+        (EndsBehind input.old (R.remaining reader.old) (R.remaining reader.new) [] × (handle.new ≡ handle.old))
+        (λ answer. Hears answer input.old (R.remaining reader.old) (R.remaining reader.new) input.new handle.old handle.new)) }
+    ensures sound { OnOk result (R.has_failed reader.new ≡ false) }
+    ensures fails { IfErr result (λ e. R.has_failed reader.new ≡ reader_after e) }
+    ensures err { IfErr result (λ e. StopsHearing e input.old (R.remaining reader.old) (R.remaining reader.new) input.new) }
+    ensures same { OnErr result (handle.new ≡ handle.old) }
+{
+    let Some(line) = input.next_line(alloc, reader)? else {
+        return Ok(None);
+    };
+    let answer = answer_line(rt, alloc, shared, handle, input, reader, line.as_slice())?;
+    Ok(Some(answer))
+}
+
+/// Makes the call that a line asks for, with what stands behind the line.
+///
+/// # Errors
+/// The reader failed; or the input ends before the octets of an edit; or no read is left; or memory ran out for these octets.
+/// Then no call was made.
+fn answer_line<E: EntryLedger, H: RecordLedger, R: Source>(
+    rt: &impl Wait,
+    alloc: Global,
+    shared: &SharedMediator<E, H>,
+    handle: &mut AdminHandle<E>,
+    input: &mut CommandInput,
+    reader: &mut R,
+    line: &[u8],
+) -> Result<Answer, ServeFault>
+    requires reader { R.has_failed reader.old ≡ false }
+    ensures ok { IfOk result (λ answer. Performs (command_of line.now) answer input.old (R.remaining reader.old) (R.remaining reader.new) input.new handle.old handle.new) }
+    ensures sound { OnOk result (R.has_failed reader.new ≡ false) }
+    ensures fails { IfErr result (λ e. R.has_failed reader.new ≡ reader_after e) }
+    ensures err { IfErr result (λ e. (octets : List ℕ) × StopsReading e input.old (R.remaining reader.old) (R.remaining reader.new) octets input.new) }
+    ensures same { OnErr result (handle.new ≡ handle.old) }
+{
+    match read_command(alloc, line) {
+        Ok(Some(command)) => perform(rt, alloc, shared, handle, input, reader, command),
+        Ok(None) => Ok(Answer::BadLine),
+        Err(AllocError) => Ok(Answer::Refused(Fault::OutOfMemory)),
+    }
+}
+
+/// Makes the call of a command.
+///
+/// # Errors
+/// Those of [`answer_line`].
+fn perform<E: EntryLedger, H: RecordLedger, R: Source>(
+    rt: &impl Wait,
+    alloc: Global,
+    shared: &SharedMediator<E, H>,
+    handle: &mut AdminHandle<E>,
+    input: &mut CommandInput,
+    reader: &mut R,
+    command: Command,
+) -> Result<Answer, ServeFault>
+    requires reader { R.has_failed reader.old ≡ false }
+    ensures ok { IfOk result (λ answer. Performs (Some (saying command)) answer input.old (R.remaining reader.old) (R.remaining reader.new) input.new handle.old handle.new) }
+    ensures sound { OnOk result (R.has_failed reader.new ≡ false) }
+    ensures fails { IfErr result (λ e. R.has_failed reader.new ≡ reader_after e) }
+    ensures err { IfErr result (λ e. (octets : List ℕ) × StopsReading e input.old (R.remaining reader.old) (R.remaining reader.new) octets input.new) }
+    ensures same { OnErr result (handle.new ≡ handle.old) }
+{
+    match command {
+        Command::Edit { octets } => {
+            let text = input.take(alloc, reader, octets)?;
+            Ok(edit(rt, shared, handle, text.as_slice()))
+        }
+        Command::Subscribe { name } => Ok(subscribe(rt, shared, handle, name.as_slice())),
+        Command::Unsubscribe { sub } => Ok(unsubscribe(rt, shared, handle, sub)),
+        Command::Advance { t } => Ok(advance(rt, shared, handle, t)),
+        Command::Status { sub } => Ok(status(rt, shared, handle, sub)),
+        Command::Audit { max } => Ok(drain_audit(rt, shared, handle, max)),
+    }
+}
+
+/// Puts a policy in force, given the octets of its text.
+fn edit<E: EntryLedger, H: RecordLedger>(
+    rt: &impl Wait,
+    shared: &SharedMediator<E, H>,
+    handle: &mut AdminHandle<E>,
+    octets: &[u8],
+) -> Answer
+    ensures { Edits octets.now result handle.old handle.new }
+{
+    match from_utf8(octets) {
+        Ok(text) => edit_by_text(rt, shared, handle, text),
+        Err(_) => Answer::BadText,
+    }
+}
+
+/// Puts a policy in force.
+fn edit_by_text<E: EntryLedger, H: RecordLedger>(
+    rt: &impl Wait,
+    shared: &SharedMediator<E, H>,
+    handle: &mut AdminHandle<E>,
+    text: &str,
+) -> Answer
+    ensures { Edits text.now result handle.old handle.new }
+{
+    match handle.edit(rt, shared, text) {
+        Ok(revision) => Answer::Edited(revision),
+        Err(why) => Answer::Refused(why),
+    }
+}
+
+/// Begins a subscription, given the octets of its name.
+fn subscribe<E: EntryLedger, H: RecordLedger>(
+    rt: &impl Wait,
+    shared: &SharedMediator<E, H>,
+    handle: &mut AdminHandle<E>,
+    octets: &[u8],
+) -> Answer
+    ensures { Subscribes octets.now result handle.old handle.new }
+{
+    match from_utf8(octets) {
+        Ok(name) => subscribe_by_name(rt, shared, handle, name),
+        // A name is ASCII.
+        Err(_) => Answer::Refused(Fault::BadName),
+    }
+}
+
+/// Begins a subscription under a name.
+fn subscribe_by_name<E: EntryLedger, H: RecordLedger>(
+    rt: &impl Wait,
+    shared: &SharedMediator<E, H>,
+    handle: &mut AdminHandle<E>,
+    name: &str,
+) -> Answer
+    ensures { Subscribes name.now result handle.old handle.new }
+{
+    match handle.subscribe(rt, shared, name) {
+        Ok(sub) => Answer::Subscribed(sub.0),
+        Err(why) => Answer::Refused(why),
+    }
+}
+
+/// Ends a subscription.
+fn unsubscribe<E: EntryLedger, H: RecordLedger>(
+    rt: &impl Wait,
+    shared: &SharedMediator<E, H>,
+    handle: &mut AdminHandle<E>,
+    sub: u64,
+) -> Answer
+    ensures { Unsubscribes sub result handle.old handle.new }
+{
+    match handle.unsubscribe(rt, shared, SubId(sub)) {
+        Ok(()) => Answer::Done,
+        Err(why) => Answer::Refused(why),
+    }
+}
+
+/// Advances the clock, to so many milliseconds since 1970.
+fn advance<E: EntryLedger, H: RecordLedger>(
+    rt: &impl Wait,
+    shared: &SharedMediator<E, H>,
+    handle: &mut AdminHandle<E>,
+    t: u64,
+) -> Answer
+    ensures { Advances t result handle.old handle.new }
+{
+    match handle.advance(rt, shared, t) {
+        Ok(()) => Answer::Done,
+        Err(why) => Answer::Refused(why),
+    }
+}
+
+/// How a subscription stands.
+fn status<E: EntryLedger, H: RecordLedger>(
+    rt: &impl Wait,
+    shared: &SharedMediator<E, H>,
+    handle: &AdminHandle<E>,
+    sub: u64,
+) -> Answer
+    ensures { TellsStatus result handle.now handle.now }
+{
+    match handle.status(rt, shared, SubId(sub)) {
+        Ok(status) => Answer::Stands(status),
+        Err(UnknownSub) => Answer::Refused(Fault::UnknownSub),
+    }
+}
+
+/// Hands out the oldest entries of the audit, at most so many.
+fn drain_audit<E: EntryLedger, H: RecordLedger>(
+    rt: &impl Wait,
+    shared: &SharedMediator<E, H>,
+    handle: &AdminHandle<E>,
+    most: u32,
+) -> Answer
+    ensures { DrainsAudit result handle.now handle.now }
+{
+    match handle.drain_audit(rt, shared, most) {
+        Ok(entries) => Answer::Drained(entries),
+        Err(AllocError) => Answer::Refused(Fault::OutOfMemory),
+    }
+}
+
+/// Writes an answer behind so many octets, or where there is no memory for it, that there is none; and answers how many octets
+/// were sent then.
+///
+/// # Errors
+/// The writer failed, after so many octets in all; or the octets sent can't be counted, and then none of the answer was written.
+fn reply<W: Sink>(
+    alloc: Global,
+    writer: &mut W,
+    answer: &Answer,
+    sent: u64,
+) -> Result<u64, ServeFault>
+    requires writer { W.has_failed writer.old ≡ false }
+    ensures ok { IfOk result (λ n. Replies answer.now sent n (W.contents writer.old) (W.contents writer.new)) }
+    ensures sound { OnOk result (W.has_failed writer.new ≡ false) }
+    ensures err { IfErr result (λ e. StopsReplying e answer.now sent (W.contents writer.old) (W.contents writer.new) (W.has_failed writer.new)) }
+    ensures fails { IfErr result (λ e. W.has_failed writer.new ≡ writer_after e) }
+{
+    match answer_text(alloc, answer) {
+        Ok(text) => send(writer, text.as_str().as_bytes(), sent),
+        Err(AllocError) => send(writer, out_of_memory_text().as_bytes(), sent),
+    }
+}
+
+/// Writes octets behind so many, and answers how many were sent then.
+///
+/// # Errors
+/// Those of [`reply`].
+fn send<W: Sink>(writer: &mut W, octets: &[u8], sent: u64) -> Result<u64, ServeFault>
+    requires writer { W.has_failed writer.old ≡ false }
+    ensures ok { IfOk result (λ n. Appends (W.contents writer.old) (W.contents writer.new) octets.now × (n ≡ sent + length octets.now)) }
+    ensures sound { OnOk result (W.has_failed writer.new ≡ false) }
+    ensures err { IfErr result (λ e. StopsSendingOctets e octets.now sent (W.contents writer.old) (W.contents writer.new) (W.has_failed writer.new)) }
+    ensures fails { IfErr result (λ e. W.has_failed writer.new ≡ writer_after e) }
+{
+    let length = octets.len() as u64;
+    if length > u64::MAX - sent {
+        return Err(ServeFault::Core(PullFault::HandedFull));
+    }
+    match write_all(writer, octets) {
+        Ok(()) => Ok(sent + length),
+        Err(stopped) => Err(ServeFault::Write {
+            sent: sent + stopped.sent as u64,
+        }),
+    }
 }

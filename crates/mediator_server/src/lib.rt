@@ -25,6 +25,7 @@
 
 mod admin;
 mod clock;
+mod command_input;
 mod delivery;
 mod doors;
 mod exporter;

@@ -82,8 +82,9 @@ fn subscribe_all<E: EntryLedger, H: RecordLedger>(
 ) -> Result<Vec<SubId>, ListenFault> {
     let mut subs = Vec::new(alloc);
     for collector in &plan.deliver {
+        subs.reserve(1)?;
         let sub = admin.subscribe(rt, shared, collector.name.as_str())?;
-        subs.push(sub)?;
+        subs.push_reserved(sub);
     }
     Ok(subs)
 }
@@ -219,6 +220,7 @@ fn deliver_to<E: EntryLedger, H: RecordLedger, R: Wait + Clock + Log>(
 }
 
 /// What the threads of those who come in share.
+#[derive(Drop)]
 struct Hall<'m, E: EntryLedger, H: RecordLedger> {
     alloc: Global,
     shared: &'m SharedMediator<E, H>,

@@ -1,0 +1,266 @@
+-- Commands that are read and answered one after another, and where that ends or stops.
+use Rattle.std.proofs.Common.{◌≡◌, inl, inr, ℕ, ◌+◌, ◌≤◌, ◌<◌, ◌^◌, Bool, false, List, [], ◌∷◌, ◌++◌, length, take, Option, Some, None, refl, sym, ap, ◌∙◌, subst, append-nil, append_assoc, arith, length-append}
+use Rattle.std.specs.Prelude.{IsSome}
+use Rattle.std.specs.List.{AllByRecursion}
+use Rattle.std.specs.Io.KnownBytes.{Consumes, Appends, prepend_known}
+use Rattle.std.proofs.KnownBytes.{Appends-trans, Appends-nil, Consumes-trans, Consumes-nil, prepend_known-nil}
+use Rattle.sequences.proofs.ListLaws.{take-add-append}
+use Rattle.octet_devices.specs.Written.{WritesFront}
+use Rattle.message_intake.specs.declared.fault.FramingFault.TheVariants as framing
+use Rattle.entry_receipts.specs.declared.kept.KeptEntry.{KeptEntry}
+use Rattle.mediator_history.proofs.HistoryLaws.{flat_map-push}
+use Rattle.mediator_state.specs.declared.fault.Fault.TheVariants as fault
+use Rattle.counted_mediator.specs.declared.fault.PullFault.TheVariants as pull
+use Rattle.admin_lines.specs.Sayings.{Saying}
+use Rattle.admin_lines.specs.Sayings.Saying.{to_edit, to_subscribe, to_unsubscribe, to_advance, to_tell_status, to_drain_audit}
+use Rattle.admin_lines.specs.Reading.{command_of}
+use Rattle.admin_lines.specs.Answers.{answer_text, refused_for_memory}
+use Rattle.admin_lines.specs.declared.answer.Answer.{Answer}
+use Rattle.admin_lines.specs.declared.answer.Answer.TheVariants as answer
+use Rattle.mediator_server.specs.declared.fault.ServeFault.{ServeFault}
+use Rattle.mediator_server.specs.declared.fault.ServeFault.TheVariants.{Read, Write, Framing, Turns, Core}
+use Rattle.mediator_server.specs.Faults.{out_of_memory}
+use Rattle.mediator_server.specs.CommandInput.{InputState, unread, ahead, HandsOut, EndsBehind, IsLine, IsBegun, StopsReading}
+use Rattle.mediator_server.specs.Answering.{Answers, Exchange, asked, answered, IsTextOf, IsExchange, AreExchanges, IsCommand, Exchanges, ServesAdmin, StopsInside, StopsAdmin, Hears, StopsHearing, Replies, StopsReplying}
+use Rattle.mediator_server.proofs.Commands.{hands_out_none, hands_out_then}
+
+-- ---- what a reply says of its line
+
+-- only a line that is no command is answered as one
+pub bad_line : (read : Option Saying) (text : List ℕ) (old new : List KeptEntry) → Answers read text answer.BadLine old new → read ≡ None
+bad_line None text old new so = refl
+bad_line (Some (to_edit octets)) text old new so = absurd so.1
+bad_line (Some (to_subscribe name)) text old new so = absurd so.1
+bad_line (Some (to_unsubscribe sub)) text old new so = absurd so.1
+bad_line (Some (to_advance t)) text old new so = absurd so.1
+bad_line (Some (to_tell_status sub)) text old new so = absurd so.1
+bad_line (Some (to_drain_audit max)) text old new so = absurd so.1
+
+pub good_line : (read : Option Saying) (text : List ℕ) (reply : Answer) (old new : List KeptEntry) → (reply ≡ answer.BadLine → ⊥) → Answers read text reply old new → IsSome read
+good_line None text reply old new good so = absurd (good so.1)
+good_line (Some said) text reply old new good so = refl
+
+-- a text has some octets
+ended_some : (xs : List ℕ) (x : ℕ) → 0 < length (xs ++ x ∷ [])
+ended_some xs x = omega (arith, length-append xs (x ∷ []))
+
+answer_some : (reply : Answer) → 0 < length (answer_text reply)
+answer_some (answer.Edited revision) = omega arith
+answer_some (answer.Subscribed sub) = omega arith
+answer_some answer.Done = omega arith
+answer_some (answer.Stands status) = omega arith
+answer_some (answer.Drained entries) = omega arith
+answer_some (answer.Refused why) = ended_some _ 10
+answer_some answer.BadLine = omega arith
+answer_some answer.BadText = omega arith
+
+text_some : (reply : Answer) (text : List ℕ) → IsTextOf reply text → 0 < length text
+text_some reply text (inl is) = subst (λ t. 0 < length t) (sym is) (answer_some reply)
+text_some reply text (inr is) = subst (λ t. 0 < length t) (sym is) (answer_some refused_for_memory)
+
+-- ---- one exchange more
+
+all_pushed : {X : Type 0} (P : X → Type 0) (xs : List X) (x : X) → AllByRecursion P xs → P x → AllByRecursion P (xs ++ x ∷ [])
+all_pushed P [] x all p = (p, tt)
+all_pushed P (y ∷ xs) x all p = (all.0, all_pushed P xs x all.1 p)
+
+done_pushed : (xs : List Exchange) (x : Exchange) (old mid new : List KeptEntry) → AreExchanges xs old mid → IsExchange x mid new → AreExchanges (xs ++ x ∷ []) old new
+done_pushed [] x old mid new so next = (new, subst (λ k. IsExchange x k new) so next, refl)
+done_pushed (y ∷ xs) x old mid new so next = (so.0, so.1, done_pushed xs x so.0 mid new so.2 next)
+
+asked_pushed : (xs : List Exchange) (x : Exchange) → asked (xs ++ x ∷ []) ≡ asked xs ++ (x.octets ++ x.text)
+asked_pushed xs x = flat_map-push (λ x. x.octets ++ x.text) xs x
+
+answered_pushed : (xs : List Exchange) (x : Exchange) → answered (xs ++ x ∷ []) ≡ answered xs ++ x.written
+answered_pushed xs x = flat_map-push (λ x. x.written) xs x
+
+-- what was handed out, and what is pending, were read
+all_read : (given left : Option (List ℕ)) (octets pending : List ℕ) → Consumes given (prepend_known pending left) octets → Consumes given left (octets ++ pending)
+all_read None left octets pending taken = tt
+all_read (Some xs) None octets pending taken = absurd taken
+all_read (Some xs) (Some ys) octets pending taken = taken ∙ sym (append_assoc octets pending ys)
+
+-- nothing was pending before the first read
+from_start : (turns : ℕ) (given left : Option (List ℕ)) (octets : List ℕ) → Consumes (ahead (unread turns) given) left octets → Consumes given left octets
+from_start turns given left octets taken = subst (λ g. Consumes g left octets) (prepend_known-nil given) taken
+
+-- ---- on the way
+
+-- commands were read and answered, and counted
+pub record Serving (turns : ℕ) (i : InputState) (count sent : ℕ) (given left held holds : Option (List ℕ)) (old new : List KeptEntry) : Type 0 where
+  pub commands : List Exchange
+  pub are : AllByRecursion IsCommand commands
+  pub done : AreExchanges commands old new
+  pub handed : HandsOut (unread turns) given left (asked commands) i
+  pub written : Appends held holds (answered commands)
+  pub counted : count ≡ length commands
+  pub sent_are : sent ≡ length (answered commands)
+  pub few : count ≤ sent
+
+pub serving_starts : (turns : ℕ) (i : InputState) (given held : Option (List ℕ)) (old : List KeptEntry) → i ≡ unread turns → Serving turns i 0 0 given given held held old old
+serving_starts turns i given held old new = record {
+  commands = [];
+  are = tt;
+  done = refl;
+  handed = subst (λ x. HandsOut (unread turns) given given [] x) (sym new) (hands_out_none (unread turns) given);
+  written = Appends-nil held;
+  counted = refl;
+  sent_are = refl;
+  few = omega arith;
+}
+
+-- the exchange of a line that was heard, with what was due for its reply
+abbrev exchange_of : (reply : Answer) (i k : InputState) (mid left : Option (List ℕ)) (before after : List KeptEntry) → Hears reply i mid left k before after → List ℕ → Exchange
+exchange_of reply i k mid left before after hears written = record { line = hears.line; octets = hears.octets; text = hears.text; reply = reply; written = written }
+
+-- a line more was heard: its call was made, and its octets were handed out
+record Heard (turns : ℕ) (k : InputState) (commands : List Exchange) (x : Exchange) (given left : Option (List ℕ)) (old new : List KeptEntry) : Type 0 where
+  pub done : AreExchanges (commands ++ x ∷ []) old new
+  pub handed : HandsOut (unread turns) given left (asked (commands ++ x ∷ [])) k
+  pub written : answered (commands ++ x ∷ []) ≡ answered commands ++ x.written
+
+heard : (turns : ℕ) (i k : InputState) (count sent : ℕ) (given mid left held holds : Option (List ℕ)) (old before new : List KeptEntry) (reply : Answer) (text : List ℕ)
+    → (so : Serving turns i count sent given mid held holds old before) → (hears : Hears reply i mid left k before new) → IsTextOf reply text
+    → Heard turns k so.commands (exchange_of reply i k mid left before new hears text) given left old new
+heard turns i k count sent given mid left held holds old before new reply text so hears is =
+    let x : Exchange = exchange_of reply i k mid left before new hears text in
+    record {
+      done = done_pushed so.commands x old before new so.done (record { line = hears.is_line; answers = hears.answers; written = is });
+      handed = subst (λ t. HandsOut (unread turns) given left t k) (sym (asked_pushed so.commands x)) (hands_out_then (unread turns) i k given mid left (asked so.commands) (hears.octets ++ hears.text) so.handed hears.handed);
+      written = answered_pushed so.commands x;
+    }
+
+-- the octets that were read for it, and those behind it
+exchanges_of : (turns : ℕ) (k : InputState) (commands last : List Exchange) (given left : Option (List ℕ)) (old new : List KeptEntry)
+    → AllByRecursion IsCommand commands → AreExchanges (commands ++ last) old new → HandsOut (unread turns) given left (asked (commands ++ last)) k → Exchanges commands last k.pending given left old new
+exchanges_of turns k commands last given left old new are done handed = record {
+  are = are;
+  done = done;
+  read = from_start turns given left (asked (commands ++ last) ++ k.pending) (all_read (ahead (unread turns) given) left (asked (commands ++ last)) k.pending handed.taken);
+}
+
+-- a command more was heard and answered
+pub serving_on : (turns : ℕ) (i k : InputState) (count sent n : ℕ) (given mid left held holds writes : Option (List ℕ)) (old before new : List KeptEntry) (reply : Answer)
+    → Serving turns i count sent given mid held holds old before → Hears reply i mid left k before new → Replies reply sent n holds writes → (reply ≡ answer.BadLine → ⊥)
+    → Serving turns k (count + 1) n given left held writes old new
+serving_on turns i k count sent n given mid left held holds writes old before new reply so hears replies good =
+    let x : Exchange = exchange_of reply i k mid left before new hears replies.text in
+    let h : Heard turns k so.commands x given left old new = heard turns i k count sent given mid left held holds old before new reply replies.text so hears replies.is in
+    record {
+      commands = so.commands ++ x ∷ [];
+      are = all_pushed IsCommand so.commands x so.are (good_line (command_of hears.line) hears.text reply before new good hears.answers);
+      done = h.done;
+      handed = h.handed;
+      written = subst (Appends held writes) (sym h.written) (Appends-trans held holds writes (answered so.commands) replies.text so.written replies.written);
+      counted = omega (arith, so.counted, length-append so.commands (x ∷ []));
+      sent_are = omega (arith, replies.counted, so.sent_are, ap length h.written, length-append (answered so.commands) replies.text);
+      few = omega (arith, so.few, replies.counted, text_some reply replies.text replies.is);
+    }
+
+-- there is room for one command more in the count
+pub count_fits : (turns : ℕ) (i : InputState) (count sent n : ℕ) (given left held holds : Option (List ℕ)) (old new : List KeptEntry) (reply : Answer) (kept writes : Option (List ℕ))
+    → Serving turns i count sent given left held holds old new → Replies reply sent n kept writes → n < 2 ^ 64 → count + 1 < 2 ^ 64
+count_fits turns i count sent n given left held holds old new reply kept writes so replies below = omega (arith, so.few, replies.counted, text_some reply replies.text replies.is, below)
+
+-- ---- where it ends
+
+-- the input ended behind the commands
+pub serving_ends : (turns : ℕ) (i : InputState) (count sent : ℕ) (given mid left held holds : Option (List ℕ)) (old new : List KeptEntry) → Serving turns i count sent given mid held holds old new → EndsBehind i mid left [] → ServesAdmin count given left held holds old new
+serving_ends turns i count sent given mid left held holds old new so ends = record {
+  commands = so.commands;
+  last = [];
+  rest = [];
+  exchanges = record {
+    are = so.are;
+    done = subst (λ xs. AreExchanges xs old new) (sym (append-nil so.commands)) so.done;
+    read = subst (λ xs. Consumes given left (asked xs ++ [])) (sym (append-nil so.commands))
+        (from_start turns given left (asked so.commands ++ []) (Consumes-trans (ahead (unread turns) given) (ahead i mid) left (asked so.commands) [] so.handed.taken ends.taken));
+  };
+  written = subst (λ xs. Appends held holds (answered xs)) (sym (append-nil so.commands)) so.written;
+  counted = so.counted;
+  ends = (refl, ends.end);
+}
+
+-- a line behind them was no command
+pub serving_ends_line : (turns : ℕ) (i k : InputState) (count sent n : ℕ) (given mid left held holds writes : Option (List ℕ)) (old before new : List KeptEntry) (reply : Answer)
+    → Serving turns i count sent given mid held holds old before → Hears reply i mid left k before new → Replies reply sent n holds writes → reply ≡ answer.BadLine → ServesAdmin count given left held writes old new
+serving_ends_line turns i k count sent n given mid left held holds writes old before new reply so hears replies bad =
+    let x : Exchange = exchange_of reply i k mid left before new hears replies.text in
+    let h : Heard turns k so.commands x given left old new = heard turns i k count sent given mid left held holds old before new reply replies.text so hears replies.is in
+    record {
+      commands = so.commands;
+      last = x ∷ [];
+      rest = k.pending;
+      exchanges = exchanges_of turns k so.commands (x ∷ []) given left old new so.are h.done h.handed;
+      written = subst (Appends held writes) (sym h.written) (Appends-trans held holds writes (answered so.commands) replies.text so.written replies.written);
+      counted = so.counted;
+      ends = bad_line (command_of hears.line) hears.text before new (subst (λ r. Answers (command_of hears.line) hears.text r before new) bad hears.answers);
+    }
+
+-- ---- where it stops
+
+inside_of : (turns : ℕ) (i : InputState) (count sent : ℕ) (given mid left held holds : Option (List ℕ)) (old new : List KeptEntry) (begun : List ℕ) → (so : Serving turns i count sent given mid held holds old new)
+    → Consumes (ahead i mid) left begun → StopsInside so.commands begun given left held holds old new
+inside_of turns i count sent given mid left held holds old new begun so taken = record {
+  exchanges = record {
+    are = so.are;
+    done = subst (λ xs. AreExchanges xs old new) (sym (append-nil so.commands)) so.done;
+    read = subst (λ xs. Consumes given left (asked xs ++ begun)) (sym (append-nil so.commands))
+        (from_start turns given left (asked so.commands ++ begun) (Consumes-trans (ahead (unread turns) given) (ahead i mid) left (asked so.commands) begun so.handed.taken taken));
+  };
+  written = so.written;
+}
+
+-- nothing was heard
+pub stops_hearing : (e : ServeFault) (turns : ℕ) (i k : InputState) (count sent : ℕ) (given mid left held holds : Option (List ℕ)) (failed : Bool) (old new : List KeptEntry) (octets : List ℕ)
+    → (so : Serving turns i count sent given mid held holds old new) → StopsReading e i mid left octets k → IsBegun e octets → StopsAdmin e turns given left held holds failed old new so.commands
+stops_hearing Read turns i k count sent given mid left held holds failed old new octets so stops begun =
+    (octets ++ k.pending, inside_of turns i count sent given mid left held holds old new (octets ++ k.pending) so (all_read (ahead i mid) left octets k.pending stops))
+stops_hearing Turns turns i k count sent given mid left held holds failed old new octets so stops begun = (
+  octets ++ k.pending,
+  inside_of turns i count sent given mid left held holds old new (octets ++ k.pending) so (all_read (ahead i mid) left octets k.pending stops.0.taken),
+  omega (arith, so.handed.reads, stops.0.reads, stops.2, ap length stops.1, length-append (asked so.commands) (octets ++ k.pending), length-append octets k.pending),
+)
+stops_hearing (Framing framing.CutOff) turns i k count sent given mid left held holds failed old new octets so stops begun =
+    (octets, inside_of turns i count sent given mid left held holds old new octets so stops.taken, begun, stops.end)
+stops_hearing (Core (pull.Core fault.OutOfMemory)) turns i k count sent given mid left held holds failed old new octets so stops begun =
+    (octets ++ k.pending, inside_of turns i count sent given mid left held holds old new (octets ++ k.pending) so (all_read (ahead i mid) left octets k.pending stops.taken))
+stops_hearing _ turns i k count sent given mid left held holds failed old new octets so stops begun = absurd stops
+
+-- there was no memory before the first read
+pub stops_begun : (turns : ℕ) (given held : Option (List ℕ)) (failed : Bool) (old : List KeptEntry) → StopsAdmin out_of_memory turns given given held held failed old old []
+stops_begun turns given held failed old = (
+  [],
+  record { exchanges = record { are = tt; done = refl; read = Consumes-nil given }; written = Appends-nil held },
+)
+
+-- the writer failed inside the answer, or its octets can't be counted
+pub stops_replying : (e : ServeFault) (turns : ℕ) (i k : InputState) (count sent : ℕ) (given mid left held holds writes : Option (List ℕ)) (failed : Bool) (old before new : List KeptEntry) (reply : Answer)
+    → (so : Serving turns i count sent given mid held holds old before) → Hears reply i mid left k before new → StopsReplying e reply sent holds writes failed → StopsAdmin e turns given left held writes failed old new so.commands
+stops_replying (Write n) turns i k count sent given mid left held holds writes failed old before new reply so hears stops =
+    let x : Exchange = exchange_of reply i k mid left before new hears stops.text in
+    let h : Heard turns k so.commands x given left old new = heard turns i k count sent given mid left held holds old before new reply stops.text so hears stops.is in
+    (
+      x,
+      record { rest = k.pending; exchanges = exchanges_of turns k so.commands (x ∷ []) given left old new so.are h.done h.handed },
+      subst (λ t. WritesFront held writes t n failed) (sym h.written) (subst (λ m. WritesFront held writes (answered so.commands ++ stops.text) m failed) (sym (place stops.stops.1))
+          (record {
+            short = omega (arith, stops.stops.2.short, length-append (answered so.commands) stops.text);
+            written = subst (Appends held writes) (sym (take-add-append (answered so.commands) stops.text stops.stops.0)) (Appends-trans held holds writes (answered so.commands) (take stops.stops.0 stops.text) so.written stops.stops.2.written);
+            failed = stops.stops.2.failed;
+          })),
+      omega (arith, stops.stops.1, so.sent_are),
+    )
+  where
+    place : n ≡ sent + stops.stops.0 → n ≡ length (answered so.commands) + stops.stops.0
+    place is = is ∙ ap (λ m. m + stops.stops.0) so.sent_are
+stops_replying (Core pull.HandedFull) turns i k count sent given mid left held holds writes failed old before new reply so hears stops =
+    let x : Exchange = exchange_of reply i k mid left before new hears stops.text in
+    let h : Heard turns k so.commands x given left old new = heard turns i k count sent given mid left held holds old before new reply stops.text so hears stops.is in
+    (
+      x,
+      record { rest = k.pending; exchanges = exchanges_of turns k so.commands (x ∷ []) given left old new so.are h.done h.handed },
+      subst (λ t. Appends held t (answered so.commands)) (sym stops.stops.0) so.written,
+      omega (arith, stops.stops.1, so.sent_are, ap length h.written, length-append (answered so.commands) stops.text),
+    )
+stops_replying _ turns i k count sent given mid left held holds writes failed old before new reply so hears stops = absurd stops.stops

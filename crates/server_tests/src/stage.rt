@@ -1,0 +1,100 @@
+//! A case is played on a new shared mediator, which is closed then.
+ghost use Rattle.std.specs.Prelude.{◌≡◌, ◌+◌, ◌*◌};
+ghost use Rattle.counted_mediator.specs.Counted.{handed_live};
+
+use crate::{administering, delivering, serving, whole};
+use mediator_core::{Limits, Mediator};
+use shared_mediator::{
+    AdminHandle, CloseFault, Closed, DeliveryHandle, EntryLedger, ExporterHandle, RecordLedger,
+    SharedMediator,
+};
+use std::alloc::{AllocError, Global};
+use std::marker::Brand;
+use std::process::Abort;
+use std::sync::Wait;
+use std::sync::ledger::Blank;
+
+/// How many handles of each kind there may be.
+const HANDLES: u64 = 4;
+
+/// What is done on a shared mediator.
+#[derive(Clone, Copy)]
+pub(crate) enum Case<'a> {
+    /// An exporter's stream is served.
+    Serve(serving::Row<'a>),
+    /// An exporter's stream without end is.
+    ServeEndless,
+    /// A subscription is delivered.
+    Deliver(delivering::Row<'a>),
+    /// A subscription that has ended is.
+    DeliverEnded,
+    /// An administrator's connection is served.
+    Administer(administering::Row<'a>),
+    /// Two exporters, an administrator and a delivery are.
+    Whole,
+}
+
+/// The handles that come back.
+#[derive(Drop)]
+pub(crate) struct Hands<E: EntryLedger, H: RecordLedger> {
+    pub(crate) exporters: Vec<ExporterHandle<E>>,
+    pub(crate) deliveries: Vec<DeliveryHandle<H>>,
+    pub(crate) admins: Vec<AdminHandle<E>>,
+}
+
+/// Plays a case, and closes the mediator with all handles.
+pub(crate) fn play<R: Wait + Abort>(
+    rt: &R,
+    alloc: Global,
+    limits: Limits,
+    case: Case<'_>,
+) -> Result<Closed, AllocError> {
+    let Ok(mediator) = Mediator::new(alloc, limits) else {
+        return Err(AllocError);
+    };
+    let handles = HANDLES;
+    let (entries, handed) = (Blank::new(2 * handles + 1), Blank::new(handles + 1));
+    let closed = run::<Brand, Brand, R>(rt, alloc, case, mediator, handles, entries, handed)?;
+    Ok(closed.expect(rt, "closed"))
+}
+
+fn run<E: EntryLedger, H: RecordLedger, R: Wait + Abort>(
+    rt: &R,
+    alloc: Global,
+    case: Case<'_>,
+    mediator: Mediator,
+    handles: u64,
+    entries: Blank,
+    handed: Blank,
+) -> Result<Result<Closed, CloseFault>, AllocError>
+    requires fresh { handed_live mediator ≡ 0 }
+    requires before { E.before ≡ mediator.history }
+    requires entries_name { entries.name ≡ E.name }
+    requires entries_parts { (entries.parts ≡ E.parts) × (E.parts ≡ E.all) × (E.all ≡ 2 * handles + 1) }
+    requires handed_name { handed.name ≡ H.name }
+    requires handed_parts { (handed.parts ≡ H.parts) × (H.parts ≡ H.all) × (H.all ≡ handles + 1) }
+{
+    let shared = SharedMediator::<E, H>::new(alloc, mediator, handles, entries, handed);
+    let Hands {
+        exporters,
+        deliveries,
+        admins,
+    } = play_case(rt, alloc, &shared, case)?;
+    Ok(shared.close(exporters, deliveries, admins))
+}
+
+fn play_case<E: EntryLedger, H: RecordLedger, R: Wait + Abort>(
+    rt: &R,
+    alloc: Global,
+    shared: &SharedMediator<E, H>,
+    case: Case<'_>,
+) -> Result<Hands<E, H>, AllocError> {
+    match case {
+        Case::Serve(row) => serving::serve(rt, alloc, shared, row),
+        Case::ServeEndless => serving::serve_endless(rt, alloc, shared),
+        Case::Deliver(row) => delivering::deliver_row(rt, alloc, shared, row),
+        Case::DeliverEnded => delivering::deliver_ended(rt, alloc, shared),
+        Case::Administer(row) => administering::administer(rt, alloc, shared, row),
+        Case::Whole => whole::all_together(rt, alloc, shared),
+    }
+}
