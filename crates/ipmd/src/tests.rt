@@ -9,6 +9,7 @@ mod files;
 mod long_texts;
 mod memory;
 mod misuse;
+mod serving;
 mod settings;
 mod worked;
 

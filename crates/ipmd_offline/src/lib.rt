@@ -1,9 +1,9 @@
 //! What `ipmd` does for one stream, one policy or one text, over streams and files that it is handed; and for each of its
 //! commands why a run ends without having done what was asked, with the text and the exit status.
 //!
-//! - `filter`: [`filter`], `ipmd offline`.
+//! - `filtering`: [`filter`], `ipmd offline`.
 //! - `check`: [`check_policy`].
-//! - `show`: [`show`], the help and the version.
+//! - `showing`: [`show`], the help and the version.
 //! - `report`: [`tell`], what is said of a stream that was filtered.
 //! - `output`: [`write_text`]; and messages as lines of hexadecimal digits.
 //! - `fault`: [`ProgramFault`].
@@ -28,16 +28,16 @@
 
 mod check;
 mod fault;
-mod filter;
+mod filtering;
 mod hex_input;
 mod output;
 mod policy_source;
 mod report;
-mod show;
+mod showing;
 
 pub use check::check_policy;
 pub use fault::ProgramFault;
-pub use filter::filter;
+pub use filtering::filter;
 pub use output::write_text;
 pub use report::tell;
-pub use show::show;
+pub use showing::show;

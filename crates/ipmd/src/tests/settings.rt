@@ -5,7 +5,7 @@ use super::*;
 /// A key and its value.
 type Row<'a> = (&'a str, &'a str);
 
-/// Settings of which each key has a value that it may have. There is no such policy.
+/// Settings of which each key has a value that it may have; but there is no such policy.
 const USUAL: &[Row<'static>] = &[
     ("exporters", "\"127.0.0.1:0\""),
     ("admin", "\"127.0.0.1:0\""),
@@ -55,14 +55,13 @@ const FAULTY: &[Row<'static>] = &[
 ];
 
 /// A text of settings: the usual rows, but at this key that value, or none.
-fn settings_with(
+pub fn settings_with(
     alloc: Global,
-    rows: &[Row<'_>],
     key: &str,
     value: Option<&str>,
 ) -> Result<String, AllocError> {
     let mut text = String::new(alloc);
-    for (name, usual) in rows {
+    for (name, usual) in USUAL {
         let value = if *name == key { value } else { Some(*usual) };
         if let Some(value) = value {
             push_row(&mut text, name, value)?;
@@ -71,7 +70,8 @@ fn settings_with(
     Ok(text)
 }
 
-fn push_row(text: &mut String, name: &str, value: &str) -> Result<(), AllocError> {
+/// Adds a row to a text of settings.
+pub fn push_row(text: &mut String, name: &str, value: &str) -> Result<(), AllocError> {
     text.push_str(name)?;
     text.push_str(" = ")?;
     text.push_str(value)?;
@@ -79,7 +79,7 @@ fn push_row(text: &mut String, name: &str, value: &str) -> Result<(), AllocError
 }
 
 /// Serves by the settings of this text.
-fn serve_by<R: System>(rt: &R, path: &str, settings: &[u8]) -> Result<Ran, Fail> {
+pub fn serve_by<R: System>(rt: &R, path: &str, settings: &[u8]) -> Result<Ran, Fail> {
     fs::write(rt, path, settings)?;
     Ok(run_on(rt, &["serve", "--settings", path], b"".as_slice())?)
 }
@@ -91,7 +91,7 @@ fn expect_key<R: System + Abort>(
     key: &str,
     value: Option<&str>,
 ) -> Result<(), Fail> {
-    let settings = settings_with(rt.alloc(), USUAL, key, value)?;
+    let settings = settings_with(rt.alloc(), key, value)?;
     let ran = serve_by(rt, path, settings.as_bytes())?;
     let errors = format!(in rt.alloc(); "ipmd: settings: {key}\n")?;
     expect_texts(rt, key, &ran, 1, "", errors.as_str())

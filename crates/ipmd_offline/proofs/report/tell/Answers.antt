@@ -1,8 +1,8 @@
 use Rattle.std.proofs.Common.{append_assoc}
 use Rattle.octet_devices.specs.Device.{device_failed, device_inner}
-use Rattle.ipmd.specs.Runs.{line_of_report}
-use Rattle.ipmd.proofs.Telling.{told}
-use Rattle.ipmd.proofs.report.tell.Goals as goal
+use Rattle.ipmd_offline.specs.Runs.{line_of_report}
+use Rattle.ipmd_offline.proofs.Telling.{told}
+use Rattle.ipmd_offline.proofs.report.tell.Goals as goal
 
 pub returns : goal.returns
 returns g c =

@@ -3,7 +3,7 @@ use Rattle.octet_devices.specs.Device.{device_failed, device_inner}
 use Rattle.offline_filter.proofs.Receiving.{err_gives}
 use Rattle.ipmd_offline.specs.Runs.{EndsOn}
 use Rattle.ipmd_offline.proofs.Inputs.{ran}
-use Rattle.ipmd_offline.proofs.filter.filter_octets.Goals as goal
+use Rattle.ipmd_offline.proofs.filtering.filter_octets.Goals as goal
 
 pub returns-in_err-and-clause-err : goal.returns-in_err-and-clause-err
 returns-in_err-and-clause-err g c =

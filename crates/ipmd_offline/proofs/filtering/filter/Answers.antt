@@ -1,7 +1,7 @@
 use Rattle.std.proofs.Common.{inr, string_bytes}
 use Rattle.std.proofs.lemmas.Result.{IfErr-weaker, IfOk-weaker}
 use Rattle.ipmd_offline.proofs.Inputs.{asked_for}
-use Rattle.ipmd_offline.proofs.filter.filter.Goals as goal
+use Rattle.ipmd_offline.proofs.filtering.filter.Goals as goal
 
 pub returns-in-Some-clause-ok : goal.returns-in-Some-clause-ok
 returns-in-Some-clause-ok g c =

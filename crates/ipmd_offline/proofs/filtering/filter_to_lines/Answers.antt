@@ -5,7 +5,7 @@ use Rattle.offline_filter.proofs.Receiving.{err_gives}
 use Rattle.ipmd_offline.specs.declared.fault.ProgramFault.{ProgramFault}
 use Rattle.ipmd_offline.specs.declared.fault.ProgramFault.TheVariants as fault
 use Rattle.ipmd_offline.proofs.Inputs.{ends_over, fails_lines, finishes_lines, whole_lines}
-use Rattle.ipmd_offline.proofs.filter.filter_to_lines.Goals as goal
+use Rattle.ipmd_offline.proofs.filtering.filter_to_lines.Goals as goal
 
 pub returns-clause-ok : goal.returns-clause-ok
 returns-clause-ok g c =
