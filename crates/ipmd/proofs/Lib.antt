@@ -1,5 +1,3 @@
-mod Inputs
-mod Lines
 mod Statuses
-mod Telling
 mod Replaying
+mod Endings

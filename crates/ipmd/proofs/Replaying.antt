@@ -5,7 +5,7 @@ use Rattle.mediator_calls.specs.declared.fault.RunFault.TheVariants.{BadLimits, 
 use Rattle.mediator_calls.specs.Limited.{RefusesLimits}
 use Rattle.call_lists.specs.declared.call_list.CallList.{CallList}
 use Rattle.call_lists.specs.Lists.{asked, list_of}
-use Rattle.ipmd.specs.Status.{run_fault_of}
+use Rattle.ipmd_offline.specs.Status.{run_fault_of}
 use Rattle.ipmd.specs.Replays.{RefusesText}
 
 -- its limits are at fault, or memory ran out

@@ -1,4 +1,6 @@
-pub mod Status
-pub mod HexText
+pub use Rattle.ipmd_offline.specs.Status
+pub use Rattle.ipmd_offline.specs.HexText
+pub use Rattle.ipmd_offline.specs.Runs
 pub mod Replays
-pub mod Runs
+pub mod Serving
+pub mod Program

@@ -9,9 +9,9 @@ use Rattle.call_lists.specs.Answers.{answers_text}
 use Rattle.mediator_core.specs.Mediation.{Mediation, started}
 use Rattle.mediator_core.specs.Runs.{Runs}
 use Rattle.mediator_core.specs.Headline.{HistoryIsTheCalls, HandedIsDisclosed, HandedIsFront, DrainedIsAudited, IsBuiltFromDisclosed}
-use Rattle.ipmd.specs.declared.fault.ProgramFault.{ProgramFault}
-use Rattle.ipmd.specs.declared.fault.ProgramFault.TheVariants.{CommandLine, Policy, Hex, Framing, Core, Cut, Calls, BadLimits, OutOfMemory, Device}
-use Rattle.ipmd.specs.HexText.{WritesSome}
+use Rattle.ipmd_offline.specs.declared.fault.ProgramFault.{ProgramFault}
+use Rattle.ipmd_offline.specs.declared.fault.ProgramFault.TheVariants.{CommandLine, Settings, Policy, Hex, Framing, Core, Cut, Calls, BadLimits, Close, OutOfMemory, Device}
+use Rattle.ipmd_offline.specs.HexText.{WritesSome}
 
 -- These are the replies to the calls that the text lists, made one after another on a new mediator; and all that is promised of a
 -- run holds of them.
@@ -38,11 +38,13 @@ RefusesText (Calls n) text = list_of text ≡ Err n
 RefusesText BadLimits text = HasBadLimits text
 RefusesText OutOfMemory text = Unit {0}
 RefusesText (CommandLine e) text = ⊥
+RefusesText (Settings why) text = ⊥
 RefusesText (Policy why) text = ⊥
 RefusesText Hex text = ⊥
 RefusesText (Framing why) text = ⊥
 RefusesText (Core why) text = ⊥
 RefusesText Cut text = ⊥
+RefusesText Close text = ⊥
 RefusesText Device text = ⊥
 
 -- the calls of a text were made, and the answers were written; what a file holds isn't told here

@@ -4,9 +4,8 @@ ghost use Rattle.std.specs.Prelude.{IfErr, IfOk, OnOk};
 ghost use Rattle.octet_devices.specs.Device.{device_inner};
 ghost use Rattle.ipmd.specs.Replays.{RefusesText, RefusesToReplay, Replays, RunsText};
 
-use crate::fault::ProgramFault;
-use crate::output::write_text;
 use call_lists::{answers_text, read_call_list};
+use ipmd_offline::{ProgramFault, write_text};
 use mediator_core::{Transcript, run};
 use octet_devices::Device;
 use std::alloc::Global;
@@ -19,7 +18,7 @@ use std::rt::Files;
 /// # Errors
 /// `Device` where the file can't be read or isn't UTF-8, or the output fails; `Calls` where the text is no list of calls;
 /// `BadLimits`; `OutOfMemory`. Only where the output fails a front of the answers may have been written.
-#[tactic(auto, using(crate::proofs::Lines::kept))]
+#[tactic(auto, using(ipmd_offline::proofs::Lines::kept))]
 pub fn replay<R: Files + AllocGlobal, O: Write>(
     rt: &R,
     path: &str,

@@ -9,14 +9,16 @@ mod files;
 mod long_texts;
 mod memory;
 mod misuse;
+mod serving;
+mod settings;
 mod worked;
 
 use crate::program;
+use crate::system::System;
 use octet_devices::Device;
 use std::alloc::{AllocError, Global};
 use std::io::{Read, Write};
 use std::process::Abort;
-use std::rt::Files;
 use std::test::Fail;
 use std::{fs, process, str};
 
@@ -84,7 +86,7 @@ fn some_room(alloc: Global) -> Result<Vec<u8>, AllocError> {
 }
 
 /// Runs the program between these devices.
-fn run_between<R: Files + AllocGlobal, I: Read + Drop, O: Write, E: Write>(
+fn run_between<R: System, I: Read + Drop, O: Write, E: Write + Send>(
     rt: &R,
     words: &[&str],
     input: I,
@@ -95,11 +97,7 @@ fn run_between<R: Files + AllocGlobal, I: Read + Drop, O: Write, E: Write>(
 }
 
 /// Runs the program on streams in memory.
-fn run_on<R: Files + AllocGlobal, I: Read + Drop>(
-    rt: &R,
-    words: &[&str],
-    input: I,
-) -> Result<Ran, AllocError> {
+fn run_on<R: System, I: Read + Drop>(rt: &R, words: &[&str], input: I) -> Result<Ran, AllocError> {
     let mut output = Device::new(some_room(rt.alloc())?);
     let mut errors = Device::new(some_room(rt.alloc())?);
     let status = run_between(rt, words, input, &mut output, &mut errors);
@@ -138,7 +136,7 @@ fn expect_texts<R: Abort>(
 }
 
 /// That a file holds this text.
-fn expect_file<R: Files + AllocGlobal + Abort>(
+fn expect_file<R: System + Abort>(
     rt: &R,
     name: &str,
     path: &str,
@@ -149,13 +147,13 @@ fn expect_file<R: Files + AllocGlobal + Abort>(
 }
 
 /// That the run leaves what it must.
-fn expect_run<R: Files + AllocGlobal + Abort>(rt: &R, run: &Run<'_>) -> Result<(), Fail> {
+fn expect_run<R: System + Abort>(rt: &R, run: &Run<'_>) -> Result<(), Fail> {
     let ran = run_on(rt, run.words, run.input)?;
     expect_texts(rt, run.name, &ran, run.status, run.output, run.errors)
 }
 
 /// That each run leaves what it must.
-fn expect_runs<R: Files + AllocGlobal + Abort>(rt: &R, runs: &[Run<'_>]) -> Result<(), Fail> {
+fn expect_runs<R: System + Abort>(rt: &R, runs: &[Run<'_>]) -> Result<(), Fail> {
     for run in runs {
         expect_run(rt, run)?;
     }

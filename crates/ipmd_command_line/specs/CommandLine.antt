@@ -9,7 +9,7 @@ use Rattle.clap.specs.declared.error.kind.ErrorKind.{ErrorKind}
 use Rattle.clap.specs.declared.error.kind.ErrorKind.TheVariants.{DisplayHelp, DisplayVersion}
 use Rattle.ipmd_command_line.specs.declared.task.OfflineOptions.{OfflineOptions}
 use Rattle.ipmd_command_line.specs.declared.task.Task.{Task}
-use Rattle.ipmd_command_line.specs.declared.task.Task.TheVariants.{Offline, CheckPolicy, Replay, Show}
+use Rattle.ipmd_command_line.specs.declared.task.Task.TheVariants.{Offline, CheckPolicy, Replay, Serve, Show}
 use Rattle.ipmd_command_line.specs.declared.fault.CommandLineFault.{CommandLineFault}
 use Rattle.ipmd_command_line.specs.declared.fault.CommandLineFault.TheVariants.{Refused, OutOfMemory}
 use Rattle.ipmd_command_line.specs.declared.task.PolicySource.{PolicySource}
@@ -48,12 +48,16 @@ check_policy_command = with_policy (new_app (codes "check-policy"))
 abbrev pub replay_command : App
 replay_command = with_rule (new_app (codes "replay")) (needed (codes "calls"))
 
+abbrev pub serve_command : App
+serve_command = with_rule (new_app (codes "serve")) (needed (codes "settings"))
+
 -- the words begin after the program's name
 abbrev pub top_command : App
 top_command = record (new_app (codes "ipmd")) { top = record (new_app (codes "ipmd")).top { no_binary_name = true; has_version = true; subcommand_required = true } }
 
 abbrev pub ipmd_command : App
-ipmd_command = with_subcommand (with_subcommand (with_subcommand top_command offline_command.top) check_policy_command.top) replay_command.top
+ipmd_command =
+    with_subcommand (with_subcommand (with_subcommand (with_subcommand top_command offline_command.top) check_policy_command.top) replay_command.top) serve_command.top
 
 -- ---- what is asked for
 
@@ -88,6 +92,7 @@ abbrev pub IsCommand : Task → Text → List Row → Type 0
 IsCommand (Offline options) name rows = (name ≡ codes "offline") × AreOptions options rows
 IsCommand (CheckPolicy source) name rows = (name ≡ codes "check-policy") × IsSource source rows
 IsCommand (Replay path) name rows = (name ≡ codes "replay") × (first_of (codes "calls") rows ≡ Some path.now)
+IsCommand (Serve path) name rows = (name ≡ codes "serve") × (first_of (codes "settings") rows ≡ Some path.now)
 IsCommand (Show text) name rows = ⊥
 
 abbrev pub IsCommandIn : Task → Option (Text × List Row) → Type 0
@@ -106,6 +111,7 @@ AsksFor words (Show text) = IsAmong (kind_of text) (fault_of ipmd_command words)
 AsksFor words (Offline options) = IsCommandIn (Offline options) (subcommand_of ipmd_command words)
 AsksFor words (CheckPolicy source) = IsCommandIn (CheckPolicy source) (subcommand_of ipmd_command words)
 AsksFor words (Replay path) = IsCommandIn (Replay path) (subcommand_of ipmd_command words)
+AsksFor words (Serve path) = IsCommandIn (Serve path) (subcommand_of ipmd_command words)
 
 -- the words ask for nothing: the parser says so, or no command is what they name with its options
 abbrev pub RefusesWords : List Text → CommandLineFault → Type 0

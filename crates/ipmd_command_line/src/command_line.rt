@@ -1,10 +1,10 @@
 //! What words ask for.
-ghost use Rattle.std.specs.Prelude.{◌≡◌, false, map, codes, option_map, IfErr, IfOk, IfSome, IsSome};
+ghost use Rattle.std.specs.Prelude.{◌≡◌, false, map, option_map, IfErr, IfOk, IfSome, IsSome};
 ghost use Rattle.ipmd_command_line.specs.declared.task.OfflineOptions.{OfflineOptions};
 ghost use Rattle.ipmd_command_line.specs.declared.task.Task.{Task};
 ghost use Rattle.ipmd_command_line.specs.declared.task.PolicySource.{PolicySource};
 ghost use Rattle.clap.specs.Words.{app_of, first_of, found_of, rows_of, rule_of, subcommand_rows_of};
-ghost use Rattle.ipmd_command_line.specs.CommandLine.{AreOptions, AsksFor, IsCommandIn, IsSource, RefusesWords, check_policy_command, ipmd_command, offline_command, replay_command, valued, with_policy};
+ghost use Rattle.ipmd_command_line.specs.CommandLine.{AreOptions, AsksFor, IsCommandIn, IsSource, RefusesWords, check_policy_command, ipmd_command, offline_command, replay_command, serve_command, valued, with_policy};
 
 use crate::fault::CommandLineFault;
 use crate::help;
@@ -23,6 +23,8 @@ const CHECK_POLICY: &str = "check-policy";
 
 const REPLAY: &str = "replay";
 
+const SERVE: &str = "serve";
+
 const POLICY: &str = "policy";
 
 const POLICY_TEXT: &str = "policy-text";
@@ -38,6 +40,8 @@ const AUDIT: &str = "audit";
 const HEX: &str = "hex";
 
 const CALLS: &str = "calls";
+
+const SETTINGS: &str = "settings";
 
 /// What the words after the program's name ask for.
 ///
@@ -85,7 +89,8 @@ fn task_of<'a>(matches: &ArgMatches<'a>) -> Option<Task<'a>>
     match matches.subcommand()? {
         (OFFLINE, chosen) => Some(Task::Offline(offline_options(chosen)?)),
         (CHECK_POLICY, chosen) => Some(Task::CheckPolicy(policy_source(chosen)?)),
-        (REPLAY, chosen) => Some(Task::Replay(calls_file(chosen)?)),
+        (REPLAY, chosen) => Some(Task::Replay(value_of(chosen, CALLS)?)),
+        (SERVE, chosen) => Some(Task::Serve(value_of(chosen, SETTINGS)?)),
         _ => None,
     }
 }
@@ -118,11 +123,11 @@ fn policy_source<'a>(chosen: &ArgMatches<'a>) -> Option<PolicySource<'a>>
     }
 }
 
-/// The file of `ipmd replay`.
-fn calls_file<'a>(chosen: &ArgMatches<'a>) -> Option<&'a str>
-    ensures { first_of (codes "calls") (rows_of (found_of chosen.now)) ≡ option_map (λ path. path.now) result }
+/// The value of the option with this name.
+fn value_of<'a>(chosen: &ArgMatches<'a>, name: &str) -> Option<&'a str>
+    ensures { first_of name.now (rows_of (found_of chosen.now)) ≡ option_map (λ value. value.now) result }
 {
-    chosen.get_str(CALLS)
+    chosen.get_str(name)
 }
 
 /// The command with its subcommands. The words begin after the program's name.
@@ -138,7 +143,8 @@ fn whole_command<'a>(alloc: Global) -> Result<Command<'a>, AllocError>
         .subcommand_required(true)
         .subcommand(offline_command(alloc)?)?
         .subcommand(check_policy_command(alloc)?)?
-        .subcommand(replay_command(alloc)?)
+        .subcommand(replay_command(alloc)?)?
+        .subcommand(serve_command(alloc)?)
 }
 
 fn offline_command<'a>(alloc: Global) -> Result<Command<'a>, AllocError>
@@ -200,6 +206,22 @@ fn replay_command<'a>(alloc: Global) -> Result<Command<'a>, AllocError>
             option(alloc, CALLS, "FILE")
                 .required(true)
                 .help("The file with the calls, one a line"),
+        )
+}
+
+fn serve_command<'a>(alloc: Global) -> Result<Command<'a>, AllocError>
+    ensures { IfOk result (λ command. app_of command ≡ serve_command) }
+{
+    Command::new(alloc, SERVE)
+        .override_usage("ipmd serve --settings <FILE>")
+        .about(
+            "Takes messages from exporters, and sends each collector what the policy discloses to it",
+        )
+        .after_help(help::SERVE)
+        .arg(
+            option(alloc, SETTINGS, "FILE")
+                .required(true)
+                .help("The file with the settings, in TOML"),
         )
 }
 

@@ -6,7 +6,9 @@ Begin with a policy, see that it is one, and filter a stream by it:
   ipmd check-policy --policy policy.txt
   ipmd offline --policy policy.txt --subscriber acme --audit audit.txt < in.ipfix > out.ipfix
 What several subscribers would see, or a change of policy would do, is rehearsed by
-  ipmd replay --calls calls.txt";
+  ipmd replay --calls calls.txt
+Exporters and collectors that are there now are served over TCP by
+  ipmd serve --settings settings.toml";
 
 /// Below the help of `ipmd offline`.
 pub const OFFLINE: &str = "\
@@ -120,3 +122,49 @@ What standard error says where no call is answered:
   ipmd: OutOfMemory    no memory is left
 
 Exit status: 0 each call was answered, 1 refused or out of memory, 2 wrong command line, 3 device.";
+
+/// Below the help of `ipmd serve`.
+pub const SERVE: &str = "\
+The settings are a TOML table with all of these keys; any other is ignored:
+  exporters = \"0.0.0.0:4739\"      where exporters connect
+  admin = \"127.0.0.1:4750\"        where the one admin connection is made
+  policy = \"policy.txt\"           the file with the first policy
+  connections = 4                 how many exporter connections are accepted, 1 to 1000
+  target = 1400                   the most octets of a message to a collector, 16 to 65535
+  queue = 65536                   the records that may wait for a subscription, 1 to 1000000
+  shapes = 256                    the layouts of a subscription's records, 1 to 65280
+  audit = 131072                  the audit entries that may wait, 1 to 10000000
+  journal_entries = 1000000       the entries of the journal, 1 to 100000000
+  journal_octets = 1073741824     the octets of the journal, 1 to 1099511627776
+  turns = 1000000000              the reads of one connection, 1 to 1000000000
+  [deliver]
+  acme = \"192.0.2.1:4739\"         a subscriber's name, and the address of its collector
+
+It connects to each collector, and takes `connections` connections of exporters and one of the
+admin. When all of these have ended it sends what is queued, and standard output says
+`accepted A handed H`: messages accepted, and records handed to subscriptions.
+
+The admin connection takes a command a line, and answers each before the next:
+  edit N, and N octets of policy behind the line end     ok REVISION
+  subscribe NAME                                         ok SUB
+  unsubscribe SUB                                        ok
+  advance T, the clock in milliseconds since 1970        ok
+  status SUB                                             ok QUEUED HANDED live, or with cut
+  audit MOST, from 1 to 10000                            ok COUNT, and COUNT audit lines
+A refused call is answered err and its name, as ipmd replay --help has them, and the connection
+goes on. What is no command is answered err Line, and the connection ends.
+
+Standard error notes what happens, a line each, with its level: info for the run and for what
+connects and ends, warn for a fault that ended a connection. A fault of one connection ends that
+connection alone. What standard error says last where the run itself fails, and what to do:
+  ipmd: settings: toml       the settings are no TOML
+  ipmd: settings: KEY        the value at KEY is missing, of another type or out of its range
+  ipmd: policy line N: KIND  line N of the policy is at fault; see ipmd check-policy --help
+  ipmd: BadName              a key below [deliver] is no subscriber's name
+  ipmd: JournalFull          the journal's limits leave no room for the policy and the subscribers
+  ipmd: device               a file can't be read or isn't UTF-8; an address can't be listened on;
+                             a collector can't be connected to; or a thread is refused
+  ipmd: OutOfMemory          no memory is left
+  ipmd: close                what was received isn't what the journal has; this is never expected
+
+Exit status: 0 done, 1 refused or out of memory, 2 wrong command line, 3 device.";

@@ -32,6 +32,8 @@ pub enum Task<'a> {
     CheckPolicy(PolicySource<'a>),
     /// To make the calls that the file at this path lists.
     Replay(&'a str),
+    /// To serve exporters and collectors, as the settings in the file at this path say.
+    Serve(&'a str),
     /// To show the help or the version.
     Show(clap::Error),
 }

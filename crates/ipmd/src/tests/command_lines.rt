@@ -235,7 +235,7 @@ fn ends_with_one_line_feed(octets: &[u8]) -> bool {
 }
 
 /// That the command line is refused with a text that has this part.
-fn expect_refused<R: Files + AllocGlobal + Abort>(
+fn expect_refused<R: System + Abort>(
     rt: &R,
     name: &str,
     words: &[&str],
@@ -251,10 +251,7 @@ fn expect_refused<R: Files + AllocGlobal + Abort>(
 }
 
 /// That each command line is refused with a text that has its part.
-fn expect_each_refused<R: Files + AllocGlobal + Abort>(
-    rt: &R,
-    answers: &[Answer<'_>],
-) -> Result<(), Fail> {
+fn expect_each_refused<R: System + Abort>(rt: &R, answers: &[Answer<'_>]) -> Result<(), Fail> {
     for answer in answers {
         expect_refused(rt, answer.name, answer.words, answer.part)?;
     }
@@ -262,7 +259,7 @@ fn expect_each_refused<R: Files + AllocGlobal + Abort>(
 }
 
 /// That `ipmd offline` is refused for the number that this option has.
-fn expect_refused_number<R: Files + AllocGlobal + Abort>(
+fn expect_refused_number<R: System + Abort>(
     rt: &R,
     option: &str,
     number: &str,
@@ -327,7 +324,7 @@ const HELP: &[Answer<'static>] = &[
 ];
 
 /// That a text with this part is written.
-fn expect_shown<R: Files + AllocGlobal + Abort>(
+fn expect_shown<R: System + Abort>(
     rt: &R,
     name: &str,
     words: &[&str],
@@ -341,10 +338,7 @@ fn expect_shown<R: Files + AllocGlobal + Abort>(
 }
 
 /// That each command line has a text with its part written.
-fn expect_each_shown<R: Files + AllocGlobal + Abort>(
-    rt: &R,
-    answers: &[Answer<'_>],
-) -> Result<(), Fail> {
+fn expect_each_shown<R: System + Abort>(rt: &R, answers: &[Answer<'_>]) -> Result<(), Fail> {
     for answer in answers {
         expect_shown(rt, answer.name, answer.words, answer.part)?;
     }

@@ -97,7 +97,7 @@ fn expect_sent<R: Abort>(rt: &R, name: &str, written: &[u8], whole: &[u8], sent:
 }
 
 /// That a run writes this front of the whole, and fails or is done.
-fn expect_front<R: Files + AllocGlobal + Abort>(
+fn expect_front<R: System + Abort>(
     rt: &R,
     name: &str,
     flows: &TwoFlows,
@@ -116,7 +116,7 @@ fn expect_front<R: Files + AllocGlobal + Abort>(
 }
 
 /// Each message is one write, and so is each line; one that fails is the end of what is written.
-fn each_write_fails<R: Files + AllocGlobal + Abort>(rt: &R, flows: &TwoFlows) -> Result<(), Fail> {
+fn each_write_fails<R: System + Abort>(rt: &R, flows: &TwoFlows) -> Result<(), Fail> {
     for (calls, sent) in flows.ends.iter().enumerate() {
         let writer = Narrow::new(rt.alloc(), ROOM, ROOM, calls, BrokenPipe)?;
         expect_front(rt, "each_write_fails", flows, writer, *sent)?;
@@ -125,10 +125,7 @@ fn each_write_fails<R: Files + AllocGlobal + Abort>(rt: &R, flows: &TwoFlows) ->
 }
 
 /// A writer of one octet at a time gets all, and each octet that it took stays.
-fn one_octet_at_a_time<R: Files + AllocGlobal + Abort>(
-    rt: &R,
-    flows: &TwoFlows,
-) -> Result<(), Fail> {
+fn one_octet_at_a_time<R: System + Abort>(rt: &R, flows: &TwoFlows) -> Result<(), Fail> {
     for sent in 0..=flows.whole.len() {
         let writer = Narrow::new(rt.alloc(), ROOM, 1, sent, BrokenPipe)?;
         expect_front(rt, "one_octet_at_a_time", flows, writer, sent)?;
@@ -137,7 +134,7 @@ fn one_octet_at_a_time<R: Files + AllocGlobal + Abort>(
 }
 
 /// A writer that takes nothing has failed.
-fn none_taken<R: Files + AllocGlobal + Abort>(rt: &R, flows: &TwoFlows) -> Result<(), Fail> {
+fn none_taken<R: System + Abort>(rt: &R, flows: &TwoFlows) -> Result<(), Fail> {
     let writer = Narrow::new(rt.alloc(), ROOM, 0, ROOM, BrokenPipe)?;
     expect_front(rt, "none_taken", flows, writer, 0)
 }
@@ -153,7 +150,7 @@ fn writers(rt: HostRuntime) -> Result<(), Fail> {
 }
 
 /// That a command says of its output that it failed.
-fn expect_device_fault<R: Files + AllocGlobal + Abort, O: Write + Drop>(
+fn expect_device_fault<R: System + Abort, O: Write + Drop>(
     rt: &R,
     words: &[&str],
     output: O,
@@ -251,7 +248,7 @@ const READERS: &[Reader] = &[
     },
 ];
 
-fn expect_read<R: Files + AllocGlobal + Abort>(rt: &R, case: &Reader) -> Result<(), Fail> {
+fn expect_read<R: System + Abort>(rt: &R, case: &Reader) -> Result<(), Fail> {
     let flows = case.flows;
     let reader = Sparing::new(flows.input, case.most, case.calls, ConnectionReset);
     let ran = run_on(rt, flows.words, reader)?;
@@ -309,11 +306,7 @@ const UNTOLD: &[Untold] = &[
 ];
 
 /// That so many calls of two octets are taken of what the run says, and the rest is dropped.
-fn expect_untold<R: Files + AllocGlobal + Abort>(
-    rt: &R,
-    case: &Untold,
-    calls: usize,
-) -> Result<(), Fail> {
+fn expect_untold<R: System + Abort>(rt: &R, case: &Untold, calls: usize) -> Result<(), Fail> {
     let mut output = Device::new(Vec::with_capacity(rt.alloc(), ROOM)?);
     let mut errors = Device::new(Narrow::new(rt.alloc(), ROOM, 2, calls, BrokenPipe)?);
     let status = run_between(rt, AS_LINES.words, case.input, &mut output, &mut errors);

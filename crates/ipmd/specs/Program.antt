@@ -1,0 +1,77 @@
+-- What the whole program does, and why it doesn't.
+use Rattle.std.specs.Prelude.{◌≡◌, ◌⊎◌, ℕ, Bool, List, Option, Some, None}
+use Rattle.std.specs.Borrow.{Bor}
+use Rattle.std.specs.Io.KnownBytes.{Keeps}
+use Rattle.clap.specs.Words.{kind_of}
+use Rattle.clap.specs.declared.error.Error.{Error}
+use Rattle.offline_filter.specs.declared.job.OfflineReport.{OfflineReport}
+use Rattle.ipmd_command_line.specs.CommandLine.{AsksFor, RefusesWords}
+use Rattle.ipmd_command_line.specs.declared.fault.CommandLineFault.{CommandLineFault}
+use Rattle.ipmd_command_line.specs.declared.task.OfflineOptions.{OfflineOptions}
+use Rattle.ipmd_command_line.specs.declared.task.Task.TheVariants.{Offline, CheckPolicy, Replay, Serve, Show}
+use Rattle.ipmd_command_line.specs.declared.task.PolicySource.{PolicySource}
+use Rattle.ipmd_offline.specs.declared.fault.ProgramFault.{ProgramFault}
+use Rattle.ipmd_offline.specs.Runs.{CountsPolicy, Filters, RefusesToCount, RefusesToFilter, RefusesToShow, Shows, line_of_report}
+use Rattle.ipmd_offline.specs.Status.{command_line_fault_of, line_of_fault, Tells}
+use Rattle.ipmd.specs.Replays.{Replays, RefusesToReplay}
+use Rattle.ipmd.specs.Serving.{Serves, RefusesToPrepare, RefusesToServe}
+
+-- ---- what leaves the stream for errors alone
+
+-- a report comes from filtering
+abbrev pub DoesAlone : List (List ℕ) → Option OfflineReport → Option (List ℕ) → Option (List ℕ) → Option (List ℕ) → Type 0
+DoesAlone words (Some report) given held holds = (options : OfflineOptions) × AsksFor words (Offline options) × Filters options report given held holds
+DoesAlone words None given held holds =
+    ((source : PolicySource) × AsksFor words (CheckPolicy source) × CountsPolicy source held holds)
+    ⊎ (((path : Bor (List ℕ)) × AsksFor words (Replay path) × Replays held holds)
+    ⊎ ((shown : Error) × AsksFor words (Show shown) × Shows (kind_of shown) held holds))
+
+-- the words ask for nothing, or memory ran out
+abbrev pub RefusesCommandLine : List (List ℕ) → ProgramFault → Type 0
+RefusesCommandLine words e = (fault : CommandLineFault) × (e ≡ command_line_fault_of fault) × RefusesWords words fault
+
+-- why it isn't done, and what was written; of a server all that comes before it serves
+abbrev pub FailsAlone : List (List ℕ) → ProgramFault → Option (List ℕ) → Option (List ℕ) → Option (List ℕ) → Type 0
+FailsAlone words e given held holds =
+    (RefusesCommandLine words e × Keeps held holds)
+    ⊎ (((source : PolicySource) × AsksFor words (CheckPolicy source) × RefusesToCount source e held holds)
+    ⊎ (((options : OfflineOptions) × AsksFor words (Offline options) × RefusesToFilter options e given held holds)
+    ⊎ (((path : Bor (List ℕ)) × AsksFor words (Replay path) × RefusesToReplay e held holds)
+    ⊎ (((path : Bor (List ℕ)) × AsksFor words (Serve path) × RefusesToPrepare e × Keeps held holds)
+    ⊎ ((shown : Error) × AsksFor words (Show shown) × RefusesToShow (kind_of shown) e held holds)))))
+
+-- ---- what is done
+
+-- a server was run
+abbrev pub DoesServe : List (List ℕ) → Option (List ℕ) → Option (List ℕ) → Type 0
+DoesServe words held holds = (path : Bor (List ℕ)) × AsksFor words (Serve path) × Serves held holds
+
+abbrev pub FailsServing : List (List ℕ) → ProgramFault → Option (List ℕ) → Option (List ℕ) → Type 0
+FailsServing words e held holds = (path : Bor (List ℕ)) × AsksFor words (Serve path) × RefusesToServe e held holds
+
+-- a server's run has notes, so nothing is told of what the stream for errors holds after it; anything else leaves it as it was
+abbrev pub Does : {D : Type 0} → List (List ℕ) → Option OfflineReport → Option (List ℕ) → Option (List ℕ) → Option (List ℕ) → D → D → Type 0
+Does words report given held holds before after =
+    ((after ≡ before) × DoesAlone words report given held holds) ⊎ ((report ≡ None) × DoesServe words held holds)
+
+abbrev pub FailsFor : {D : Type 0} → List (List ℕ) → ProgramFault → Option (List ℕ) → Option (List ℕ) → Option (List ℕ) → D → D → Type 0
+FailsFor words e given held holds before after =
+    ((after ≡ before) × FailsAlone words e given held holds) ⊎ FailsServing words e held holds
+
+-- ---- what is said
+
+-- a stream that was filtered is reported, and of anything else nothing is said
+abbrev pub Reports : Option OfflineReport → Bool → Option (List ℕ) → Option (List ℕ) → Type 0
+Reports (Some report) has_failed held holds = Tells (Some (line_of_report report)) has_failed held holds
+Reports None has_failed held holds = Keeps held holds
+
+-- what the words ask for was done, and was reported; a server's notes aren't told
+abbrev pub IsDone : List (List ℕ) → Option (List ℕ) → Option (List ℕ) → Option (List ℕ) → Bool → Option (List ℕ) → Option (List ℕ) → Type 0
+IsDone words given held holds has_failed told tells =
+    ((report : Option OfflineReport) × DoesAlone words report given held holds × Reports report has_failed told tells) ⊎ DoesServe words held holds
+
+-- a fault has a cause and is told; where a server was run, behind its notes
+abbrev pub IsFault : List (List ℕ) → ProgramFault → Option (List ℕ) → Option (List ℕ) → Option (List ℕ) → Bool → Option (List ℕ) → Option (List ℕ) → Type 0
+IsFault words e given held holds has_failed told tells =
+    (FailsAlone words e given held holds × Tells (line_of_fault e) has_failed told tells)
+    ⊎ (FailsServing words e held holds × ((notes : Option (List ℕ)) × Tells (line_of_fault e) has_failed notes tells))

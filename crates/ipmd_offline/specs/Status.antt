@@ -1,0 +1,114 @@
+-- What the program says of a fault, and its exit statuses.
+use Rattle.std.specs.Prelude.{◌≡◌, ℕ, Bool, false, List, ◌++◌, codes, Option, Some, None, IfSome}
+use Rattle.std.specs.Fmt.{decimal, with_newline}
+use Rattle.std.specs.Io.KnownBytes.{Appends}
+use Rattle.ipmd_command_line.specs.declared.fault.CommandLineFault.{CommandLineFault}
+use Rattle.ipmd_command_line.specs.declared.fault.CommandLineFault.TheVariants as command
+use Rattle.policy_text.specs.FaultTexts.{text_of_kind}
+use Rattle.mediator_state.specs.FaultTexts.{text_of_fault}
+use Rattle.message_intake.specs.Texts.{text_of_framing}
+use Rattle.policy_text.specs.declared.fault.FaultKind.{FaultKind}
+use Rattle.policy_text.specs.declared.fault.FaultKind.TheVariants as kind
+use Rattle.policy_text.specs.declared.fault.PolicyFault.{PolicyFault}
+use Rattle.mediator_state.specs.declared.fault.Fault.{Fault}
+use Rattle.mediator_state.specs.declared.fault.Fault.TheVariants as core
+use Rattle.offline_filter.specs.declared.job.OfflineFault.{OfflineFault}
+use Rattle.offline_filter.specs.declared.job.OfflineFault.TheVariants as offline
+use Rattle.call_lists.specs.declared.fault.CallsFault.{CallsFault}
+use Rattle.call_lists.specs.declared.fault.CallsFault.TheVariants as calls
+use Rattle.serve_settings.specs.Names.{text_of_fault as text_of_settings}
+use Rattle.serve_settings.specs.declared.fault.SettingsFault.{SettingsFault}
+use Rattle.serve_settings.specs.declared.fault.SettingsFault.TheVariants as settings
+use Rattle.mediator_calls.specs.declared.fault.RunFault.{RunFault}
+use Rattle.mediator_calls.specs.declared.fault.RunFault.TheVariants as run
+use Rattle.ipmd_offline.specs.declared.fault.ProgramFault.{ProgramFault}
+use Rattle.ipmd_offline.specs.declared.fault.ProgramFault.TheVariants.{CommandLine, Settings, Policy, Hex, Framing, Core, Cut, Calls, BadLimits, Close, OutOfMemory, Device}
+
+-- 1: what was read is refused, or memory runs out; 2: the command line is refused; 3: a file, a stream or an address fails
+abbrev pub status_of : ProgramFault → ℕ
+status_of (CommandLine _) = 2
+status_of (Settings _) = 1
+status_of (Policy _) = 1
+status_of Hex = 1
+status_of (Framing _) = 1
+status_of (Core _) = 1
+status_of Cut = 1
+status_of (Calls _) = 1
+status_of BadLimits = 1
+status_of Close = 1
+status_of OutOfMemory = 1
+status_of Device = 3
+
+-- what is said of a fault; of a command line that is the parser's text, which isn't told here
+abbrev pub text_of : ProgramFault → Option (List ℕ)
+text_of (CommandLine _) = None
+text_of (Settings why) = Some (codes "ipmd: settings: " ++ text_of_settings why)
+text_of (Policy why) = Some (codes "ipmd: policy line " ++ decimal why.line ++ codes ": " ++ text_of_kind why.kind)
+text_of Hex = Some (codes "ipmd: hex")
+text_of (Framing why) = Some (codes "ipmd: framing " ++ text_of_framing why)
+text_of (Core why) = Some (codes "ipmd: " ++ text_of_fault why)
+text_of Cut = Some (codes "ipmd: Cut")
+text_of (Calls line) = Some (codes "ipmd: calls line " ++ decimal line)
+text_of BadLimits = Some (codes "ipmd: BadLimits")
+text_of Close = Some (codes "ipmd: close")
+text_of OutOfMemory = Some (codes "ipmd: OutOfMemory")
+text_of Device = Some (codes "ipmd: device")
+
+-- on a line of its own
+abbrev pub line_of_fault : ProgramFault → Option (List ℕ)
+line_of_fault e = with_newline (text_of e)
+
+-- this was written, unless the device failed
+abbrev pub Tells : Option (List ℕ) → Bool → Option (List ℕ) → Option (List ℕ) → Type 0
+Tells line has_failed held holds = has_failed ≡ false → IfSome line (Appends held holds)
+
+-- a command line that is refused for want of memory isn't at fault
+abbrev pub command_line_fault_of : CommandLineFault → ProgramFault
+command_line_fault_of (command.Refused why) = CommandLine why
+command_line_fault_of command.OutOfMemory = OutOfMemory
+
+-- settings that are refused for want of memory aren't at fault
+abbrev pub settings_fault_of : SettingsFault → ProgramFault
+settings_fault_of settings.OutOfMemory = OutOfMemory
+settings_fault_of settings.Toml = Settings settings.Toml
+settings_fault_of (settings.Key key) = Settings (settings.Key key)
+
+-- a policy that is refused for want of memory isn't at fault
+abbrev pub policy_fault_of : PolicyFault → FaultKind → ProgramFault
+policy_fault_of fault kind.OutOfMemory = OutOfMemory
+policy_fault_of fault kind.NoHeader = Policy fault
+policy_fault_of fault kind.UnknownWord = Policy fault
+policy_fault_of fault kind.BadName = Policy fault
+policy_fault_of fault kind.BadNumber = Policy fault
+policy_fault_of fault kind.BadPrefix = Policy fault
+policy_fault_of fault kind.BadTruncate = Policy fault
+policy_fault_of fault kind.UnknownAggregate = Policy fault
+policy_fault_of fault kind.DoubleAggregate = Policy fault
+policy_fault_of fault kind.BadKey = Policy fault
+policy_fault_of fault kind.TooMany = Policy fault
+
+-- what the core refuses
+abbrev pub core_fault_of : Fault → ProgramFault
+core_fault_of (core.Policy why) = policy_fault_of why why.kind
+core_fault_of core.OutOfMemory = OutOfMemory
+core_fault_of why = Core why
+
+-- why a stream was not filtered to its end
+abbrev pub offline_fault_of : OfflineFault → ProgramFault
+offline_fault_of offline.Read = Device
+offline_fault_of (offline.Write sent) = Device
+offline_fault_of offline.Turns = Device
+offline_fault_of offline.AuditWrite = Device
+offline_fault_of (offline.Framing why) = Framing why
+offline_fault_of (offline.Core why) = core_fault_of why
+offline_fault_of offline.Cut = Cut
+
+-- a list of calls that is refused for want of memory isn't at fault
+abbrev pub calls_fault_of : CallsFault → ProgramFault
+calls_fault_of (calls.Line n) = Calls n
+calls_fault_of calls.OutOfMemory = OutOfMemory
+
+-- why a run isn't begun
+abbrev pub run_fault_of : RunFault → ProgramFault
+run_fault_of run.BadLimits = BadLimits
+run_fault_of run.OutOfMemory = OutOfMemory

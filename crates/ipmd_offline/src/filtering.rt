@@ -1,0 +1,124 @@
+//! `ipmd offline`.
+
+ghost use Rattle.std.specs.Prelude.{IfErr, IfOk};
+ghost use Rattle.octet_devices.specs.Device.{device_inner};
+ghost use Rattle.ipmd_offline.specs.Runs.{FailsLines, FailsOn, Filters, FinishesInput, FinishesLines, FinishesOn, RefusesInput, RefusesToFilter};
+
+use crate::fault::ProgramFault;
+use crate::hex_input::read_hex;
+use crate::output::write_lines;
+use crate::policy_source::policy_text_of;
+use ipmd_command_line::OfflineOptions;
+use octet_devices::Device;
+use offline_filter::{OfflineJob, OfflineReport, offline};
+use std::alloc::Global;
+use std::io::{BufWriter, Read, Write};
+use std::rt::Files;
+use std::{fs, io};
+
+/// How many octets of audit lines are written at once.
+const AUDIT_BUFFER: usize = 65_536;
+
+/// An input ends, so no number of reads is too many.
+const ANY_NUMBER_OF_READS: u64 = u64::MAX;
+
+/// Filters `input` for one subscriber to `output`, and names what was withheld in the audit file.
+///
+/// # Errors
+/// In this order: the policy's source, the audit file, which is made empty, an input that is not
+/// hexadecimal where it is to be, and what the mediator refuses. What was accepted before a fault is
+/// written.
+#[tactic(auto, using(crate::proofs::Lines::kept))]
+pub fn filter<R: Files + AllocGlobal, I: Read + Drop, O: Write>(
+    rt: &R,
+    options: &OfflineOptions<'_>,
+    input: I,
+    output: &mut Device<O>,
+) -> Result<OfflineReport, ProgramFault>
+    ensures ok { IfOk result (λ report. Filters options.entry.now report (I.remaining input) (O.contents (device_inner output.old)) (O.contents (device_inner output.new))) }
+    ensures err { IfErr result (λ e. RefusesToFilter options.entry.now e (I.remaining input) (O.contents (device_inner output.old)) (O.contents (device_inner output.new))) }
+{
+    let policy = policy_text_of(rt, options.policy)?;
+    let job = OfflineJob {
+        policy: policy.as_str(),
+        name: options.subscriber,
+        now: options.now,
+        target: options.target,
+        turns: ANY_NUMBER_OF_READS,
+        audit: options.audit.is_some(),
+    };
+    match options.audit {
+        Some(path) => {
+            let file = fs::create(rt, path)?;
+            let audit = BufWriter::with_capacity(rt.alloc(), AUDIT_BUFFER, file)?;
+            let mut audit = Device::new(audit);
+            filter_input(rt.alloc(), &job, options.hex, input, output, &mut audit)
+        }
+        None => {
+            let mut audit = Device::new(io::sink());
+            filter_input(rt.alloc(), &job, options.hex, input, output, &mut audit)
+        }
+    }
+}
+
+/// Filters `input`, as octets, or as hexadecimal text to lines of it.
+#[tactic(auto, using(crate::proofs::Inputs::finishes_spelled, crate::proofs::Inputs::fails_spelled, crate::proofs::Lines::kept))]
+fn filter_input<I: Read + Drop, O: Write, A: Write>(
+    alloc: Global,
+    job: &OfflineJob<'_>,
+    hex: bool,
+    input: I,
+    output: &mut Device<O>,
+    audit: &mut Device<A>,
+) -> Result<OfflineReport, ProgramFault>
+    ensures ok { IfOk result (λ report. FinishesInput hex job.entry.now report (I.remaining input) (O.contents (device_inner output.old)) (O.contents (device_inner output.new)) (A.contents (device_inner audit.old)) (A.contents (device_inner audit.new))) }
+    ensures err { IfErr result (λ e. RefusesInput e hex job.entry.now (I.remaining input) (O.contents (device_inner output.old)) (O.contents (device_inner output.new)) (A.contents (device_inner audit.old)) (A.contents (device_inner audit.new))) }
+{
+    if !hex {
+        return filter_octets(alloc, job, input, output, audit);
+    }
+    let octets = read_hex(alloc, input)?;
+    filter_to_lines(alloc, job, octets.as_slice(), output, audit)
+}
+
+/// Filters octets, and writes each message as a line when all was read.
+fn filter_to_lines<O: Write, A: Write>(
+    alloc: Global,
+    job: &OfflineJob<'_>,
+    octets: &[u8],
+    output: &mut Device<O>,
+    audit: &mut Device<A>,
+) -> Result<OfflineReport, ProgramFault>
+    ensures ok { IfOk result (λ report. FinishesLines job.entry.now report octets.now (O.contents (device_inner output.old)) (O.contents (device_inner output.new)) (A.contents (device_inner audit.old)) (A.contents (device_inner audit.new))) }
+    ensures err { IfErr result (λ e. FailsLines e job.entry.now octets.now (O.contents (device_inner output.old)) (O.contents (device_inner output.new)) (A.contents (device_inner audit.old)) (A.contents (device_inner audit.new))) }
+{
+    let mut stream = Device::new(Vec::new(alloc));
+    let report = filter_octets(alloc, job, octets, &mut stream, audit);
+    let out_of_memory = stream.has_failed();
+    write_lines(alloc, stream.into_inner().as_slice(), output)?;
+    if out_of_memory {
+        return Err(ProgramFault::OutOfMemory);
+    }
+    report
+}
+
+/// Filters octets, and sees that all that was written has left.
+#[tactic(auto, using(crate::proofs::Lines::kept))]
+fn filter_octets<I: Read + Drop, O: Write, A: Write>(
+    alloc: Global,
+    job: &OfflineJob<'_>,
+    input: I,
+    output: &mut Device<O>,
+    audit: &mut Device<A>,
+) -> Result<OfflineReport, ProgramFault>
+    ensures ok { IfOk result (λ report. FinishesOn job.entry.now report (I.remaining input) (O.contents (device_inner output.old)) (O.contents (device_inner output.new)) (A.contents (device_inner audit.old)) (A.contents (device_inner audit.new))) }
+    ensures err { IfErr result (λ e. FailsOn e job.entry.now (I.remaining input) (O.contents (device_inner output.old)) (O.contents (device_inner output.new)) (A.contents (device_inner audit.old)) (A.contents (device_inner audit.new))) }
+{
+    if output.has_failed() || audit.has_failed() {
+        return Err(ProgramFault::Device);
+    }
+    let mut reader = Device::new(input);
+    let report = offline(alloc, job, &mut reader, output, audit);
+    output.flush().and(audit.flush())?;
+    Ok(report?)
+}

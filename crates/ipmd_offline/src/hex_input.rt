@@ -1,0 +1,35 @@
+ghost use Rattle.std.specs.Prelude.{◌≡◌, ◌⊎◌, IfOk, IfErr, IfSome};
+ghost use Rattle.std.specs.List.{filter};
+ghost use Rattle.ipmd_offline.specs.HexText.{is_no_white_space, SpelledBy, SpellsNothing};
+ghost use Rattle.ipmd_offline.specs.declared.fault.ProgramFault.TheVariants.{Hex, OutOfMemory, Device};
+
+use crate::fault::ProgramFault;
+use hex::FromHexError;
+use std::alloc::Global;
+use std::io::Read;
+
+/// The octets that a whole input spells in hexadecimal, in either case. White space is skipped.
+///
+/// # Errors
+/// `Device` where a read fails, `Hex` where the text is not hexadecimal, `OutOfMemory`.
+pub fn read_hex<I: Read + Drop>(alloc: Global, mut input: I) -> Result<Vec<u8>, ProgramFault>
+    ensures ok { IfOk result (λ octets. IfSome (I.remaining input) (λ text. SpelledBy text octets.items)) }
+    ensures hex { IfErr result (λ e. e ≡ Hex → IfSome (I.remaining input) SpellsNothing) }
+    ensures kinds { IfErr result (λ e. (e ≡ Hex) ⊎ ((e ≡ OutOfMemory) ⊎ (e ≡ Device))) }
+{
+    let mut text = Vec::new(alloc);
+    input.read_to_end(&mut text)?;
+    skip_white_space(&mut text);
+    match hex::decode(alloc, text.as_slice()) {
+        Ok(octets) => Ok(octets),
+        Err(FromHexError::OutOfMemory) => Err(ProgramFault::OutOfMemory),
+        Err(_) => Err(ProgramFault::Hex),
+    }
+}
+
+/// Removes the white space of a text.
+fn skip_white_space(text: &mut Vec<u8>)
+    ensures { text.new.items ≡ filter is_no_white_space text.old.items }
+{
+    text.retain(|octet| !octet.is_ascii_whitespace());
+}

@@ -1,0 +1,84 @@
+//! What the program writes: a text, or messages as lines of hexadecimal digits.
+
+ghost use Rattle.std.specs.Prelude.{◌≡◌, ◌⊎◌, OnOk, IfOk, IfErr, string_bytes};
+ghost use Rattle.std.specs.Io.KnownBytes.{Appends};
+ghost use Rattle.octet_devices.specs.Device.{device_inner};
+ghost use Rattle.ipmd_offline.specs.HexText.{AreMessagesOf, line_of, lines_of, WritesLines, WritesSome, WritesSomeLines};
+ghost use Rattle.ipmd_offline.specs.declared.fault.ProgramFault.TheVariants.{OutOfMemory, Device as DeviceFailed};
+
+use crate::fault::ProgramFault;
+use bytes::Bytes;
+use ipfix_message::{FrameError, Framer};
+use octet_devices::{Device, write_all};
+use std::alloc::{AllocError, Global};
+use std::io::Write;
+
+/// Writes a text, and sees that it has left.
+///
+/// # Errors
+/// `Device` where the output fails; a front of the text may have been written.
+#[tactic(auto, using(crate::proofs::Lines::all_written, crate::proofs::Lines::front_written))]
+pub fn write_text<O: Write>(output: &mut Device<O>, text: &str) -> Result<(), ProgramFault>
+    ensures ok { OnOk result (Appends (O.contents (device_inner output.old)) (O.contents (device_inner output.new)) text.now) }
+    ensures err { IfErr result (λ e. (e ≡ DeviceFailed) × WritesSome text.now (O.contents (device_inner output.old)) (O.contents (device_inner output.new))) }
+{
+    write_all(output, text.as_bytes())?;
+    output.flush()?;
+    Ok(())
+}
+
+/// Writes each message of a stream as a line, and sees that all have left. Where a message ends its header
+/// says (RFC 7011, section 3.1).
+///
+/// # Errors
+/// `Device` where the output fails, `OutOfMemory`; a front of the lines may have been written.
+pub fn write_lines<O: Write>(
+    alloc: Global,
+    stream: &[u8],
+    output: &mut Device<O>,
+) -> Result<(), ProgramFault>
+    ensures ok { OnOk result (WritesLines stream.now (O.contents (device_inner output.old)) (O.contents (device_inner output.new))) }
+    ensures err { IfErr result (λ e. ((e ≡ OutOfMemory) ⊎ (e ≡ DeviceFailed)) × WritesSomeLines stream.now (O.contents (device_inner output.old)) (O.contents (device_inner output.new))) }
+{
+    let messages = messages_of(alloc, stream)?;
+    write_each(alloc, &messages, output)?;
+    output.flush()?;
+    Ok(())
+}
+
+/// The whole messages of a stream, as far as it is one.
+fn messages_of(alloc: Global, stream: &[u8]) -> Result<Vec<Bytes>, AllocError>
+    ensures { IfOk result (λ messages. AreMessagesOf stream.now messages.items) }
+{
+    match Framer::new(alloc).feed(stream) {
+        Ok(messages) => Ok(messages),
+        Err(FrameError::BadVersion) => Ok(Vec::new(alloc)),
+        Err(FrameError::BadLength) => Ok(Vec::new(alloc)),
+        Err(FrameError::OutOfMemory) => Err(AllocError),
+    }
+}
+
+/// Writes each message as a line.
+fn write_each<O: Write>(
+    alloc: Global,
+    messages: &[Bytes],
+    output: &mut Device<O>,
+) -> Result<(), ProgramFault>
+    ensures ok { OnOk result (Appends (O.contents (device_inner output.old)) (O.contents (device_inner output.new)) (lines_of messages.now)) }
+    ensures err { IfErr result (λ e. ((e ≡ OutOfMemory) ⊎ (e ≡ DeviceFailed)) × WritesSome (lines_of messages.now) (O.contents (device_inner output.old)) (O.contents (device_inner output.new))) }
+{
+    'messages: for message in messages {
+        let line = hex_line(alloc, message.as_slice())?;
+        write_all(output, line.as_bytes())?;
+    }
+    Ok(())
+}
+
+/// A message in lower-case hexadecimal digits, and a line feed.
+fn hex_line(alloc: Global, message: &[u8]) -> Result<String, AllocError>
+    ensures { IfOk result (λ line. string_bytes line ≡ line_of message.now) }
+{
+    let mut line = hex::encode(alloc, message)?;
+    line.push('\n')?;
+    Ok(line)
+}

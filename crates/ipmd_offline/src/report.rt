@@ -1,0 +1,25 @@
+//! What is said of a stream that was filtered.
+
+ghost use Rattle.std.specs.Prelude.{Some};
+ghost use Rattle.octet_devices.specs.Device.{device_failed, device_inner};
+ghost use Rattle.ipmd_offline.specs.Runs.{line_of_report};
+ghost use Rattle.ipmd_offline.specs.Status.{Tells};
+
+use octet_devices::Device;
+use offline_filter::OfflineReport;
+use std::io::Write;
+
+/// Says what was done with a whole stream. What can't be written is dropped.
+pub fn tell<E: Write>(report: OfflineReport, errors: &mut Device<E>)
+    ensures { Tells (Some (line_of_report report)) (device_failed errors.new) (E.contents (device_inner errors.old)) (E.contents (device_inner errors.new)) }
+{
+    let OfflineReport {
+        messages,
+        records,
+        disclosed,
+    } = report;
+    let _ = writeln!(
+        errors,
+        "messages {messages} records {records} disclosed {disclosed}"
+    );
+}

@@ -1,0 +1,34 @@
+//! What `--help`, `help` and `--version` write.
+
+ghost use Rattle.std.specs.Prelude.{IfErr, OnOk};
+ghost use Rattle.clap.specs.Values.{kind_of};
+ghost use Rattle.octet_devices.specs.Device.{device_inner};
+ghost use Rattle.ipmd_offline.specs.Runs.{RefusesToShow, Shows};
+
+use crate::fault::ProgramFault;
+use crate::output::write_text;
+use clap::error::ErrorKind;
+use ipmd_command_line::VERSION;
+use octet_devices::Device;
+use std::alloc::Global;
+use std::io::Write;
+
+/// Writes the version, or the help that the parser has made.
+///
+/// # Errors
+/// `Device` where the output fails, `OutOfMemory`.
+#[tactic(auto, using(crate::proofs::Lines::kept))]
+pub fn show<O: Write>(
+    alloc: Global,
+    shown: &clap::Error,
+    output: &mut Device<O>,
+) -> Result<(), ProgramFault>
+    ensures ok { OnOk result (Shows (kind_of shown.now) (O.contents (device_inner output.old)) (O.contents (device_inner output.new))) }
+    ensures err { IfErr result (λ e. RefusesToShow (kind_of shown.now) e (O.contents (device_inner output.old)) (O.contents (device_inner output.new))) }
+{
+    let text = match shown.kind() {
+        ErrorKind::DisplayVersion => format!(in alloc; "ipmd {VERSION}\n")?,
+        _ => format!(in alloc; "{shown}")?,
+    };
+    write_text(output, text.as_str())
+}
