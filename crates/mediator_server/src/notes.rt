@@ -91,20 +91,25 @@ pub(crate) fn collector_begins(rt: &impl Log, collector: &Collector) {
     info!(rt; "collector {name} {address} connected");
 }
 
-/// A delivery has ended, after these messages were pulled.
+/// A delivery has ended, after these messages were pulled; or the subscription was cut before.
 pub(crate) fn collector_ends(
     rt: &impl Log,
     collector: &Collector,
     pulled: &[Handed],
     sent: Result<u64, ServeFault>,
+    cut: bool,
 ) {
     let (name, address) = (collector.name.as_str(), collector.address.as_str());
     let records = pulled
         .iter()
         .fold(0u64, |sum, handed| sum.saturating_add(handed.records));
     match sent {
-        Ok(octets) =>
-            info!(rt; "collector {name} {address} ended: octets {octets} records {records}"),
+        Ok(octets) if cut => {
+            warn!(rt; "collector {name} {address} was cut: octets {octets} records {records}")
+        }
+        Ok(octets) => {
+            info!(rt; "collector {name} {address} ended: octets {octets} records {records}")
+        }
         Err(ServeFault::Write { sent }) => {
             warn!(rt; "collector {name} {address} failed, Write: octets {sent} records {records}")
         }

@@ -223,7 +223,11 @@ fn deliver_to<E: EntryLedger, H: RecordLedger, R: Wait + Clock + Log>(
         target,
         &clock,
     );
-    notes::collector_ends(rt, collector, delivery.kept(), sent);
+    let cut = match admin.status(rt, shared, delivery.sub()) {
+        Ok(stands) => stands.cut,
+        Err(_) => false,
+    };
+    notes::collector_ends(rt, collector, delivery.kept(), sent, cut);
     Delivered { delivery, admin }
 }
 
