@@ -28,8 +28,8 @@ const BEFORE: u64 = 3;
 /// What came before a connection; its octets, how they are read and the answers written; and what is due.
 #[derive(Clone, Copy)]
 pub(crate) struct Row<'a> {
-    pub(crate) policy: &'a str,
-    pub(crate) offered: &'a [&'a [u8]],
+    policy: &'a str,
+    offered: &'a [&'a [u8]],
     asked: &'a [u8],
     /// The most octets of one read.
     most: usize,
@@ -45,15 +45,27 @@ pub(crate) struct Row<'a> {
 }
 
 /// A connection behind one record, over devices that don't fail.
-pub(crate) fn row_of<'a>(
+fn row_of<'a>(
+    asked: &'a [u8],
+    due: Result<u64, ServeFault>,
+    answered: &'a [u8],
+    entries: u64,
+) -> Row<'a> {
+    row_behind(PASS, &[ONE_RECORD], asked, due, answered, entries)
+}
+
+/// A connection behind a policy and messages, over devices that don't fail.
+pub(crate) fn row_behind<'a>(
+    policy: &'a str,
+    offered: &'a [&'a [u8]],
     asked: &'a [u8],
     due: Result<u64, ServeFault>,
     answered: &'a [u8],
     entries: u64,
 ) -> Row<'a> {
     Row {
-        policy: PASS,
-        offered: &[ONE_RECORD],
+        policy,
+        offered,
         asked,
         most: 65_536,
         reads: ENOUGH,
