@@ -20,6 +20,7 @@ use shared_mediator::Closed;
 use std::alloc::{AllocError, Global};
 use std::fs;
 use std::io::Write;
+use std::net::{Net, TcpListener, TcpStream};
 use std::rt::Files;
 
 /// The number of the run: a process makes one.
@@ -40,12 +41,11 @@ struct Service {
 /// then the refusals of `listen`: `Policy` or `Core` where the mediator refuses the policy or a subscriber, `Device` where an
 /// address can't be listened on or connected to or a thread is refused, `Close`; `Device` where the output fails; `OutOfMemory`.
 #[tactic(auto, using(ipmd_offline::proofs::Lines::kept))]
-pub(crate) fn serve<R: System, O: Write, E: Write + Send>(
-    rt: &R,
-    path: &str,
-    output: &mut Device<O>,
-    errors: &mut Device<E>,
-) -> Result<(), ProgramFault>
+pub(crate) fn serve<
+    R: System + Net<Listener = TcpListener, Stream = TcpStream>,
+    O: Write,
+    E: Write + Send,
+>(rt: &R, path: &str, output: &mut Device<O>, errors: &mut Device<E>) -> Result<(), ProgramFault>
     ensures ok { OnOk result (Serves (O.contents (device_inner output.old)) (O.contents (device_inner output.new))) }
     ensures err { IfErr result (λ e. FailsToServe e (O.contents (device_inner output.old)) (O.contents (device_inner output.new)) errors.old errors.new) }
 {
@@ -121,7 +121,7 @@ fn collectors_of(
 ///
 /// # Errors
 /// Those of `listen`.
-fn run<R: System, E: Write + Send>(
+fn run<R: System + Net<Listener = TcpListener, Stream = TcpStream>, E: Write + Send>(
     rt: &R,
     plan: &Plan,
     mediator: Mediator,
@@ -156,6 +156,7 @@ fn fault_of(fault: ListenFault) -> ProgramFault
 ///
 /// # Errors
 /// `Device` where the output fails, `OutOfMemory`.
+#[tactic(auto, using(ipmd_offline::proofs::Lines::kept))]
 fn tell_closed<O: Write>(
     alloc: Global,
     closed: &Closed,
@@ -164,8 +165,15 @@ fn tell_closed<O: Write>(
     ensures ok { OnOk result (Appends (O.contents (device_inner output.old)) (O.contents (device_inner output.new)) (served closed.now)) }
     ensures err { IfErr result (λ e. RefusesToTell e closed.now (O.contents (device_inner output.old)) (O.contents (device_inner output.new))) }
 {
+    let line = line_of(alloc, closed)?;
+    write_text(output, line.as_str())
+}
+
+/// How many messages were accepted, and how many records were handed out, as a line.
+fn line_of(alloc: Global, closed: &Closed) -> Result<String, AllocError>
+    ensures { IfOk result (λ line. string_bytes line ≡ served closed.now) }
+{
     let accepted = closed.accepted;
     let handed = closed.handed;
-    let line = format!(in alloc; "accepted {accepted} handed {handed}\n")?;
-    write_text(output, line.as_str())
+    format!(in alloc; "accepted {accepted} handed {handed}\n")
 }
