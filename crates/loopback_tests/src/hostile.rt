@@ -19,13 +19,13 @@ use std::thread::Threads;
 use std::time::Clock;
 
 /// What a hostile exporter sends, how many messages of it are accepted, and whether it ends itself.
-struct Hostile {
+pub(crate) struct Hostile {
     octets: &'static [u8],
     accepted: u64,
     ends: bool,
 }
 
-const HOSTILE: &[Hostile] = &[
+pub(crate) const HOSTILE: &[Hostile] = &[
     Hostile {
         octets: b"GET / HTTP/1.1\r\nHost: localhost\r\n\r\n",
         accepted: 0,
@@ -78,7 +78,7 @@ const HOSTILE: &[Hostile] = &[
 
 /// How many good exporters there are beside them, and how many messages each of them sends before the hostile ones come, and
 /// again when they are gone.
-const GOOD: u16 = 9;
+pub(crate) const GOOD: u16 = 9;
 
 const MESSAGES: u32 = 10;
 
@@ -111,13 +111,13 @@ fn send_good(rt: &impl Abort, exporters: &[TcpStream], before: u32) {
 
 /// How a server was closed, and what its last collector got.
 #[derive(Drop)]
-struct Ended {
-    closed: Result<Closed, ListenFault>,
+pub(crate) struct Ended {
+    pub(crate) closed: Result<Closed, ListenFault>,
     collected: Vec<u8>,
 }
 
 /// Good exporters send; then hostile ones come and go; then the good ones send more.
-fn hostile_beside_good<
+pub(crate) fn hostile_beside_good<
     R: Net<Listener = TcpListener, Stream = TcpStream>
         + Threads
         + Wait
@@ -149,29 +149,31 @@ fn hostile_beside_good<
     })
 }
 
-/// That the subscription of this number was told what the journal discloses to it, and of how many messages accepted and records
-/// handed out in all.
-fn expect_end(
+/// That the octets which the collector of this subscription got mean what the journal discloses to it.
+fn expect_told(
     rt: &impl Abort,
     alloc: Global,
-    ended: &Ended,
+    closed: &Closed,
     sub: u64,
-    accepted: u64,
-    handed: Option<u64>,
+    octets: &[u8],
 ) -> Result<(), AllocError> {
+    let given = disclosed(rt, alloc, closed.mediator.journal(), sub)?;
+    let due = given.last().expect(rt, "a subscription");
+    let due = meaning_of(rt, alloc, due.as_slice())?;
+    let said = meaning_of(rt, alloc, octets)?;
+    assert!(rt; said.as_slice() == due.as_slice(), "subscription {sub}");
+    Ok(())
+}
+
+/// The mediator of a server that went on to its end, with so many messages accepted.
+fn closed_of<'a>(rt: &impl Abort, ended: &'a Ended, accepted: u64) -> &'a Closed {
     match &ended.closed {
         Ok(closed) => {
             assert!(rt; closed.accepted == accepted);
-            assert!(rt; handed.is_none() || handed == Some(closed.handed));
-            let given = disclosed(rt, alloc, closed.mediator.journal(), sub)?;
-            let due = given.last().expect(rt, "a subscription");
-            let due = meaning_of(rt, alloc, due.as_slice())?;
-            let said = meaning_of(rt, alloc, ended.collected.as_slice())?;
-            assert!(rt; said.as_slice() == due.as_slice());
+            closed
         }
         Err(fault) => panic!(rt; "{fault}"),
     }
-    Ok(())
 }
 
 #[test]
@@ -181,7 +183,9 @@ fn hostile_exporters(rt: HostRuntime) -> Result<(), Fail> {
     let stage = set_up(&rt, alloc, PASS, connections, &["acme"])?;
     let ended = hostile_beside_good(&rt, alloc, &stage)?;
     // Nine good exporters with twenty messages each, and two messages of hostile ones, of one record each.
-    expect_end(&rt, alloc, &ended, 1, 182, Some(182))?;
+    let closed = closed_of(&rt, &ended, 182);
+    assert!(rt; closed.handed == 182);
+    expect_told(&rt, alloc, closed, 1, ended.collected.as_slice())?;
     Ok(())
 }
 
@@ -229,7 +233,8 @@ fn collector_closes(rt: HostRuntime) -> Result<(), Fail> {
     let alloc = rt.alloc();
     let stage = set_up(&rt, alloc, PASS, 1, &["acme", "beta"])?;
     let (ended, sent) = one_closes(&rt, alloc, &stage)?;
-    expect_end(&rt, alloc, &ended, 2, sent, None)?;
+    let closed = closed_of(&rt, &ended, sent);
+    expect_told(&rt, alloc, closed, 2, ended.collected.as_slice())?;
     Ok(())
 }
 
@@ -243,9 +248,18 @@ const TIGHT: Limits = Limits {
 };
 
 /// So many records of 60,000 octets are more than the system keeps for a collector that takes nothing.
-const BROAD: u32 = 400;
+const BROAD: u32 = 1000;
 
-/// Acme's collector takes nothing, and beta's keeps pace with the exporter. Acme is cut; its connection stays until all is over.
+/// How a server was closed, what beta's collector got, and what acme's got, if it woke; and how many messages were sent.
+#[derive(Drop)]
+struct Idled {
+    ended: Ended,
+    woken: Vec<u8>,
+    sent: u64,
+}
+
+/// Acme's collector takes nothing, and beta's keeps pace with the exporter, until acme is cut. Then acme's takes all that comes, if
+/// it wakes; or its connection stays until all is over.
 fn one_takes_nothing<
     R: Net<Listener = TcpListener, Stream = TcpStream>
         + Threads
@@ -254,29 +268,54 @@ fn one_takes_nothing<
         + Log
         + Abort
         + Sync,
->(rt: &R, alloc: Global, stage: &Stage) -> Result<Ended, AllocError> {
+>(rt: &R, alloc: Global, stage: &Stage, wakes: bool) -> Result<Idled, AllocError> {
     thread::scope(thread::scope_env(), rt, |scope| {
         let server = scope.spawn(move || run(rt, alloc, &stage.plan, TIGHT))?;
-        let (_idle, other) = (collect(rt, stage, 0), collect(rt, stage, 1));
+        let (idle, other) = (collect(rt, stage, 0), collect(rt, stage, 1));
         let admin = reach(rt, stage.plan.admin.as_str());
         let exporter = reach(rt, stage.plan.exporters.as_str());
         let mut collected = Vec::new(alloc);
-        for n in 0..BROAD {
-            send(rt, &exporter, broad(alloc, n)?.as_slice());
-            take_message(rt, alloc, &other, &mut collected)?;
-        }
-        let stands = ask(rt, alloc, &admin, "status 1\n")?;
-        assert!(rt; stands.as_slice().ends_with(b" cut\n"));
-        expect_answer(rt, alloc, &admin, "status 2\n", b"ok 0 400 live\n")?;
+        let sent = send_until_cut(rt, alloc, &exporter, &admin, &other, &mut collected)?;
         drop(exporter);
         drop(admin);
+        let woken = if wakes {
+            take_all(rt, alloc, &idle)?
+        } else {
+            Vec::new(alloc)
+        };
         let rest = take_all(rt, alloc, &other)?;
         assert!(rt; rest.is_empty());
-        Ok(Ended {
-            closed: server.join(rt),
-            collected,
+        let closed = server.join(rt);
+        drop(idle);
+        Ok(Idled {
+            ended: Ended { closed, collected },
+            woken,
+            sent,
         })
     })
+}
+
+/// Sends broad records, each when beta's collector has the one before, until acme is cut; and answers how many.
+fn send_until_cut(
+    rt: &impl Abort,
+    alloc: Global,
+    exporter: &TcpStream,
+    admin: &TcpStream,
+    other: &TcpStream,
+    collected: &mut Vec<u8>,
+) -> Result<u64, AllocError> {
+    for n in 0..BROAD {
+        send(rt, exporter, broad(alloc, n)?.as_slice());
+        take_message(rt, alloc, other, collected)?;
+        let stands = ask(rt, alloc, admin, "status 1\n")?;
+        if stands.as_slice().ends_with(b" cut\n") {
+            let sent = n as u64 + 1;
+            let stands = format!(in alloc; "ok 0 {sent} live\n")?;
+            expect_answer(rt, alloc, admin, "status 2\n", stands.as_str().as_bytes())?;
+            return Ok(sent);
+        }
+    }
+    panic!(rt; "acme was not cut")
 }
 
 #[test]
@@ -284,7 +323,23 @@ fn collector_takes_nothing(rt: HostRuntime) -> Result<(), Fail> {
     let alloc = rt.alloc();
     let mut stage = set_up(&rt, alloc, PASS, 1, &["acme", "beta"])?;
     stage.plan.target = u16::MAX;
-    let ended = one_takes_nothing(&rt, alloc, &stage)?;
-    expect_end(&rt, alloc, &ended, 2, BROAD as u64, None)?;
+    let idled = one_takes_nothing(&rt, alloc, &stage, false)?;
+    let ended = &idled.ended;
+    let closed = closed_of(&rt, ended, idled.sent);
+    expect_told(&rt, alloc, closed, 2, ended.collected.as_slice())?;
+    Ok(())
+}
+
+#[test]
+fn collector_wakes_late(rt: HostRuntime) -> Result<(), Fail> {
+    let alloc = rt.alloc();
+    let mut stage = set_up(&rt, alloc, PASS, 1, &["acme", "beta"])?;
+    stage.plan.target = u16::MAX;
+    let idled = one_takes_nothing(&rt, alloc, &stage, true)?;
+    let ended = &idled.ended;
+    let closed = closed_of(&rt, ended, idled.sent);
+    // What was queued before the cut is still sent.
+    expect_told(&rt, alloc, closed, 1, idled.woken.as_slice())?;
+    expect_told(&rt, alloc, closed, 2, ended.collected.as_slice())?;
     Ok(())
 }

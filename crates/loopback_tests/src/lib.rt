@@ -5,7 +5,8 @@
 //! - `stage`: a server's plan with free addresses, and its collectors' doors.
 //! - `meaning`: what messages mean, and what a journal discloses.
 //! - `sessions`: servers that do what they are asked. `hostile`: peers that fail, send nonsense, or take nothing.
-//!   `refusals`: servers that can't begin.
+//!   `refusals`: servers that can't begin or go on, `torn` for one whose door fails. `crowd`: ten exporters and three collectors.
+//! - `notes`: what is noted of a run.
 #![tactic(auto)]
 
 #[cfg(test)]
@@ -14,6 +15,8 @@ mod crowd;
 mod hostile;
 #[cfg(test)]
 mod meaning;
+#[cfg(test)]
+mod notes;
 #[cfg(test)]
 mod octets;
 #[cfg(test)]

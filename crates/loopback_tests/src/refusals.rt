@@ -1,7 +1,7 @@
 //! Servers that can't begin, or can't go on.
 
 use crate::octets::ONE_RECORD;
-use crate::peers::{collect, reach, send, take_all};
+use crate::peers::{collect, reach, send, take, take_all};
 use crate::stage::{PASS, ROOMY, Stage, address_of, free_address, open_door, run, set_up};
 use crate::torn::Torn;
 use log::Log;
@@ -55,7 +55,7 @@ fn fault_for(cause: Cause) -> ListenFault {
             kind: FaultKind::NoHeader,
         })),
         Cause::BadName => ListenFault::Core(Fault::BadName),
-        Cause::SameName => ListenFault::Core(Fault::AlreadySubscribed { sub: 2 }),
+        Cause::SameName => ListenFault::Core(Fault::AlreadySubscribed { sub: 1 }),
         Cause::FullJournal => ListenFault::Core(Fault::JournalFull),
     }
 }
@@ -173,7 +173,7 @@ fn no_session(rt: HostRuntime) -> Result<(), Fail> {
     Ok(())
 }
 
-/// The administrator's door fails when something comes to it, while an exporter and a collector are connected.
+/// The administrator's door fails while an exporter and a collector are connected.
 fn door_fails<
     R: Net<Listener = TcpListener, Stream = TcpStream>
         + Threads
@@ -182,20 +182,21 @@ fn door_fails<
         + Log
         + Abort
         + Sync,
->(rt: &R, alloc: Global, stage: &Stage) -> Result<Result<Closed, ListenFault>, AllocError> {
-    let door = open_door(rt);
-    let address = address_of(rt, alloc, &door)?;
-    let far = reach(rt, address.as_str());
-    let near = door.accept().expect(rt, "a stream").0;
-    let torn = &Torn::new(rt, near);
+>(
+    rt: &R,
+    alloc: Global,
+    stage: &Stage,
+    torn: &Torn<'_, R>,
+) -> Result<Result<Closed, ListenFault>, AllocError> {
     thread::scope(thread::scope_env(), rt, |scope| {
         let server = scope.spawn(move || run(torn, alloc, &stage.plan, ROOMY))?;
         let collector = collect(rt, stage, 0);
         let exporter = reach(rt, stage.plan.exporters.as_str());
         send(rt, &exporter, ONE_RECORD);
-        send(rt, &far, b"?");
+        let _message = take(rt, alloc, &collector, ONE_RECORD.len())?;
+        torn.tear().expect(rt, "a torn door");
         expect_closed(rt, alloc, &exporter)?;
-        let _whatever_was_queued = take_all(rt, alloc, &collector)?;
+        expect_closed(rt, alloc, &collector)?;
         Ok(server.join(rt))
     })
 }
@@ -204,8 +205,10 @@ fn door_fails<
 fn failed_door(rt: HostRuntime) -> Result<(), Fail> {
     let alloc = rt.alloc();
     let mut stage = set_up(&rt, alloc, PASS, 2, &["acme"])?;
-    stage.plan.admin = String::from_str(alloc, "127.0.0.1:1")?;
-    match door_fails(&rt, alloc, &stage)? {
+    let door = open_door(&rt);
+    stage.plan.admin = address_of(&rt, alloc, &door)?;
+    let torn = Torn::new(&rt, door)?;
+    match door_fails(&rt, alloc, &stage, &torn)? {
         Ok(_) => panic!(rt; "it went on"),
         Err(fault) => assert!(rt; fault == ListenFault::Bind),
     }

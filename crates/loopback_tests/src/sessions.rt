@@ -22,7 +22,7 @@ fn expect_message(rt: &impl Abort, message: &[u8], wanted: &[u8]) {
     assert!(rt; message.get(8..) == wanted.get(8..));
 }
 
-fn one_exporter<
+pub(crate) fn one_exporter<
     R: Net<Listener = TcpListener, Stream = TcpStream>
         + Threads
         + Wait

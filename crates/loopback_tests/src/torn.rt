@@ -1,30 +1,38 @@
-//! A machine on which one door fails.
+//! A machine on which a door can be made to fail.
 
 use log::kv::Source;
 use log::span::Spans;
 use log::{Log, Metadata, Record};
 use std::fmt::Display;
 use std::io;
-use std::net::{Net, SocketAddr, TcpListener, TcpStream};
+use std::net::{Net, Shutdown, SocketAddr, TcpListener, TcpStream};
 use std::os::fd::OwnedFd;
 use std::sync::Wait;
 use std::thread::Threads;
 use std::time::{Clock, Duration};
 
-/// The port of the door that fails.
-const TORN: u16 = 1;
-
-/// A machine on which whoever listens on port 1 is given a stream for a door: nothing can be accepted from it, which shows when
-/// octets come by the stream.
+/// A machine on which whoever listens on one port is given a door that is open already, and can be made to fail.
 #[derive(Drop)]
 pub(crate) struct Torn<'a, R> {
     machine: &'a R,
-    stream: TcpStream,
+    door: TcpListener,
+    port: u16,
 }
 
 impl<'a, R> Torn<'a, R> {
-    pub(crate) fn new(machine: &'a R, stream: TcpStream) -> Torn<'a, R> {
-        Torn { machine, stream }
+    pub(crate) fn new(machine: &'a R, door: TcpListener) -> io::Result<Torn<'a, R>> {
+        let port = door.local_addr()?.port();
+        Ok(Torn {
+            machine,
+            door,
+            port,
+        })
+    }
+
+    /// From now on nobody is accepted by the door, and who waits for someone is told.
+    pub(crate) fn tear(&self) -> io::Result<()> {
+        let socket = TcpStream::from(OwnedFd::from(self.door.try_clone()?));
+        socket.shutdown(Shutdown::Both)
     }
 }
 
@@ -34,9 +42,8 @@ impl<R: Net<Listener = TcpListener, Stream = TcpStream>> Net for Torn<'_, R> {
     type Listener = TcpListener;
 
     fn bind(&self, addr: SocketAddr) -> io::Result<TcpListener> {
-        if addr.port() == TORN {
-            let stream = self.stream.try_clone()?;
-            return Ok(TcpListener::from(OwnedFd::from(stream)));
+        if addr.port() == self.port {
+            return self.door.try_clone();
         }
         self.machine.bind(addr)
     }

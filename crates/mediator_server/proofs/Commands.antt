@@ -1,10 +1,9 @@
 -- Octets that are handed out one after another.
-use Rattle.std.proofs.Common.{◌≡◌, ◌≢◌, inl, ℕ, ◌+◌, ◌≤◌, ◌<◌, List, [], ◌∷◌, ◌++◌, length, take, drop, get_or, Option, Some, refl, sym, ap, ◌∙◌, subst, arith, length-append, length-take, length-drop}
+use Rattle.std.proofs.Common.{◌≡◌, ◌≢◌, inl, ℕ, ◌≤◌, List, [], ◌∷◌, ◌++◌, length, take, drop, Option, Some, refl, ap, subst, arith, length-append, length-drop}
 use Rattle.std.specs.Prelude.{MatchOption}
 use Rattle.std.specs.List.{AllByRecursion}
 use Rattle.std.proofs.KnownBytes.{Consumes-trans, Consumes-nil}
-use Rattle.std.proofs.lemmas.List.{drop_all, drop_more, get_or-take, length-take-le}
-
+use Rattle.std.proofs.lemmas.List.{length-take-le}
 use Rattle.mediator_server.specs.declared.fault.ServeFault.{ServeFault}
 use Rattle.mediator_server.specs.declared.fault.ServeFault.TheVariants.{Read, Framing, Turns, Core}
 use Rattle.message_intake.specs.declared.fault.FramingFault.TheVariants as framing
@@ -12,17 +11,6 @@ use Rattle.mediator_state.specs.declared.fault.Fault.TheVariants as fault
 use Rattle.counted_mediator.specs.declared.fault.PullFault.TheVariants as pull
 use Rattle.mediator_server.specs.Faults.{out_of_memory}
 use Rattle.mediator_server.specs.CommandInput.{InputState, ahead, HandsOut, EndsBehind, IsLine, IsBegun, StopsReading, Fills}
-
--- ---- what is pending
-
--- nothing, where all that was read is handed out
-pub none_pending : (from to : ℕ) (piece : List ℕ) → from ≡ to → drop from (take to piece) ≡ []
-none_pending from to piece e = drop_all from (take to piece) (omega (arith, length-take to piece, e))
-
--- the octet at the front, and what is behind it
-pub front_pending : (from to octet : ℕ) (piece : List ℕ) → from < to → to ≤ length piece → octet ≡ get_or piece from octet → drop from (take to piece) ≡ octet ∷ drop (from + 1) (take to piece)
-front_pending from to octet piece lt le is =
-    drop_more (take to piece) from octet (omega (arith, length-take-le to piece le, lt)) ∙ ap (λ x. x ∷ drop (from + 1) (take to piece)) (get_or-take to piece from octet lt ∙ sym is)
 
 -- ---- handed out
 

@@ -1,5 +1,5 @@
 -- Commands that are read and answered one after another, and where that ends or stops.
-use Rattle.std.proofs.Common.{◌≡◌, inl, inr, ℕ, ◌+◌, ◌≤◌, ◌<◌, ◌^◌, Bool, false, List, [], ◌∷◌, ◌++◌, length, take, Option, Some, None, refl, sym, ap, ◌∙◌, subst, append-nil, append_assoc, arith, length-append}
+use Rattle.std.proofs.Common.{◌≡◌, ◌⊎◌, inl, inr, ℕ, ◌+◌, ◌≤◌, ◌<◌, Bool, List, [], ◌∷◌, ◌++◌, length, take, Option, Some, None, refl, sym, ap, ◌∙◌, subst, append-nil, append_assoc, arith, length-append}
 use Rattle.std.specs.Prelude.{IsSome}
 use Rattle.std.specs.List.{AllByRecursion}
 use Rattle.std.specs.Io.KnownBytes.{Consumes, Appends, prepend_known}
@@ -13,16 +13,19 @@ use Rattle.mediator_state.specs.declared.fault.Fault.TheVariants as fault
 use Rattle.counted_mediator.specs.declared.fault.PullFault.TheVariants as pull
 use Rattle.admin_lines.specs.Sayings.{Saying}
 use Rattle.admin_lines.specs.Sayings.Saying.{to_edit, to_subscribe, to_unsubscribe, to_advance, to_tell_status, to_drain_audit}
+use Rattle.admin_lines.specs.Grammar.{longest_line, IsSubscription}
 use Rattle.admin_lines.specs.Reading.{command_of}
+use Rattle.call_lists.specs.Answers.{refusal_text}
 use Rattle.admin_lines.specs.Answers.{answer_text, refused_for_memory}
 use Rattle.admin_lines.specs.declared.answer.Answer.{Answer}
 use Rattle.admin_lines.specs.declared.answer.Answer.TheVariants as answer
+use Rattle.admin_lines.proofs.LineLaws.{command_of-only}
 use Rattle.mediator_server.specs.declared.fault.ServeFault.{ServeFault}
 use Rattle.mediator_server.specs.declared.fault.ServeFault.TheVariants.{Read, Write, Framing, Turns, Core}
 use Rattle.mediator_server.specs.Faults.{out_of_memory}
 use Rattle.mediator_server.specs.CommandInput.{InputState, unread, ahead, HandsOut, EndsBehind, IsLine, IsBegun, StopsReading}
-use Rattle.mediator_server.specs.Answering.{Answers, Exchange, asked, answered, IsTextOf, IsExchange, AreExchanges, IsCommand, Exchanges, ServesAdmin, StopsInside, StopsAdmin, Hears, StopsHearing, Replies, StopsReplying}
-use Rattle.mediator_server.proofs.Commands.{hands_out_none, hands_out_then}
+use Rattle.mediator_server.specs.Answering.{Answers, Exchange, asked, answered, IsTextOf, IsExchange, AreExchanges, IsCommand, Exchanges, ServesAdmin, StopsInside, StopsAdmin, Performs, Hears, StopsHearing, Replies, StopsReplying}
+use Rattle.mediator_server.proofs.Commands.{hands_out_none, hands_out_then, stops_then}
 
 -- ---- what a reply says of its line
 
@@ -50,13 +53,58 @@ answer_some (answer.Subscribed sub) = omega arith
 answer_some answer.Done = omega arith
 answer_some (answer.Stands status) = omega arith
 answer_some (answer.Drained entries) = omega arith
-answer_some (answer.Refused why) = ended_some _ 10
+answer_some (answer.Refused why) = ended_some (refusal_text why) 10
 answer_some answer.BadLine = omega arith
 answer_some answer.BadText = omega arith
 
 text_some : (reply : Answer) (text : List ℕ) → IsTextOf reply text → 0 < length text
 text_some reply text (inl is) = subst (λ t. 0 < length t) (sym is) (answer_some reply)
 text_some reply text (inr is) = subst (λ t. 0 < length t) (sym is) (answer_some refused_for_memory)
+
+-- ---- a line is heard
+
+-- there was no memory for a name
+pub name_lost : (line : List ℕ) (i : InputState) (given : Option (List ℕ)) (kept : List KeptEntry) → IsSubscription line → Performs (command_of line) (answer.Refused fault.OutOfMemory) i given given i kept kept
+name_lost line i given kept named = record {
+  text = [];
+  handed = hands_out_none i given;
+  answers = subst (λ read. Answers read [] (answer.Refused fault.OutOfMemory) kept kept) (sym (command_of-only line (to_subscribe named.0) named.1)) (refl, refl);
+}
+
+line_some : (line octets : List ℕ) → IsLine line octets → 0 < length octets
+line_some line octets is = some is.cut
+  where
+    some : (octets ≡ line ++ 10 ∷ []) ⊎ ((octets ≡ line) × (longest_line < length line)) → 0 < length octets
+    some (inl ends) = subst (λ t. 0 < length t) (sym ends) (ended_some line 10)
+    some (inr long) = omega (arith, ap length long.0, long.1)
+
+begun_some : (e : ServeFault) (octets : List ℕ) → 0 < length octets → IsBegun e octets
+begun_some (Framing framing.CutOff) octets some = some
+begun_some _ octets some = tt
+
+-- the line was handed out, and what stands behind it wasn't
+pub stops_behind_line : (e w : ServeFault) (i k l : InputState) (given mid left : Option (List ℕ)) (line : List ℕ) → e ≡ w → (octets : List ℕ) × IsLine line octets × HandsOut i given mid octets k
+    → (octets : List ℕ) × StopsReading w k mid left octets l → StopsHearing e i given left l
+stops_behind_line e w i k l given mid left line is heard stops = rw is (record {
+  octets = heard.0 ++ stops.0;
+  stops = stops_then w i k l given mid left heard.0 stops.0 heard.2 stops.1;
+  begun = begun_some w (heard.0 ++ stops.0) (omega (arith, line_some line heard.0 heard.1, length-append heard.0 stops.0));
+})
+
+pub stops_in_line : (e w : ServeFault) (i k : InputState) (given left : Option (List ℕ)) → e ≡ w → (octets : List ℕ) × StopsReading w i given left octets k × IsBegun w octets → StopsHearing e i given left k
+stops_in_line e w i k given left is stops = rw is (record { octets = stops.0; stops = stops.1; begun = stops.2 })
+
+-- a line was handed out, and its call was made
+pub hears_line : (reply : Answer) (i k l : InputState) (given mid left : Option (List ℕ)) (line shown : List ℕ) (before after : List KeptEntry) → shown ≡ line → (octets : List ℕ) × IsLine line octets × HandsOut i given mid octets k
+    → Performs (command_of shown) reply k mid left l before after → Hears reply i given left l before after
+hears_line reply i k l given mid left line shown before after is heard so = record {
+  line = line;
+  octets = heard.0;
+  text = so.text;
+  is_line = heard.1;
+  handed = hands_out_then i k l given mid left heard.0 so.text heard.2 so.handed;
+  answers = subst (λ t. Answers (command_of t) so.text reply before after) is so.answers;
+}
 
 -- ---- one exchange more
 
@@ -157,11 +205,6 @@ serving_on turns i k count sent n given mid left held holds writes old before ne
       few = omega (arith, so.few, replies.counted, text_some reply replies.text replies.is);
     }
 
--- there is room for one command more in the count
-pub count_fits : (turns : ℕ) (i : InputState) (count sent n : ℕ) (given left held holds : Option (List ℕ)) (old new : List KeptEntry) (reply : Answer) (kept writes : Option (List ℕ))
-    → Serving turns i count sent given left held holds old new → Replies reply sent n kept writes → n < 2 ^ 64 → count + 1 < 2 ^ 64
-count_fits turns i count sent n given left held holds old new reply kept writes so replies below = omega (arith, so.few, replies.counted, text_some reply replies.text replies.is, below)
-
 -- ---- where it ends
 
 -- the input ended behind the commands
@@ -239,8 +282,7 @@ pub stops_replying : (e : ServeFault) (turns : ℕ) (i k : InputState) (count se
     → (so : Serving turns i count sent given mid held holds old before) → Hears reply i mid left k before new → StopsReplying e reply sent holds writes failed → StopsAdmin e turns given left held writes failed old new so.commands
 stops_replying (Write n) turns i k count sent given mid left held holds writes failed old before new reply so hears stops =
     let x : Exchange = exchange_of reply i k mid left before new hears stops.text in
-    let h : Heard turns k so.commands x given left old new = heard turns i k count sent given mid left held holds old before new reply stops.text so hears stops.is in
-    (
+    let h : Heard turns k so.commands x given left old new = heard turns i k count sent given mid left held holds old before new reply stops.text so hears stops.is in (
       x,
       record { rest = k.pending; exchanges = exchanges_of turns k so.commands (x ∷ []) given left old new so.are h.done h.handed },
       subst (λ t. WritesFront held writes t n failed) (sym h.written) (subst (λ m. WritesFront held writes (answered so.commands ++ stops.text) m failed) (sym (place stops.stops.1))
@@ -256,11 +298,24 @@ stops_replying (Write n) turns i k count sent given mid left held holds writes f
     place is = is ∙ ap (λ m. m + stops.stops.0) so.sent_are
 stops_replying (Core pull.HandedFull) turns i k count sent given mid left held holds writes failed old before new reply so hears stops =
     let x : Exchange = exchange_of reply i k mid left before new hears stops.text in
-    let h : Heard turns k so.commands x given left old new = heard turns i k count sent given mid left held holds old before new reply stops.text so hears stops.is in
-    (
+    let h : Heard turns k so.commands x given left old new = heard turns i k count sent given mid left held holds old before new reply stops.text so hears stops.is in (
       x,
       record { rest = k.pending; exchanges = exchanges_of turns k so.commands (x ∷ []) given left old new so.are h.done h.handed },
       subst (λ t. Appends held t (answered so.commands)) (sym stops.stops.0) so.written,
       omega (arith, stops.stops.1, so.sent_are, ap length h.written, length-append (answered so.commands) stops.text),
     )
 stops_replying _ turns i k count sent given mid left held holds writes failed old before new reply so hears stops = absurd stops.stops
+
+pub stopped_hearing : (e w : ServeFault) (turns : ℕ) (i k : InputState) (count sent : ℕ) (given mid left held holds : Option (List ℕ)) (failed : Bool) (old before new : List KeptEntry) → e ≡ w
+    → Serving turns i count sent given mid held holds old before → StopsHearing w i mid left k → new ≡ before → (commands : List Exchange) × StopsAdmin e turns given left held holds failed old new commands
+stopped_hearing e w turns i k count sent given mid left held holds failed old before new is so stops same =
+    rw (is, same) (so.commands, stops_hearing w turns i k count sent given mid left held holds failed old before stops.octets so stops.stops stops.begun)
+
+pub stopped_replying : (e w : ServeFault) (turns : ℕ) (i k : InputState) (count sent : ℕ) (given mid left held holds writes : Option (List ℕ)) (failed : Bool) (old before new : List KeptEntry) (reply : Answer) → e ≡ w
+    → Serving turns i count sent given mid held holds old before → Hears reply i mid left k before new → StopsReplying w reply sent holds writes failed → (commands : List Exchange) × StopsAdmin e turns given left held writes failed old new commands
+stopped_replying e w turns i k count sent given mid left held holds writes failed old before new reply is so hears stops =
+    rw is (so.commands, stops_replying w turns i k count sent given mid left held holds writes failed old before new reply so hears stops)
+
+pub serving_ended : (turns : ℕ) (i : InputState) (count sent : ℕ) (given mid left held holds : Option (List ℕ)) (old before new : List KeptEntry) → Serving turns i count sent given mid held holds old before → EndsBehind i mid left [] × (new ≡ before)
+    → ServesAdmin count given left held holds old new
+serving_ended turns i count sent given mid left held holds old before new so ends = rw ends.1 (serving_ends turns i count sent given mid left held holds old before so ends.0)

@@ -5,7 +5,9 @@ pub use Rattle.subscriber_stream.specs.Message
 pub use Rattle.stream_meaning.specs.Served
 pub use Rattle.shared_mediator.specs.Locked
 pub use Rattle.shared_mediator.specs.Handles
+pub use Rattle.shared_mediator.specs.Closing
 pub use Rattle.admin_lines.specs.Sayings
+pub use Rattle.admin_lines.specs.Grammar as CommandGrammar
 pub use Rattle.admin_lines.specs.Reading as CommandReading
 pub use Rattle.admin_lines.specs.Answers as AdminAnswers
 pub mod Faults
@@ -14,3 +16,4 @@ pub mod Serving
 pub mod Delivering
 pub mod CommandInput
 pub mod Answering
+pub mod Listening

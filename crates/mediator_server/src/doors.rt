@@ -1,6 +1,8 @@
 //! The two doors at which a server is reached, and the connections by which it is reached and reaches others.
 
+use crate::notes;
 use crate::plan::Plan;
+use log::Log;
 use mio::unix::SourceFd;
 use mio::{Events, Interest, Poll, Token};
 use std::alloc::{AllocError, Global};
@@ -36,7 +38,21 @@ struct Door {
 
 impl Door {
     /// Listens on an address, and has `poll` say when someone comes.
-    fn open<R: Net<Listener = TcpListener, Stream = TcpStream>>(
+    fn open<R: Net<Listener = TcpListener, Stream = TcpStream> + Log>(
+        rt: &R,
+        poll: &Poll,
+        token: Token,
+        address: &str,
+        wanted: u64,
+    ) -> io::Result<Door> {
+        let opened = Door::listen(rt, poll, token, address, wanted);
+        if let Err(why) = &opened {
+            notes::cannot_listen(rt, address, why);
+        }
+        opened
+    }
+
+    fn listen<R: Net<Listener = TcpListener, Stream = TcpStream>>(
         rt: &R,
         poll: &Poll,
         token: Token,
@@ -99,7 +115,7 @@ impl Doors {
     ///
     /// # Errors
     /// One of them can't be listened on, or memory ran out.
-    pub(crate) fn open<R: Net<Listener = TcpListener, Stream = TcpStream>>(
+    pub(crate) fn open<R: Net<Listener = TcpListener, Stream = TcpStream> + Log>(
         rt: &R,
         alloc: Global,
         plan: &Plan,

@@ -1,11 +1,15 @@
-//! Serving a shared mediator over devices: an exporter's stream is read and offered, and a subscription's messages are pulled
-//! and written. Each of the calls belongs to one thread and one connection, and is generic over a `Source` or a `Sink`; the
-//! mediating is `shared_mediator`'s, and the cutting of a stream into messages `message_intake`'s.
+//! Serving a shared mediator over devices: an exporter's stream is read and offered, a subscription's messages are pulled and
+//! written, and an administrator's commands are read and answered. Each of the calls belongs to one thread and one connection, and
+//! is generic over a `Source` or a `Sink`; the mediating is `shared_mediator`'s, the cutting of a stream into messages
+//! `message_intake`'s, and what lines mean `admin_lines`'.
 //!
 //! - `exporter`: [`serve_exporter`], the messages of a stream.
 //! - `delivery`: [`deliver`], the messages of a subscription.
+//! - `admin`: [`serve_admin`], the commands of an administrator's connection, which `command_input` cuts out of its octets.
 //! - `clock`: [`Clock`], which tells the Export Times.
 //! - `fault`: [`ServeFault`], why a call stops.
+//! - `listening`: [`listen`], all of this on sockets, as a [`Plan`] says. `doors` has the sockets, `service` the threads, one for
+//!   each connection, `notes` what the log is told, and `machine_clock` the clock.
 //!
 //! Proved of `serve_exporter`: the messages that it adds to its handle's receipts, under the handle's session and numbered on,
 //! are those that the octets that it read are cut into (RFC 7011, section 10.4): all of them at Ok, where the stream ended
@@ -19,8 +23,23 @@
 //! only where the writer has failed (`fails`). The administrator's handle keeps nothing more but, at `Write`, the end of this
 //! subscription (`same`, `gone`).
 //!
-//! Shown by tests alone: that the session is closed and the subscription ended, which happens under the lock, where no clause
-//! can look. Nothing promises that a call returns.
+//! Proved of `serve_admin`: the octets that it read are lines with the texts behind them, and the octets that it wrote are their
+//! answers, one for each line in order. Each answer is one that the line's call may give, and says what the handle kept: an `ok`
+//! to an edit, a subscription, its end or an advance stands only where the handle has the receipt of just that call, and no other
+//! answer where it has one. At Ok all commands were answered and are counted, and the input ended behind them, or one line more
+//! is none (`serves`). At a fault the commands before were (`stops`), and `Read` and `Write` stand only where that device has
+//! failed (`reader_fails`, `writer_fails`); at `Write` exactly `sent` octets of all answers were written, which end inside the last,
+//! and its call was made; `Turns` stands only where so many reads were made, and `CutOff` where the input ended inside a command.
+//! Where there is no memory for an answer, `err OutOfMemory` stands in its place.
+//!
+//! Proved of `listen`: at Ok the history has gone on from that of the mediator handed in, and each message, edit, begin and end of
+//! a subscription and advance of the clock in it since then has a receipt of its own; so many messages are among them, and so many
+//! records were handed out, as it answers (`served`). Beyond that it is safe. What goes over sockets, and that all ends, is shown by
+//! `loopback_tests`.
+//!
+//! Shown by tests alone, in `server_tests`: that the session is closed and the subscription ended, which happens under the lock,
+//! where no clause can look; and so why a call of an administrator is refused, how a subscription stands, and what of the audit is
+//! handed out. Nothing promises that a call returns.
 #![tactic(auto)]
 
 mod admin;

@@ -1,6 +1,7 @@
 //! A server on sockets.
-ghost use Rattle.std.specs.Prelude.{◌≡◌, ◌+◌, ◌*◌};
+ghost use Rattle.std.specs.Prelude.{◌≡◌, ◌+◌, ◌*◌, ◌≤◌, IfOk};
 ghost use Rattle.counted_mediator.specs.Counted.{handed_live};
+ghost use Rattle.mediator_server.specs.Listening.{IsServed};
 
 use crate::notes;
 use crate::plan::Plan;
@@ -97,15 +98,19 @@ fn handles_for(plan: &Plan) -> u64
 /// delivers to it, serves the exporters that connect and one connection of the administrator, each in a thread of its own; and
 /// gives the mediator back when those have ended and all that was queued is sent.
 ///
-/// A fault of a connection ends that connection alone. Run notes go to the log.
+/// A fault of a connection ends that connection alone: one that sends nonsense, or an exporter whose session can't be opened. A
+/// collector that takes nothing holds up nobody: its subscription is cut when its queue is full, and its writes fail after a while.
+/// A subscription that the administrator begins is delivered to nobody. Who comes and goes is noted in the log.
 ///
 /// # Errors
 /// The policy or a subscription was refused; an address can't be listened on, or a connection couldn't be accepted; a collector
-/// can't be connected to; a thread was refused; memory ran out; or the mediator isn't given back. What runs is ended first.
+/// can't be connected to; a thread was refused; memory ran out; or the mediator isn't given back. What runs is ended first: all who
+/// came in are hung up, and what is queued is sent.
 pub fn listen<
     R: Net<Listener = TcpListener, Stream = TcpStream> + Threads + Wait + Clock + Log + Sync,
 >(rt: &R, alloc: Global, plan: &Plan, mediator: Mediator) -> Result<Closed, ListenFault>
     requires fresh { handed_live mediator ≡ 0 }
+    ensures served { IfOk result (λ closed. IsServed mediator.history closed.mediator.history closed.accepted closed.handed) }
 {
     let handles = handles_for(plan);
     let (entries, handed) = (Blank::new(2 * handles + 1), Blank::new(handles + 1));
@@ -132,6 +137,7 @@ fn listen_with<
     requires entries_parts { (entries.parts ≡ E.parts) × (E.parts ≡ E.all) × (E.all ≡ 2 * handles + 1) }
     requires handed_name { handed.name ≡ H.name }
     requires handed_parts { (handed.parts ≡ H.parts) × (H.parts ≡ H.all) × (H.all ≡ handles + 1) }
+    ensures served { IfOk result (λ closed. IsServed mediator.history closed.mediator.history closed.accepted closed.handed) }
 {
     let shared = SharedMediator::<E, H>::new(alloc, mediator, handles, entries, handed);
     let Hands {

@@ -4,9 +4,10 @@ use crate::exporter::Counts;
 use crate::fault::ServeFault;
 use crate::plan::Collector;
 use counted_mediator::Handed;
-use log::{Log, info, warn};
+use log::{Log, error, info, warn};
 use shared_mediator::{Closed, HandleFault};
 use std::fmt::{self, Display, Formatter, Write};
+use std::io;
 use std::net::SocketAddr;
 
 /// A fault as notes tell it: by its cause, where it has one.
@@ -21,6 +22,22 @@ impl Display for Cause {
             fault => fault.fmt(f),
         }
     }
+}
+
+/// An address can't be listened on.
+pub(crate) fn cannot_listen(rt: &impl Log, address: &str, why: &io::Error) {
+    error!(rt; "cannot listen on {address}: {why}");
+}
+
+/// A connection couldn't be accepted.
+pub(crate) fn cannot_accept(rt: &impl Log, why: &io::Error) {
+    error!(rt; "cannot accept a connection: {why}");
+}
+
+/// A collector can't be connected to.
+pub(crate) fn cannot_connect(rt: &impl Log, collector: &Collector, why: &io::Error) {
+    let (name, address) = (collector.name.as_str(), collector.address.as_str());
+    error!(rt; "cannot connect to collector {name} {address}: {why}");
 }
 
 /// An exporter has connected, and has a session.
@@ -74,20 +91,25 @@ pub(crate) fn collector_begins(rt: &impl Log, collector: &Collector) {
     info!(rt; "collector {name} {address} connected");
 }
 
-/// A delivery has ended, after these messages were pulled.
+/// A delivery has ended, after these messages were pulled; or the subscription was cut before.
 pub(crate) fn collector_ends(
     rt: &impl Log,
     collector: &Collector,
     pulled: &[Handed],
     sent: Result<u64, ServeFault>,
+    cut: bool,
 ) {
     let (name, address) = (collector.name.as_str(), collector.address.as_str());
     let records = pulled
         .iter()
         .fold(0u64, |sum, handed| sum.saturating_add(handed.records));
     match sent {
-        Ok(octets) =>
-            info!(rt; "collector {name} {address} ended: octets {octets} records {records}"),
+        Ok(octets) if cut => {
+            warn!(rt; "collector {name} {address} was cut: octets {octets} records {records}")
+        }
+        Ok(octets) => {
+            info!(rt; "collector {name} {address} ended: octets {octets} records {records}")
+        }
         Err(ServeFault::Write { sent }) => {
             warn!(rt; "collector {name} {address} failed, Write: octets {sent} records {records}")
         }

@@ -90,7 +90,11 @@ fn subscribe_all<E: EntryLedger, H: RecordLedger>(
 }
 
 /// Connects to each collector, and makes the handles of its delivery.
-fn connect_all<E: EntryLedger, H: RecordLedger, R: Net<Stream = TcpStream> + Wait>(
+fn connect_all<
+    E: EntryLedger,
+    H: RecordLedger,
+    R: Net<Listener = TcpListener, Stream = TcpStream> + Wait + Log,
+>(
     rt: &R,
     alloc: Global,
     shared: &SharedMediator<E, H>,
@@ -100,8 +104,12 @@ fn connect_all<E: EntryLedger, H: RecordLedger, R: Net<Stream = TcpStream> + Wai
     let mut outlets = Vec::new(alloc);
     for (place, (collector, sub)) in plan.deliver.iter().zip(subs).enumerate() {
         outlets.reserve(1)?;
-        let Ok(stream) = doors::connect(rt, collector.address.as_str()) else {
-            return Err(ListenFault::Connect { collector: place });
+        let stream = match doors::connect(rt, collector.address.as_str()) {
+            Ok(stream) => stream,
+            Err(why) => {
+                notes::cannot_connect(rt, collector, &why);
+                return Err(ListenFault::Connect { collector: place });
+            }
         };
         let outlet = Outlet {
             delivery: shared.delivery(rt, sub)?,
@@ -215,7 +223,11 @@ fn deliver_to<E: EntryLedger, H: RecordLedger, R: Wait + Clock + Log>(
         target,
         &clock,
     );
-    notes::collector_ends(rt, collector, delivery.kept(), sent);
+    let cut = match admin.status(rt, shared, delivery.sub()) {
+        Ok(stands) => stands.cut,
+        Err(_) => false,
+    };
+    notes::collector_ends(rt, collector, delivery.kept(), sent, cut);
     Delivered { delivery, admin }
 }
 
@@ -285,11 +297,9 @@ fn receive_all<
         return Ok(());
     };
     let line = hall.lines.add(rt, u64::MAX, guest)?;
-    if scope
-        .spawn(move || serve_admin_line(rt, hall, admin, line))
-        .is_err()
-    {
-        return Err(ListenFault::NoThread);
+    match scope.spawn(move || serve_admin_line(rt, hall, admin, line)) {
+        Ok(_serving) => {}
+        Err(_refused) => return Err(ListenFault::NoThread),
     }
     // The administrator has come, so who comes now is an exporter.
     let _no_one = receive_exporters(rt, hall, scope, &mut doors, exporting)?;
@@ -325,7 +335,10 @@ fn receive_exporters<
             }
             Ok(Some(Came::Admin(guest))) => return Ok(Some(guest)),
             Ok(None) => return Ok(None),
-            Err(_) => return Err(ListenFault::Bind),
+            Err(why) => {
+                notes::cannot_accept(rt, &why);
+                return Err(ListenFault::at_door(&why));
+            }
         }
     }
     unreachable!()
