@@ -1,8 +1,9 @@
 //! `ipmd serve`.
 
-ghost use Rattle.std.specs.Prelude.{◌≡◌, IfErr, IfOk, OnOk, string_bytes};
+ghost use Rattle.std.specs.Prelude.{◌≡◌, [], IfErr, IfOk, OnOk, string_bytes};
 ghost use Rattle.std.specs.Io.KnownBytes.{Appends};
 ghost use Rattle.counted_mediator.specs.Counted.{handed_live};
+ghost use Rattle.mediator_server.specs.Listening.{IsServed};
 ghost use Rattle.octet_devices.specs.Device.{device_inner};
 ghost use Rattle.serve_settings.specs.Asked.{asked, pairs};
 ghost use Rattle.ipmd.specs.Serving.{FailsToServe, IsPlanOf, IsPlanned, RefusesToPrepare, RefusesToTell, Serves, collectors_in, listen_fault_of, served};
@@ -61,6 +62,7 @@ pub(crate) fn serve<
 fn prepare<R: Files + AllocGlobal>(rt: &R, path: &str) -> Result<Service, ProgramFault>
     ensures planned { IfOk result (λ service. IsPlanned service.plan) }
     ensures fresh { IfOk result (λ service. handed_live service.mediator ≡ 0) }
+    ensures empty { IfOk result (λ service. service.mediator.history ≡ []) }
     ensures err { IfErr result RefusesToPrepare }
 {
     let text = fs::read_to_string(rt, path)?;
@@ -128,6 +130,7 @@ fn run<R: System + Net<Listener = TcpListener, Stream = TcpStream>, E: Write + S
     errors: &mut Device<E>,
 ) -> Result<Closed, ProgramFault>
     requires fresh { handed_live mediator ≡ 0 }
+    ensures served { IfOk result (λ closed. IsServed mediator.history closed.mediator.history closed.accepted closed.handed) }
     ensures err { IfErr result (λ e. (fault : ListenFault) × (e ≡ listen_fault_of fault)) }
 {
     let notes = Locked::new(rt, DeviceWriter::over(errors));
