@@ -6,6 +6,7 @@ use Rattle.std.specs.Io.KnownBytes.{Appends, Keeps}
 use Rattle.serve_settings.specs.Asked.{Asked, Pair}
 use Rattle.serve_settings.specs.Faults.{IsFaultOf}
 use Rattle.serve_settings.specs.Reading.{settings_of}
+use Rattle.mediator_server.specs.Listening.{IsServed}
 use Rattle.mediator_server.specs.declared.plan.Plan.{Plan}
 use Rattle.mediator_server.specs.declared.plan.Collector.{Collector}
 use Rattle.mediator_server.specs.declared.listening.ListenFault.{ListenFault}
@@ -64,11 +65,13 @@ RefusesToPrepare Close = ⊥
 abbrev pub served : Closed → List ℕ
 served closed = codes "accepted " ++ decimal closed.accepted ++ codes " handed " ++ decimal closed.handed ++ 10 ∷ []
 
--- a plan that settings ask for was served to its end, and what was accepted and handed out was written
+-- a plan that settings ask for was served to its end: in the journal, which began empty, each entry that is to have a receipt has
+-- one, and as many messages and records as the receipts have were written as the counts
 pub record Serves (held holds : Option (List ℕ)) : Type 0 where
   pub plan : Plan
   pub planned : IsPlanned plan
   pub closed : Closed
+  pub is_served : IsServed [] closed.mediator.history closed.accepted closed.handed
   pub written : Appends held holds (served closed)
 
 -- what the program makes of the server's faults

@@ -47,6 +47,7 @@ use offline_filter::OfflineReport;
 use std::convert::AsStr;
 use std::env;
 use std::io::{Read, Write};
+use std::net::{Net, TcpListener, TcpStream};
 use std::process::ExitCode;
 use std::rt::Env;
 
@@ -77,13 +78,13 @@ fn words_after_name<R: Env + AllocGlobal>(rt: &R) -> Result<Vec<String>, Program
 /// refused, 2 for a refused command line, 3 where a device fails. `output` gets what was asked for, and
 /// `errors` the report or the fault, and a server's notes; what `errors` doesn't take is dropped.
 #[tactic(auto, using(crate::proofs::Statuses::no_fault_is_done))]
-pub fn program<R: System, S: AsStr, I: Read + Drop, O: Write, E: Write + Send>(
-    rt: &R,
-    words: &[S],
-    input: I,
-    output: &mut Device<O>,
-    errors: &mut Device<E>,
-) -> u8
+pub fn program<
+    R: System + Net<Listener = TcpListener, Stream = TcpStream>,
+    S: AsStr,
+    I: Read + Drop,
+    O: Write,
+    E: Write + Send,
+>(rt: &R, words: &[S], input: I, output: &mut Device<O>, errors: &mut Device<E>) -> u8
     ensures done { result ≡ 0 → IsDone (map S.text words.now) (I.remaining input) (O.contents (device_inner output.old)) (O.contents (device_inner output.new)) (device_failed errors.new) (E.contents (device_inner errors.old)) (E.contents (device_inner errors.new)) }
     ensures fails { result ≢ 0 → (e : ProgramFault) × (result ≡ status_of e) × IsFault (map S.text words.now) e (I.remaining input) (O.contents (device_inner output.old)) (O.contents (device_inner output.new)) (device_failed errors.new) (E.contents (device_inner errors.old)) (E.contents (device_inner errors.new)) }
 {
@@ -99,7 +100,13 @@ pub fn program<R: System, S: AsStr, I: Read + Drop, O: Write, E: Write + Send>(
 
 /// Does what the words ask for. The report is that of `ipmd offline`.
 #[tactic(auto, using(ipmd_offline::proofs::Lines::kept))]
-fn run<R: System, S: AsStr, I: Read + Drop, O: Write, E: Write + Send>(
+fn run<
+    R: System + Net<Listener = TcpListener, Stream = TcpStream>,
+    S: AsStr,
+    I: Read + Drop,
+    O: Write,
+    E: Write + Send,
+>(
     rt: &R,
     words: &[S],
     input: I,

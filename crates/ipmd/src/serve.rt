@@ -1,8 +1,9 @@
 //! `ipmd serve`.
 
-ghost use Rattle.std.specs.Prelude.{◌≡◌, IfErr, IfOk, OnOk, string_bytes};
+ghost use Rattle.std.specs.Prelude.{◌≡◌, [], IfErr, IfOk, OnOk, string_bytes};
 ghost use Rattle.std.specs.Io.KnownBytes.{Appends};
 ghost use Rattle.counted_mediator.specs.Counted.{handed_live};
+ghost use Rattle.mediator_server.specs.Listening.{IsServed};
 ghost use Rattle.octet_devices.specs.Device.{device_inner};
 ghost use Rattle.serve_settings.specs.Asked.{asked, pairs};
 ghost use Rattle.ipmd.specs.Serving.{FailsToServe, IsPlanOf, IsPlanned, RefusesToPrepare, RefusesToTell, Serves, collectors_in, listen_fault_of, served};
@@ -20,6 +21,7 @@ use shared_mediator::Closed;
 use std::alloc::{AllocError, Global};
 use std::fs;
 use std::io::Write;
+use std::net::{Net, TcpListener, TcpStream};
 use std::rt::Files;
 
 /// The number of the run: a process makes one.
@@ -40,12 +42,11 @@ struct Service {
 /// then the refusals of `listen`: `Policy` or `Core` where the mediator refuses the policy or a subscriber, `Device` where an
 /// address can't be listened on or connected to or a thread is refused, `Close`; `Device` where the output fails; `OutOfMemory`.
 #[tactic(auto, using(ipmd_offline::proofs::Lines::kept))]
-pub(crate) fn serve<R: System, O: Write, E: Write + Send>(
-    rt: &R,
-    path: &str,
-    output: &mut Device<O>,
-    errors: &mut Device<E>,
-) -> Result<(), ProgramFault>
+pub(crate) fn serve<
+    R: System + Net<Listener = TcpListener, Stream = TcpStream>,
+    O: Write,
+    E: Write + Send,
+>(rt: &R, path: &str, output: &mut Device<O>, errors: &mut Device<E>) -> Result<(), ProgramFault>
     ensures ok { OnOk result (Serves (O.contents (device_inner output.old)) (O.contents (device_inner output.new))) }
     ensures err { IfErr result (λ e. FailsToServe e (O.contents (device_inner output.old)) (O.contents (device_inner output.new)) errors.old errors.new) }
 {
@@ -61,6 +62,7 @@ pub(crate) fn serve<R: System, O: Write, E: Write + Send>(
 fn prepare<R: Files + AllocGlobal>(rt: &R, path: &str) -> Result<Service, ProgramFault>
     ensures planned { IfOk result (λ service. IsPlanned service.plan) }
     ensures fresh { IfOk result (λ service. handed_live service.mediator ≡ 0) }
+    ensures empty { IfOk result (λ service. service.mediator.history ≡ []) }
     ensures err { IfErr result RefusesToPrepare }
 {
     let text = fs::read_to_string(rt, path)?;
@@ -121,13 +123,14 @@ fn collectors_of(
 ///
 /// # Errors
 /// Those of `listen`.
-fn run<R: System, E: Write + Send>(
+fn run<R: System + Net<Listener = TcpListener, Stream = TcpStream>, E: Write + Send>(
     rt: &R,
     plan: &Plan,
     mediator: Mediator,
     errors: &mut Device<E>,
 ) -> Result<Closed, ProgramFault>
     requires fresh { handed_live mediator ≡ 0 }
+    ensures served { IfOk result (λ closed. IsServed mediator.history closed.mediator.history closed.accepted closed.handed) }
     ensures err { IfErr result (λ e. (fault : ListenFault) × (e ≡ listen_fault_of fault)) }
 {
     let notes = Locked::new(rt, DeviceWriter::over(errors));
@@ -156,6 +159,7 @@ fn fault_of(fault: ListenFault) -> ProgramFault
 ///
 /// # Errors
 /// `Device` where the output fails, `OutOfMemory`.
+#[tactic(auto, using(ipmd_offline::proofs::Lines::kept))]
 fn tell_closed<O: Write>(
     alloc: Global,
     closed: &Closed,
@@ -164,8 +168,15 @@ fn tell_closed<O: Write>(
     ensures ok { OnOk result (Appends (O.contents (device_inner output.old)) (O.contents (device_inner output.new)) (served closed.now)) }
     ensures err { IfErr result (λ e. RefusesToTell e closed.now (O.contents (device_inner output.old)) (O.contents (device_inner output.new))) }
 {
+    let line = line_of(alloc, closed)?;
+    write_text(output, line.as_str())
+}
+
+/// How many messages were accepted, and how many records were handed out, as a line.
+fn line_of(alloc: Global, closed: &Closed) -> Result<String, AllocError>
+    ensures { IfOk result (λ line. string_bytes line ≡ served closed.now) }
+{
     let accepted = closed.accepted;
     let handed = closed.handed;
-    let line = format!(in alloc; "accepted {accepted} handed {handed}\n")?;
-    write_text(output, line.as_str())
+    format!(in alloc; "accepted {accepted} handed {handed}\n")
 }

@@ -18,6 +18,7 @@ use crate::system::System;
 use octet_devices::Device;
 use std::alloc::{AllocError, Global};
 use std::io::{Read, Write};
+use std::net::{Net, TcpListener, TcpStream};
 use std::process::Abort;
 use std::test::Fail;
 use std::{fs, process, str};
@@ -86,18 +87,21 @@ fn some_room(alloc: Global) -> Result<Vec<u8>, AllocError> {
 }
 
 /// Runs the program between these devices.
-fn run_between<R: System, I: Read + Drop, O: Write, E: Write + Send>(
-    rt: &R,
-    words: &[&str],
-    input: I,
-    output: &mut Device<O>,
-    errors: &mut Device<E>,
-) -> u8 {
+fn run_between<
+    R: System + Net<Listener = TcpListener, Stream = TcpStream>,
+    I: Read + Drop,
+    O: Write,
+    E: Write + Send,
+>(rt: &R, words: &[&str], input: I, output: &mut Device<O>, errors: &mut Device<E>) -> u8 {
     program(rt, words, input, output, errors)
 }
 
 /// Runs the program on streams in memory.
-fn run_on<R: System, I: Read + Drop>(rt: &R, words: &[&str], input: I) -> Result<Ran, AllocError> {
+fn run_on<R: System + Net<Listener = TcpListener, Stream = TcpStream>, I: Read + Drop>(
+    rt: &R,
+    words: &[&str],
+    input: I,
+) -> Result<Ran, AllocError> {
     let mut output = Device::new(some_room(rt.alloc())?);
     let mut errors = Device::new(some_room(rt.alloc())?);
     let status = run_between(rt, words, input, &mut output, &mut errors);
@@ -136,7 +140,7 @@ fn expect_texts<R: Abort>(
 }
 
 /// That a file holds this text.
-fn expect_file<R: System + Abort>(
+fn expect_file<R: System + Net<Listener = TcpListener, Stream = TcpStream> + Abort>(
     rt: &R,
     name: &str,
     path: &str,
@@ -147,13 +151,19 @@ fn expect_file<R: System + Abort>(
 }
 
 /// That the run leaves what it must.
-fn expect_run<R: System + Abort>(rt: &R, run: &Run<'_>) -> Result<(), Fail> {
+fn expect_run<R: System + Net<Listener = TcpListener, Stream = TcpStream> + Abort>(
+    rt: &R,
+    run: &Run<'_>,
+) -> Result<(), Fail> {
     let ran = run_on(rt, run.words, run.input)?;
     expect_texts(rt, run.name, &ran, run.status, run.output, run.errors)
 }
 
 /// That each run leaves what it must.
-fn expect_runs<R: System + Abort>(rt: &R, runs: &[Run<'_>]) -> Result<(), Fail> {
+fn expect_runs<R: System + Net<Listener = TcpListener, Stream = TcpStream> + Abort>(
+    rt: &R,
+    runs: &[Run<'_>],
+) -> Result<(), Fail> {
     for run in runs {
         expect_run(rt, run)?;
     }

@@ -163,6 +163,11 @@ const REFUSED: &[Answer<'static>] = &[
         ],
         part: ONE_POLICY,
     },
+    Answer {
+        name: "no settings",
+        words: &["serve"],
+        part: "--settings <FILE>",
+    },
     // Where the policy is missing, the usage is that of the command that was named.
     Answer {
         name: "usage_of_the_command: check-policy",
@@ -235,7 +240,7 @@ fn ends_with_one_line_feed(octets: &[u8]) -> bool {
 }
 
 /// That the command line is refused with a text that has this part.
-fn expect_refused<R: System + Abort>(
+fn expect_refused<R: System + Net<Listener = TcpListener, Stream = TcpStream> + Abort>(
     rt: &R,
     name: &str,
     words: &[&str],
@@ -251,7 +256,10 @@ fn expect_refused<R: System + Abort>(
 }
 
 /// That each command line is refused with a text that has its part.
-fn expect_each_refused<R: System + Abort>(rt: &R, answers: &[Answer<'_>]) -> Result<(), Fail> {
+fn expect_each_refused<R: System + Net<Listener = TcpListener, Stream = TcpStream> + Abort>(
+    rt: &R,
+    answers: &[Answer<'_>],
+) -> Result<(), Fail> {
     for answer in answers {
         expect_refused(rt, answer.name, answer.words, answer.part)?;
     }
@@ -259,7 +267,7 @@ fn expect_each_refused<R: System + Abort>(rt: &R, answers: &[Answer<'_>]) -> Res
 }
 
 /// That `ipmd offline` is refused for the number that this option has.
-fn expect_refused_number<R: System + Abort>(
+fn expect_refused_number<R: System + Net<Listener = TcpListener, Stream = TcpStream> + Abort>(
     rt: &R,
     option: &str,
     number: &str,
@@ -317,6 +325,11 @@ const HELP: &[Answer<'static>] = &[
         part: "\n  ipmd check-policy --policy-text",
     },
     Answer {
+        name: "serve --help: the levels of the notes",
+        words: &["serve", "--help"],
+        part: "info for the run and for what",
+    },
+    Answer {
         name: "--version",
         words: &["--version"],
         part: "ipmd 0.1.0\n",
@@ -324,7 +337,7 @@ const HELP: &[Answer<'static>] = &[
 ];
 
 /// That a text with this part is written.
-fn expect_shown<R: System + Abort>(
+fn expect_shown<R: System + Net<Listener = TcpListener, Stream = TcpStream> + Abort>(
     rt: &R,
     name: &str,
     words: &[&str],
@@ -338,7 +351,10 @@ fn expect_shown<R: System + Abort>(
 }
 
 /// That each command line has a text with its part written.
-fn expect_each_shown<R: System + Abort>(rt: &R, answers: &[Answer<'_>]) -> Result<(), Fail> {
+fn expect_each_shown<R: System + Net<Listener = TcpListener, Stream = TcpStream> + Abort>(
+    rt: &R,
+    answers: &[Answer<'_>],
+) -> Result<(), Fail> {
     for answer in answers {
         expect_shown(rt, answer.name, answer.words, answer.part)?;
     }

@@ -42,7 +42,11 @@ fn all_shapes(alloc: Global) -> Result<Vec<u8>, Fail> {
 }
 
 /// Runs over a stream, with an audit.
-fn run_audited<R: System>(rt: &R, path: &str, stream: &[u8]) -> Result<Ran, AllocError> {
+fn run_audited<R: System + Net<Listener = TcpListener, Stream = TcpStream>>(
+    rt: &R,
+    path: &str,
+    stream: &[u8],
+) -> Result<Ran, AllocError> {
     let words = [
         "offline",
         "--policy-text",
@@ -56,7 +60,10 @@ fn run_audited<R: System>(rt: &R, path: &str, stream: &[u8]) -> Result<Ran, Allo
 }
 
 /// That all the shapes are taken, and one more is not.
-fn expect_cut<R: System + Abort>(rt: &R, path: &str) -> Result<(), Fail> {
+fn expect_cut<R: System + Net<Listener = TcpListener, Stream = TcpStream> + Abort>(
+    rt: &R,
+    path: &str,
+) -> Result<(), Fail> {
     let mut stream = all_shapes(rt.alloc())?;
     let whole = run_audited(rt, path, stream.as_slice())?;
     let report = "messages 32 records 65280 disclosed 65280\n";

@@ -97,7 +97,7 @@ fn expect_sent<R: Abort>(rt: &R, name: &str, written: &[u8], whole: &[u8], sent:
 }
 
 /// That a run writes this front of the whole, and fails or is done.
-fn expect_front<R: System + Abort>(
+fn expect_front<R: System + Net<Listener = TcpListener, Stream = TcpStream> + Abort>(
     rt: &R,
     name: &str,
     flows: &TwoFlows,
@@ -116,7 +116,10 @@ fn expect_front<R: System + Abort>(
 }
 
 /// Each message is one write, and so is each line; one that fails is the end of what is written.
-fn each_write_fails<R: System + Abort>(rt: &R, flows: &TwoFlows) -> Result<(), Fail> {
+fn each_write_fails<R: System + Net<Listener = TcpListener, Stream = TcpStream> + Abort>(
+    rt: &R,
+    flows: &TwoFlows,
+) -> Result<(), Fail> {
     for (calls, sent) in flows.ends.iter().enumerate() {
         let writer = Narrow::new(rt.alloc(), ROOM, ROOM, calls, BrokenPipe)?;
         expect_front(rt, "each_write_fails", flows, writer, *sent)?;
@@ -125,7 +128,10 @@ fn each_write_fails<R: System + Abort>(rt: &R, flows: &TwoFlows) -> Result<(), F
 }
 
 /// A writer of one octet at a time gets all, and each octet that it took stays.
-fn one_octet_at_a_time<R: System + Abort>(rt: &R, flows: &TwoFlows) -> Result<(), Fail> {
+fn one_octet_at_a_time<R: System + Net<Listener = TcpListener, Stream = TcpStream> + Abort>(
+    rt: &R,
+    flows: &TwoFlows,
+) -> Result<(), Fail> {
     for sent in 0..=flows.whole.len() {
         let writer = Narrow::new(rt.alloc(), ROOM, 1, sent, BrokenPipe)?;
         expect_front(rt, "one_octet_at_a_time", flows, writer, sent)?;
@@ -134,7 +140,10 @@ fn one_octet_at_a_time<R: System + Abort>(rt: &R, flows: &TwoFlows) -> Result<()
 }
 
 /// A writer that takes nothing has failed.
-fn none_taken<R: System + Abort>(rt: &R, flows: &TwoFlows) -> Result<(), Fail> {
+fn none_taken<R: System + Net<Listener = TcpListener, Stream = TcpStream> + Abort>(
+    rt: &R,
+    flows: &TwoFlows,
+) -> Result<(), Fail> {
     let writer = Narrow::new(rt.alloc(), ROOM, 0, ROOM, BrokenPipe)?;
     expect_front(rt, "none_taken", flows, writer, 0)
 }
@@ -150,11 +159,10 @@ fn writers(rt: HostRuntime) -> Result<(), Fail> {
 }
 
 /// That a command says of its output that it failed.
-fn expect_device_fault<R: System + Abort, O: Write + Drop>(
-    rt: &R,
-    words: &[&str],
-    output: O,
-) -> Result<(), Fail> {
+fn expect_device_fault<
+    R: System + Net<Listener = TcpListener, Stream = TcpStream> + Abort,
+    O: Write + Drop,
+>(rt: &R, words: &[&str], output: O) -> Result<(), Fail> {
     let mut output = Device::new(output);
     let mut errors = Device::new(Vec::with_capacity(rt.alloc(), ROOM)?);
     let status = run_between(rt, words, AS_LINES.input, &mut output, &mut errors);
@@ -248,7 +256,10 @@ const READERS: &[Reader] = &[
     },
 ];
 
-fn expect_read<R: System + Abort>(rt: &R, case: &Reader) -> Result<(), Fail> {
+fn expect_read<R: System + Net<Listener = TcpListener, Stream = TcpStream> + Abort>(
+    rt: &R,
+    case: &Reader,
+) -> Result<(), Fail> {
     let flows = case.flows;
     let reader = Sparing::new(flows.input, case.most, case.calls, ConnectionReset);
     let ran = run_on(rt, flows.words, reader)?;
@@ -306,7 +317,11 @@ const UNTOLD: &[Untold] = &[
 ];
 
 /// That so many calls of two octets are taken of what the run says, and the rest is dropped.
-fn expect_untold<R: System + Abort>(rt: &R, case: &Untold, calls: usize) -> Result<(), Fail> {
+fn expect_untold<R: System + Net<Listener = TcpListener, Stream = TcpStream> + Abort>(
+    rt: &R,
+    case: &Untold,
+    calls: usize,
+) -> Result<(), Fail> {
     let mut output = Device::new(Vec::with_capacity(rt.alloc(), ROOM)?);
     let mut errors = Device::new(Narrow::new(rt.alloc(), ROOM, 2, calls, BrokenPipe)?);
     let status = run_between(rt, AS_LINES.words, case.input, &mut output, &mut errors);

@@ -16,7 +16,7 @@ pub struct Example<'a> {
 }
 
 /// That the command of an example writes and says what its files say.
-fn expect_filtered<R: System + Abort>(
+fn expect_filtered<R: System + Net<Listener = TcpListener, Stream = TcpStream> + Abort>(
     rt: &R,
     policy: &str,
     audit: &str,
@@ -40,7 +40,7 @@ fn expect_filtered<R: System + Abort>(
 }
 
 /// That the command of an example leaves what its files say.
-pub fn expect_example<R: System + Abort>(
+pub fn expect_example<R: System + Net<Listener = TcpListener, Stream = TcpStream> + Abort>(
     rt: &R,
     policy: &str,
     audit: &str,
@@ -51,7 +51,7 @@ pub fn expect_example<R: System + Abort>(
     expect_file(rt, example.policy, audit, example.audit)
 }
 
-fn expect_examples<R: System + Abort>(
+fn expect_examples<R: System + Net<Listener = TcpListener, Stream = TcpStream> + Abort>(
     rt: &R,
     policy: &str,
     audit: &str,
@@ -74,7 +74,7 @@ fn examples(rt: HostRuntime) -> Result<(), Fail> {
 }
 
 /// That `check-policy` answers each policy so.
-fn expect_faults<R: System + Abort>(
+fn expect_faults<R: System + Net<Listener = TcpListener, Stream = TcpStream> + Abort>(
     rt: &R,
     path: &str,
     faults: &[(&str, &str)],
@@ -101,7 +101,7 @@ fn policies_with_faults(rt: HostRuntime) -> Result<(), Fail> {
 }
 
 /// That `replay` answers each list of calls so.
-fn expect_replays<R: System + Abort>(
+fn expect_replays<R: System + Net<Listener = TcpListener, Stream = TcpStream> + Abort>(
     rt: &R,
     path: &str,
     replays: &[(&str, &str)],

@@ -24,7 +24,7 @@ pub struct Checked<'a> {
 }
 
 /// That the file is checked so.
-pub fn expect_checked<R: System + Abort>(
+pub fn expect_checked<R: System + Net<Listener = TcpListener, Stream = TcpStream> + Abort>(
     rt: &R,
     path: &str,
     case: &Checked<'_>,
@@ -34,7 +34,7 @@ pub fn expect_checked<R: System + Abort>(
     expect_texts(rt, case.name, &ran, case.status, case.output, case.errors)
 }
 
-fn expect_each_checked<R: System + Abort>(
+fn expect_each_checked<R: System + Net<Listener = TcpListener, Stream = TcpStream> + Abort>(
     rt: &R,
     path: &str,
     cases: &[Checked<'_>],
@@ -168,7 +168,11 @@ struct AuditCase<'a> {
 }
 
 /// That the case runs so.
-fn expect_audit<R: System + Abort>(rt: &R, path: &str, case: &AuditCase<'_>) -> Result<(), Fail> {
+fn expect_audit<R: System + Net<Listener = TcpListener, Stream = TcpStream> + Abort>(
+    rt: &R,
+    path: &str,
+    case: &AuditCase<'_>,
+) -> Result<(), Fail> {
     fs::write(rt, path, "before\n")?;
     let words = [
         "offline",
@@ -239,7 +243,7 @@ const ORDER: &[AuditCase<'static>] = &[
     },
 ];
 
-fn expect_audits<R: System + Abort>(
+fn expect_audits<R: System + Net<Listener = TcpListener, Stream = TcpStream> + Abort>(
     rt: &R,
     path: &str,
     cases: &[AuditCase<'_>],
@@ -288,7 +292,10 @@ const FULL_OUTPUTS: &[FullOutput] = &[
     },
 ];
 
-fn expect_full<R: System + Abort>(rt: &R, case: &FullOutput) -> Result<(), Fail> {
+fn expect_full<R: System + Net<Listener = TcpListener, Stream = TcpStream> + Abort>(
+    rt: &R,
+    case: &FullOutput,
+) -> Result<(), Fail> {
     let full = OpenOptions::new().write(true).open(rt, FULL)?;
     let mut output = Device::new(full);
     let mut errors = Device::new(Vec::with_capacity(rt.alloc(), ROOM)?);

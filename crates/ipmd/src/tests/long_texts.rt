@@ -104,7 +104,10 @@ fn with_word<'a>(
 }
 
 /// That the case runs so.
-fn expect_long<R: System + Abort>(rt: &R, case: &LongRun) -> Result<(), Fail> {
+fn expect_long<R: System + Net<Listener = TcpListener, Stream = TcpStream> + Abort>(
+    rt: &R,
+    case: &LongRun,
+) -> Result<(), Fail> {
     let policy = joined(rt.alloc(), case.policy)?;
     let words = with_word(rt.alloc(), case.words, policy.as_str())?;
     let input = joined(rt.alloc(), case.input)?;

@@ -35,7 +35,11 @@ const RUNS: &[Run<'static>] = &[
 ];
 
 /// That a run was refused memory, and wrote a front of the output.
-fn expect_out_of_memory<R: System + Abort>(rt: &R, ran: &Ran, output: &str) -> Result<(), Fail> {
+fn expect_out_of_memory<R: System + Net<Listener = TcpListener, Stream = TcpStream> + Abort>(
+    rt: &R,
+    ran: &Ran,
+    output: &str,
+) -> Result<(), Fail> {
     let written = str::from_utf8(ran.output.as_slice())?;
     assert!(rt; output.starts_with(written), "{written}");
     expect_text(rt, "refused", ran.errors.as_slice(), "ipmd: OutOfMemory\n")?;
@@ -44,7 +48,10 @@ fn expect_out_of_memory<R: System + Abort>(rt: &R, ran: &Ran, output: &str) -> R
 }
 
 /// The run, a second one where the first was refused memory.
-fn run_again<R: System + Abort>(rt: &R, run: &Run<'_>) -> Result<Ran, Fail> {
+fn run_again<R: System + Net<Listener = TcpListener, Stream = TcpStream> + Abort>(
+    rt: &R,
+    run: &Run<'_>,
+) -> Result<Ran, Fail> {
     let ran = run_on(rt, run.words, run.input)?;
     if ran.status == 0 {
         return Ok(ran);

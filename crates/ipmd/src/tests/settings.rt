@@ -5,11 +5,14 @@ use super::*;
 /// A key and its value.
 type Row<'a> = (&'a str, &'a str);
 
-/// Settings of which each key has a value that it may have; but there is no such policy.
+/// A path at which there is nothing.
+const NOWHERE: &str = "/nowhere/policy";
+
+/// Settings of which each key has a value that it may have; where the policy is, each test says.
 const USUAL: &[Row<'static>] = &[
     ("exporters", "\"127.0.0.1:0\""),
     ("admin", "\"127.0.0.1:0\""),
-    ("policy", "\"/nowhere/policy\""),
+    ("policy", ""),
     ("connections", "1"),
     ("target", "1400"),
     ("queue", "100"),
@@ -54,15 +57,22 @@ const FAULTY: &[Row<'static>] = &[
     ("deliver", "{ acme = 4740 }"),
 ];
 
-/// A text of settings: the usual rows, but at this key that value, or none.
+/// A text of settings: the usual rows, with the policy at this path, but at this key that value, or none.
 pub fn settings_with(
     alloc: Global,
+    policy: &str,
     key: &str,
     value: Option<&str>,
 ) -> Result<String, AllocError> {
+    let policy = format!(in alloc; "\"{policy}\"")?;
     let mut text = String::new(alloc);
     for (name, usual) in USUAL {
-        let value = if *name == key { value } else { Some(*usual) };
+        let usual = if *name == "policy" {
+            policy.as_str()
+        } else {
+            *usual
+        };
+        let value = if *name == key { value } else { Some(usual) };
         if let Some(value) = value {
             push_row(&mut text, name, value)?;
         }
@@ -71,7 +81,7 @@ pub fn settings_with(
 }
 
 /// Adds a row to a text of settings.
-pub fn push_row(text: &mut String, name: &str, value: &str) -> Result<(), AllocError> {
+fn push_row(text: &mut String, name: &str, value: &str) -> Result<(), AllocError> {
     text.push_str(name)?;
     text.push_str(" = ")?;
     text.push_str(value)?;
@@ -79,26 +89,33 @@ pub fn push_row(text: &mut String, name: &str, value: &str) -> Result<(), AllocE
 }
 
 /// Serves by the settings of this text.
-pub fn serve_by<R: System>(rt: &R, path: &str, settings: &[u8]) -> Result<Ran, Fail> {
+pub fn serve_by<R: System + Net<Listener = TcpListener, Stream = TcpStream>>(
+    rt: &R,
+    path: &str,
+    settings: &[u8],
+) -> Result<Ran, Fail> {
     fs::write(rt, path, settings)?;
     Ok(run_on(rt, &["serve", "--settings", path], b"".as_slice())?)
 }
 
 /// That nothing is served for want of a value at this key.
-fn expect_key<R: System + Abort>(
+fn expect_key<R: System + Net<Listener = TcpListener, Stream = TcpStream> + Abort>(
     rt: &R,
     path: &str,
     key: &str,
     value: Option<&str>,
 ) -> Result<(), Fail> {
-    let settings = settings_with(rt.alloc(), key, value)?;
+    let settings = settings_with(rt.alloc(), NOWHERE, key, value)?;
     let ran = serve_by(rt, path, settings.as_bytes())?;
     let errors = format!(in rt.alloc(); "ipmd: settings: {key}\n")?;
     expect_texts(rt, key, &ran, 1, "", errors.as_str())
 }
 
 /// Each key left out, and each that is faulty.
-fn expect_keys<R: System + Abort>(rt: &R, path: &str) -> Result<(), Fail> {
+fn expect_keys<R: System + Net<Listener = TcpListener, Stream = TcpStream> + Abort>(
+    rt: &R,
+    path: &str,
+) -> Result<(), Fail> {
     for (key, _) in USUAL {
         expect_key(rt, path, key, None)?;
     }
@@ -145,7 +162,7 @@ const REFUSED: &[Refused] = &[
     },
 ];
 
-fn expect_each_refused<R: System + Abort>(
+fn expect_each_refused<R: System + Net<Listener = TcpListener, Stream = TcpStream> + Abort>(
     rt: &R,
     path: &str,
     cases: &[Refused],

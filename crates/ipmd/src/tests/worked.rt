@@ -232,7 +232,11 @@ const CASES: &[Case<'static>] = &[
 ];
 
 /// That the case runs so.
-fn expect_case<R: System + Abort>(rt: &R, path: &str, case: &Case<'_>) -> Result<(), Fail> {
+fn expect_case<R: System + Net<Listener = TcpListener, Stream = TcpStream> + Abort>(
+    rt: &R,
+    path: &str,
+    case: &Case<'_>,
+) -> Result<(), Fail> {
     let words = [
         "offline",
         "--policy-text",
@@ -260,7 +264,11 @@ fn expect_case<R: System + Abort>(rt: &R, path: &str, case: &Case<'_>) -> Result
     expect_file(rt, case.name, path, case.audit)
 }
 
-fn expect_cases<R: System + Abort>(rt: &R, path: &str, cases: &[Case<'_>]) -> Result<(), Fail> {
+fn expect_cases<R: System + Net<Listener = TcpListener, Stream = TcpStream> + Abort>(
+    rt: &R,
+    path: &str,
+    cases: &[Case<'_>],
+) -> Result<(), Fail> {
     for case in cases {
         expect_case(rt, path, case)?;
     }
@@ -293,7 +301,10 @@ const LENGTHS_PASSED: &[Piece] = &[
 ];
 
 /// That values of these lengths pass.
-fn value_lengths<R: System + Abort>(rt: &R, path: &str) -> Result<(), Fail> {
+fn value_lengths<R: System + Net<Listener = TcpListener, Stream = TcpStream> + Abort>(
+    rt: &R,
+    path: &str,
+) -> Result<(), Fail> {
     let input = joined(rt.alloc(), LENGTHS)?;
     let output = joined(rt.alloc(), LENGTHS_PASSED)?;
     let case = Case {

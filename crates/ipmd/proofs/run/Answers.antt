@@ -1,0 +1,15 @@
+use Rattle.std.proofs.Common.{map, subst, sym}
+use Rattle.octet_devices.specs.Device.{device_inner}
+use Rattle.offline_filter.proofs.Receiving.{err_gives}
+use Rattle.ipmd.specs.Serving.{FailsToServe}
+use Rattle.ipmd.proofs.Endings.{unserved}
+use Rattle.ipmd.proofs.run.Goals as goal
+
+pub returns-in_err-serve-in-Serve-clause-err : goal.returns-in_err-serve-in-Serve-clause-err
+returns-in_err-serve-in-Serve-clause-err g c =
+    let held = g.O.Write.contents (device_inner c.args.output.now) in
+    let holds = g.O.Write.contents (device_inner c.serve.new.output) in
+    err_gives c.from_residual-in_err-serve-in-Serve.result c.from_residual-in_err-serve-in-Serve.ensures
+    (λ e is. unserved (map g.S.AsStr.text c.args.words.now) c.in-Serve.path e (g.I.Read.remaining c.args.input) held holds c.args.errors.now c.serve.new.errors
+    (rw c.in-Serve.is at c.in_ok-options.ensures.asked)
+    (subst (λ x. FailsToServe x held holds c.args.errors.now c.serve.new.errors) (sym is) c.in_err-serve-in-Serve.ensures.err))
