@@ -155,8 +155,9 @@ A refused call is answered err and its name, as ipmd replay --help has them, and
 goes on. What is no command is answered err Line, and the connection ends.
 
 Standard error notes what happens, a line each, with its level: info for the run and for what
-connects and ends, warn for a fault that ended a connection. A fault of one connection ends that
-connection alone. What standard error says last where the run itself fails, and what to do:
+connects and ends, warn for a fault that ended a connection, or a subscription that was cut, and
+error for what the run itself can't do. A fault of one connection ends that connection alone.
+What standard error says last where the run fails, and what to do:
   ipmd: settings: toml       the settings are no TOML
   ipmd: settings: KEY        the value at KEY is missing, of another type or out of its range
   ipmd: policy line N: KIND  line N of the policy is at fault; see ipmd check-policy --help

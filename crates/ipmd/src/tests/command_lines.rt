@@ -327,7 +327,7 @@ const HELP: &[Answer<'static>] = &[
     Answer {
         name: "serve --help: the levels of the notes",
         words: &["serve", "--help"],
-        part: "info for the run and for what",
+        part: "info for the run and for what\nconnects and ends",
     },
     Answer {
         name: "--version",

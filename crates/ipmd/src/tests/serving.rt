@@ -72,16 +72,20 @@ const UNSERVED: &[Unserved] = &[
     },
 ];
 
-/// That a run ends so, behind its note.
-fn expect_unserved<R: System + Net<Listener = TcpListener, Stream = TcpStream> + Abort>(
+/// That a run serves nothing: behind its note, and what is noted of the fault, stands the fault's line.
+fn expect_fault<R: Abort>(
     rt: &R,
-    path: &str,
-    settings: &str,
-    case: &Unserved,
+    name: &str,
+    ran: &Ran,
+    status: u8,
+    fault: &str,
 ) -> Result<(), Fail> {
-    let ran = serve_by(rt, path, settings.as_bytes())?;
-    let errors = format!(in rt.alloc(); "{RUN_NOTED}{}", case.fault)?;
-    expect_texts(rt, case.name, &ran, case.status, "", errors.as_str())
+    let errors = str::from_utf8(ran.errors.as_slice())?;
+    assert!(rt; errors.starts_with(RUN_NOTED), "{name}: {errors}");
+    assert!(rt; errors.ends_with(fault), "{name}: {errors}");
+    expect_text(rt, name, ran.output.as_slice(), "")?;
+    expect_status(rt, name, ran.status, status);
+    Ok(())
 }
 
 fn expect_each_unserved<R: System + Net<Listener = TcpListener, Stream = TcpStream> + Abort>(
@@ -93,13 +97,14 @@ fn expect_each_unserved<R: System + Net<Listener = TcpListener, Stream = TcpStre
     for case in cases {
         fs::write(rt, policy, case.policy)?;
         let settings = settings_with(rt.alloc(), policy, case.key, Some(case.value))?;
-        expect_unserved(rt, path, settings.as_str(), case)?;
+        let ran = serve_by(rt, path, settings.as_bytes())?;
+        expect_fault(rt, case.name, &ran, case.status, case.fault)?;
     }
     Ok(())
 }
 
 #[test]
-fn unserved(rt: HostRuntime) -> Result<(), Fail> {
+fn faults_of_a_run(rt: HostRuntime) -> Result<(), Fail> {
     let path = scratch_path(&rt, "unserved")?;
     let policy = scratch_path(&rt, "unserved-policy")?;
     expect_each_unserved(&rt, path.as_str(), policy.as_str(), UNSERVED)?;
@@ -134,8 +139,7 @@ fn expect_in_use<R: System + Net<Listener = TcpListener, Stream = TcpStream> + A
     fs::write(rt, policy, PASS_ALL)?;
     let settings = settings_with(rt.alloc(), policy, key, Some(value.as_str()))?;
     let ran = serve_by(rt, path, settings.as_bytes())?;
-    let errors = "[INFO  ipmd] run 1\nipmd: device\n";
-    expect_texts(rt, key, &ran, 3, "", errors)
+    expect_fault(rt, key, &ran, 3, DEVICE)
 }
 
 #[test]
