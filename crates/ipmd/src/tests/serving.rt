@@ -247,7 +247,7 @@ fn take_part<R: System + Net<Listener = TcpListener, Stream = TcpStream> + Abort
 }
 
 /// A run, beside those who take part in it.
-fn serve_stage<R: System + Net<Listener = TcpListener, Stream = TcpStream> + Abort>(
+fn serve_stage<R: System + Net<Listener = TcpListener, Stream = TcpStream> + Abort + Sync>(
     rt: &R,
     stage: &Stage,
 ) -> Result<Ran, AllocError> {
