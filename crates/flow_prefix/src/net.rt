@@ -61,6 +61,20 @@ impl Prefix4 {
         Prefix4 { address, length }
     }
 
+    /// The address, whose bits past the length are 0.
+    pub fn address(&self) -> u32
+        ensures { result ≡ self.now.address }
+    {
+        self.address
+    }
+
+    /// How many of the address's bits count, of 32.
+    pub fn length(&self) -> u8
+        ensures { result ≡ self.now.length }
+    {
+        self.length
+    }
+
     /// Whether the first bits of the value are those of the prefix.
     pub(crate) fn contains(&self, octets: &[u8]) -> bool
         ensures { result ≡ (length octets.now == 4 && is_inside 32 self.now (be_value octets.now)) }
@@ -90,6 +104,20 @@ impl Prefix6 {
         ensures { result ≡ record { address = address; length = length } }
     {
         Prefix6 { address, length }
+    }
+
+    /// The address, whose bits past the length are 0.
+    pub fn address(&self) -> u128
+        ensures { result ≡ self.now.address }
+    {
+        self.address
+    }
+
+    /// How many of the address's bits count, of 128.
+    pub fn length(&self) -> u8
+        ensures { result ≡ self.now.length }
+    {
+        self.length
     }
 
     /// Whether the first bits of the value are those of the prefix.

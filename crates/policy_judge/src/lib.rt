@@ -3,7 +3,7 @@
 //!
 //! - `verdict`: [`RecordVerdict`] with [`RecordAction`], [`ElementVerdict`] with [`ElementAction`].
 //! - `judge`: [`record_verdict`] and [`element_verdict`].
-//! - `rule_match`: whether a rule matches.
+//! - `rule_match`: [`matches_record`] and [`matches_field`], whether a rule matches.
 //! - `laws`: [`others_never_matter`] and [`later_rules_never_matter`], proved over the definitions.
 //! - `occurrences`: a record's source and destination addresses.
 //!
@@ -21,4 +21,5 @@ mod verdict;
 
 pub use judge::{element_verdict, record_verdict};
 pub use laws::{later_rules_never_matter, others_never_matter};
+pub use rule_match::{matches_field, matches_record};
 pub use verdict::{ElementAction, ElementVerdict, RecordAction, RecordVerdict};

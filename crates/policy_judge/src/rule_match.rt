@@ -9,14 +9,14 @@ use ipfix_template::Record;
 use policy_text::{Action, Name, Rule};
 
 /// Whether the rule is one on records that matches this record for the subscriber.
-pub(crate) fn matches_record(rule: &Rule, name: &[u8], domain: u32, flow_record: &Record) -> bool
+pub fn matches_record(rule: &Rule, name: &[u8], domain: u32, flow_record: &Record) -> bool
     ensures { result ≡ matches_record name.now domain flow_record.now rule.now }
 {
     is_on_records(rule.action) && is_for(rule, name, domain) && covers(rule, flow_record)
 }
 
 /// Whether the rule is one on fields that matches a field of this element of the record for the subscriber.
-pub(crate) fn matches_field(
+pub fn matches_field(
     rule: &Rule,
     name: &[u8],
     domain: u32,
