@@ -35,7 +35,7 @@
 //! Proved of `listen`: at Ok the history has gone on from that of the mediator handed in, and each message, edit, begin and end of
 //! a subscription and advance of the clock in it since then has a receipt of its own; so many messages are among them, and so many
 //! records were handed out, as it answers (`served`). Beyond that it is safe. What goes over sockets, and that all ends, is shown by
-//! no test here yet; `bench/interop` runs it with real tools.
+//! tests over loopback alone; `bench/interop` runs it with real tools.
 //!
 //! Shown by tests alone, in `server_tests`: that the session is closed and the subscription ended, which happens under the lock,
 //! where no clause can look; and so why a call of an administrator is refused, how a subscription stands, and what of the audit is
