@@ -1,8 +1,12 @@
-//! `ipmd serve`: runs that can't begin.
+//! `ipmd serve` on sockets: a run from its begin to its end, and runs that can't begin.
 
 use super::settings::{serve_by, settings_with};
 use super::*;
-use std::io;
+use std::rt::Files;
+use std::sync::Wait;
+use std::thread::Threads;
+use std::time::{Clock, Duration};
+use std::{io, thread};
 
 /// What is noted of a run before it serves.
 const RUN_NOTED: &str = "[INFO  ipmd] run 1\n";
@@ -113,7 +117,7 @@ fn faults_of_a_run(rt: HostRuntime) -> Result<(), Fail> {
 }
 
 /// A listener on a port that was free.
-fn free_door<R: System + Net<Listener = TcpListener, Stream = TcpStream>>(
+fn free_door<R: Net<Listener = TcpListener, Stream = TcpStream>>(
     rt: &R,
 ) -> io::Result<TcpListener> {
     TcpListener::bind(rt, "127.0.0.1:0")
@@ -148,6 +152,135 @@ fn address_in_use(rt: HostRuntime) -> Result<(), Fail> {
     expect_in_use(&rt, path.as_str(), policy.as_str(), "exporters")?;
     expect_in_use(&rt, path.as_str(), policy.as_str(), "admin")?;
     fs::remove_file(&rt, path.as_str())?;
+    fs::remove_file(&rt, policy.as_str())?;
+    Ok(())
+}
+
+/// The octets of `FLOW`.
+const FLOW_OCTETS: &[u8] = b"\x00\x0a\x00\x32\x65\x53\xf1\x00\x00\x00\x00\x00\x00\x00\x00\x07\
+\x00\x02\x00\x14\x01\x00\x00\x03\x00\x08\x00\x04\x00\x07\x00\x02\x00\x01\x00\x04\
+\x01\x00\x00\x0e\xc0\x00\x02\x4d\x01\xbb\x00\x00\x05\xdc";
+
+/// What a collector gets of them behind the Export Time, where all passes.
+const FLOW_DELIVERED: &[u8] = b"\x00\x00\x00\x00\x00\x00\x00\x00\
+\x00\x02\x00\x14\x01\x00\x00\x03\x00\x08\x00\x04\x00\x07\x00\x02\x00\x01\x00\x04\
+\x01\x00\x00\x0e\xc0\x00\x02\x4d\x01\xbb\x00\x00\x05\xdc";
+
+/// Who takes part in a run beside the program: where it is reached, its settings' file, and acme's collector.
+#[derive(Drop)]
+struct Stage {
+    exporters: String,
+    admin: String,
+    settings: String,
+    collector: TcpListener,
+}
+
+/// Sets a run up for one exporter, with the policy at this path.
+fn set_up<R: Files + AllocGlobal + Net<Listener = TcpListener, Stream = TcpStream>>(
+    rt: &R,
+    settings: String,
+    policy: &str,
+) -> Result<Stage, Fail> {
+    let alloc = rt.alloc();
+    let collector = free_door(rt)?;
+    let acme = address_of(alloc, &collector)?;
+    let exporters = address_of(alloc, &free_door(rt)?)?;
+    let admin = address_of(alloc, &free_door(rt)?)?;
+    let text = format!(in alloc;
+        "exporters = \"{exporters}\"\nadmin = \"{admin}\"\npolicy = \"{policy}\"\nconnections = 1\ntarget = 1400\nqueue = 100\nshapes = 100\naudit = 100\njournal_entries = 1000\njournal_octets = 1000000\nturns = 1000\n[deliver]\nacme = \"{acme}\"\n"
+    )?;
+    fs::write(rt, policy, PASS_ALL)?;
+    fs::write(rt, settings.as_str(), text.as_str())?;
+    Ok(Stage {
+        exporters,
+        admin,
+        settings,
+        collector,
+    })
+}
+
+/// Connects to a server as soon as it listens, for ten seconds at most.
+fn reach<R: Net<Listener = TcpListener, Stream = TcpStream> + Clock + Abort>(
+    rt: &R,
+    address: &str,
+) -> TcpStream {
+    for _ in 0..2000 {
+        if let Ok(stream) = TcpStream::connect(rt, address) {
+            return stream;
+        }
+        thread::sleep(rt, Duration::from_millis(5));
+    }
+    panic!(rt; "nobody listens on {address}")
+}
+
+/// That what comes is acme's message, and nothing behind it.
+fn expect_delivered<R: Abort>(rt: &R, message: &[u8]) {
+    assert!(rt; message.get(..4) == FLOW_OCTETS.get(..4));
+    assert!(rt; message.get(8..) == Some(FLOW_DELIVERED));
+}
+
+/// That the clock is advanced by a command of the admin connection.
+fn expect_advanced<R: Abort>(rt: &R, mut admin: &TcpStream) -> io::Result<()> {
+    admin.write_all(b"advance 1000\n")?;
+    let mut answer = [0u8; 3];
+    admin.read_exact(&mut answer)?;
+    assert!(rt; answer == *b"ok\n");
+    Ok(())
+}
+
+/// The others in a run: an exporter that sends a message and ends, and the administrator; answers what acme's collector gets.
+fn take_part<R: Net<Listener = TcpListener, Stream = TcpStream> + AllocGlobal + Clock + Abort>(
+    rt: &R,
+    stage: &Stage,
+) -> io::Result<Vec<u8>> {
+    let (mut collector, _) = stage.collector.accept()?;
+    let mut exporter = reach(rt, stage.exporters.as_str());
+    exporter.write_all(FLOW_OCTETS)?;
+    drop(exporter);
+    let mut message = Vec::from_elem(rt.alloc(), 0, FLOW_OCTETS.len())?;
+    collector.read_exact(message.as_mut_slice())?;
+    let admin = reach(rt, stage.admin.as_str());
+    expect_advanced(rt, &admin)?;
+    drop(admin);
+    collector.read_to_end(&mut message)?;
+    Ok(message)
+}
+
+/// That a run is noted from its begin to its end.
+fn expect_noted<R: Abort>(rt: &R, errors: &[u8]) -> Result<(), Fail> {
+    let notes = str::from_utf8(errors)?;
+    assert!(rt; notes.starts_with(RUN_NOTED), "{notes}");
+    assert!(rt;
+        notes.contains(" ended: messages 1 records 1 gaps 0\n"),
+        "{notes}"
+    );
+    Ok(())
+}
+
+#[test]
+fn served(rt: HostRuntime) -> Result<(), Fail> {
+    let policy = scratch_path(&rt, "served-policy")?;
+    let stage = set_up(&rt, scratch_path(&rt, "served")?, policy.as_str())?;
+    // Those who take part are in a thread of their own.
+    let (ran, message) = thread::scope(thread::scope_env(), &rt, |scope| {
+        let Ok(peers) = scope.spawn(|| take_part(&rt, &stage)) else {
+            panic!(rt; "no thread");
+        };
+        let words = ["serve", "--settings", stage.settings.as_str()];
+        let ran = run_on(&rt, &words, b"".as_slice());
+        (ran, peers.join(&rt))
+    });
+    let (ran, message) = (ran?, message?);
+    expect_delivered(&rt, message.as_slice());
+    expect_noted(&rt, ran.errors.as_slice())?;
+    expect_text(
+        &rt,
+        "served",
+        ran.output.as_slice(),
+        "accepted 1 handed 1\n",
+    )?;
+    expect_status(&rt, "served", ran.status, 0);
+    fs::remove_file(&rt, stage.settings.as_str())?;
     fs::remove_file(&rt, policy.as_str())?;
     Ok(())
 }
