@@ -3,7 +3,9 @@
 use crate::meaning::expect_told;
 use crate::notes::expect_notes;
 use crate::octets::{BAD_SET_LENGTH, GOOD_AND_BAD, GOOD_AND_HALF, broad, record_of_port};
-use crate::peers::{ask, collect, expect_answer, reach, send, take, take_all, take_message};
+use crate::peers::{
+    ask, collect, expect_answer, expect_closed, reach, send, take, take_all, take_message,
+};
 use crate::stage::{PASS, ROOMY, Stage, run, set_up};
 use log::sink::Locked;
 use log::{Level, Log, Logged};
@@ -261,7 +263,7 @@ struct Idled {
 }
 
 /// Acme's collector takes nothing, and beta's keeps pace with the exporter, until acme is cut. Then acme's takes all that comes, if
-/// it wakes; or its connection stays until all is over.
+/// it wakes, and goes.
 fn one_takes_nothing<
     R: Net<Listener = TcpListener, Stream = TcpStream>
         + Threads
@@ -285,10 +287,9 @@ fn one_takes_nothing<
         } else {
             Vec::new(alloc)
         };
-        let rest = take_all(rt, alloc, &other);
-        assert!(rt; rest.is_empty());
-        let closed = server.join(rt);
         drop(idle);
+        expect_closed(rt, alloc, &other);
+        let closed = server.join(rt);
         Ok(Idled {
             ended: Ended { closed, collected },
             woken,
