@@ -1,0 +1,94 @@
+ghost use Rattle.std.specs.Prelude.{◌≡◌, ◌++◌, IfOk, OnOk};
+ghost use Rattle.std.specs.List.{filter_map};
+ghost use Rattle.rule_table.specs.Addresses.{addresses_of};
+ghost use Rattle.rule_table.specs.Asked.{asked_at, asked_of, with_asked, asked_by, asked};
+
+use crate::addresses::{Address, Shape, addresses_of, first_bits};
+use crate::marks::{ANY_SUBSCRIBER, domain_mark, inside_mark, name_mark};
+use ipfix_template::Record;
+use policy_judge::Side;
+use std::alloc::{AllocError, Global};
+
+/// The marks that are looked up for a record.
+pub(crate) fn asked(
+    alloc: Global,
+    sources: &[Shape],
+    destinations: &[Shape],
+    name: &[u8],
+    domain: u32,
+    flow_record: &Record,
+) -> Result<Vec<u64>, AllocError>
+    ensures { IfOk result (λ marks. marks.items ≡ asked name.now domain sources.now destinations.now flow_record.now) }
+{
+    let from = addresses_of(alloc, Side::Source, flow_record)?;
+    let to = addresses_of(alloc, Side::Destination, flow_record)?;
+    let mut marks = Vec::new(alloc);
+    let any = ANY_SUBSCRIBER;
+    ask(any, domain, sources, destinations, &from, &to, &mut marks)?;
+    let one = name_mark(name);
+    ask(one, domain, sources, destinations, &from, &to, &mut marks)?;
+    Ok(marks)
+}
+
+/// Adds what is looked up for the rules of a subscriber, or for those of any.
+fn ask(
+    who: u64,
+    domain: u32,
+    sources: &[Shape],
+    destinations: &[Shape],
+    from: &[Address],
+    to: &[Address],
+    marks: &mut Vec<u64>,
+) -> Result<(), AllocError>
+    ensures { OnOk result (marks.new.items ≡ with_asked who domain (asked_of who Side.Source sources.now from.now) (asked_of who Side.Destination destinations.now to.now) marks.old.items) }
+{
+    marks.push(who)?;
+    marks.push(domain_mark(who, domain))?;
+    ask_all(who, Side::Source, sources, from, marks)?;
+    ask_all(who, Side::Destination, destinations, to, marks)
+}
+
+/// Adds the marks of all prefixes of these shapes that these addresses are inside.
+fn ask_all(
+    who: u64,
+    side: Side,
+    shapes: &[Shape],
+    addresses: &[Address],
+    marks: &mut Vec<u64>,
+) -> Result<(), AllocError>
+    ensures { OnOk result (marks.new.items ≡ marks.old.items ++ asked_of who side shapes.now addresses.now) }
+{
+    for address in addresses {
+        ask_one(who, side, shapes, *address, marks)?;
+    }
+    Ok(())
+}
+
+/// Adds the marks of all prefixes of these shapes that this address is inside.
+fn ask_one(
+    who: u64,
+    side: Side,
+    shapes: &[Shape],
+    address: Address,
+    marks: &mut Vec<u64>,
+) -> Result<(), AllocError>
+    ensures { OnOk result (marks.new.items ≡ marks.old.items ++ filter_map (asked_at who side address) shapes.now) }
+{
+    for shape in shapes {
+        if let Some(mark) = asked_at(who, side, address, *shape) {
+            marks.push(mark)?;
+        }
+    }
+    Ok(())
+}
+
+/// The mark of the prefix of this shape that the address is inside, if the shape is one for such addresses.
+fn asked_at(who: u64, side: Side, address: Address, shape: Shape) -> Option<u64>
+    ensures { result ≡ asked_at who side address shape }
+{
+    if shape.width != address.width {
+        return None;
+    }
+    let number = first_bits(shape.width, shape.length, address.number);
+    Some(inside_mark(who, side, shape.width, shape.length, number))
+}
