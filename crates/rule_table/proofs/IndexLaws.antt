@@ -1,0 +1,60 @@
+-- Entries, and where those of a mark stand among ascending ones.
+use Rattle.std.proofs.Common.{◌≡◌, ◌⊎◌, ℕ, zero, suc, ◌+◌, ◌*◌, ◌%◌, ◌^◌, ◌-◌, ◌<◌, ◌≤◌, List, [], ◌∷◌, ◌++◌, length, get_or, take, drop, map, Some, refl, ap, sym, ◌∙◌, subst, arith, inl, inr, add-zero}
+use Rattle.std.specs.Prelude.{slice_get}
+use Rattle.std.specs.List.{Contains, enumerate_from}
+use Rattle.std.proofs.lemmas.Bool.{cases_lt}
+use Rattle.std.proofs.lemmas.Option.{same_Some, slice_get_within}
+use Rattle.std.proofs.lemmas.List.{get_or_default, get_or-take, get_or-drop, length-take-le, length-drop}
+use Rattle.policy_text.specs.declared.rule.Rule.{Rule}
+use Rattle.rule_table.specs.Marks.{rule_mark}
+use Rattle.rule_table.specs.Index.{entry, entry_of, entries_of}
+use Rattle.rule_table.proofs.Members.{here, behind}
+
+-- ---- each rule has its entry
+
+there : (n : ℕ) (rules : List Rule) (k : ℕ) (rule : Rule) → slice_get rules k ≡ Some rule → Contains (map entry_of (enumerate_from n rules)) (entry (rule_mark rule) (n + k))
+there n [] k rule e = absurd (cc)
+there n (x ∷ xs) zero rule e =
+    here _ _ _ (ap (λ r. entry (rule_mark r) n) (same_Some x rule e) ∙ ap (entry (rule_mark rule)) (sym (add-zero n)))
+there n (x ∷ xs) (suc k) rule e =
+    let place : n + 1 + k ≡ n + suc k = omega arith in
+    let P : ℕ → Type 0 = λ p. Contains (map entry_of (enumerate_from (n + 1) xs)) (entry (rule_mark rule) p) in
+    behind _ _ _ (subst P place (there (n + 1) xs k rule e))
+
+pub entry_there : (rules : List Rule) (k : ℕ) (rule : Rule) → slice_get rules k ≡ Some rule → Contains (entries_of rules) (entry (rule_mark rule) k)
+entry_there rules k rule e =
+    let place : 0 + k ≡ k = omega arith in
+    let P : ℕ → Type 0 = λ p. Contains (entries_of rules) (entry (rule_mark rule) p) in
+    subst P place (there 0 rules k rule e)
+
+-- ---- the place behind a mark
+
+pub place_of : (mark place : ℕ) → place < 4096 → entry mark place % 2 ^ 64 ≡ place
+place_of mark place few = omega arith
+
+-- ---- what isn't below a bound, and what is
+
+from_bound_at : (entries : List ℕ) (n bound e k : ℕ) → ((i : ℕ) → i < n → get_or entries i 0 < bound) → bound ≤ e → k < length entries → get_or entries k e ≡ e
+    → (k < n) ⊎ (n ≤ k) → Contains (drop n entries) e
+from_bound_at entries n bound e k below up l at (inl less) =
+    let same = get_or_default entries k 0 e l in
+    absurd (omega (arith, below k less, same, at))
+from_bound_at entries n bound e k below up l at (inr more) =
+    let long : k - n < length (drop n entries) = rw length-drop (omega arith) in
+    let place : n + (k - n) ≡ k = omega arith in
+    (k - n, long, get_or-drop n entries (k - n) e ∙ ap (λ i. get_or entries i e) place ∙ at)
+
+pub from_bound : (entries : List ℕ) (n bound e : ℕ) → ((i : ℕ) → i < n → get_or entries i 0 < bound) → bound ≤ e → Contains entries e → Contains (drop n entries) e
+from_bound entries n bound e below up (k, l, at) = from_bound_at entries n bound e k below up l at (cases_lt k n)
+
+to_bound_at : (entries : List ℕ) (n bound e k : ℕ) → n ≤ length entries → ((i : ℕ) → n ≤ i → i < length entries → bound ≤ get_or entries i 0) → e < bound → k < length entries
+    → get_or entries k e ≡ e → (k < n) ⊎ (n ≤ k) → Contains (take n entries) e
+to_bound_at entries n bound e k within above down l at (inl less) =
+    let long : k < length (take n entries) = rw (length-take-le n entries within) less in
+    (k, long, get_or-take n entries k e less ∙ at)
+to_bound_at entries n bound e k within above down l at (inr more) =
+    let same = get_or_default entries k 0 e l in
+    absurd (omega (arith, above k more l, same, at))
+
+pub to_bound : (entries : List ℕ) (n bound e : ℕ) → n ≤ length entries → ((i : ℕ) → n ≤ i → i < length entries → bound ≤ get_or entries i 0) → e < bound → Contains entries e → Contains (take n entries) e
+to_bound entries n bound e within above down (k, l, at) = to_bound_at entries n bound e k within above down l at (cases_lt k n)

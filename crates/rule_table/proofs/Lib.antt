@@ -1,0 +1,6 @@
+pub mod Members
+pub mod FirstLaws
+pub mod ShapeLaws
+pub mod IndexLaws
+pub mod AskedLaws
+pub mod TableLaws
