@@ -29,3 +29,6 @@ mod table;
 
 pub use candidates::Candidates;
 pub use table::RuleTable;
+
+#[cfg(test)]
+mod tests;
