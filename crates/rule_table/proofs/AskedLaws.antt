@@ -85,10 +85,11 @@ in_domain who domain from to marks =
     Contains-append_left _ _ _ (Contains-append_left _ _ _ (Contains-push (marks ++ who ∷ []) (domain_mark who domain)))
 
 in_from : (who domain : ℕ) (from to marks : List ℕ) (m : ℕ) → Contains from m → Contains (with_asked who domain from to marks) m
-in_from who domain from to marks m c = Contains-append_left _ _ m (Contains-append_right _ _ m c)
+in_from who domain from to marks m c =
+    Contains-append_left (marks ++ who ∷ [] ++ domain_mark who domain ∷ [] ++ from) to m (Contains-append_right (marks ++ who ∷ [] ++ domain_mark who domain ∷ []) from m c)
 
 in_to : (who domain : ℕ) (from to marks : List ℕ) (m : ℕ) → Contains to m → Contains (with_asked who domain from to marks) m
-in_to who domain from to marks m c = Contains-append_right _ _ m c
+in_to who domain from to marks m c = Contains-append_right (marks ++ who ∷ [] ++ domain_mark who domain ∷ [] ++ from) to m c
 
 -- ---- the mark of a rule
 
@@ -117,6 +118,7 @@ for_whom name domain ss ds r (Some w) mark each e =
 pub asked_rule : (name : List ℕ) (domain : ℕ) (ss ds : List Shape) (r : DataRecord) (rule : Rule) → may_match name domain r rule ≡ true
     → IfSome rule.from (λ prefix. Contains ss (shape_of prefix)) → IfSome rule.to (λ prefix. Contains ds (shape_of prefix))
     → Contains (asked name domain ss ds r) (rule_mark rule)
+unfolding rule_mark
 asked_rule name domain ss ds r rule e sf st =
     let parts = and_parts (is_for name domain rule) (touches r rule) e in
     let whom = and_parts (is_met (bytes_eq name) rule.who) (is_met (λ d. d == domain) rule.domain) parts.0 in

@@ -8,7 +8,8 @@ use Rattle.std.proofs.lemmas.List.{get_or_default, get_or-take, get_or-drop, len
 use Rattle.policy_text.specs.declared.rule.Rule.{Rule}
 use Rattle.rule_table.specs.Marks.{rule_mark}
 use Rattle.rule_table.specs.Index.{entry, entry_of, entries_of}
-use Rattle.rule_table.proofs.Members.{here, behind}
+use Rattle.std.proofs.lemmas.List.Elements.{Contains-append_left, Contains-append_right}
+use Rattle.rule_table.proofs.Members.{here, behind, mapped}
 
 -- ---- each rule has its entry
 
@@ -58,3 +59,33 @@ to_bound_at entries n bound e k within above down l at (inr more) =
 
 pub to_bound : (entries : List ℕ) (n bound e : ℕ) → n ≤ length entries → ((i : ℕ) → n ≤ i → i < length entries → bound ≤ get_or entries i 0) → e < bound → Contains entries e → Contains (take n entries) e
 to_bound entries n bound e within above down (k, l, at) = to_bound_at entries n bound e k within above down l at (cases_lt k n)
+
+-- ---- the places under the marks so far
+
+-- each place that stands under one of the first n marks is among these
+abbrev pub HoldsUnder : List ℕ → List ℕ → ℕ → List ℕ → Type 0
+HoldsUnder entries marks n places = (k place : ℕ) → k < n → place < 4096 → Contains entries (entry (get_or marks k 0) place) → Contains places place
+
+more_at : (entries marks found old : List ℕ) (i k place : ℕ) → HoldsUnder entries marks i old
+    → ((p : ℕ) → p < 4096 → Contains entries (entry (get_or marks i 0) p) → Contains found (entry (get_or marks i 0) p))
+    → k < i + 1 → place < 4096 → Contains entries (entry (get_or marks k 0) place) → (k < i) ⊎ (i ≤ k) → Contains (old ++ map (λ e. e % 2 ^ 64) found) place
+more_at entries marks found old i k place holds finds l few there (inl less) = Contains-append_left old (map (λ e. e % 2 ^ 64) found) place (holds k place less few there)
+more_at entries marks found old i k place holds finds l few there (inr more) =
+    let same : k ≡ i = omega arith in
+    let P : ℕ → Type 0 = λ n. Contains entries (entry (get_or marks n 0) place) in
+    let e = entry (get_or marks i 0) place in
+    let Q : ℕ → Type 0 = λ n. Contains (map (λ f. f % 2 ^ 64) found) n in
+    Contains-append_right old (map (λ f. f % 2 ^ 64) found) place (subst Q (place_of (get_or marks i 0) place few) (mapped (λ f. f % 2 ^ 64) found e (finds place few (subst P same there))))
+
+pub holds_more : (entries marks found old new : List ℕ) (i : ℕ) → new ≡ old ++ map (λ e. e % 2 ^ 64) found → HoldsUnder entries marks i old
+    → ((p : ℕ) → p < 4096 → Contains entries (entry (get_or marks i 0) p) → Contains found (entry (get_or marks i 0) p)) → HoldsUnder entries marks (i + 1) new
+holds_more entries marks found old new i grown holds finds k place l few there =
+    let P : List ℕ → Type 0 = λ ps. Contains ps place in
+    subst P (sym grown) (more_at entries marks found old i k place holds finds l few there (cases_lt k i))
+
+pub holds_all : (entries marks places : List ℕ) (n : ℕ) → length marks ≤ n → HoldsUnder entries marks n places
+    → (mark place : ℕ) → place < 4096 → Contains marks mark → Contains entries (entry mark place) → Contains places place
+holds_all entries marks places n all holds mark place few (k, l, at) there =
+    let same : mark ≡ get_or marks k 0 = sym at ∙ get_or_default marks k mark 0 l in
+    let P : ℕ → Type 0 = λ m. Contains entries (entry m place) in
+    holds k place (omega arith) few (subst P same there)

@@ -4,3 +4,4 @@ pub mod ShapeLaws
 pub mod IndexLaws
 pub mod AskedLaws
 pub mod TableLaws
+pub mod VerdictLaws

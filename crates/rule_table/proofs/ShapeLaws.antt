@@ -25,3 +25,9 @@ truncated-none w n v below most =
     let small : v < 2 ^ (w - n) = omega (arith, below, up) in
     let none : v / 2 ^ (w - n) ≡ 0 = div-eq_of_lt small in
     rw none (omega arith)
+
+-- the same of a test's answer, over the shapes as they were read
+pub noted : (shapes read : List Shape) (shape : Shape) (there : Bool) → read ≡ shapes
+    → there ≡ list_any (λ other. other.width == shape.width && other.length == shape.length) read → there ≡ true → Contains shapes shape
+noted shapes read shape there same is yes' =
+    has_shape shapes shape (ap (list_any (λ (other : Shape). other.width == shape.width && other.length == shape.length)) (sym same) ∙ sym is ∙ yes')

@@ -45,5 +45,6 @@ telling_mark who None (Some to) domain = prefix_mark who Destination to
 telling_mark who None None (Some domain) = domain_mark who domain
 telling_mark who None None None = who
 
-abbrev pub rule_mark : Rule → ℕ
+-- the mark under which a rule stands
+unfoldable pub rule_mark : Rule → ℕ
 rule_mark rule = telling_mark (who_mark rule.who) rule.from rule.to rule.domain

@@ -84,6 +84,7 @@ fn prefix_mark(who: u64, side: Side, prefix: &Prefix) -> u64
 }
 
 /// The mark under which a rule stands.
+#[tactic(auto, unfolding(crate::specs::Marks::rule_mark))]
 pub(crate) fn rule_mark(rule: &Rule) -> u64
     ensures { result ≡ rule_mark rule.now }
 {
