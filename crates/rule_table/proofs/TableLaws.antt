@@ -53,3 +53,18 @@ complete rules entries ss ds marks places name domain r index are each up = reco
     let marked = subst P (sym are) (asked_rule name domain ss ds r s.rule s.is (shape_there Source rules ss place s.rule index.from s.at) (shape_there Destination rules ds place s.rule index.to s.at)) in
     each (rule_mark s.rule) place few marked (Contains-permutation (entries_of rules) entries (entry (rule_mark s.rule) place) index.each (entry_there rules place s.rule s.at));
 }
+
+-- the same over the lists as they were read
+pub complete_read : (rules rules' : List Rule) (entries entries' : List ℕ) (ss ss' ds ds' : List Shape) (marks marks' places name name' : List ℕ) (domain : ℕ) (r : DataRecord)
+    → IsIndex rules entries ss ds → rules' ≡ rules → entries' ≡ entries → ss' ≡ ss → ds' ≡ ds → marks' ≡ marks → name' ≡ name → marks ≡ asked name' domain ss' ds' r
+    → ((mark place : ℕ) → place < 4096 → Contains marks' mark → Contains entries' (entry mark place) → Contains places place)
+    → IsNonDecreasing places
+    → AreCandidates (record { rules = rules'; name = name; domain = domain; flow_record = r }) places
+complete_read rules rules' entries entries' ss ss' ds ds' marks marks' places name name' domain r index e1 e2 e3 e4 e5 e6 are each up =
+    let P1 : List Rule → Type 0 = λ x. IsIndex x entries ss ds in
+    let P2 : List ℕ → Type 0 = λ x. IsIndex rules' x ss ds in
+    let P3 : List Shape → Type 0 = λ x. IsIndex rules' entries' x ds in
+    let P4 : List Shape → Type 0 = λ x. IsIndex rules' entries' ss' x in
+    let P6 : List ℕ → Type 0 = λ x. AreCandidates (record { rules = rules'; name = x; domain = domain; flow_record = r }) places in
+    let read = subst P4 (sym e4) (subst P3 (sym e3) (subst P2 (sym e2) (subst P1 (sym e1) index))) in
+    subst P6 e6 (complete rules' entries' ss' ds' marks' places name' domain r read (e5 ∙ are) each up)
