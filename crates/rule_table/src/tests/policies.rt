@@ -5,6 +5,7 @@ use std::alloc::AllocError;
 use std::fmt::Write;
 
 /// A linear congruential generator (Knuth's MMIX).
+#[derive(Drop)]
 pub struct Random {
     state: u64,
 }
