@@ -11,6 +11,9 @@ use Rattle.flow_prefix.specs.declared.prefix.Prefix.TheVariants.{V4, V6}
 use Rattle.flow_prefix.specs.Bits.{truncated}
 use Rattle.flow_prefix.specs.Net.{Net, is_inside}
 use Rattle.flow_prefix.specs.Prefixes.{contains}
+use Rattle.ipfix_element.specs.Element.{Element}
+use Rattle.ipfix_element.proofs.NameLaws.{same_element}
+use Rattle.ipfix_template.specs.Equality.{same_pen}
 use Rattle.ipfix_template.specs.declared.field.FieldSpec.{FieldSpec}
 use Rattle.ipfix_template.specs.DataRecord.{DataRecord}
 use Rattle.policy_text.specs.declared.rule.Rule.{Rule}
@@ -18,15 +21,15 @@ use Rattle.policy_judge.specs.declared.occurrences.Side.{Side}
 use Rattle.policy_judge.specs.declared.occurrences.Side.TheVariants.{Source, Destination}
 use Rattle.policy_judge.specs.Occurrences.{values_of, sources, destinations}
 use Rattle.policy_judge.specs.Sides.{is_of}
-use Rattle.policy_judge.specs.Match.{is_met, is_for}
+use Rattle.policy_judge.specs.Match.{is_met, is_for, is_same_element}
 use Rattle.policy_judge.proofs.OccurrenceLaws.{any_picked}
 use Rattle.rule_table.specs.declared.addresses.Address.{Address}
 use Rattle.rule_table.specs.declared.addresses.Shape.{Shape}
 use Rattle.rule_table.specs.Addresses.{address_of, address_at, addresses_of, shape_of}
-use Rattle.rule_table.specs.Marks.{name_mark, who_mark, inside_mark, prefix_mark, domain_mark, telling_mark, rule_mark}
-use Rattle.rule_table.specs.Asked.{asked_at, asked_of, with_asked, asked_by, asked}
-use Rattle.rule_table.specs.Candidates.{touches, may_match}
-use Rattle.rule_table.proofs.Members.{Passing, passing, given, joined}
+use Rattle.rule_table.specs.Marks.{name_mark, who_mark, inside_mark, prefix_mark, domain_mark, element_mark, element_of, telling_mark, rule_mark}
+use Rattle.rule_table.specs.Asked.{asked_at, asked_of, asked_elements, with_asked, asked_by, asked}
+use Rattle.rule_table.specs.Candidates.{touches, has_element, may_match}
+use Rattle.rule_table.proofs.Members.{Passing, passing, given, joined, mapped}
 
 -- ---- an address inside a prefix is asked for by the prefix's mark
 
@@ -70,46 +73,76 @@ asked_prefix who side shapes r prefix some shaped =
     let both = and_parts (is_of side p.item.0.element) (contains prefix p.item.1) p.passes in
     asked_field who side shapes r prefix p.item p.among both.0 both.1 shaped
 
+-- ---- the element of a field is asked for
+
+pen_is : (a b : Option ℕ) → same_pen a b ≡ true → a ≡ b
+pen_is None None e = refl
+pen_is (Some a) (Some b) e = ap Some (eqb-true a b e)
+pen_is None (Some b) e = absurd (cc)
+pen_is (Some a) None e = absurd (cc)
+
+element_is : (e f : Element) → is_same_element e f ≡ true → e ≡ f
+element_is e f is =
+    let parts = and_parts (same_pen e.pen f.pen) (e.number == f.number) is in
+    same_element e f (pen_is e.pen f.pen parts.0) (eqb-true e.number f.number parts.1)
+
+asked_element : (who : ℕ) (fields : List FieldSpec) (e : Element) → has_element fields e ≡ true → Contains (asked_elements who fields) (element_mark who e)
+asked_element who fields e has =
+    let p : Passing (λ (f : FieldSpec). is_same_element f.element e) fields = passing _ fields has in
+    let P : Element → Type 0 = λ f. Contains (asked_elements who fields) (element_mark who f) in
+    subst P (element_is p.item.element e p.passes) (mapped (λ (f : FieldSpec). element_mark who f.element) fields p.item p.among)
+
 -- ---- what is asked with others
 
-kept : (who domain : ℕ) (from to marks : List ℕ) (m : ℕ) → Contains marks m → Contains (with_asked who domain from to marks) m
-kept who domain from to marks m c =
-    Contains-append_left _ _ m (Contains-append_left _ _ m (Contains-append_left _ _ m (Contains-append_left _ _ m c)))
+kept : (who domain : ℕ) (elements from to marks : List ℕ) (m : ℕ) → Contains marks m → Contains (with_asked who domain elements from to marks) m
+kept who domain elements from to marks m c =
+    Contains-append_left _ _ m (Contains-append_left _ _ m (Contains-append_left _ _ m (Contains-append_left _ _ m (Contains-append_left _ _ m c))))
 
-in_who : (who domain : ℕ) (from to marks : List ℕ) → Contains (with_asked who domain from to marks) who
-in_who who domain from to marks =
-    Contains-append_left _ _ who (Contains-append_left _ _ who (Contains-append_left _ _ who (Contains-push marks who)))
+in_who : (who domain : ℕ) (elements from to marks : List ℕ) → Contains (with_asked who domain elements from to marks) who
+in_who who domain elements from to marks =
+    Contains-append_left _ _ who (Contains-append_left _ _ who (Contains-append_left _ _ who (Contains-append_left _ _ who (Contains-push marks who))))
 
-in_domain : (who domain : ℕ) (from to marks : List ℕ) → Contains (with_asked who domain from to marks) (domain_mark who domain)
-in_domain who domain from to marks =
-    Contains-append_left _ _ _ (Contains-append_left _ _ _ (Contains-push (marks ++ who ∷ []) (domain_mark who domain)))
+in_domain : (who domain : ℕ) (elements from to marks : List ℕ) → Contains (with_asked who domain elements from to marks) (domain_mark who domain)
+in_domain who domain elements from to marks =
+    Contains-append_left _ _ _ (Contains-append_left _ _ _ (Contains-append_left _ _ _ (Contains-push (marks ++ who ∷ []) (domain_mark who domain))))
 
-in_from : (who domain : ℕ) (from to marks : List ℕ) (m : ℕ) → Contains from m → Contains (with_asked who domain from to marks) m
-in_from who domain from to marks m c =
-    Contains-append_left (marks ++ who ∷ [] ++ domain_mark who domain ∷ [] ++ from) to m (Contains-append_right (marks ++ who ∷ [] ++ domain_mark who domain ∷ []) from m c)
+in_elements : (who domain : ℕ) (elements from to marks : List ℕ) (m : ℕ) → Contains elements m → Contains (with_asked who domain elements from to marks) m
+in_elements who domain elements from to marks m c =
+    let front = marks ++ who ∷ [] ++ domain_mark who domain ∷ [] in
+    Contains-append_left (front ++ elements ++ from) to m (Contains-append_left (front ++ elements) from m (Contains-append_right front elements m c))
 
-in_to : (who domain : ℕ) (from to marks : List ℕ) (m : ℕ) → Contains to m → Contains (with_asked who domain from to marks) m
-in_to who domain from to marks m c = Contains-append_right (marks ++ who ∷ [] ++ domain_mark who domain ∷ [] ++ from) to m c
+in_from : (who domain : ℕ) (elements from to marks : List ℕ) (m : ℕ) → Contains from m → Contains (with_asked who domain elements from to marks) m
+in_from who domain elements from to marks m c =
+    let front = marks ++ who ∷ [] ++ domain_mark who domain ∷ [] ++ elements in
+    Contains-append_left (front ++ from) to m (Contains-append_right front from m c)
+
+in_to : (who domain : ℕ) (elements from to marks : List ℕ) (m : ℕ) → Contains to m → Contains (with_asked who domain elements from to marks) m
+in_to who domain elements from to marks m c =
+    let front = marks ++ who ∷ [] ++ domain_mark who domain ∷ [] ++ elements ++ from in Contains-append_right front to m c
 
 -- ---- the mark of a rule
 
-telling : (sources_shapes destination_shapes : List Shape) (r : DataRecord) (domain : ℕ) (from to : Option Prefix) (d : Option ℕ)
+telling : (ss ds : List Shape) (r : DataRecord) (domain : ℕ) (from to : Option Prefix) (element : Option Element) (d : Option ℕ)
     → is_met (λ prefix. list_any (contains prefix) (sources r)) from ≡ true → is_met (λ prefix. list_any (contains prefix) (destinations r)) to ≡ true
-    → is_met (λ n. n == domain) d ≡ true
-    → IfSome from (λ prefix. Contains sources_shapes (shape_of prefix)) → IfSome to (λ prefix. Contains destination_shapes (shape_of prefix))
-    → (who : ℕ) (marks : List ℕ) → Contains (asked_by who domain sources_shapes destination_shapes r marks) (telling_mark who from to d)
-telling ss ds r domain (Some from) to d f t m sf st who marks = in_from who domain _ _ marks _ (asked_prefix who Source ss r from f sf)
-telling ss ds r domain None (Some to) d f t m sf st who marks = in_to who domain _ _ marks _ (asked_prefix who Destination ds r to t st)
-telling ss ds r domain None None (Some d) f t m sf st who marks =
+    → is_met (has_element r.template.fields) element ≡ true → is_met (λ n. n == domain) d ≡ true
+    → IfSome from (λ prefix. Contains ss (shape_of prefix)) → IfSome to (λ prefix. Contains ds (shape_of prefix))
+    → (who : ℕ) (marks : List ℕ) → Contains (asked_by who domain ss ds r marks) (telling_mark who from to element d)
+telling ss ds r domain (Some from) to element d f t h m sf st who marks =
+    in_from who domain (asked_elements who r.template.fields) _ _ marks _ (asked_prefix who Source ss r from f sf)
+telling ss ds r domain None (Some to) element d f t h m sf st who marks =
+    in_to who domain (asked_elements who r.template.fields) _ _ marks _ (asked_prefix who Destination ds r to t st)
+telling ss ds r domain None None (Some element) d f t h m sf st who marks =
+    in_elements who domain (asked_elements who r.template.fields) _ _ marks _ (asked_element who r.template.fields element h)
+telling ss ds r domain None None None (Some d) f t h m sf st who marks =
     let same : domain ≡ d = sym (eqb-true d domain m) in
     let P : ℕ → Type 0 = λ n. Contains (asked_by who domain ss ds r marks) (domain_mark who n) in
-    subst P same (in_domain who domain (asked_of who Source ss (addresses_of Source r)) (asked_of who Destination ds (addresses_of Destination r)) marks)
-telling ss ds r domain None None None f t m sf st who marks = in_who who domain _ _ marks
+    subst P same (in_domain who domain (asked_elements who r.template.fields) (asked_of who Source ss (addresses_of Source r)) (asked_of who Destination ds (addresses_of Destination r)) marks)
+telling ss ds r domain None None None None f t h m sf st who marks = in_who who domain (asked_elements who r.template.fields) _ _ marks
 
 for_whom : (name : List ℕ) (domain : ℕ) (ss ds : List Shape) (r : DataRecord) (who : Option (List ℕ)) (mark : ℕ → ℕ)
     → ((w : ℕ) (marks : List ℕ) → Contains (asked_by w domain ss ds r marks) (mark w)) → is_met (bytes_eq name) who ≡ true
     → Contains (asked name domain ss ds r) (mark (who_mark who))
-for_whom name domain ss ds r None mark each e = kept (name_mark name) domain _ _ (asked_by 0 domain ss ds r []) (mark 0) (each 0 [])
+for_whom name domain ss ds r None mark each e = kept (name_mark name) domain _ _ _ (asked_by 0 domain ss ds r []) (mark 0) (each 0 [])
 for_whom name domain ss ds r (Some w) mark each e =
     let same : name ≡ w = (bytes_eq-Decides name w).0 e in
     let P : List ℕ → Type 0 = λ n. Contains (asked name domain ss ds r) (mark (name_mark n)) in
@@ -120,8 +153,9 @@ pub asked_rule : (name : List ℕ) (domain : ℕ) (ss ds : List Shape) (r : Data
     → Contains (asked name domain ss ds r) (rule_mark rule)
 unfolding rule_mark
 asked_rule name domain ss ds r rule e sf st =
-    let parts = and_parts (is_for name domain rule) (touches r rule) e in
+    let parts = and_parts (is_for name domain rule) (touches r rule && is_met (has_element r.template.fields) (element_of rule)) e in
     let whom = and_parts (is_met (bytes_eq name) rule.who) (is_met (λ d. d == domain) rule.domain) parts.0 in
-    let where' = and_parts (is_met (λ prefix. list_any (contains prefix) (sources r)) rule.from) (is_met (λ prefix. list_any (contains prefix) (destinations r)) rule.to) parts.1 in
-    for_whom name domain ss ds r rule.who (λ w. telling_mark w rule.from rule.to rule.domain)
-    (telling ss ds r domain rule.from rule.to rule.domain where'.0 where'.1 whom.1 sf st) whom.0
+    let rest = and_parts (touches r rule) (is_met (has_element r.template.fields) (element_of rule)) parts.1 in
+    let ends = and_parts (is_met (λ prefix. list_any (contains prefix) (sources r)) rule.from) (is_met (λ prefix. list_any (contains prefix) (destinations r)) rule.to) rest.0 in
+    for_whom name domain ss ds r rule.who (λ w. telling_mark w rule.from rule.to (element_of rule) rule.domain)
+    (telling ss ds r domain rule.from rule.to (element_of rule) rule.domain ends.0 ends.1 rest.1 whom.1 sf st) whom.0

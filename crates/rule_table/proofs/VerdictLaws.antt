@@ -1,7 +1,6 @@
 -- The verdict of a place that was found, over what is judged.
-use Rattle.std.proofs.Common.{◌≡◌, ℕ, ◌+◌, List, get_or, Option, Some, None, sym, ap, ◌∙◌}
+use Rattle.std.proofs.Common.{◌≡◌, ℕ, ◌+◌, List, get_or, Option, Some, None, refl, sym, ap, ◌∙◌}
 use Rattle.std.specs.List.{position}
-use Rattle.ipfix_element.specs.Element.{Element}
 use Rattle.ipfix_template.specs.DataRecord.{DataRecord}
 use Rattle.policy_text.specs.declared.rule.Rule.{Rule}
 use Rattle.policy_judge.specs.declared.verdict.RecordAction.{RecordAction}
@@ -11,10 +10,9 @@ use Rattle.policy_judge.specs.declared.verdict.ElementAction.{ElementAction}
 use Rattle.policy_judge.specs.declared.verdict.ElementAction.TheVariants.{Remove}
 use Rattle.policy_judge.specs.declared.verdict.ElementVerdict.{ElementVerdict}
 use Rattle.policy_judge.specs.Match.{matches_record, matches_field, element_at}
-use Rattle.policy_judge.specs.Verdicts.{record_action, element_action, record_verdict_of, element_verdict_of}
-use Rattle.policy_judge.proofs.FirstRuleLaws.{record_verdict_at, record_verdict_none, element_verdict_at, element_verdict_none}
+use Rattle.policy_judge.specs.Verdicts.{first_rule, record_action, element_action, record_verdict_of, element_verdict_by, element_verdict_of}
+use Rattle.policy_judge.proofs.FirstRuleLaws.{first_at, first_nowhere, record_verdict_at, record_verdict_none}
 use Rattle.rule_table.specs.Candidates.{Judged}
-use Rattle.std.proofs.Common.{refl}
 
 abbrev pub judging : List Rule → List ℕ → ℕ → DataRecord → Judged
 judging rules name domain r = record { rules = rules; name = name; domain = domain; flow_record = r }
@@ -36,15 +34,17 @@ pub record_none : (judged : Judged) (rules : List Rule) (name : List ℕ) (domai
     → record { rule = 0; action = Withhold } ≡ record_verdict_of judged.name judged.domain judged.flow_record judged.rules
 record_none judged rules name domain r is place = sym (record_verdict_none name domain r rules rules refl place) ∙ ap record_verdict_in is
 
-pub element_some : (judged : Judged) (rules : List Rule) (name : List ℕ) (domain : ℕ) (r : DataRecord) (field : ℕ) (element : Element) (k : ℕ) (rule : Rule) (action : ElementAction)
-    → judging rules name domain r ≡ judged → element_at r field ≡ Some element → Some k ≡ position (matches_field name domain r (Some element)) rules → rule ≡ get_or rules k rule
+pub element_some : (judged : Judged) (rules : List Rule) (name : List ℕ) (domain : ℕ) (r : DataRecord) (field k : ℕ) (rule : Rule) (action : ElementAction)
+    → judging rules name domain r ≡ judged → Some k ≡ position (matches_field name domain r (element_at r field)) rules → rule ≡ get_or rules k rule
     → action ≡ element_action (get_or rules k rule).action
     → record { rule = k + 1; action = action } ≡ element_verdict_of judged.name judged.domain judged.flow_record field judged.rules
-element_some judged rules name domain r field element k rule action is there place at act =
-    sym (element_verdict_at name domain r field element rules rules k rule action there refl place at act) ∙ ap (element_verdict_in field) is
+element_some judged rules name domain r field k rule action is place at act =
+    let found : first_rule (matches_field name domain r (element_at r field)) rules ≡ Some (k + 1, rule) = first_at (matches_field name domain r (element_at r field)) rules k rule (sym place) (sym at) in
+    ap (λ a. record { rule = k + 1; action = a }) (act ∙ ap (λ (a : Rule). element_action a.action) (sym at)) ∙ sym (ap element_verdict_by found) ∙ ap (element_verdict_in field) is
 
-pub element_none : (judged : Judged) (rules : List Rule) (name : List ℕ) (domain : ℕ) (r : DataRecord) (field : ℕ) (element : Element)
-    → judging rules name domain r ≡ judged → element_at r field ≡ Some element → None ≡ position (matches_field name domain r (Some element)) rules
+pub element_none : (judged : Judged) (rules : List Rule) (name : List ℕ) (domain : ℕ) (r : DataRecord) (field : ℕ)
+    → judging rules name domain r ≡ judged → None ≡ position (matches_field name domain r (element_at r field)) rules
     → record { rule = 0; action = Remove } ≡ element_verdict_of judged.name judged.domain judged.flow_record field judged.rules
-element_none judged rules name domain r field element is there place =
-    sym (element_verdict_none name domain r field element rules rules there refl place) ∙ ap (element_verdict_in field) is
+element_none judged rules name domain r field is place =
+    let found : first_rule (matches_field name domain r (element_at r field)) rules ≡ None = first_nowhere (matches_field name domain r (element_at r field)) rules (sym place) in
+    sym (ap element_verdict_by found) ∙ ap (element_verdict_in field) is

@@ -1,11 +1,12 @@
-ghost use Rattle.std.specs.Prelude.{◌≡◌, ◌++◌, IfOk, OnOk};
+ghost use Rattle.std.specs.Prelude.{◌≡◌, ◌∷◌, [], ◌++◌, IfOk, OnOk};
 ghost use Rattle.std.specs.List.{filter_map};
 ghost use Rattle.rule_table.specs.Addresses.{addresses_of};
-ghost use Rattle.rule_table.specs.Asked.{asked_at, asked_of, with_asked, asked_by, asked};
+ghost use Rattle.rule_table.specs.Asked.{asked_at, asked_of, asked_elements, with_asked, asked_by, asked};
+ghost use Rattle.rule_table.specs.Marks.{domain_mark};
 
 use crate::addresses::{Address, Shape, addresses_of, first_bits};
-use crate::marks::{ANY_SUBSCRIBER, domain_mark, inside_mark, name_mark};
-use ipfix_template::Record;
+use crate::marks::{ANY_SUBSCRIBER, domain_mark, element_mark, inside_mark, name_mark};
+use ipfix_template::{FieldSpec, Record};
 use policy_judge::Side;
 use std::alloc::{AllocError, Global};
 
@@ -23,29 +24,33 @@ pub(crate) fn asked(
     let from = addresses_of(alloc, Side::Source, flow_record)?;
     let to = addresses_of(alloc, Side::Destination, flow_record)?;
     let mut marks = Vec::new(alloc);
+    let fields = flow_record.template().fields.as_slice();
     let any = ANY_SUBSCRIBER;
-    ask(any, domain, sources, destinations, &from, &to, &mut marks)?;
+    ask(any, domain, fields, &mut marks)?;
+    ask_all(any, Side::Source, sources, &from, &mut marks)?;
+    ask_all(any, Side::Destination, destinations, &to, &mut marks)?;
     let one = name_mark(name);
-    ask(one, domain, sources, destinations, &from, &to, &mut marks)?;
+    ask(one, domain, fields, &mut marks)?;
+    ask_all(one, Side::Source, sources, &from, &mut marks)?;
+    ask_all(one, Side::Destination, destinations, &to, &mut marks)?;
     Ok(marks)
 }
 
-/// Adds what is looked up for the rules of a subscriber, or for those of any.
+/// Adds what is looked up for the rules of a subscriber, or for those of any, that name no prefix.
 fn ask(
     who: u64,
     domain: u32,
-    sources: &[Shape],
-    destinations: &[Shape],
-    from: &[Address],
-    to: &[Address],
+    fields: &[FieldSpec],
     marks: &mut Vec<u64>,
 ) -> Result<(), AllocError>
-    ensures { OnOk result (marks.new.items ≡ with_asked who domain (asked_of who Side.Source sources.now from.now) (asked_of who Side.Destination destinations.now to.now) marks.old.items) }
+    ensures { OnOk result (marks.new.items ≡ marks.old.items ++ who ∷ [] ++ domain_mark who domain ∷ [] ++ asked_elements who fields.now) }
 {
     marks.push(who)?;
     marks.push(domain_mark(who, domain))?;
-    ask_all(who, Side::Source, sources, from, marks)?;
-    ask_all(who, Side::Destination, destinations, to, marks)
+    for field in fields {
+        marks.push(element_mark(who, field.element))?;
+    }
+    Ok(())
 }
 
 /// Adds the marks of all prefixes of these shapes that these addresses are inside.

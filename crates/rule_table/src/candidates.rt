@@ -1,6 +1,6 @@
 ghost use Rattle.std.specs.Prelude.{◌≡◌, ◌<◌, Some, IfSome, length, position};
 ghost use Rattle.std.specs.List.{find};
-ghost use Rattle.policy_judge.specs.Match.{matches_record, matches_field};
+ghost use Rattle.policy_judge.specs.Match.{element_at, matches_record, matches_field};
 ghost use Rattle.policy_judge.specs.Verdicts.{record_verdict_of, element_verdict_of};
 ghost use Rattle.rule_table.specs.Candidates.{Judged, AreCandidates, passes};
 
@@ -80,9 +80,8 @@ impl<'a> Candidates<'a> {
     {
         let rules = self.rules;
         let places = self.places.as_slice();
-        let flow_record = self.flow_record;
-        let element = flow_record.template().fields.as_slice()[field].element;
-        match first_on_fields(rules, places, self.name.as_bytes(), self.domain, flow_record, element) {
+        let name = self.name.as_bytes();
+        match first_on_fields(rules, places, name, self.domain, self.flow_record, field) {
             Some(place) => ElementVerdict {
                 rule: place as u32 + 1,
                 action: element_action(rules[place].action),
@@ -123,19 +122,21 @@ fn passes_record(rules: &[Rule], place: usize, name: &[u8], domain: u32, flow_re
     }
 }
 
-/// The place of the first rule that matches a field of this element.
+/// The place of the first rule that matches the field at this place.
 fn first_on_fields(
     rules: &[Rule],
     places: &[usize],
     name: &[u8],
     domain: u32,
     flow_record: &Record,
-    element: ElementId,
+    field: usize,
 ) -> Option<usize>
-    requires { AreCandidates (record { rules = rules.now; name = name.now; domain = domain; flow_record = flow_record.now }) places.now }
-    ensures value { result ≡ position (matches_field name.now domain flow_record.now (Some element)) rules.now }
+    requires there { field < length flow_record.now.template.fields }
+    requires are { AreCandidates (record { rules = rules.now; name = name.now; domain = domain; flow_record = flow_record.now }) places.now }
+    ensures value { result ≡ position (matches_field name.now domain flow_record.now (element_at flow_record.now field)) rules.now }
     ensures within { IfSome result (λ place. place < length rules.now) }
 {
+    let element = flow_record.template().fields.as_slice()[field].element;
     places
         .iter()
         .copied()

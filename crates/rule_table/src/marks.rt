@@ -1,10 +1,11 @@
 ghost use Rattle.std.specs.Prelude.{◌≡◌};
-ghost use Rattle.rule_table.specs.Marks.{mixed, name_mark, side_number, inside_mark, prefix_mark, domain_mark, telling_mark, who_mark, rule_mark};
+ghost use Rattle.rule_table.specs.Marks.{mixed, name_mark, side_number, inside_mark, prefix_mark, domain_mark, telling_mark, who_mark, rule_mark, element_mark, pen_number, element_of};
 
 use crate::addresses::{WIDTH4, WIDTH6};
 use flow_prefix::Prefix;
+use ipfix_element::ElementId;
 use policy_judge::Side;
-use policy_text::{Name, Rule};
+use policy_text::{Action, Name, Rule};
 
 /// What rules of any subscriber are marked by.
 pub(crate) const ANY_SUBSCRIBER: u64 = 0;
@@ -14,6 +15,9 @@ const NAME_SEED: u64 = 1;
 
 /// What tells a domain from the sides.
 const DOMAIN: u64 = 3;
+
+/// What tells an element from them.
+const ELEMENT: u64 = 4;
 
 /// An odd number with about as many ones as zeros, evenly spread: 2^64 over the golden ratio.
 const FACTOR: u64 = 0x9E37_79B9_7F4A_7C15;
@@ -44,6 +48,24 @@ pub(crate) fn domain_mark(who: u64, domain: u32) -> u64
     ensures { result ≡ domain_mark who domain }
 {
     mixed(mixed(who, DOMAIN), u64::from(domain))
+}
+
+/// The mark of an information element.
+#[tactic(auto, unfolding(crate::specs::Marks::element_mark))]
+pub(crate) fn element_mark(who: u64, element: ElementId) -> u64
+    ensures { result ≡ element_mark who element }
+{
+    let mark = mixed(mixed(who, ELEMENT), pen_number(element));
+    mixed(mark, u64::from(element.number()))
+}
+
+fn pen_number(element: ElementId) -> u64
+    ensures { result ≡ pen_number element.pen }
+{
+    match element.pen() {
+        Some(pen) => u64::from(pen) + 1,
+        None => 0,
+    }
 }
 
 fn side_number(side: Side) -> u64
@@ -102,7 +124,7 @@ fn who_mark(who: &Option<Name>) -> u64
 
 /// The mark of what tells most of a rule.
 fn telling_mark(who: u64, rule: &Rule) -> u64
-    ensures { result ≡ telling_mark who rule.now.from rule.now.to rule.now.domain }
+    ensures { result ≡ telling_mark who rule.now.from rule.now.to (element_of rule.now) rule.now.domain }
 {
     if let Some(prefix) = &rule.from {
         return prefix_mark(who, Side::Source, prefix);
@@ -110,8 +132,21 @@ fn telling_mark(who: u64, rule: &Rule) -> u64
     if let Some(prefix) = &rule.to {
         return prefix_mark(who, Side::Destination, prefix);
     }
+    if let Some(element) = element_of(rule) {
+        return element_mark(who, element);
+    }
     match &rule.domain {
         Some(domain) => domain_mark(who, *domain),
         None => who,
+    }
+}
+
+/// The element that a rule on fields names.
+fn element_of(rule: &Rule) -> Option<ElementId>
+    ensures { result ≡ element_of rule.now }
+{
+    match rule.action {
+        Action::Pass | Action::Withhold | Action::Aggregate(_) => None,
+        Action::Keep | Action::Remove | Action::Truncate(_) => rule.element,
     }
 }

@@ -17,8 +17,6 @@ returns-clause-value c =
 
 pub returns-clause-within : goal.returns-clause-within
 returns-clause-within c =
-    let found : c.find.result ≡ find (passes (matches_record c.args.name.now c.args.domain c.args.flow_record.now) c.args.rules.now) c.args.places.now =
-    sym (option_map_id c.find.result) ∙ find_from_yields_List (passes (matches_record c.args.name.now c.args.domain c.args.flow_record.now) c.args.rules.now) _ _ c.find.result c.find.ensures.ran (YieldsList-from_copied (YieldsList-from_slice c.args.places.now (cc))) (λ x b q k. search rules) in
-    let all = found ∙ record_found c.args.rules.now c.args.places.now c.args.name.now c.args.domain c.args.flow_record.now c.requires in
+    let value = returns-clause-value c in
     let P : Option ℕ → Type 0 = λ o. IfSome o (λ place. place < length c.args.rules.now) in
-    subst P (sym all) (position_within (matches_record c.args.name.now c.args.domain c.args.flow_record.now) c.args.rules.now)
+    subst P (sym value) (position_within (matches_record c.args.name.now c.args.domain c.args.flow_record.now) c.args.rules.now)
