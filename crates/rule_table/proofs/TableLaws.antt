@@ -46,12 +46,12 @@ complete rules entries ss ds marks places name domain r index are each up = reco
   few = index.few;
   ascending = up;
   all = λ place e.
-    let s : Standing (may_match name domain r) rules place = standing (may_match name domain r) rules place e in
-    let within = slice_get_within rules place s.rule s.at in
-    let few : place < 4096 = omega (arith, within, index.few) in
-    let P : List ℕ → Type 0 = λ ms. Contains ms (rule_mark s.rule) in
-    let marked = subst P (sym are) (asked_rule name domain ss ds r s.rule s.is (shape_there Source rules ss place s.rule index.from s.at) (shape_there Destination rules ds place s.rule index.to s.at)) in
-    each (rule_mark s.rule) place few marked (Contains-permutation (entries_of rules) entries (entry (rule_mark s.rule) place) index.each (entry_there rules place s.rule s.at));
+      let s : Standing (may_match name domain r) rules place = standing (may_match name domain r) rules place e in
+      let within = slice_get_within rules place s.rule s.at in
+      let few : place < 4096 = omega (arith, within, index.few) in
+      let P : List ℕ → Type 0 = λ ms. Contains ms (rule_mark s.rule) in
+      let marked = subst P (sym are) (asked_rule name domain ss ds r s.rule s.is (shape_there Source rules ss place s.rule index.from s.at) (shape_there Destination rules ds place s.rule index.to s.at)) in
+      each (rule_mark s.rule) place few marked (Contains-permutation (entries_of rules) entries (entry (rule_mark s.rule) place) index.each (entry_there rules place s.rule s.at));
 }
 
 -- the same over the lists as they were read

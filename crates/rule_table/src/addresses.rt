@@ -108,11 +108,7 @@ fn shape_of(prefix: &Prefix) -> Shape
 }
 
 /// The shapes of the prefixes that the rules name on a side, each once.
-pub(crate) fn shapes_of(
-    alloc: Global,
-    side: Side,
-    rules: &[Rule],
-) -> Result<Vec<Shape>, AllocError>
+pub(crate) fn shapes_of(alloc: Global, side: Side, rules: &[Rule]) -> Result<Vec<Shape>, AllocError>
     ensures { IfOk result (λ shapes. HaveShapes side rules.now shapes.items) }
 {
     let mut shapes = Vec::new(alloc);
@@ -152,7 +148,5 @@ fn note(shapes: &mut Vec<Shape>, shape: Shape) -> Result<(), AllocError>
 fn has_shape(shapes: &[Shape], shape: Shape) -> bool
     ensures { result ≡ list_any (λ other. other.width == shape.width && other.length == shape.length) shapes.now }
 {
-    shapes
-        .iter()
-        .any(|other| other.width == shape.width && other.length == shape.length)
+    shapes.iter().any(|other| other.width == shape.width && other.length == shape.length)
 }

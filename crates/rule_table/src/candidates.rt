@@ -60,7 +60,13 @@ impl<'a> Candidates<'a> {
     {
         let rules = self.rules;
         let places = self.places.as_slice();
-        match first_on_records(rules, places, self.name.as_bytes(), self.domain, self.flow_record) {
+        match first_on_records(
+            rules,
+            places,
+            self.name.as_bytes(),
+            self.domain,
+            self.flow_record,
+        ) {
             Some(place) => RecordVerdict {
                 rule: place as u32 + 1,
                 action: record_action(rules[place].action),
@@ -106,14 +112,17 @@ fn first_on_records(
     ensures value { result ≡ position (matches_record name.now domain flow_record.now) rules.now }
     ensures within { IfSome result (λ place. place < length rules.now) }
 {
-    places
-        .iter()
-        .copied()
-        .find(|place| passes_record(rules, *place, name, domain, flow_record))
+    places.iter().copied().find(|place| passes_record(rules, *place, name, domain, flow_record))
 }
 
 /// Whether the rule at a place matches the record.
-fn passes_record(rules: &[Rule], place: usize, name: &[u8], domain: u32, flow_record: &Record) -> bool
+fn passes_record(
+    rules: &[Rule],
+    place: usize,
+    name: &[u8],
+    domain: u32,
+    flow_record: &Record,
+) -> bool
     ensures { result ≡ passes (matches_record name.now domain flow_record.now) rules.now place }
 {
     match rules.get(place) {
@@ -137,10 +146,14 @@ fn first_on_fields(
     ensures within { IfSome result (λ place. place < length rules.now) }
 {
     let element = flow_record.template().fields.as_slice()[field].element;
-    places
-        .iter()
-        .copied()
-        .find(|place| passes_field(rules, *place, name, domain, flow_record, element))
+    places.iter().copied().find(|place| passes_field(
+        rules,
+        *place,
+        name,
+        domain,
+        flow_record,
+        element,
+    ))
 }
 
 /// Whether the rule at a place matches a field of this element.

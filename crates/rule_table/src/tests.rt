@@ -92,19 +92,48 @@ fn deciding<R: Abort>(
     };
     let table = RuleTable::build(alloc, &policy)?;
     agreed(rt, alloc, &policy, &table, "acme", 7, flow_record)?;
-    Ok(table.candidates(alloc, "acme", 7, flow_record)?.record_verdict().rule)
+    Ok(
+        table
+            .candidates(alloc, "acme", 7, flow_record)?
+            .record_verdict()
+            .rule,
+    )
 }
 
 /// Rules, and the number of the one that decides on a record from 192.0.2.77 to 198.51.100.9.
 static DECIDING: [(&str, u32); 8] = [
-    ("rule for * in * from 192.0.2.0/24 to * withhold\nrule for * in * from * to * pass\n", 1),
-    ("rule for * in * from * to * pass\nrule for acme in 7 from 192.0.2.77/32 to * withhold\n", 1),
-    ("rule for * in * from 192.0.0.0/16 to * pass\nrule for * in * from 192.0.2.0/24 to * withhold\n", 1),
-    ("rule for * in * from 192.0.3.0/24 to * pass\nrule for * in * from * to 198.51.100.0/24 pass\n", 2),
-    ("rule for * in * from * to 192.0.2.0/24 pass\nrule for * in * from 198.51.100.0/24 to * pass\n", 0),
-    ("rule for bolt in * from 192.0.2.0/24 to * pass\nrule for acme in 8 from * to * pass\nrule for acme in 7 from * to * pass\n", 3),
-    ("rule for * in * from * to * element * keep\nrule for * in 7 from * to * pass\nrule for acme in * from * to * withhold\n", 2),
-    ("rule for * in * from ::/0 to * pass\nrule for * in * from 0.0.0.0/0 to 0.0.0.0/0 pass\n", 2),
+    (
+        "rule for * in * from 192.0.2.0/24 to * withhold\nrule for * in * from * to * pass\n",
+        1,
+    ),
+    (
+        "rule for * in * from * to * pass\nrule for acme in 7 from 192.0.2.77/32 to * withhold\n",
+        1,
+    ),
+    (
+        "rule for * in * from 192.0.0.0/16 to * pass\nrule for * in * from 192.0.2.0/24 to * withhold\n",
+        1,
+    ),
+    (
+        "rule for * in * from 192.0.3.0/24 to * pass\nrule for * in * from * to 198.51.100.0/24 pass\n",
+        2,
+    ),
+    (
+        "rule for * in * from * to 192.0.2.0/24 pass\nrule for * in * from 198.51.100.0/24 to * pass\n",
+        0,
+    ),
+    (
+        "rule for bolt in * from 192.0.2.0/24 to * pass\nrule for acme in 8 from * to * pass\nrule for acme in 7 from * to * pass\n",
+        3,
+    ),
+    (
+        "rule for * in * from * to * element * keep\nrule for * in 7 from * to * pass\nrule for acme in * from * to * withhold\n",
+        2,
+    ),
+    (
+        "rule for * in * from ::/0 to * pass\nrule for * in * from 0.0.0.0/0 to 0.0.0.0/0 pass\n",
+        2,
+    ),
 ];
 
 /// The first rule that matches decides, wherever it stands in the table.
@@ -129,9 +158,18 @@ fn first_rule_decides(rt: HostRuntime) -> Result<(), Fail> {
 /// Rules, and the number of the one that decides on a record from 192.0.2.77, and from 203.0.113.5.
 static REPEATED: [(&str, u32); 4] = [
     ("rule for * in * from 192.0.2.0/24 to * pass\n", 0),
-    ("rule for * in * from 192.0.2.0/24 to * pass\nrule for * in * from 192.0.2.0/24 to * withhold\n", 2),
-    ("rule for * in * from 203.0.113.0/24 to * withhold\nrule for * in * from * to * pass\n", 1),
-    ("rule for * in * from 192.0.2.0/24 to * pass\nrule for * in * from 0.0.0.0/0 to * pass\n", 2),
+    (
+        "rule for * in * from 192.0.2.0/24 to * pass\nrule for * in * from 192.0.2.0/24 to * withhold\n",
+        2,
+    ),
+    (
+        "rule for * in * from 203.0.113.0/24 to * withhold\nrule for * in * from * to * pass\n",
+        1,
+    ),
+    (
+        "rule for * in * from 192.0.2.0/24 to * pass\nrule for * in * from 0.0.0.0/0 to * pass\n",
+        2,
+    ),
 ];
 
 /// Of two sources one is inside a prefix: enough to deny, and not to permit.
