@@ -60,13 +60,8 @@ impl<'a> Candidates<'a> {
     {
         let rules = self.rules;
         let places = self.places.as_slice();
-        match first_on_records(
-            rules,
-            places,
-            self.name.as_bytes(),
-            self.domain,
-            self.flow_record,
-        ) {
+        let name = self.name.as_bytes();
+        match first_on_records(rules, places, name, self.domain, self.flow_record) {
             Some(place) => RecordVerdict {
                 rule: place as u32 + 1,
                 action: record_action(rules[place].action),
@@ -146,14 +141,7 @@ fn first_on_fields(
     ensures within { IfSome result (λ place. place < length rules.now) }
 {
     let element = flow_record.template().fields.as_slice()[field].element;
-    places.iter().copied().find(|place| passes_field(
-        rules,
-        *place,
-        name,
-        domain,
-        flow_record,
-        element,
-    ))
+    places.iter().copied().find(|at| passes_field(rules, *at, name, domain, flow_record, element))
 }
 
 /// Whether the rule at a place matches a field of this element.

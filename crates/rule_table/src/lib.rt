@@ -9,14 +9,15 @@
 //! - `addresses`: a record's addresses as numbers, and the shapes of a policy's prefixes.
 //! - `copies`: a table's own rules.
 //!
-//! A rule stands under one mark: that of the prefix of its sources, or where it names none of its destinations, or of its
-//! domain, or of nothing, each with its subscriber. For a record the marks are looked up of each prefix that one of its
-//! addresses is inside, of those lengths that the policy's prefixes have, so what a record costs grows with the number of its
-//! addresses and of these lengths, and with the rules that stand under one mark.
+//! A rule stands under one mark: its subscriber's, with what tells most of it, which is the prefix of its sources; where it
+//! names none, that of its destinations; then its element, if it is a rule on fields; then its domain. For a record the marks
+//! are looked up of its domain, of the elements of its fields, and of each prefix that one of its addresses is inside, of those
+//! lengths that the policy's prefixes have, each with its subscriber and with any. So what a record costs grows with its
+//! fields, its addresses and these lengths, and with the rules that stand under one mark.
 //!
 //! Proved: `RuleTable::build` keeps the policy's rules, in their order; `record_verdict` and `element_verdict` of what
 //! `RuleTable::candidates` answers are by these rules those of `policy_judge`, clause for clause. Which rules stand under
-//! one mark, and so how fast it is, no clause says.
+//! one mark, and so how fast it is, no clause says: two marks that happen to be one number cost a look at some rules more.
 #![tactic(auto)]
 
 mod addresses;

@@ -92,12 +92,8 @@ fn deciding<R: Abort>(
     };
     let table = RuleTable::build(alloc, &policy)?;
     agreed(rt, alloc, &policy, &table, "acme", 7, flow_record)?;
-    Ok(
-        table
-            .candidates(alloc, "acme", 7, flow_record)?
-            .record_verdict()
-            .rule,
-    )
+    let candidates = table.candidates(alloc, "acme", 7, flow_record)?;
+    Ok(candidates.record_verdict().rule)
 }
 
 /// Rules, and the number of the one that decides on a record from 192.0.2.77 to 198.51.100.9.
