@@ -1,5 +1,5 @@
 -- The mark of each rule that may match is among those that are looked up.
-use Rattle.std.proofs.Common.{◌≡◌, ℕ, Bool, true, false, List, [], ◌∷◌, ◌++◌, length, map, filter, Option, Some, None, IfSome, cond, refl, ap, sym, ◌∙◌, subst, arith, ◌==◌, ◌&&◌, eqb}
+use Rattle.std.proofs.Common.{◌≡◌, ℕ, true, false, List, [], ◌∷◌, ◌++◌, length, Option, Some, None, IfSome, cond, refl, ap, sym, ◌∙◌, subst, ◌==◌, ◌&&◌}
 use Rattle.std.specs.List.{Contains, list_any, zip, filter_map}
 use Rattle.std.specs.Str.{bytes_eq}
 use Rattle.std.proofs.lemmas.Bool.{and_parts, eqb-true}
@@ -9,7 +9,7 @@ use Rattle.sequences.specs.Octets.{be_value}
 use Rattle.flow_prefix.specs.declared.prefix.Prefix.{Prefix}
 use Rattle.flow_prefix.specs.declared.prefix.Prefix.TheVariants.{V4, V6}
 use Rattle.flow_prefix.specs.Bits.{truncated}
-use Rattle.flow_prefix.specs.Net.{Net, is_inside}
+use Rattle.flow_prefix.specs.Net.{is_inside}
 use Rattle.flow_prefix.specs.Prefixes.{contains}
 use Rattle.ipfix_element.specs.Element.{Element}
 use Rattle.ipfix_element.proofs.NameLaws.{same_element}

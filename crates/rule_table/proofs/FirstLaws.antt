@@ -1,5 +1,5 @@
 -- The first of all rules that passes is the first of the candidates that passes.
-use Rattle.std.proofs.Common.{◌≡◌, ◌⊎◌, ℕ, zero, suc, ◌+◌, ◌<◌, ◌≤◌, Bool, true, false, List, [], ◌∷◌, length, get_or, Option, Some, None, IfSome, cond, not, option_map, refl, ap, sym, ◌∙◌, arith, inl, inr, nat_lt, ◌&&◌, ◌||◌}
+use Rattle.std.proofs.Common.{◌≡◌, ◌⊎◌, ℕ, zero, suc, ◌+◌, ◌<◌, ◌≤◌, Bool, true, false, List, [], ◌∷◌, length, get_or, Option, Some, None, IfSome, cond, not, option_map, refl, ap, sym, ◌∙◌, arith, inl, inr, nat_lt, ◌&&◌}
 use Rattle.std.specs.Prelude.{slice_get}
 use Rattle.std.specs.List.{Contains, find, position, position_or_len, list_any, list_all}
 use Rattle.std.specs.List.Sorted.{IsNonDecreasing}

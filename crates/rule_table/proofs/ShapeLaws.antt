@@ -1,5 +1,5 @@
 -- The shapes of prefixes.
-use Rattle.std.proofs.Common.{◌≡◌, ℕ, ◌+◌, ◌*◌, ◌/◌, ◌^◌, ◌-◌, ◌<◌, ◌≤◌, Bool, true, List, refl, ap, sym, ◌∙◌, arith, ◌==◌, ◌&&◌, subst}
+use Rattle.std.proofs.Common.{◌≡◌, ℕ, ◌/◌, ◌^◌, ◌-◌, ◌<◌, ◌≤◌, Bool, true, List, ap, sym, ◌∙◌, arith, ◌==◌, ◌&&◌, subst}
 use Rattle.std.specs.List.{Contains, list_any}
 use Rattle.std.proofs.lemmas.Bool.{and_parts, eqb-true}
 use Rattle.std.proofs.Math.Nat.{pow-le-pow_right, div-eq_of_lt}

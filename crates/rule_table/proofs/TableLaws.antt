@@ -1,7 +1,7 @@
 -- What is looked up in an index holds each rule that may match.
-use Rattle.std.proofs.Common.{◌≡◌, ℕ, ◌<◌, ◌≤◌, Bool, true, List, length, get_or, Option, Some, None, IfSome, refl, ap, sym, ◌∙◌, subst, arith}
+use Rattle.std.proofs.Common.{◌≡◌, ℕ, ◌<◌, Bool, true, List, Some, None, IfSome, refl, sym, ◌∙◌, subst, arith}
 use Rattle.std.specs.Prelude.{slice_get}
-use Rattle.std.specs.List.{All, Contains}
+use Rattle.std.specs.List.{Contains}
 use Rattle.std.specs.List.Sorted.{IsNonDecreasing}
 use Rattle.std.proofs.lemmas.Option.{slice_get_within, get_or_from_slice_get}
 use Rattle.std.proofs.lemmas.List.Elements.{All-get_or}
@@ -15,7 +15,7 @@ use Rattle.rule_table.specs.Addresses.{shape_of, named}
 use Rattle.rule_table.specs.Marks.{rule_mark}
 use Rattle.rule_table.specs.Index.{entry, entries_of, HaveShapes, IsIndex}
 use Rattle.rule_table.specs.Asked.{asked}
-use Rattle.rule_table.specs.Candidates.{Judged, AreCandidates, may_match, is_at, passes}
+use Rattle.rule_table.specs.Candidates.{AreCandidates, may_match, is_at, passes}
 use Rattle.rule_table.proofs.IndexLaws.{entry_there}
 use Rattle.rule_table.proofs.AskedLaws.{asked_rule}
 

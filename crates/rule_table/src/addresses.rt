@@ -1,4 +1,4 @@
-ghost use Rattle.std.specs.Prelude.{◌≡◌, ℕ, Some, None, IfOk, IfSome, OnOk, ◌&&◌, ◌==◌, true, length};
+ghost use Rattle.std.specs.Prelude.{◌≡◌, ◌==◌, ◌&&◌, IfOk, IfSome, OnOk};
 ghost use Rattle.std.specs.List.{Contains, list_any};
 ghost use Rattle.flow_prefix.specs.Bits.{truncated};
 ghost use Rattle.rule_table.specs.Addresses.{address_of, address_at, addresses_of, shape_of, named};

@@ -1,7 +1,6 @@
 ghost use Rattle.std.specs.Prelude.{◌≡◌, ◌∷◌, [], ◌++◌, IfOk, OnOk};
 ghost use Rattle.std.specs.List.{filter_map};
-ghost use Rattle.rule_table.specs.Addresses.{addresses_of};
-ghost use Rattle.rule_table.specs.Asked.{asked_at, asked_of, asked_elements, with_asked, asked_by, asked};
+ghost use Rattle.rule_table.specs.Asked.{asked_at, asked_of, asked_elements, asked};
 ghost use Rattle.rule_table.specs.Marks.{domain_mark};
 
 use crate::addresses::{Address, Shape, addresses_of, first_bits};

@@ -1,8 +1,7 @@
 ghost use Rattle.std.specs.Prelude.{◌≡◌, ◌<◌, Some, IfSome, length, position};
-ghost use Rattle.std.specs.List.{find};
 ghost use Rattle.policy_judge.specs.Match.{element_at, matches_record, matches_field};
 ghost use Rattle.policy_judge.specs.Verdicts.{record_verdict_of, element_verdict_of};
-ghost use Rattle.rule_table.specs.Candidates.{Judged, AreCandidates, passes};
+ghost use Rattle.rule_table.specs.Candidates.{AreCandidates, passes};
 
 use ipfix_element::ElementId;
 use ipfix_template::Record;

@@ -1,14 +1,11 @@
-ghost use Rattle.std.specs.Prelude.{◌≡◌, ℕ, ◌<◌, ◌≤◌, ◌%◌, ◌^◌, ◌*◌, ◌+◌, length, slice_index, slice_range, map, ◌++◌, IfOk, OnOk};
+ghost use Rattle.std.specs.Prelude.{◌≡◌, ◌<◌, ◌≤◌, ℕ, ◌%◌, ◌^◌, ◌++◌, length, map, slice_index, IfOk, OnOk};
 ghost use Rattle.std.specs.List.{Contains};
 ghost use Rattle.std.specs.List.Sorted.{IsNonDecreasing, IsPermutation};
 ghost use Rattle.rule_table.specs.Index.{entry, entries_of};
 
-use crate::marks::rule_mark;
+use crate::marks::{SPAN, rule_mark};
 use policy_text::Rule;
 use std::alloc::{AllocError, Global};
-
-/// One above the greatest place.
-const SPAN: u128 = 0x1_0000_0000_0000_0000;
 
 /// The entries of rules, ascending.
 pub(crate) fn entries_of(alloc: Global, rules: &[Rule]) -> Result<Vec<u128>, AllocError>
@@ -80,6 +77,7 @@ fn under(entries: &[u128], mark: u64) -> &[u128]
     requires { IsNonDecreasing entries.now }
     ensures { (place : ℕ) → place < 4096 → Contains entries.now (entry mark place) → Contains result.now (entry mark place) }
 {
+    // Rules are few, so that none stands at the very last place.
     let low = entry(mark, 0);
     let rest = from_bound(entries, low);
     &rest[..count_below(rest, low + (SPAN - 1))]

@@ -22,8 +22,8 @@ const ELEMENT: u64 = 4;
 /// An odd number with about as many ones as zeros, evenly spread: 2^64 over the golden ratio.
 const FACTOR: u64 = 0x9E37_79B9_7F4A_7C15;
 
-/// One above the greatest number of 64 bits.
-const SPAN: u128 = 0x1_0000_0000_0000_0000;
+/// One above the greatest number of 64 bits, as a mark and a place have.
+pub(crate) const SPAN: u128 = 0x1_0000_0000_0000_0000;
 
 /// A mark with one number more.
 #[tactic(auto, unfolding(crate::specs::Marks::mixed))]
