@@ -2,20 +2,25 @@
 ghost use Rattle.std.specs.Prelude.{◌≡◌, ◌++◌, ◌∷◌, true, IfOk};
 ghost use Rattle.std.specs.List.{AllByRecursion};
 ghost use Rattle.ipfix_element.specs.Kinds.{kind_of};
+ghost use Rattle.flow_anonymize.specs.Disclosed.{disclosure_of};
+ghost use Rattle.flow_anonymize.specs.Outcome.{shown};
 ghost use Rattle.policy_text.specs.Classes.{is_key_kind};
 ghost use Rattle.policy_text.specs.Policies.{nothing};
 
 use flow_aggregate::{Count, Definition, Timing, judge_time};
+use flow_anonymize::{Disclosure, disclose_by};
 use ipfix_template::Record;
 use policy_text::{AggregateDef, Policy};
+use rule_table::RuleTable;
 use std::alloc::{AllocError, Global};
 use std::marker::Model;
 
-/// The policy in force, and the time to which the clock was advanced. The policy's aggregates are kept as groups share
-/// them.
+/// The policy in force, and the time to which the clock was advanced. The policy's rules are kept in a table, and its aggregates
+/// as groups share them.
 #[derive(Drop)]
 pub struct InForce {
     policy: Policy,
+    table: RuleTable,
     definitions: Vec<Definition>,
     clock: u64,
 }
@@ -28,7 +33,7 @@ impl Model for InForce {
 
     ghost view = { λ f. in_force_with f.policy f.clock };
 
-    ghost invariant = { λ f. f.definitions.items ≡ f.policy.aggregates };
+    ghost invariant = { λ f. (f.table ≡ f.policy.rules) × (f.definitions.items ≡ f.policy.aggregates) };
 }
 
 impl InForce {
@@ -57,17 +62,13 @@ impl InForce {
         // The kinds of a key's elements are kept by the type of policies.
         let _rules = policy.rules();
         let definitions = definitions_of(alloc, policy.aggregates())?;
+        let table = RuleTable::build(alloc, &policy)?;
         Ok(InForce {
             policy,
+            table,
             definitions,
             clock,
         })
-    }
-
-    pub fn policy(&self) -> &Policy
-        ensures { result.now ≡ self.now.policy }
-    {
-        &self.policy
     }
 
     /// The time to which the clock was advanced, in milliseconds since 1970.
@@ -82,6 +83,22 @@ impl InForce {
         ensures { self.new ≡ in_force_with self.old.policy t }
     {
         self.clock = t;
+    }
+
+    /// What the policy discloses of a record of this observation domain to the subscriber of this name.
+    ///
+    /// # Errors
+    /// Want of memory.
+    pub(crate) fn disclose(
+        &self,
+        alloc: Global,
+        name: &str,
+        domain: u32,
+        flow_record: &Record,
+    ) -> Result<Disclosure, AllocError>
+        ensures { IfOk result (λ d. shown d ≡ disclosure_of name.now domain flow_record.now self.now.policy.rules) }
+    {
+        disclose_by(alloc, &self.table, name, domain, flow_record)
     }
 
     /// Where a record counts in the aggregate at a place of the policy's list, or why it doesn't.

@@ -13,7 +13,7 @@ use crate::in_force::InForce;
 use crate::served::Served;
 use disclosure_audit::{RemovedField, RemovedFields, What};
 use flow_aggregate::{Count, Timing};
-use flow_anonymize::{Disclosure, disclose};
+use flow_anonymize::Disclosure;
 use ipfix_template::Record;
 use std::alloc::{AllocError, Global};
 
@@ -125,7 +125,7 @@ impl Shares {
         ensures notes { OnOk result (self.new.notes.items ≡ self.old.notes.items ++ noted_of_each domain in_force.now served.now (index, flow_record.now)) }
     {
         'served: for (place, who) in served.iter().enumerate() {
-            let found = disclose(alloc, in_force.policy(), who.name, domain, flow_record)?;
+            let found = in_force.disclose(alloc, who.name, domain, flow_record)?;
             self.add(alloc, place, index, who.sub, in_force, flow_record, found)?;
         }
         Ok(())

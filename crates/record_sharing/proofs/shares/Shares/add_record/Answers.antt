@@ -13,7 +13,7 @@ pub served-preserved : goal.served-preserved
 served-preserved c =
     adding_found c.args.self.now.shares.items c.served.self.shares.items c.add.new.self.shares.items c.args.self.now.tallies.items c.served.self.tallies.items c.add.new.self.tallies.items
     c.args.self.now.notes.items c.served.self.notes.items c.add.new.self.notes.items c.args.domain c.args.in_force.now c.args.index c.args.flow_record.now c.args.served.now c.served.place
-    _ _ c.policy.result.now (outcome.shown c.in_ok-found.found) c.served.invariant (omega (arith, c.served-test.true)) refl c.policy.ensures c.in_ok-found.ensures.exact
+    _ _ c.args.in_force.now.policy (outcome.shown c.in_ok-found.found) c.served.invariant (omega (arith, c.served-test.true)) refl refl c.in_ok-found.ensures
     c.in_ok-add.ensures.shares c.in_ok-add.ensures.tallies c.in_ok-add.ensures.stay c.in_ok-add.ensures.stay_tallies c.in_ok-add.ensures.notes
 
 pub returns-clause-shares : goal.returns-clause-shares
