@@ -4,14 +4,14 @@
 //! - `entry`: [`AuditEntry`], [`What`] was kept back, [`RemovedField`] with its list [`RemovedFields`].
 //! - `reason`: [`Reason`], why a whole record was withheld.
 //! - `audit`: [`Audit`], the queue.
-//! - `lines`: [`line`], the text of an entry.
+//! - `lines`: [`line`], the text of an entry, and [`put_line`], which adds it to a text.
 //! - `laws`: [`one_entry`], proved over the definitions.
 //!
 //! Proved: `room` is exact. `reserve` changes nothing but the reserved room, and takes no memory where that is enough
 //! (`there`). `push_reserved` and `extend_reserved` put entries behind those that wait, take no memory and cannot
 //! fail. `drain` hands out the oldest entries, or all (`oldest`), and leaves the others (`left`), so that what was
 //! handed out and what waits are all that was given (`stands`); where it is refused nothing changes (`err`). `line`
-//! is the exact text of an entry. Law: `one_entry` (no line is that of two entries).
+//! is the exact text of an entry, and `put_line` adds just that. Law: `one_entry` (no line is that of two entries).
 #![tactic(auto)]
 
 mod audit;
@@ -23,5 +23,5 @@ mod reason;
 pub use audit::{Audit, MOST_ENTRIES};
 pub use entry::{AuditEntry, RemovedField, RemovedFields, What};
 pub use laws::one_entry;
-pub use lines::line;
+pub use lines::{line, put_line};
 pub use reason::Reason;

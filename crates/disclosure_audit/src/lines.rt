@@ -16,15 +16,25 @@ pub fn line(alloc: Global, entry: &AuditEntry) -> Result<String, AllocError>
     ensures { IfOk result (λ text. string_bytes text ≡ line_of entry.now) }
 {
     let mut text = String::new(alloc);
-    put_number(&mut text, entry.position)?;
-    text.push_str(" ")?;
-    put_number(&mut text, u64::from(entry.index))?;
-    text.push_str(" ")?;
-    put_number(&mut text, entry.sub)?;
-    text.push_str(" ")?;
-    put_what(&mut text, &entry.what)?;
-    text.push_str("\n")?;
+    put_line(&mut text, entry)?;
     Ok(text)
+}
+
+/// Adds the line of an entry to a text.
+///
+/// # Errors
+/// Want of memory.
+pub fn put_line(text: &mut String, entry: &AuditEntry) -> Result<(), AllocError>
+    ensures { OnOk result (string_bytes text.new ≡ string_bytes text.old ++ line_of entry.now) }
+{
+    put_number(text, entry.position)?;
+    text.push_str(" ")?;
+    put_number(text, u64::from(entry.index))?;
+    text.push_str(" ")?;
+    put_number(text, entry.sub)?;
+    text.push_str(" ")?;
+    put_what(text, &entry.what)?;
+    text.push_str("\n")
 }
 
 fn put_what(text: &mut String, what: &What) -> Result<(), AllocError>

@@ -48,7 +48,7 @@ pub(crate) fn first_bits(width: u32, kept: u32, value: u128) -> u128
 }
 
 /// The number that the octets write, the most significant first.
-pub(crate) fn number(octets: &[u8]) -> u128
+pub fn number(octets: &[u8]) -> u128
     requires { length octets.now ≤ 16 }
     ensures value { result ≡ be_value octets.now }
     ensures below { result < 256 ^ length octets.now }

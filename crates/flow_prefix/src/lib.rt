@@ -7,7 +7,7 @@
 //! - `net`: [`Prefix4`] and [`Prefix6`], what the two kinds of prefix hold.
 //! - `fault`: [`PrefixFault`], why a text is no prefix.
 //! - `scan`: [`cut_at`], the two sides of an octet.
-//! - `bits`: [`keep_bits`], truncation of a value to its first bits.
+//! - `bits`: [`keep_bits`], truncation of a value to its first bits; [`number`], the number of its octets.
 //! - `laws`: [`print_then_parse`] and [`kept_bits_are_truncated`], proved over the definitions.
 //!
 //! Proved: `Prefix::parse` is `Ok` exactly on the texts of prefixes, with their value (`found`, `only`, `exact` of
@@ -27,7 +27,7 @@ mod parts;
 mod prefix;
 mod scan;
 
-pub use bits::keep_bits;
+pub use bits::{keep_bits, number};
 pub use family::Family;
 pub use fault::PrefixFault;
 pub use laws::{kept_bits_are_truncated, print_then_parse};

@@ -1,22 +1,21 @@
 //! What the audit names is written, line by line.
-ghost use Rattle.std.specs.Prelude.{◌≡◌, [], IfErr, OnOk, OnErr};
+ghost use Rattle.std.specs.Prelude.{◌≡◌, IfOk, IfErr, OnOk, OnErr, string_bytes};
 ghost use Rattle.std.specs.Io.KnownBytes.{Appends};
-ghost use Rattle.disclosure_audit.specs.Lines.{line_of};
 ghost use Rattle.offline_filter.specs.Failing.{audit_after};
 ghost use Rattle.offline_filter.specs.Lines.{lines_of, WritesSome};
 ghost use Rattle.offline_filter.specs.Recording.{StopsLines};
 
 use crate::job::OfflineFault;
 use crate::run::Run;
-use disclosure_audit::{AuditEntry, line};
+use disclosure_audit::{AuditEntry, put_line};
 use mediator_state::Fault;
 use octet_devices::{Sink, write_all};
-use std::alloc::Global;
+use std::alloc::{AllocError, Global};
 
-/// Writes the lines of entries, in their order.
+/// Writes the lines of entries, in their order, in one piece.
 ///
 /// # Errors
-/// The writer failed, or memory ran out: a front of the lines was written.
+/// The writer failed, and a front of the lines was written; or memory ran out.
 pub(crate) fn write_lines<A: Sink>(
     alloc: Global,
     entries: &[AuditEntry],
@@ -28,31 +27,24 @@ pub(crate) fn write_lines<A: Sink>(
     ensures fails { IfErr result (λ e. A.has_failed writer.new ≡ audit_after e (A.has_failed writer.old)) }
     ensures err { OnErr result (WritesSome (A.contents writer.old) (A.contents writer.new) (lines_of entries.now)) }
 {
-    'lines: for entry in entries {
-        write_line(alloc, entry, writer)?;
-    }
-    Ok(())
-}
-
-/// Writes the line of one entry.
-fn write_line<A: Sink>(
-    alloc: Global,
-    entry: &AuditEntry,
-    writer: &mut A,
-) -> Result<(), OfflineFault>
-    ensures ok { OnOk result (Appends (A.contents writer.old) (A.contents writer.new) (line_of entry.now)) }
-    ensures stays { OnOk result (A.has_failed writer.new ≡ A.has_failed writer.old) }
-    ensures cause { IfErr result (λ e. StopsLines e (A.has_failed writer.new)) }
-    ensures fails { IfErr result (λ e. A.has_failed writer.new ≡ audit_after e (A.has_failed writer.old)) }
-    ensures err { OnErr result (WritesSome (A.contents writer.old) (A.contents writer.new) (line_of entry.now)) }
-{
-    let Ok(text) = line(alloc, entry) else {
+    let Ok(text) = lines(alloc, entries) else {
         return Err(OfflineFault::Core(Fault::OutOfMemory));
     };
     match write_all(writer, text.as_bytes()) {
         Ok(()) => Ok(()),
         Err(_) => Err(OfflineFault::AuditWrite),
     }
+}
+
+/// The lines of entries, one after another.
+fn lines(alloc: Global, entries: &[AuditEntry]) -> Result<String, AllocError>
+    ensures { IfOk result (λ text. string_bytes text ≡ lines_of entries.now) }
+{
+    let mut text = String::new(alloc);
+    'entries: for entry in entries {
+        put_line(&mut text, entry)?;
+    }
+    Ok(text)
 }
 
 ghost use Rattle.std.specs.Prelude.{◌<◌, ◌^◌, length};

@@ -82,7 +82,7 @@ fn first_on_fields(
 }
 
 /// What a rule on records does.
-fn record_action(action: Action) -> RecordAction
+pub fn record_action(action: Action) -> RecordAction
     ensures { result ≡ record_action action }
 {
     match action {
@@ -95,7 +95,7 @@ fn record_action(action: Action) -> RecordAction
 }
 
 /// What a rule on fields does.
-fn element_action(action: Action) -> ElementAction
+pub fn element_action(action: Action) -> ElementAction
     ensures { result ≡ element_action action }
 {
     match action {

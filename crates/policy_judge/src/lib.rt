@@ -2,10 +2,10 @@
 //! on each of its fields, and what that rule does. It changes no record, and takes no memory.
 //!
 //! - `verdict`: [`RecordVerdict`] with [`RecordAction`], [`ElementVerdict`] with [`ElementAction`].
-//! - `judge`: [`record_verdict`] and [`element_verdict`].
+//! - `judge`: [`record_verdict`] and [`element_verdict`]; [`record_action`] and [`element_action`], what a rule does.
 //! - `rule_match`: [`matches_record`] and [`matches_field`], whether a rule matches.
 //! - `laws`: [`others_never_matter`] and [`later_rules_never_matter`], proved over the definitions.
-//! - `occurrences`: a record's source and destination addresses.
+//! - `occurrences`: a record's source and destination addresses, by [`Side`].
 //!
 //! Proved: `record_verdict` and `element_verdict` answer the number and the action of the first rule of their kind
 //! that matches, or rule 0, which withholds or removes. A rule that permits needs, for each prefix that it names, an
@@ -19,7 +19,8 @@ mod occurrences;
 mod rule_match;
 mod verdict;
 
-pub use judge::{element_verdict, record_verdict};
+pub use judge::{element_action, element_verdict, record_action, record_verdict};
 pub use laws::{later_rules_never_matter, others_never_matter};
+pub use occurrences::Side;
 pub use rule_match::{matches_field, matches_record};
 pub use verdict::{ElementAction, ElementVerdict, RecordAction, RecordVerdict};

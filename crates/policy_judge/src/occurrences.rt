@@ -20,8 +20,10 @@ const DESTINATION_IPV6_ADDRESS: u16 = 28;
 
 /// Which of a record's addresses.
 #[derive(Clone, Copy)]
-pub(crate) enum Side {
+pub enum Side {
+    /// Where it comes from.
     Source,
+    /// Where it goes to.
     Destination,
 }
 
@@ -29,7 +31,7 @@ impl Side {
     ghost use Rattle.policy_judge.specs.Sides.{is_of};
 
     /// Whether fields of the element hold such addresses.
-    pub(crate) fn has(self, element: ElementId) -> bool
+    pub fn has(self, element: ElementId) -> bool
         ensures { result ≡ is_of self element }
     {
         let number = element.number();

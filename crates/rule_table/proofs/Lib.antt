@@ -1,0 +1,7 @@
+pub mod Members
+pub mod FirstLaws
+pub mod ShapeLaws
+pub mod IndexLaws
+pub mod AskedLaws
+pub mod TableLaws
+pub mod VerdictLaws

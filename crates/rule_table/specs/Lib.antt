@@ -1,0 +1,10 @@
+pub use Rattle.ipfix_template.specs.DataRecord
+pub use Rattle.policy_text.specs.Policies
+pub use Rattle.policy_judge.specs.Occurrences
+pub use Rattle.policy_judge.specs.Match
+pub use Rattle.policy_judge.specs.Verdicts
+pub mod Addresses
+pub mod Marks
+pub mod Index
+pub mod Asked
+pub mod Candidates

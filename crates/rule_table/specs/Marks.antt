@@ -1,0 +1,65 @@
+-- The mark of a rule: a number made of its subscriber and of its most telling condition. Two conditions may come to one mark,
+-- which costs a look at a rule more and changes nothing else.
+use Rattle.std.specs.Prelude.{ℕ, ◌+◌, ◌*◌, ◌/◌, ◌%◌, ◌^◌, List, Option, Some, None, if◌then◌else◌}
+use Rattle.std.specs.List.{fold}
+use Rattle.ipfix_element.specs.Element.{Element}
+use Rattle.flow_prefix.specs.declared.prefix.Prefix.{Prefix}
+use Rattle.flow_prefix.specs.declared.prefix.Prefix.TheVariants.{V4, V6}
+use Rattle.policy_text.specs.declared.rule.Rule.{Rule}
+use Rattle.policy_judge.specs.declared.occurrences.Side.{Side}
+use Rattle.policy_judge.specs.declared.occurrences.Side.TheVariants.{Source, Destination}
+use Rattle.policy_judge.specs.Match.{is_on_records}
+
+-- a mark with one number more
+unfoldable pub mixed : ℕ → ℕ → ℕ
+mixed mark number = (mark * 0x9E37_79B9_7F4A_7C15 % 2 ^ 64 + number) % 2 ^ 64
+
+-- of a subscriber's name
+unfoldable pub name_mark : List ℕ → ℕ
+name_mark name = fold mixed 1 name
+
+-- 0 for any subscriber
+abbrev pub who_mark : Option (List ℕ) → ℕ
+who_mark None = 0
+who_mark (Some name) = name_mark name
+
+abbrev pub side_number : Side → ℕ
+side_number Source = 1
+side_number Destination = 2
+
+-- of the addresses of this side that have these first bits
+unfoldable pub inside_mark : ℕ → Side → ℕ → ℕ → ℕ → ℕ
+inside_mark who side width length address =
+    mixed (mixed (mixed (mixed (mixed who (side_number side)) width) length) (address / 2 ^ 64)) (address % 2 ^ 64)
+
+abbrev pub prefix_mark : ℕ → Side → Prefix → ℕ
+prefix_mark who side (V4 net) = inside_mark who side 32 net.length net.address
+prefix_mark who side (V6 net) = inside_mark who side 128 net.length net.address
+
+-- of an observation domain
+unfoldable pub domain_mark : ℕ → ℕ → ℕ
+domain_mark who domain = mixed (mixed who 3) domain
+
+abbrev pub pen_number : Option ℕ → ℕ
+pen_number None = 0
+pen_number (Some pen) = pen + 1
+
+-- of an information element
+unfoldable pub element_mark : ℕ → Element → ℕ
+element_mark who e = mixed (mixed (mixed who 4) (pen_number e.pen)) e.number
+
+-- what tells most: where the sources are, else where the destinations are, else the element, else the domain, else nothing but who
+abbrev pub telling_mark : ℕ → Option Prefix → Option Prefix → Option Element → Option ℕ → ℕ
+telling_mark who (Some from) to element domain = prefix_mark who Source from
+telling_mark who None (Some to) element domain = prefix_mark who Destination to
+telling_mark who None None (Some element) domain = element_mark who element
+telling_mark who None None None (Some domain) = domain_mark who domain
+telling_mark who None None None None = who
+
+-- the element that a rule on fields names
+abbrev pub element_of : Rule → Option Element
+element_of rule = if is_on_records rule.action then None else rule.element
+
+-- the mark under which a rule stands
+unfoldable pub rule_mark : Rule → ℕ
+rule_mark rule = telling_mark (who_mark rule.who) rule.from rule.to (element_of rule) rule.domain

@@ -1,0 +1,152 @@
+ghost use Rattle.std.specs.Prelude.{◌≡◌, ◌==◌, ◌&&◌, IfOk, IfSome, OnOk};
+ghost use Rattle.std.specs.List.{Contains, list_any};
+ghost use Rattle.flow_prefix.specs.Bits.{truncated};
+ghost use Rattle.rule_table.specs.Addresses.{address_of, address_at, addresses_of, shape_of, named};
+ghost use Rattle.rule_table.specs.Index.{HaveShapes};
+
+use flow_prefix::{Prefix, number};
+use ipfix_template::{FieldSpec, Record};
+use policy_judge::Side;
+use policy_text::Rule;
+use std::alloc::{AllocError, Global};
+
+const OCTETS4: usize = 4;
+
+const OCTETS6: usize = 16;
+
+/// The bits of an address of IPv4.
+pub(crate) const WIDTH4: u32 = 32;
+
+/// The bits of an address of IPv6.
+pub(crate) const WIDTH6: u32 = 128;
+
+/// An address: how many bits it has, and its number.
+#[derive(Clone, Copy, Debug)]
+pub(crate) struct Address {
+    pub width: u32,
+    pub number: u128,
+}
+
+/// What a prefix is without its address: how many bits an address has, and how many of them count.
+#[derive(Clone, Copy, Debug)]
+pub(crate) struct Shape {
+    pub width: u32,
+    pub length: u32,
+}
+
+/// The addresses of a record on a side, in the order of its fields.
+pub(crate) fn addresses_of(
+    alloc: Global,
+    side: Side,
+    flow_record: &Record,
+) -> Result<Vec<Address>, AllocError>
+    ensures { IfOk result (λ addresses. addresses.items ≡ addresses_of side flow_record.now) }
+{
+    let fields = flow_record.template().fields.as_slice();
+    let values = flow_record.values().as_slice();
+    fields
+        .iter()
+        .zip(values)
+        .filter_map(|(field, value)| address_at(side, field, value.as_slice()))
+        .collect(alloc)
+}
+
+/// The address that a field of this side holds.
+fn address_at(side: Side, field: &FieldSpec, value: &[u8]) -> Option<Address>
+    ensures { result ≡ address_at side (field.now, value.now) }
+{
+    if side.has(field.element) {
+        address_of(value)
+    } else {
+        None
+    }
+}
+
+/// The address that a value of 4 octets, or of 16, writes.
+fn address_of(octets: &[u8]) -> Option<Address>
+    ensures { result ≡ address_of octets.now }
+{
+    if octets.len() == OCTETS4 {
+        return Some(Address {
+            width: WIDTH4,
+            number: number(octets),
+        });
+    }
+    if octets.len() == OCTETS6 {
+        return Some(Address {
+            width: WIDTH6,
+            number: number(octets),
+        });
+    }
+    None
+}
+
+/// A number of so many bits with its first ones kept, and the others 0.
+pub(crate) fn first_bits(width: u32, kept: u32, number: u128) -> u128
+    ensures { result ≡ truncated width kept number }
+{
+    match 1u128.checked_shl(width.saturating_sub(kept)) {
+        Some(unit) => number / unit * unit,
+        None => 0,
+    }
+}
+
+/// The shape of a prefix.
+fn shape_of(prefix: &Prefix) -> Shape
+    ensures { result ≡ shape_of prefix.now }
+{
+    match prefix {
+        Prefix::V4(net) => Shape {
+            width: WIDTH4,
+            length: u32::from(net.length()),
+        },
+        Prefix::V6(net) => Shape {
+            width: WIDTH6,
+            length: u32::from(net.length()),
+        },
+    }
+}
+
+/// The shapes of the prefixes that the rules name on a side, each once.
+pub(crate) fn shapes_of(alloc: Global, side: Side, rules: &[Rule]) -> Result<Vec<Shape>, AllocError>
+    ensures { IfOk result (λ shapes. HaveShapes side rules.now shapes.items) }
+{
+    let mut shapes = Vec::new(alloc);
+    for rule in rules {
+        note_rule(&mut shapes, side, rule)?;
+    }
+    Ok(shapes)
+}
+
+/// Adds the shape of the prefix that a rule names on a side, if it names one and its shape isn't there yet.
+fn note_rule(shapes: &mut Vec<Shape>, side: Side, rule: &Rule) -> Result<(), AllocError>
+    ensures kept { OnOk result ((shape : _) → Contains shapes.old.items shape → Contains shapes.new.items shape) }
+    ensures noted { OnOk result (IfSome (named side rule.now) (λ prefix. Contains shapes.new.items (shape_of prefix))) }
+{
+    let prefix = match side {
+        Side::Source => &rule.from,
+        Side::Destination => &rule.to,
+    };
+    match prefix {
+        Some(prefix) => note(shapes, shape_of(prefix)),
+        None => Ok(()),
+    }
+}
+
+/// Adds a shape, if it isn't there yet.
+fn note(shapes: &mut Vec<Shape>, shape: Shape) -> Result<(), AllocError>
+    ensures kept { OnOk result ((other : _) → Contains shapes.old.items other → Contains shapes.new.items other) }
+    ensures noted { OnOk result (Contains shapes.new.items shape) }
+{
+    if !has_shape(shapes, shape) {
+        shapes.push(shape)?;
+    }
+    Ok(())
+}
+
+/// Whether the shape is among these.
+fn has_shape(shapes: &[Shape], shape: Shape) -> bool
+    ensures { result ≡ list_any (λ other. other.width == shape.width && other.length == shape.length) shapes.now }
+{
+    shapes.iter().any(|other| other.width == shape.width && other.length == shape.length)
+}

@@ -1,0 +1,35 @@
+//! The rules of a policy in a table, by which a verdict looks at few of them, however many there are. It decides as
+//! `policy_judge` does, and nothing by itself.
+//!
+//! - `table`: [`RuleTable`], built of a policy once; `candidates` are looked up once a record.
+//! - `candidates`: [`Candidates`], the places of the rules that may match a record, asked for its verdicts.
+//! - `marks`: the mark of a rule, a number made of its subscriber and of its most telling condition.
+//! - `asked`: the marks that are looked up for a record.
+//! - `index`: a table's entries, each a mark with a rule's place, in which a mark is found by halving.
+//! - `addresses`: a record's addresses as numbers, and the shapes of a policy's prefixes.
+//! - `copies`: a table's own rules.
+//!
+//! A rule stands under one mark: its subscriber's, with what tells most of it, which is the prefix of its sources; where it
+//! names none, that of its destinations; then its element, if it is a rule on fields; then its domain. For a record the marks
+//! are looked up of its domain, of the elements of its fields, and of each prefix that one of its addresses is inside, of those
+//! lengths that the policy's prefixes have, each with its subscriber and with any. So what a record costs grows with its
+//! fields, its addresses and these lengths, and with the rules that stand under one mark.
+//!
+//! Proved: `RuleTable::build` keeps the policy's rules, in their order; `record_verdict` and `element_verdict` of what
+//! `RuleTable::candidates` answers are by these rules those of `policy_judge`, clause for clause. Which rules stand under
+//! one mark, and so how fast it is, no clause says: two marks that happen to be one number cost a look at some rules more.
+#![tactic(auto)]
+
+mod addresses;
+mod asked;
+mod candidates;
+mod copies;
+mod index;
+mod marks;
+mod table;
+
+pub use candidates::Candidates;
+pub use table::RuleTable;
+
+#[cfg(test)]
+mod tests;

@@ -1,0 +1,152 @@
+ghost use Rattle.std.specs.Prelude.{◌≡◌};
+ghost use Rattle.rule_table.specs.Marks.{mixed, name_mark, side_number, inside_mark, prefix_mark, domain_mark, telling_mark, who_mark, rule_mark, element_mark, pen_number, element_of};
+
+use crate::addresses::{WIDTH4, WIDTH6};
+use flow_prefix::Prefix;
+use ipfix_element::ElementId;
+use policy_judge::Side;
+use policy_text::{Action, Name, Rule};
+
+/// What rules of any subscriber are marked by.
+pub(crate) const ANY_SUBSCRIBER: u64 = 0;
+
+/// What a name's octets are mixed into.
+const NAME_SEED: u64 = 1;
+
+/// What tells a domain from the sides.
+const DOMAIN: u64 = 3;
+
+/// What tells an element from them.
+const ELEMENT: u64 = 4;
+
+/// An odd number with about as many ones as zeros, evenly spread: 2^64 over the golden ratio.
+const FACTOR: u64 = 0x9E37_79B9_7F4A_7C15;
+
+/// One above the greatest number of 64 bits, as a mark and a place have.
+pub(crate) const SPAN: u128 = 0x1_0000_0000_0000_0000;
+
+/// A mark with one number more.
+#[tactic(auto, unfolding(crate::specs::Marks::mixed))]
+fn mixed(mark: u64, number: u64) -> u64
+    ensures { result ≡ mixed mark number }
+{
+    mark.wrapping_mul(FACTOR).wrapping_add(number)
+}
+
+/// The mark of a subscriber's name.
+#[tactic(auto, unfolding(crate::specs::Marks::name_mark))]
+pub(crate) fn name_mark(name: &[u8]) -> u64
+    ensures { result ≡ name_mark name.now }
+{
+    name.iter()
+        .fold(NAME_SEED, |mark, octet| mixed(mark, u64::from(*octet)))
+}
+
+/// The mark of an observation domain.
+#[tactic(auto, unfolding(crate::specs::Marks::domain_mark))]
+pub(crate) fn domain_mark(who: u64, domain: u32) -> u64
+    ensures { result ≡ domain_mark who domain }
+{
+    mixed(mixed(who, DOMAIN), u64::from(domain))
+}
+
+/// The mark of an information element.
+#[tactic(auto, unfolding(crate::specs::Marks::element_mark))]
+pub(crate) fn element_mark(who: u64, element: ElementId) -> u64
+    ensures { result ≡ element_mark who element }
+{
+    let mark = mixed(mixed(who, ELEMENT), pen_number(element));
+    mixed(mark, u64::from(element.number()))
+}
+
+fn pen_number(element: ElementId) -> u64
+    ensures { result ≡ pen_number element.pen }
+{
+    match element.pen() {
+        Some(pen) => u64::from(pen) + 1,
+        None => 0,
+    }
+}
+
+fn side_number(side: Side) -> u64
+    ensures { result ≡ side_number side }
+{
+    match side {
+        Side::Source => 1,
+        Side::Destination => 2,
+    }
+}
+
+/// The mark of a prefix: its side, its shape and its address.
+#[tactic(auto, unfolding(crate::specs::Marks::inside_mark))]
+pub(crate) fn inside_mark(who: u64, side: Side, width: u32, length: u32, address: u128) -> u64
+    ensures { result ≡ inside_mark who side width length address }
+{
+    let mark = mixed(who, side_number(side));
+    let mark = mixed(mark, u64::from(width));
+    let mark = mixed(mark, u64::from(length));
+    let mark = mixed(mark, (address / SPAN) as u64);
+    mixed(mark, (address % SPAN) as u64)
+}
+
+/// The mark of a prefix of a rule.
+fn prefix_mark(who: u64, side: Side, prefix: &Prefix) -> u64
+    ensures { result ≡ prefix_mark who side prefix.now }
+{
+    match prefix {
+        Prefix::V4(net) => {
+            let address = u128::from(net.address());
+            inside_mark(who, side, WIDTH4, u32::from(net.length()), address)
+        }
+        Prefix::V6(net) => {
+            let address = net.address();
+            inside_mark(who, side, WIDTH6, u32::from(net.length()), address)
+        }
+    }
+}
+
+/// The mark under which a rule stands.
+#[tactic(auto, unfolding(crate::specs::Marks::rule_mark))]
+pub(crate) fn rule_mark(rule: &Rule) -> u64
+    ensures { result ≡ rule_mark rule.now }
+{
+    telling_mark(who_mark(&rule.who), rule)
+}
+
+fn who_mark(who: &Option<Name>) -> u64
+    ensures { result ≡ who_mark who.now }
+{
+    match who {
+        Some(name) => name_mark(name.as_bytes()),
+        None => ANY_SUBSCRIBER,
+    }
+}
+
+/// The mark of what tells most of a rule.
+fn telling_mark(who: u64, rule: &Rule) -> u64
+    ensures { result ≡ telling_mark who rule.now.from rule.now.to (element_of rule.now) rule.now.domain }
+{
+    if let Some(prefix) = &rule.from {
+        return prefix_mark(who, Side::Source, prefix);
+    }
+    if let Some(prefix) = &rule.to {
+        return prefix_mark(who, Side::Destination, prefix);
+    }
+    if let Some(element) = element_of(rule) {
+        return element_mark(who, element);
+    }
+    match &rule.domain {
+        Some(domain) => domain_mark(who, *domain),
+        None => who,
+    }
+}
+
+/// The element that a rule on fields names.
+fn element_of(rule: &Rule) -> Option<ElementId>
+    ensures { result ≡ element_of rule.now }
+{
+    match rule.action {
+        Action::Pass | Action::Withhold | Action::Aggregate(_) => None,
+        Action::Keep | Action::Remove | Action::Truncate(_) => rule.element,
+    }
+}
