@@ -3,6 +3,8 @@ pub use Rattle.policy_text.specs.Policies
 pub use Rattle.policy_judge.specs.Occurrences
 pub use Rattle.policy_judge.specs.Match
 pub use Rattle.policy_judge.specs.Verdicts
+pub use Rattle.policy_text.specs.Grammar
+pub mod OfPolicy
 pub mod Addresses
 pub mod Marks
 pub mod Index

@@ -1,4 +1,8 @@
-ghost use Rattle.std.specs.Prelude.{◌≡◌, IfOk};
+ghost use Rattle.std.specs.Prelude.{◌≡◌, ◌≤◌, ◌<◌, ℕ, List, length, IfOk};
+ghost use Rattle.ipfix_template.specs.DataRecord.{DataRecord};
+ghost use Rattle.policy_judge.specs.Verdicts.{record_verdict_of};
+ghost use Rattle.rule_table.specs.OfPolicy.{AreOfPolicy};
+ghost use Rattle.rule_table.specs.Candidates.{AreCandidates};
 
 use crate::addresses::{Shape, shapes_of};
 use crate::asked::asked;
@@ -6,10 +10,13 @@ use crate::candidates::Candidates;
 use crate::copies::copied;
 use crate::index::{entries_of, places_under};
 use ipfix_template::Record;
-use policy_judge::Side;
+use policy_judge::{RecordAction, RecordVerdict, Side, matches_record, record_action};
 use policy_text::{Policy, Rule};
 use std::alloc::{AllocError, Global};
 use std::marker::Model;
+
+/// Of so few rules all are looked at: that costs less than to find those that may match.
+const FEW_RULES: usize = 32;
 
 /// The rules of a policy, with an index by which those are found that may match a record. Contracts see the rules.
 #[derive(Drop)]
@@ -26,13 +33,14 @@ pub struct RuleTable {
 impl Model for RuleTable {
     ghost use Rattle.std.specs.Prelude.{List};
     ghost use Rattle.policy_text.specs.declared.rule.Rule.{Rule};
+    ghost use Rattle.rule_table.specs.OfPolicy.{AreOfPolicy};
     ghost use Rattle.rule_table.specs.Index.{IsIndex};
 
     ghost Value = { List Rule };
 
     ghost view = { λ t. t.rules.items };
 
-    ghost invariant = { λ t. IsIndex t.rules.items t.entries.items t.sources.items t.destinations.items };
+    ghost invariant = { λ t. AreOfPolicy t.rules.items × IsIndex t.rules.items t.entries.items t.sources.items t.destinations.items };
 }
 
 impl RuleTable {
@@ -56,6 +64,32 @@ impl RuleTable {
         })
     }
 
+    /// The rules, in the order of the policy.
+    pub fn rules(&self) -> &[Rule]
+        ensures value { result.now ≡ self.now }
+        ensures sound { AreOfPolicy self.now }
+        ensures few { length self.now ≤ 4096 }
+    {
+        self.rules.as_slice()
+    }
+
+    /// The verdict on a record, as `policy_judge` gives it, by a look at one rule after another. It takes no memory.
+    pub fn record_verdict(&self, name: &str, domain: u32, flow_record: &Record) -> RecordVerdict
+        ensures { result ≡ record_verdict_of name.now domain flow_record.now self.now }
+    {
+        let rules = self.rules();
+        match first_match(rules, name.as_bytes(), domain, flow_record) {
+            Some(place) => RecordVerdict {
+                rule: place as u32 + 1,
+                action: record_action(rules[place].action),
+            },
+            None => RecordVerdict {
+                rule: 0,
+                action: RecordAction::Withhold,
+            },
+        }
+    }
+
     /// The rules that may match a record of this observation domain, for the subscriber of this name: few of them, to be
     /// asked for the verdicts on the record and on each of its fields.
     ///
@@ -70,10 +104,65 @@ impl RuleTable {
     ) -> Result<Candidates<'a>, AllocError>
         ensures { IfOk result (λ candidates. candidates ≡ record { rules = self.now; name = name.now; domain = domain; flow_record = flow_record.now }) }
     {
+        let places = self.places(alloc, name, domain, flow_record)?;
+        Ok(Candidates::new(self.rules.as_slice(), name, domain, flow_record, places))
+    }
+
+    /// The places of the rules that may match, ascending: of all, where they are few.
+    fn places(
+        &self,
+        alloc: Global,
+        name: &str,
+        domain: u32,
+        flow_record: &Record,
+    ) -> Result<Vec<usize>, AllocError>
+        ensures { IfOk result (λ places. AreCandidates (record { rules = self.now; name = name.now; domain = domain; flow_record = flow_record.now }) places.items) }
+    {
+        let rules = self.rules();
+        if rules.len() <= FEW_RULES {
+            return all_places(alloc, rules);
+        }
+        self.marked_places(alloc, name, domain, flow_record)
+    }
+
+    /// The same, of those alone that stand under a mark of the record.
+    fn marked_places(
+        &self,
+        alloc: Global,
+        name: &str,
+        domain: u32,
+        flow_record: &Record,
+    ) -> Result<Vec<usize>, AllocError>
+        ensures { IfOk result (λ places. AreCandidates (record { rules = self.now; name = name.now; domain = domain; flow_record = flow_record.now }) places.items) }
+    {
         let (sources, destinations) = (self.sources.as_slice(), self.destinations.as_slice());
         let octets = name.as_bytes();
         let marks = asked(alloc, sources, destinations, octets, domain, flow_record)?;
-        let places = places_under(alloc, &self.entries, &marks)?;
-        Ok(Candidates::new(self.rules.as_slice(), name, domain, flow_record, places))
+        places_under(alloc, &self.entries, &marks)
     }
+}
+
+ghost use Rattle.std.specs.Prelude.{IfSome, position};
+ghost use Rattle.policy_judge.specs.Match.{matches_record};
+
+/// The place of the first rule that matches the record.
+fn first_match(rules: &[Rule], name: &[u8], domain: u32, flow_record: &Record) -> Option<usize>
+    ensures value { result ≡ position (matches_record name.now domain flow_record.now) rules.now }
+    ensures within { IfSome result (λ place. place < length rules.now) }
+{
+    rules
+        .iter()
+        .position(|rule| matches_record(rule, name, domain, flow_record))
+}
+
+/// The places of all rules.
+fn all_places(alloc: Global, rules: &[Rule]) -> Result<Vec<usize>, AllocError>
+    requires { length rules.now ≤ 4096 }
+    ensures { IfOk result (λ places. (name : List ℕ) (domain : ℕ) (r : DataRecord) → AreCandidates (record { rules = rules.now; name = name; domain = domain; flow_record = r }) places.items) }
+{
+    let mut places = Vec::with_capacity(alloc, rules.len())?;
+    for place in 0..rules.len() {
+        places.push(place)?;
+    }
+    Ok(places)
 }
