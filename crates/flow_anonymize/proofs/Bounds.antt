@@ -18,9 +18,9 @@ use Rattle.ipfix_template.proofs.Encoding.{fit_fields-at, fit_fields-length}
 use Rattle.policy_text.specs.declared.rule.Rule.{Rule}
 use Rattle.policy_text.specs.declared.rule.Action.{Action}
 use Rattle.policy_text.specs.declared.rule.Action.TheVariants.{Pass, Withhold, Aggregate, Keep, Remove, Truncate}
-use Rattle.policy_text.specs.Policies.{Meaning, Aggregate as Definition}
+use Rattle.policy_text.specs.Policies.{Aggregate as Definition}
 use Rattle.policy_text.specs.Classes.{width_of_kind, width_at}
-use Rattle.policy_text.specs.Grammar.{IsAction, IsRule, IsPolicy}
+use Rattle.policy_text.specs.Grammar.{IsAction, IsRule, AreRules}
 use Rattle.policy_judge.specs.declared.verdict.ElementVerdict.{ElementVerdict}
 use Rattle.ipfix_template.specs.Equality.{same_pen}
 use Rattle.policy_judge.specs.Match.{is_met, is_on_records, is_for, covers, is_same_element, is_element, matches_field}
@@ -124,29 +124,29 @@ within_from (v ∷ vs) (w ∷ ws) each =
 no_field : FieldSpec
 no_field = record { element = record { pen = None; number = 0 }; length = 0 }
 
-verdict_within : (name : List ℕ) (domain : ℕ) (r : DataRecord) (policy : Meaning) → IsSound r → IsPolicy policy → (i : ℕ) (v : List ℕ)
-    → i < length r.template.fields → IsWithin (get_or r.values i v) (element_verdict_of name domain r i policy.rules).action
-verdict_within name domain r policy sound is i v lt =
+verdict_within : (name : List ℕ) (domain : ℕ) (r : DataRecord) (aggregates : List Definition) (rules : List Rule) → IsSound r → AreRules aggregates rules → (i : ℕ) (v : List ℕ)
+    → i < length r.template.fields → IsWithin (get_or r.values i v) (element_verdict_of name domain r i rules).action
+verdict_within name domain r aggregates rules sound are i v lt =
     let there = element_there r r.template.fields i no_field refl lt in
     let f = get_or r.template.fields i no_field in
     let value = get_or r.values i v in
     let allowed = list_all-at has_allowed_length r.template.fields i no_field (passes_of r.template sound.accepted).allowed lt in
     let fits = fit_fields-at r.template.fields r.values i no_field v sound.fit lt in
-    let within = first_rule_within name domain r policy.aggregates 1 policy.rules f value is.rules allowed fits in
+    let within = first_rule_within name domain r aggregates 1 rules f value are allowed fits in
     rw there within
 
-pub verdicts_are_judged : (name : List ℕ) (domain : ℕ) (r : DataRecord) (policy : Meaning) (verdicts : List ElementVerdict) → IsSound r → IsPolicy policy
-    → length r.template.fields ≤ 65535 → verdicts ≡ verdicts_of name domain r policy.rules → AreJudged r verdicts
-verdicts_are_judged name domain r policy verdicts sound is few same =
-    let verdict = λ (place : ℕ). element_verdict_of name domain r place policy.rules in
+pub verdicts_are_judged : (name : List ℕ) (domain : ℕ) (r : DataRecord) (aggregates : List Definition) (rules : List Rule) (verdicts : List ElementVerdict) → IsSound r → AreRules aggregates rules
+    → length r.template.fields ≤ 65535 → verdicts ≡ verdicts_of name domain r rules → AreJudged r verdicts
+verdicts_are_judged name domain r aggregates rules verdicts sound are few same =
+    let verdict = λ (place : ℕ). element_verdict_of name domain r place rules in
     let long = length-map-range_with_len verdict 0 (length r.template.fields) in
     let even = fit_fields-length r.template.fields r.values sound.fit in
-    let within : AreWithin r.values (verdicts_of name domain r policy.rules) =
-    within_from r.values (verdicts_of name domain r policy.rules) (λ i v w lt le.
+    let within : AreWithin r.values (verdicts_of name domain r rules) =
+    within_from r.values (verdicts_of name domain r rules) (λ i v w lt le.
     let here : i < length r.template.fields = omega (arith, le, long) in
-    let at : get_or (verdicts_of name domain r policy.rules) i w ≡ verdict i = get_or-map-range_with_len verdict 0 (length r.template.fields) i i w here (omega arith) in
-    rw at (verdict_within name domain r policy sound is i v here)) in
-    let judged : AreJudged r (verdicts_of name domain r policy.rules) = record { sound = sound; few = omega (arith, long, few); each = long; within = within } in
+    let at : get_or (verdicts_of name domain r rules) i w ≡ verdict i = get_or-map-range_with_len verdict 0 (length r.template.fields) i i w here (omega arith) in
+    rw at (verdict_within name domain r aggregates rules sound are i v here)) in
+    let judged : AreJudged r (verdicts_of name domain r rules) = record { sound = sound; few = omega (arith, long, few); each = long; within = within } in
     rw same judged
 
 -- one verdict more

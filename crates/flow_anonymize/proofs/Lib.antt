@@ -6,3 +6,4 @@ pub mod Places
 pub mod SecrecyLaws
 pub mod OtherLaws
 pub mod PermittedLaws
+pub mod Planning

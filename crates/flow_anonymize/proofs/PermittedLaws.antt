@@ -128,7 +128,7 @@ pub record Passed (o : Option RemovedField) (left : DataRecord) (found : List Re
   pub record_is : left ≡ kept
   pub removed_is : found ≡ removed
 
-passed_by : (a : RecordAction) (rule : ℕ) (o : Option RemovedField) (left : DataRecord) (found : List RemovedField) (kept : DataRecord) (removed : List RemovedField)
+pub passed_by : (a : RecordAction) (rule : ℕ) (o : Option RemovedField) (left : DataRecord) (found : List RemovedField) (kept : DataRecord) (removed : List RemovedField)
     → by_action a rule (unless_lost o left found) ≡ Passes kept removed → Passed o left found kept removed
 passed_by Withhold rule o left found kept removed e = absurd cc
 passed_by (Aggregate definition) rule o left found kept removed e = absurd cc

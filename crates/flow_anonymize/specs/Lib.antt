@@ -9,6 +9,8 @@ pub use Rattle.policy_judge.specs.Occurrences
 pub use Rattle.policy_judge.specs.Match
 pub use Rattle.policy_judge.specs.Verdicts
 pub use Rattle.policy_judge.specs.Laws
+pub use Rattle.rule_table.specs.OfPolicy
+pub use Rattle.rule_table.specs.Candidates
 pub mod Outcome
 pub mod Remaining
 pub mod Disclosed
@@ -16,3 +18,4 @@ pub mod Within
 pub mod Permitted
 pub mod Secrecy
 pub mod OtherRules
+pub mod Planning

@@ -8,6 +8,7 @@ use disclosure_audit::RemovedField;
 use ipfix_template::{FieldSpec, Record};
 use policy_judge::{ElementAction, ElementVerdict, element_verdict};
 use policy_text::Policy;
+use rule_table::Candidates;
 use std::alloc::{AllocError, Global};
 
 /// The verdict on each field of the record.
@@ -27,6 +28,22 @@ pub(crate) fn judge_fields(
     let mut verdicts = Vec::with_capacity(alloc, count)?;
     for field in 0..count {
         verdicts.push(element_verdict(policy, name, domain, flow_record, field))?;
+    }
+    Ok(verdicts)
+}
+
+/// The verdict on each of a record's fields, by the rules that may match it.
+pub(crate) fn judge_candidates(
+    alloc: Global,
+    candidates: &Candidates<'_>,
+    fields: usize,
+) -> Result<Vec<ElementVerdict>, AllocError>
+    requires { fields ≡ length candidates.now.flow_record.template.fields }
+    ensures { IfOk result (λ verdicts. verdicts.items ≡ verdicts_of candidates.now.name candidates.now.domain candidates.now.flow_record candidates.now.rules) }
+{
+    let mut verdicts = Vec::with_capacity(alloc, fields)?;
+    for field in 0..fields {
+        verdicts.push(candidates.element_verdict(field))?;
     }
     Ok(verdicts)
 }

@@ -18,12 +18,15 @@
 //! `others_never_matter`, `later_rules_never_matter`.
 #![tactic(auto)]
 
+mod by_table;
 mod disclosure;
 mod fields;
 mod laws;
+mod plan;
 mod transform;
 mod values;
 
+pub use by_table::disclose_by;
 pub use disclosure::{Disclosure, Reason};
 pub use disclosure_audit::RemovedField;
 pub use laws::{

@@ -2,7 +2,7 @@ use Rattle.std.proofs.Common.{◌≡◌, length, ap, ◌∙◌, sym, arith, rule
 use Rattle.std.proofs.lemmas.Bool.{eqb-true}
 use Rattle.flow_anonymize.specs.Remaining.{removed_fields}
 use Rattle.flow_anonymize.proofs.Sound.{template_stays, few_left}
-use Rattle.flow_anonymize.proofs.transform.remaining_template.Goals as goal
+use Rattle.flow_anonymize.proofs.plan.remaining_template.Goals as goal
 
 pub returns-then-is_empty : goal.returns-then-is_empty
 returns-then-is_empty c =

@@ -1,0 +1,49 @@
+-- Plans: what they show, and of which records.
+use Rattle.std.proofs.Common.{◌≡◌, ◌≢◌, ℕ, ◌≤◌, List, length, sym, ap, ◌∙◌, refl}
+use Rattle.std.specs.Arc.{arc_value}
+use Rattle.ipfix_template.specs.declared.template.Template.{Template}
+use Rattle.ipfix_template.specs.DataRecord.{DataRecord, IsSound}
+use Rattle.policy_judge.specs.declared.verdict.RecordAction.{RecordAction}
+use Rattle.policy_judge.specs.declared.verdict.RecordAction.TheVariants as on_record
+use Rattle.policy_judge.specs.declared.verdict.RecordVerdict.{RecordVerdict}
+use Rattle.policy_judge.specs.declared.verdict.ElementVerdict.{ElementVerdict}
+use Rattle.disclosure_audit.specs.declared.entry.RemovedField.{RemovedField}
+use Rattle.flow_anonymize.specs.declared.plan.Plan.{Plan}
+use Rattle.flow_anonymize.specs.declared.plan.Plan.TheVariants.{Pass, Aggregate, Withhold}
+use Rattle.flow_anonymize.specs.Outcome.{Outcome, Passes}
+use Rattle.flow_anonymize.specs.Remaining.{kept_values, removed_fields}
+use Rattle.flow_anonymize.specs.Within.{AreWithin, AreJudged}
+use Rattle.flow_anonymize.specs.Disclosed.{remaining, first_lost, transformed, by_action, by_verdict}
+use Rattle.flow_anonymize.specs.Planning.{planned, IsShowable, ShowsNone, ShowsBy, IsPlan}
+use Rattle.flow_anonymize.proofs.Sound.{left_is_sound}
+use Rattle.flow_anonymize.proofs.PermittedLaws.{passed_by}
+
+-- ---- what is shown of a record that doesn't pass
+
+none_by : (a : RecordAction) (rule : ℕ) (passing : Outcome) (kept : DataRecord) (removed : List RemovedField) → (a ≡ on_record.Pass → ⊥) → Passes kept removed ≡ by_action a rule passing → ⊥
+none_by on_record.Pass rule passing kept removed other e = other refl
+none_by on_record.Withhold rule passing kept removed other e = cc
+none_by (on_record.Aggregate definition) rule passing kept removed other e = cc
+
+pub shows_none : (t : Template) (verdict : RecordVerdict) (ws : List ElementVerdict) (plan : Plan) (values : List (List ℕ)) → IsPlan t verdict ws plan → verdict.action ≢ on_record.Pass → ShowsNone plan
+shows_none t verdict ws (Pass template removed by) values is other =
+    none_by verdict.action verdict.rule (transformed (record { template = t; values = values }) ws) _ _ other (is.leaves values)
+shows_none t verdict ws (Aggregate rule definition) values is other = tt
+shows_none t verdict ws (Withhold rule reason) values is other = tt
+
+pub none_showable : (plan : Plan) (values : List (List ℕ)) → ShowsNone plan → IsShowable plan values
+none_showable (Pass template removed by) values none = absurd none
+none_showable (Aggregate rule definition) values none = tt
+none_showable (Withhold rule reason) values none = tt
+
+-- ---- what is shown of records on which the verdicts are these
+
+pub showable : (r : DataRecord) (verdict : RecordVerdict) (ws : List ElementVerdict) (plan : Plan) → AreJudged r ws → IsPlan r.template verdict ws plan → IsShowable plan r.values
+showable r verdict ws (Pass template removed by) judged is =
+    let same : by.items ≡ ws = is.by in
+    let kept : DataRecord = record { template = arc_value template; values = kept_values r.values by.items } in
+    let passed = passed_by verdict.action verdict.rule (first_lost r.template.scope (removed_fields ws)) (remaining r ws) (removed_fields ws) kept removed.items (sym (is.leaves r.values)) in
+    let left = left_is_sound r ws judged.sound judged.each passed.none_lost passed.has_octets in
+    (rw same judged.within, rw (← passed.record_is) left)
+showable r verdict ws (Aggregate rule definition) judged is = tt
+showable r verdict ws (Withhold rule reason) judged is = tt

@@ -1,0 +1,48 @@
+-- What becomes of all records of one template for which the verdicts are the same, whatever their values.
+use Rattle.std.specs.Prelude.{◌≡◌, ℕ, List}
+use Rattle.std.specs.Arc.{arc_value}
+use Rattle.ipfix_template.specs.declared.template.Template.{Template}
+use Rattle.ipfix_template.specs.DataRecord.{DataRecord, IsSound}
+use Rattle.policy_judge.specs.declared.verdict.RecordVerdict.{RecordVerdict}
+use Rattle.policy_judge.specs.declared.verdict.ElementVerdict.{ElementVerdict}
+use Rattle.flow_anonymize.specs.declared.plan.Plan.{Plan}
+use Rattle.flow_anonymize.specs.declared.plan.Plan.TheVariants.{Pass, Aggregate, Withhold}
+use Rattle.flow_anonymize.specs.Outcome.{Outcome, Passes, Aggregates, Withholds}
+use Rattle.flow_anonymize.specs.Remaining.{kept_values}
+use Rattle.flow_anonymize.specs.Within.{AreWithin}
+use Rattle.flow_anonymize.specs.Disclosed.{transformed, by_verdict}
+
+-- what a plan makes of a record with these values
+abbrev pub planned : Plan → List (List ℕ) → Outcome
+planned (Pass template removed verdicts) values = Passes (record { template = arc_value template; values = kept_values values verdicts.items }) removed.items
+planned (Aggregate rule definition) values = Aggregates rule definition
+planned (Withhold rule reason) values = Withholds rule reason
+
+-- what a plan needs of a record of which something is shown: no more bits are kept than its values have, and what is shown is a record
+abbrev pub IsShowable : Plan → List (List ℕ) → Type 0
+IsShowable (Pass template removed verdicts) values =
+    AreWithin values verdicts.items × IsSound (record { template = arc_value template; values = kept_values values verdicts.items })
+IsShowable (Aggregate rule definition) values = Unit {0}
+IsShowable (Withhold rule reason) values = Unit {0}
+
+-- nothing is shown of the record itself
+abbrev pub ShowsNone : Plan → Type 0
+ShowsNone (Pass template removed verdicts) = ⊥
+ShowsNone (Aggregate rule definition) = Unit {0}
+ShowsNone (Withhold rule reason) = Unit {0}
+
+-- what is shown is shown by these verdicts
+abbrev pub ShowsBy : List ElementVerdict → Plan → Type 0
+ShowsBy verdicts (Pass template removed by) = by.items ≡ verdicts
+ShowsBy verdicts (Aggregate rule definition) = Unit {0}
+ShowsBy verdicts (Withhold rule reason) = Unit {0}
+
+-- the plan for records of a template, by the verdict on the record and those on its fields
+pub record IsPlan (t : Template) (on_record : RecordVerdict) (on_fields : List ElementVerdict) (plan : Plan) : Type 0 where
+  pub leaves : (values : List (List ℕ)) → planned plan values ≡ by_verdict on_record (transformed (record { template = t; values = values }) on_fields)
+  pub by : ShowsBy on_fields plan
+
+-- the same for records that pass
+pub record IsPassing (t : Template) (on_fields : List ElementVerdict) (plan : Plan) : Type 0 where
+  pub leaves : (values : List (List ℕ)) → planned plan values ≡ transformed (record { template = t; values = values }) on_fields
+  pub by : ShowsBy on_fields plan

@@ -1,0 +1,188 @@
+//! What becomes of all records of one template for which the verdicts are the same.
+ghost use Rattle.std.specs.Prelude.{◌≡◌, ◌≢◌, ◌<◌, ◌≤◌, ℕ, List, length, IsOk, IfOk, MatchOption};
+ghost use Rattle.std.specs.Arc.{arc_value};
+ghost use Rattle.flow_anonymize.specs.Outcome.{Outcome, shown};
+ghost use Rattle.flow_anonymize.specs.Remaining.{removed_fields};
+ghost use Rattle.flow_anonymize.specs.Within.{AreJudged};
+ghost use Rattle.flow_anonymize.specs.Disclosed.{remaining_template, first_lost, first_rule_of, by_verdict};
+
+use crate::disclosure::{Disclosure, Reason};
+use crate::fields::{kept_fields, removed_fields};
+use crate::values::kept_values;
+use disclosure_audit::RemovedField;
+use ipfix_template::{Fields, Record, Template, Values};
+use policy_judge::{ElementVerdict, RecordAction, RecordVerdict};
+use std::alloc::{AllocError, Global};
+use std::sync::Arc;
+
+/// What becomes of records, but for their values.
+#[derive(Drop)]
+pub(crate) enum Plan {
+    /// They pass: with this template, without these fields, and each field by the verdict on it.
+    Pass {
+        template: Arc<Template>,
+        removed: Vec<RemovedField>,
+        verdicts: Vec<ElementVerdict>,
+    },
+    /// They count in the aggregate at this place of the policy's list, by the rule of this number.
+    Aggregate {
+        rule: u32,
+        definition: usize,
+    },
+    /// Nothing of them is handed on, by the rule of this number.
+    Withhold {
+        rule: u32,
+        reason: Reason,
+    },
+}
+
+impl Plan {
+    ghost use Rattle.flow_anonymize.specs.Planning.{planned, IsShowable, ShowsNone, IsPassing};
+
+    /// The plan for records that don't pass.
+    pub(crate) fn for_verdict(verdict: RecordVerdict) -> Option<Plan>
+        ensures { MatchOption result
+            (verdict.action ≡ RecordAction.Pass)
+            (λ plan. ShowsNone plan × ((values : List (List ℕ)) (passing : Outcome) → planned plan values ≡ by_verdict verdict passing)) }
+    {
+        let rule = verdict.rule;
+        match verdict.action {
+            RecordAction::Pass => None,
+            RecordAction::Withhold => Some(Plan::Withhold {
+                rule,
+                reason: Reason::Rule,
+            }),
+            RecordAction::Aggregate(definition) => Some(Plan::Aggregate { rule, definition }),
+        }
+    }
+
+    /// The plan for records that pass, as this one does: they keep, in their order, the fields that no rule removes. They are
+    /// withheld where a scope field is removed, and else where no octets are left of the shortest record.
+    ///
+    /// # Errors
+    /// Want of memory.
+    pub(crate) fn for_passing(
+        alloc: Global,
+        flow_record: &Record,
+        verdicts: Vec<ElementVerdict>,
+    ) -> Result<Plan, AllocError>
+        requires { AreJudged flow_record.now verdicts.items }
+        ensures passing { IfOk result (λ plan. IsPassing flow_record.now.template verdicts.items plan) }
+        ensures showable { IfOk result (λ plan. IsShowable plan flow_record.now.values) }
+    {
+        let removed = removed_fields(alloc, &verdicts)?;
+        if let Some(field) = first_lost(&removed, flow_record.template().scope) {
+            return Ok(Plan::Withhold {
+                rule: field.rule,
+                reason: Reason::ScopeLost,
+            });
+        }
+        let template = remaining_template(alloc, flow_record, &verdicts, &removed)?;
+        if template.shortest() == 0 {
+            return Ok(Plan::Withhold {
+                rule: first_rule_of(&removed),
+                reason: Reason::Empty,
+            });
+        }
+        Ok(Plan::Pass {
+            template,
+            removed,
+            verdicts,
+        })
+    }
+
+    /// What is disclosed of a record by its plan. A value that stays as it is is shared, and not copied.
+    ///
+    /// # Errors
+    /// Want of memory.
+    pub(crate) fn disclose(
+        &self,
+        alloc: Global,
+        flow_record: &Record,
+    ) -> Result<Disclosure, AllocError>
+        requires { IsShowable self.now flow_record.now.values }
+        ensures exact { IfOk result (λ d. shown d ≡ planned self.now flow_record.now.values) }
+        // What is said of a record that isn't shown takes no memory.
+        ensures at_once { ShowsNone self.now → IsOk result }
+    {
+        match self {
+            Plan::Pass {
+                template,
+                removed,
+                verdicts,
+            } => pass(alloc, template, removed, verdicts, flow_record),
+            Plan::Aggregate { rule, definition } => Ok(Disclosure::Aggregated {
+                rule: *rule,
+                definition: *definition,
+            }),
+            Plan::Withhold { rule, reason } => Ok(Disclosure::Withheld {
+                rule: *rule,
+                reason: *reason,
+            }),
+        }
+    }
+}
+
+ghost use Rattle.ipfix_template.specs.DataRecord.{IsSound};
+ghost use Rattle.flow_anonymize.specs.Outcome.{Passes};
+ghost use Rattle.flow_anonymize.specs.Remaining.{kept_values};
+ghost use Rattle.flow_anonymize.specs.Within.{AreWithin};
+
+/// The record that passes.
+fn pass(
+    alloc: Global,
+    template: &Arc<Template>,
+    removed: &[RemovedField],
+    verdicts: &[ElementVerdict],
+    flow_record: &Record,
+) -> Result<Disclosure, AllocError>
+    requires within { AreWithin flow_record.now.values verdicts.now }
+    requires sound { IsSound (record { template = arc_value template.now; values = kept_values flow_record.now.values verdicts.now }) }
+    ensures { IfOk result (λ d. shown d ≡ Passes (record { template = arc_value template.now; values = kept_values flow_record.now.values verdicts.now }) removed.now) }
+{
+    let values = kept_values(alloc, flow_record.values().as_slice(), verdicts)?;
+    let kept = Record::new(template.clone()?, Values::from_vec(values));
+    let removed = Vec::from_slice(alloc, removed)?;
+    Ok(Disclosure::Passed { kept, removed })
+}
+
+/// The first removed field that is a scope field.
+fn first_lost(removed: &[RemovedField], scope: u16) -> Option<RemovedField>
+    ensures { result ≡ first_lost scope removed.now }
+{
+    removed.iter().copied().find(|field| field.place < scope)
+}
+
+/// The rule of the first removed field.
+fn first_rule_of(removed: &[RemovedField]) -> u32
+    ensures { result ≡ first_rule_of removed.now }
+{
+    match removed.first() {
+        Some(field) => field.rule,
+        None => 0,
+    }
+}
+
+/// The template of what is left, which is the record's own where nothing is removed.
+fn remaining_template(
+    alloc: Global,
+    flow_record: &Record,
+    verdicts: &[ElementVerdict],
+    removed: &[RemovedField],
+) -> Result<Arc<Template>, AllocError>
+    requires judged { AreJudged flow_record.now verdicts.now }
+    requires removed { removed.now ≡ removed_fields verdicts.now }
+    ensures { IfOk result (λ t. arc_value t ≡ remaining_template flow_record.now.template verdicts.now) }
+{
+    if removed.is_empty() {
+        return flow_record.shared_template().clone();
+    }
+    let template = flow_record.template();
+    let scope = template.scope;
+    let kept = kept_fields(alloc, template.fields.as_slice(), verdicts)?;
+    let fields = match Fields::from_vec(kept) {
+        Ok(fields) => fields,
+        Err(_) => unreachable!(),
+    };
+    Ok(Arc::new(alloc, Template { fields, scope })?)
+}
