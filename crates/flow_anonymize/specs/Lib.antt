@@ -11,6 +11,8 @@ pub use Rattle.policy_judge.specs.Verdicts
 pub use Rattle.policy_judge.specs.Laws
 pub use Rattle.rule_table.specs.OfPolicy
 pub use Rattle.rule_table.specs.Candidates
+pub use Rattle.address_classes.specs.Cuts
+pub use Rattle.address_classes.specs.Classes as AddressClasses
 pub mod Outcome
 pub mod Remaining
 pub mod Disclosed
@@ -19,3 +21,5 @@ pub mod Permitted
 pub mod Secrecy
 pub mod OtherRules
 pub mod Planning
+pub mod Classes
+pub mod Plans

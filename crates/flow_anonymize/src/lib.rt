@@ -23,6 +23,9 @@ mod disclosure;
 mod fields;
 mod laws;
 mod plan;
+mod plans;
+mod record_classes;
+mod slot;
 mod transform;
 mod values;
 
@@ -33,4 +36,6 @@ pub use laws::{
     denied_is_secret, later_rules_never_matter, only_permitted_passes, others_never_matter,
     passed_is_sound,
 };
+pub use plans::Plans;
+pub use record_classes::RecordClasses;
 pub use transform::disclose;

@@ -1,0 +1,31 @@
+//! The classes of a record's addresses.
+ghost use Rattle.std.specs.Prelude.{◌≡◌};
+ghost use Rattle.flow_anonymize.specs.Classes.{classes_of};
+
+use address_classes::AddressClasses;
+use ipfix_template::Record;
+use policy_judge::Side;
+
+/// The classes of a record's addresses, as one key for its sources and one for its destinations.
+#[derive(Clone, Copy, Debug)]
+pub struct RecordClasses {
+    pub sources: u64,
+    pub destinations: u64,
+}
+
+impl RecordClasses {
+    /// The classes of a record's addresses; `None` where it has more than three on a side.
+    pub fn of(classes: &AddressClasses, flow_record: &Record) -> Option<RecordClasses>
+        ensures { result ≡ classes_of classes.now flow_record.now }
+    {
+        let sources = classes.key(Side::Source, flow_record);
+        let destinations = classes.key(Side::Destination, flow_record);
+        match (sources, destinations) {
+            (Some(sources), Some(destinations)) => Some(RecordClasses {
+                sources,
+                destinations,
+            }),
+            _ => None,
+        }
+    }
+}
