@@ -9,7 +9,9 @@ one_more : (cut : ℕ) (cuts : List ℕ) (address : ℕ) → cut < address → c
 one_more cut cuts address below = sum_by-cons (λ c. cond (nat_lt c address) 1 0) cut cuts ∙ ap (λ b. cond b 1 0 + class_of cuts address) (lt-ltb cut address below)
 
 none_more : (cut : ℕ) (cuts : List ℕ) (address : ℕ) → address ≤ cut → class_of (cut ∷ cuts) address ≡ class_of cuts address
-none_more cut cuts address above = sum_by-cons (λ c. cond (nat_lt c address) 1 0) cut cuts ∙ ap (λ b. cond b 1 0 + class_of cuts address) (le-ltb cut address above)
+none_more cut cuts address above =
+    let sum : class_of (cut ∷ cuts) address ≡ 0 + class_of cuts address = sum_by-cons (λ c. cond (nat_lt c address) 1 0) cut cuts ∙ ap (λ b. cond b 1 0 + class_of cuts address) (le-ltb cut address above) in
+    omega (arith, sum)
 
 -- ---- as many as stand in front of a bound
 
@@ -17,7 +19,7 @@ pub class_at : (cuts : List ℕ) (address n : ℕ) → n ≤ length cuts → ((k
     → ((k : ℕ) → n ≤ k → k < length cuts → address ≤ get_or cuts k 0) → n ≡ class_of cuts address
 class_at [] address n within below above = let none : n ≡ 0 = omega arith in none
 class_at (cut ∷ cuts) address zero within below above =
-    let rest : 0 ≡ class_of cuts address = class_at cuts address zero (omega arith) (λ k l. below k l) (λ k l m. above (suc k) (omega arith) (omega arith)) in
+    let rest : 0 ≡ class_of cuts address = class_at cuts address zero (omega arith) (λ k l. absurd (omega (arith, l))) (λ k l m. above (suc k) (omega arith) (omega arith)) in
     omega (arith, rest, none_more cut cuts address (above 0 (omega arith) (omega arith)))
 class_at (cut ∷ cuts) address (suc n) within below above =
     let rest : n ≡ class_of cuts address = class_at cuts address n (omega arith) (λ k l. below (suc k) (omega arith)) (λ k l m. above (suc k) (omega arith) (omega arith)) in

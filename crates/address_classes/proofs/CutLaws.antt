@@ -28,8 +28,8 @@ few_named (Some prefix) = few_at (bounds_of prefix) (nat_lt 0 (bounds_of prefix)
 pub few_cuts : (rules : List Rule) → length (flat_map cuts_of rules) ≤ 4 * length rules
 few_cuts [] = omega arith
 few_cuts (rule ∷ rules) =
-    let one : length (cuts_of rule) ≡ length (cuts_named rule.from) + length (cuts_named rule.to) = length-append in
-    let all : length (cuts_of rule ++ flat_map cuts_of rules) ≡ length (cuts_of rule) + length (flat_map cuts_of rules) = length-append in
+    let one : length (cuts_of rule) ≡ length (cuts_named rule.from) + length (cuts_named rule.to) = length-append _ _ in
+    let all : length (cuts_of rule ++ flat_map cuts_of rules) ≡ length (cuts_of rule) + length (flat_map cuts_of rules) = length-append _ _ in
     rw (flat_map-cons cuts_of rule rules) (omega (arith, one, all, few_named rule.from, few_named rule.to, few_cuts rules))
 
 -- ---- each has its cuts

@@ -1,5 +1,5 @@
 -- Keys as numbers: the same key has the same digits.
-use Rattle.std.proofs.Common.{◌≡◌, ◌⊎◌, ℕ, ◌+◌, ◌*◌, ◌^◌, ◌<◌, ◌≤◌, Bool, true, false, List, [], ◌∷◌, length, map, filter, Option, Some, None, cond, refl, ap, sym, ◌∙◌, arith, inl, inr, nat_lt}
+use Rattle.std.proofs.Common.{◌≡◌, ◌⊎◌, ℕ, suc, ◌+◌, ◌*◌, ◌^◌, ◌<◌, ◌≤◌, Bool, true, false, List, [], ◌∷◌, length, map, filter, Option, Some, None, cond, refl, ap, sym, ◌∙◌, arith, inl, inr, nat_lt}
 use Rattle.std.specs.List.{fold, zip, AllByRecursion}
 use Rattle.std.proofs.lemmas.Bool.{cases_lt}
 use Rattle.std.proofs.lemmas.Option.{same_Some}
@@ -24,6 +24,13 @@ over_fields cuts side key (p ∷ ps) =
 pub key_from_fields : (cuts : List ℕ) (side : Side) (r : DataRecord)
     → fold (with_field cuts side) (Some 1) (zip r.template.fields r.values) ≡ key_of cuts (values_of (is_of side) r)
 key_from_fields cuts side r = over_fields cuts side (Some 1) (zip r.template.fields r.values)
+
+-- the same of the fields and values as they were read
+pub key_read : (cuts : List ℕ) (side : Side) (r : DataRecord) (fields : List FieldSpec) (values : List (List ℕ)) {key : Option ℕ} → r.template.fields ≡ fields → r.values ≡ values
+    → key ≡ fold (with_field cuts side) (Some 1) (zip fields values) → key ≡ key_of cuts (values_of (is_of side) r)
+key_read cuts side r fields values same other is =
+    is ∙ sym (ap (λ fs. fold (with_field cuts side) (Some 1) (zip fs values)) same) ∙ sym (ap (λ vs. fold (with_field cuts side) (Some 1) (zip r.template.fields vs)) other)
+    ∙ key_from_fields cuts side r
 
 -- ---- digits behind a number
 
@@ -54,14 +61,15 @@ greater a b [] (e ∷ es) small same less = absurd (omega arith)
 greater a b (d ∷ ds) [] small same less = absurd (omega arith)
 greater a b (d ∷ ds) (e ∷ es) (l, small) same less = greater (a * 65536 + d) (b * 65536 + e) ds es small (omega arith) (omega arith)
 
+longer-step : (a b : ℕ) (ds es : List ℕ) → AreDigits ds → length ds < suc (length es) → a < b
+    → (length ds < length es → a < b * 65536 → fold pushed a ds < fold pushed b es) → (length ds < length es) ⊎ (length es ≤ length ds) → fold pushed a ds < fold pushed b es
+longer-step a b ds es small more less again (inl l) = again l (omega arith)
+longer-step a b ds es small more less again (inr l) = greater a b ds es small (omega arith) less
+
 longer : (a b : ℕ) (ds es : List ℕ) → AreDigits ds → length ds < length es → a < b * 65536 → fold pushed a ds < fold pushed b es
 longer a b ds [] small more less = absurd (omega arith)
 longer a b ds (e ∷ es) small more less =
-    longer-step (cases_lt (length ds) (length es))
-  where
-    longer-step : (length ds < length es) ⊎ (length es ≤ length ds) → fold pushed a ds < fold pushed (b * 65536 + e) es
-    longer-step (inl l) = longer a (b * 65536 + e) ds es small l (omega arith)
-    longer-step (inr l) = greater a (b * 65536 + e) ds es small (omega arith) (omega arith)
+    longer-step a (b * 65536 + e) ds es small more (omega (arith, less)) (λ l m. longer a (b * 65536 + e) ds es small l m) (cases_lt (length ds) (length es))
 
 same_long : (a b : ℕ) (ds es : List ℕ) → AreDigits ds → AreDigits es → length ds ≡ length es → fold pushed a ds ≡ fold pushed b es → (a ≡ b) × (ds ≡ es)
 same_long a b [] [] few small same e = (e, refl)
