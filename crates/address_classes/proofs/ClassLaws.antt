@@ -1,5 +1,5 @@
 -- Addresses of one class are inside the same prefixes.
-use Rattle.std.proofs.Common.{◌≡◌, ◌⊎◌, ℕ, ◌+◌, ◌-◌, ◌*◌, ◌/◌, ◌^◌, ◌<◌, ◌≤◌, min, Bool, true, false, List, [], ◌∷◌, length, map, Some, cond, refl, ap, sym, ◌∙◌, subst, arith, inl, inr, ◌==◌, ◌&&◌}
+use Rattle.std.proofs.Common.{◌≡◌, ◌⊎◌, ℕ, ◌+◌, ◌-◌, ◌*◌, ◌/◌, ◌^◌, ◌<◌, ◌≤◌, Bool, true, false, List, [], ◌∷◌, length, map, Some, cond, refl, ap, sym, ◌∙◌, subst, arith, inl, inr, ◌==◌, ◌&&◌}
 use Rattle.std.specs.List.{Contains}
 use Rattle.std.proofs.Math.Nat.{div-mul-le_self, lt-div-mul-add, div-lt_iff_lt-mul, pow-le-pow_right, mul-le-mul_right, add-mul}
 use Rattle.std.proofs.lemmas.Nat.{pow-add, pow_pos, div-mul-add}
@@ -8,7 +8,6 @@ use Rattle.std.proofs.lemmas.List.Sums.{count_by-le-length}
 use Rattle.sequences.specs.Octets.{be_value}
 use Rattle.flow_prefix.specs.declared.prefix.Prefix.{Prefix}
 use Rattle.flow_prefix.specs.declared.prefix.Prefix.TheVariants.{V4, V6}
-use Rattle.flow_prefix.specs.Bits.{truncated}
 use Rattle.flow_prefix.specs.Net.{Net, IsNet, is_inside}
 use Rattle.flow_prefix.specs.Prefixes.{IsPrefix, contains}
 use Rattle.address_classes.specs.Cuts.{bounds_in, HasCuts, most_cuts}

@@ -1,5 +1,5 @@
 -- The cuts of rules, listed and sorted.
-use Rattle.std.proofs.Common.{◌≡◌, ℕ, ◌+◌, ◌-◌, ◌*◌, ◌<◌, ◌≤◌, Bool, true, false, List, [], ◌∷◌, ◌++◌, length, Option, Some, None, IfSome, cond, refl, ap, sym, subst, arith, nat_lt, length-append}
+use Rattle.std.proofs.Common.{◌≡◌, ℕ, ◌+◌, ◌-◌, ◌*◌, ◌≤◌, Bool, true, false, List, [], ◌∷◌, ◌++◌, length, Option, Some, None, IfSome, cond, refl, ap, sym, subst, arith, nat_lt, length-append}
 use Rattle.std.specs.List.{Contains, flat_map}
 use Rattle.std.specs.List.Sorted.{IsPermutation}
 use Rattle.std.proofs.lemmas.Bool.{lt-ltb}
@@ -9,7 +9,7 @@ use Rattle.std.proofs.lemmas.List.Elements.{Contains-append_left, Contains-appen
 use Rattle.flow_prefix.specs.declared.prefix.Prefix.{Prefix}
 use Rattle.policy_text.specs.declared.rule.Rule.{Rule}
 use Rattle.address_classes.specs.declared.cuts.Bounds.{Bounds}
-use Rattle.address_classes.specs.Cuts.{bounds_of, cuts_at, cuts_named, cuts_of, HasCuts, HasRuleCuts, HaveCuts}
+use Rattle.address_classes.specs.Cuts.{bounds_of, cuts_named, cuts_of, HasCuts, HasRuleCuts, HaveCuts}
 
 -- all of the first are among the second
 abbrev pub Among : List ℕ → List ℕ → Type 0
@@ -58,9 +58,10 @@ has_rule cuts rule among = record {
 have_cuts : (cuts : List ℕ) (rules : List Rule) → Among (flat_map cuts_of rules) cuts → HaveCuts cuts rules
 have_cuts cuts [] among = tt
 have_cuts cuts (rule ∷ rules) among =
-    let both : Among (cuts_of rule ++ flat_map cuts_of rules) cuts = subst (λ xs. Among xs cuts) (flat_map-cons cuts_of rule rules) among in
-    (has_rule cuts rule (λ x there. both x (Contains-append_left (cuts_of rule) (flat_map cuts_of rules) x there)),
-     have_cuts cuts rules (λ x there. both x (Contains-append_right (cuts_of rule) (flat_map cuts_of rules) x there)))
+    let both : Among (cuts_of rule ++ flat_map cuts_of rules) cuts = subst (λ xs. Among xs cuts) (flat_map-cons cuts_of rule rules) among in (
+      has_rule cuts rule (λ x there. both x (Contains-append_left (cuts_of rule) (flat_map cuts_of rules) x there)),
+      have_cuts cuts rules (λ x there. both x (Contains-append_right (cuts_of rule) (flat_map cuts_of rules) x there)),
+    )
 
 -- ---- also when they are sorted
 

@@ -1,5 +1,5 @@
 -- Keys as numbers: the same key has the same digits.
-use Rattle.std.proofs.Common.{◌≡◌, ◌⊎◌, ℕ, suc, ◌+◌, ◌*◌, ◌^◌, ◌<◌, ◌≤◌, Bool, true, false, List, [], ◌∷◌, length, map, filter, Option, Some, None, cond, refl, ap, sym, ◌∙◌, arith, inl, inr, nat_lt}
+use Rattle.std.proofs.Common.{◌≡◌, ◌⊎◌, ℕ, suc, ◌+◌, ◌*◌, ◌^◌, ◌<◌, ◌≤◌, true, false, List, [], ◌∷◌, length, map, filter, Option, Some, None, cond, refl, ap, sym, ◌∙◌, arith, inl, inr, nat_lt}
 use Rattle.std.specs.List.{fold, zip, AllByRecursion}
 use Rattle.std.proofs.lemmas.Bool.{cases_lt}
 use Rattle.std.proofs.lemmas.Option.{same_Some}
@@ -17,8 +17,8 @@ over_fields : (cuts : List ℕ) (side : Side) (key : Option ℕ) (fields : List 
 over_fields cuts side key [] = refl
 over_fields cuts side key (p ∷ ps) =
     elim (is_of side p.0.element) as
-      (λ b. fold (with_field cuts side) (cond b (with_digit key (digit_of cuts p.1)) key) ps
-        ≡ fold with_digit key (map (digit_of cuts) (map (λ p. p.1) (cond b (p ∷ filter (λ p. is_of side p.0.element) ps) (filter (λ p. is_of side p.0.element) ps)))))
+    (λ b. fold (with_field cuts side) (cond b (with_digit key (digit_of cuts p.1)) key) ps
+    ≡ fold with_digit key (map (digit_of cuts) (map (λ p. p.1) (cond b (p ∷ filter (λ p. is_of side p.0.element) ps) (filter (λ p. is_of side p.0.element) ps)))))
     [ true ↦ over_fields cuts side (with_digit key (digit_of cuts p.1)) ps | false ↦ over_fields cuts side key ps ]
 
 pub key_from_fields : (cuts : List ℕ) (side : Side) (r : DataRecord)

@@ -2,3 +2,4 @@ pub mod CountLaws
 pub mod CutLaws
 pub mod KeyLaws
 pub mod ClassLaws
+pub mod CoverLaws

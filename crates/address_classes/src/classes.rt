@@ -112,10 +112,10 @@ fn key_of_fields(
 ) -> Option<u64>
     ensures { result ≡ fold (with_field classes.now side) (Some 1) (zip fields.now values.now) }
 {
-    fields
-        .iter()
-        .zip(values)
-        .fold(Some(EMPTY_KEY), |key, (field, value)| with_field(classes, side, key, field, value.as_slice()))
+    fields.iter().zip(values).fold(
+        Some(EMPTY_KEY),
+        |key, (field, value)| with_field(classes, side, key, field, value.as_slice()),
+    )
 }
 
 /// A key with the digit of a field's value, if the field is of this side.

@@ -4,16 +4,20 @@
 //!
 //! - `classes`: [`AddressClasses`], built of rules once; `key` is asked for each record.
 //! - `cuts`: the bounds of prefixes.
+//! - `laws`: [`same_keys`], proved over the definitions.
 //!
 //! Proved: `AddressClasses::of_rules` has the bounds of each prefix that the rules name (`HaveCuts`), and `key` is made of
-//! the class of each address (`key_of`). `same_key` of `proofs/ClassLaws` is what this is for: where the keys of two
-//! records are the same, each of these prefixes has the same of their addresses inside.
+//! the class of each address of a side (`key_of`). `same_keys` is what this is for: of values with one key, each of these
+//! prefixes has the same ones inside (`inside`), and two records whose sources have one key, and whose destinations too,
+//! are covered by the same rules (`covers`).
 #![tactic(auto)]
 
 mod classes;
 mod cuts;
+mod laws;
 
 pub use classes::AddressClasses;
+pub use laws::same_keys;
 
 #[cfg(test)]
 mod tests;
