@@ -1,0 +1,62 @@
+-- How many cuts are below an address.
+use Rattle.std.proofs.Common.{◌≡◌, ◌⊎◌, ℕ, zero, suc, ◌+◌, ◌<◌, ◌≤◌, List, [], ◌∷◌, length, get_or, cond, ap, ◌∙◌, arith, inl, inr, nat_lt}
+use Rattle.std.specs.List.{Contains}
+use Rattle.std.proofs.lemmas.Bool.{cases_lt, lt-ltb, le-ltb}
+use Rattle.std.proofs.lemmas.List.Sums.{sum_by-cons}
+use Rattle.address_classes.specs.Classes.{class_of}
+
+one_more : (cut : ℕ) (cuts : List ℕ) (address : ℕ) → cut < address → class_of (cut ∷ cuts) address ≡ 1 + class_of cuts address
+one_more cut cuts address below = sum_by-cons (λ c. cond (nat_lt c address) 1 0) cut cuts ∙ ap (λ b. cond b 1 0 + class_of cuts address) (lt-ltb cut address below)
+
+none_more : (cut : ℕ) (cuts : List ℕ) (address : ℕ) → address ≤ cut → class_of (cut ∷ cuts) address ≡ class_of cuts address
+none_more cut cuts address above =
+    let sum : class_of (cut ∷ cuts) address ≡ 0 + class_of cuts address = sum_by-cons (λ c. cond (nat_lt c address) 1 0) cut cuts ∙ ap (λ b. cond b 1 0 + class_of cuts address) (le-ltb cut address above) in
+    omega (arith, sum)
+
+-- ---- as many as stand in front of a bound
+
+pub class_at : (cuts : List ℕ) (address n : ℕ) → n ≤ length cuts → ((k : ℕ) → k < n → get_or cuts k 0 < address)
+    → ((k : ℕ) → n ≤ k → k < length cuts → address ≤ get_or cuts k 0) → n ≡ class_of cuts address
+class_at [] address n within below above = let none : n ≡ 0 = omega arith in none
+class_at (cut ∷ cuts) address zero within below above =
+    let rest : 0 ≡ class_of cuts address = class_at cuts address zero (omega arith) (λ k l. absurd (omega (arith, l))) (λ k l m. above (suc k) (omega arith) (omega arith)) in
+    omega (arith, rest, none_more cut cuts address (above 0 (omega arith) (omega arith)))
+class_at (cut ∷ cuts) address (suc n) within below above =
+    let rest : n ≡ class_of cuts address = class_at cuts address n (omega arith) (λ k l. below (suc k) (omega arith)) (λ k l m. above (suc k) (omega arith) (omega arith)) in
+    omega (arith, rest, one_more cut cuts address (below 0 (omega arith)))
+
+-- ---- a cut between two addresses tells their classes apart
+
+at_least-step : (cut : ℕ) (cuts : List ℕ) (low high : ℕ) → low ≤ high → class_of cuts low ≤ class_of cuts high → (cut < low) ⊎ (low ≤ cut) → (cut < high) ⊎ (high ≤ cut)
+    → class_of (cut ∷ cuts) low ≤ class_of (cut ∷ cuts) high
+at_least-step cut cuts low high up rest (inl l) (inl m) = omega (arith, one_more cut cuts low l, one_more cut cuts high m, rest)
+at_least-step cut cuts low high up rest (inl l) (inr m) = absurd (omega arith)
+at_least-step cut cuts low high up rest (inr l) (inl m) = omega (arith, none_more cut cuts low l, one_more cut cuts high m, rest)
+at_least-step cut cuts low high up rest (inr l) (inr m) = omega (arith, none_more cut cuts low l, none_more cut cuts high m, rest)
+
+at_least : (cuts : List ℕ) (low high : ℕ) → low ≤ high → class_of cuts low ≤ class_of cuts high
+at_least [] low high up = omega arith
+at_least (cut ∷ cuts) low high up = at_least-step cut cuts low high up (at_least cuts low high up) (cases_lt cut low) (cases_lt cut high)
+
+more-step : (cut : ℕ) (cuts : List ℕ) (low high : ℕ) → low ≤ high → class_of cuts low < class_of cuts high → (cut < low) ⊎ (low ≤ cut) → (cut < high) ⊎ (high ≤ cut)
+    → class_of (cut ∷ cuts) low < class_of (cut ∷ cuts) high
+more-step cut cuts low high up rest (inl l) (inl m) = omega (arith, one_more cut cuts low l, one_more cut cuts high m, rest)
+more-step cut cuts low high up rest (inl l) (inr m) = absurd (omega arith)
+more-step cut cuts low high up rest (inr l) (inl m) = omega (arith, none_more cut cuts low l, one_more cut cuts high m, rest)
+more-step cut cuts low high up rest (inr l) (inr m) = omega (arith, none_more cut cuts low l, none_more cut cuts high m, rest)
+
+more : (cuts : List ℕ) (low high at : ℕ) → low ≤ at → at < high → Contains cuts at → class_of cuts low < class_of cuts high
+more [] low high at up down (k, l, there) = absurd (omega arith)
+more (cut ∷ cuts) low high at up down (zero, l, there) =
+    let here : cut ≡ at = there in
+    omega (arith, none_more cut cuts low (omega arith), one_more cut cuts high (omega arith), at_least cuts low high (omega arith))
+more (cut ∷ cuts) low high at up down (suc k, l, there) =
+    more-step cut cuts low high (omega arith) (more cuts low high at up down (k, omega arith, there)) (cases_lt cut low) (cases_lt cut high)
+
+below_too : (cuts : List ℕ) (v u at : ℕ) → class_of cuts v ≡ class_of cuts u → Contains cuts at → at < v → (at < u) ⊎ (u ≤ at) → at < u
+below_too cuts v u at same there below (inl l) = l
+below_too cuts v u at same there below (inr l) = absurd (omega (arith, more cuts u v at l below there, same))
+
+-- each cut is below both addresses of a class, or below none
+pub below_both : (cuts : List ℕ) (v u at : ℕ) → class_of cuts v ≡ class_of cuts u → Contains cuts at → at < v → at < u
+below_both cuts v u at same there below = below_too cuts v u at same there below (cases_lt at u)

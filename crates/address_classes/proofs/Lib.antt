@@ -1,0 +1,5 @@
+pub mod CountLaws
+pub mod CutLaws
+pub mod KeyLaws
+pub mod ClassLaws
+pub mod CoverLaws

@@ -1,0 +1,146 @@
+ghost use Rattle.std.specs.Prelude.{◌≡◌, ◌≤◌, length, Some, IfOk};
+ghost use Rattle.std.specs.List.{fold, zip};
+ghost use Rattle.std.specs.List.Sorted.{IsNonDecreasing};
+ghost use Rattle.policy_judge.specs.Sides.{is_of};
+ghost use Rattle.policy_judge.specs.Occurrences.{values_of};
+ghost use Rattle.address_classes.specs.Cuts.{HaveCuts, most_cuts};
+ghost use Rattle.address_classes.specs.Classes.{class_of, digit_of, with_digit, with_field, key_of};
+
+use crate::cuts::sorted_cuts;
+use bytes::Bytes;
+use flow_prefix::number;
+use ipfix_template::{FieldSpec, Record};
+use policy_judge::Side;
+use policy_text::Rule;
+use std::alloc::{AllocError, Global};
+use std::marker::Model;
+
+const OCTETS4: usize = 4;
+
+const OCTETS6: usize = 16;
+
+/// The key of no value.
+const EMPTY_KEY: u64 = 1;
+
+/// One above the greatest digit of a key.
+const DIGITS: u64 = 0x1_0000;
+
+/// Keys of fewer than three digits are below this.
+const FULL_KEY: u64 = 0x1_0000_0000_0000;
+
+/// Where an address lies among the bounds of the prefixes that rules name. Contracts see the cuts.
+#[derive(Drop)]
+pub struct AddressClasses {
+    /// Before and behind each prefix, ascending.
+    cuts: Vec<u128>,
+}
+
+impl Model for AddressClasses {
+    ghost use Rattle.std.specs.Prelude.{ℕ, List};
+    ghost use Rattle.address_classes.specs.Cuts.{AreCuts};
+
+    ghost Value = { List ℕ };
+
+    ghost view = { λ c. c.cuts.items };
+
+    ghost invariant = { λ c. AreCuts c.cuts.items };
+}
+
+impl AddressClasses {
+    /// The classes that the prefixes of these rules make.
+    ///
+    /// # Errors
+    /// Want of memory.
+    pub fn of_rules(alloc: Global, rules: &[Rule]) -> Result<AddressClasses, AllocError>
+        requires { length rules.now ≤ 4096 }
+        ensures { IfOk result (λ classes. HaveCuts classes rules.now) }
+    {
+        let cuts = sorted_cuts(alloc, rules)?;
+        Ok(AddressClasses { cuts })
+    }
+
+    /// The key of the classes of a record's addresses on a side; `None` where there are more than three.
+    pub fn key(&self, side: Side, flow_record: &Record) -> Option<u64>
+        ensures few { length self.now ≤ most_cuts }
+        ensures key { result ≡ key_of self.now (values_of (is_of side) flow_record.now) }
+    {
+        // What is read of the cuts has what their type keeps of them, as `few` says.
+        let _count = self.cuts.len();
+        let fields = flow_record.template().fields.as_slice();
+        let values = flow_record.values().as_slice();
+        key_of_fields(self, side, fields, values)
+    }
+
+    /// The class of a value, odd for 4 octets and even for 16; 0 for a value that is no address.
+    #[tactic(auto, unfolding(crate::specs::Classes::digit_of))]
+    fn digit(&self, octets: &[u8]) -> u16
+        ensures { result ≡ digit_of self.now octets.now }
+    {
+        if octets.len() == OCTETS4 {
+            return self.class(number(octets)) * 2 + 1;
+        }
+        if octets.len() == OCTETS6 {
+            return self.class(number(octets)) * 2 + 2;
+        }
+        0
+    }
+
+    /// How many cuts are below an address.
+    fn class(&self, address: u128) -> u16
+        ensures class { result ≡ class_of self.now address }
+        ensures few { result ≤ most_cuts }
+    {
+        count_below(&self.cuts, address) as u16
+    }
+}
+
+/// How many of ascending numbers are below a bound.
+fn count_below(numbers: &[u128], bound: u128) -> usize
+    requires { IsNonDecreasing numbers.now }
+    ensures class { result ≡ class_of numbers.now bound }
+    ensures within { result ≤ length numbers.now }
+{
+    numbers.partition_point(|number| *number < bound)
+}
+
+/// The key of those values whose fields are of this side.
+fn key_of_fields(
+    classes: &AddressClasses,
+    side: Side,
+    fields: &[FieldSpec],
+    values: &[Bytes],
+) -> Option<u64>
+    ensures { result ≡ fold (with_field classes.now side) (Some 1) (zip fields.now values.now) }
+{
+    fields.iter().zip(values).fold(
+        Some(EMPTY_KEY),
+        |key, (field, value)| with_field(classes, side, key, field, value.as_slice()),
+    )
+}
+
+/// A key with the digit of a field's value, if the field is of this side.
+fn with_field(
+    classes: &AddressClasses,
+    side: Side,
+    key: Option<u64>,
+    field: &FieldSpec,
+    value: &[u8],
+) -> Option<u64>
+    ensures { result ≡ with_field classes.now side key (field.now, value.now) }
+{
+    if side.has(field.element) {
+        with_digit(key, classes.digit(value))
+    } else {
+        key
+    }
+}
+
+/// A key with one digit more, if it has fewer than three.
+fn with_digit(key: Option<u64>, digit: u16) -> Option<u64>
+    ensures { result ≡ with_digit key digit }
+{
+    match key {
+        Some(key) if key < FULL_KEY => Some(key * DIGITS + u64::from(digit)),
+        _ => None,
+    }
+}

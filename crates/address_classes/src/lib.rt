@@ -1,0 +1,23 @@
+//! The class of an address: where it lies among the bounds of all prefixes that the rules of a policy name. Two addresses
+//! of one class are inside the same prefixes, so what the rules make of a record can be worked out once for its template
+//! and the classes of its addresses.
+//!
+//! - `classes`: [`AddressClasses`], built of rules once; `key` is asked for each record.
+//! - `cuts`: the bounds of prefixes.
+//! - `laws`: [`same_keys`], proved over the definitions.
+//!
+//! Proved: `AddressClasses::of_rules` has the bounds of each prefix that the rules name (`HaveCuts`), and `key` is made of
+//! the class of each address of a side (`key_of`). `same_keys` is what this is for: of values with one key, each of these
+//! prefixes has the same ones inside (`inside`), and two records whose sources have one key, and whose destinations too,
+//! are covered by the same rules (`covers`).
+#![tactic(auto)]
+
+mod classes;
+mod cuts;
+mod laws;
+
+pub use classes::AddressClasses;
+pub use laws::same_keys;
+
+#[cfg(test)]
+mod tests;
