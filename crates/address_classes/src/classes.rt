@@ -3,7 +3,7 @@ ghost use Rattle.std.specs.List.{fold, zip};
 ghost use Rattle.std.specs.List.Sorted.{IsNonDecreasing};
 ghost use Rattle.policy_judge.specs.Sides.{is_of};
 ghost use Rattle.policy_judge.specs.Occurrences.{values_of};
-ghost use Rattle.address_classes.specs.Cuts.{HaveCuts, most_cuts};
+ghost use Rattle.address_classes.specs.Cuts.{AreCuts, HaveCuts, most_cuts};
 ghost use Rattle.address_classes.specs.Classes.{class_of, digit_of, with_digit, with_field, key_of};
 
 use crate::cuts::sorted_cuts;
@@ -57,6 +57,14 @@ impl AddressClasses {
     {
         let cuts = sorted_cuts(alloc, rules)?;
         Ok(AddressClasses { cuts })
+    }
+
+    /// The cuts, ascending: addresses behind which a prefix begins, or ends.
+    pub fn cuts(&self) -> &[u128]
+        ensures value { result.now ≡ self.now }
+        ensures sound { AreCuts self.now }
+    {
+        self.cuts.as_slice()
     }
 
     /// The key of the classes of a record's addresses on a side; `None` where there are more than three.

@@ -7,3 +7,4 @@ pub mod SecrecyLaws
 pub mod OtherLaws
 pub mod PermittedLaws
 pub mod Planning
+pub mod PlanLaws

@@ -47,7 +47,7 @@ covers_alike r s rule same =
     ap (λ b. b && is_met (are_inside (denies rule.action) (destinations r)) rule.to) (met_alike (denies rule.action) (sources r) (sources s) rule.from same.0)
     ∙ ap (λ b. is_met (are_inside (denies rule.action) (sources s)) rule.from && b) (met_alike (denies rule.action) (destinations r) (destinations s) rule.to same.1)
 
-record_alike : (name : List ℕ) (domain : ℕ) (r s : DataRecord) (rules : List Rule) → AllByRecursion (AreCoveredAlike r s) rules
+pub record_alike : (name : List ℕ) (domain : ℕ) (r s : DataRecord) (rules : List Rule) → AllByRecursion (AreCoveredAlike r s) rules
     → record_verdict_of name domain r rules ≡ record_verdict_of name domain s rules
 record_alike name domain r s rules same =
     ap record_verdict_by (find_alike (matches_record name domain r) (matches_record name domain s) 1 rules
@@ -62,7 +62,7 @@ field_alike name domain r s place rules template same =
     (each_so (AreCoveredAlike r s) (λ rule. matches_field name domain r (element_at s place) rule ≡ matches_field name domain s (element_at s place) rule) rules
     (λ rule alike. ap (λ b. not (is_on_records rule.action) && (is_met (is_element (element_at s place)) rule.element && (is_for name domain rule && b))) (covers_alike r s rule alike)) same))
 
-verdicts_alike : (name : List ℕ) (domain : ℕ) (r s : DataRecord) (rules : List Rule) → r.template ≡ s.template → AllByRecursion (AreCoveredAlike r s) rules
+pub verdicts_alike : (name : List ℕ) (domain : ℕ) (r s : DataRecord) (rules : List Rule) → r.template ≡ s.template → AllByRecursion (AreCoveredAlike r s) rules
     → verdicts_of name domain r rules ≡ verdicts_of name domain s rules
 verdicts_alike name domain r s rules template same =
     ap (λ (t : Template). map (λ place. element_verdict_of name domain r place rules) (range_with_len 0 (length t.fields))) template

@@ -1,0 +1,175 @@
+-- A plan is that of each record which is alike in template and classes.
+use Rattle.std.proofs.Common.{◌≡◌, ℕ, suc, ◌+◌, ◌≤◌, ◌<◌, Bool, true, false, List, [], ◌∷◌, ◌++◌, length, map, get_or, Option, Some, None, IfSome, cond, not, refl, sym, ap, ◌∙◌, subst, arith, length-append, nat_lt, ◌==◌, ◌&&◌}
+use Rattle.std.specs.Arc.{arc_value}
+use Rattle.std.proofs.Math.ListN.{set}
+use Rattle.std.specs.List.{All, AllByRecursion, flat_map, position, position_or_len}
+use Rattle.std.proofs.lemmas.Bool.{and_parts, eqb-true, ltb-true}
+use Rattle.std.proofs.lemmas.List.Concat.{flat_map-cons}
+use Rattle.std.proofs.lemmas.List.Elements.{All-get_or, All-set}
+use Rattle.sequences.specs.Octets.{be_octets}
+use Rattle.sequences.proofs.OctetLaws.{length-be_octets}
+use Rattle.flow_prefix.specs.declared.prefix.Prefix.{Prefix}
+use Rattle.flow_prefix.specs.Prefixes.{IsPrefix}
+use Rattle.ipfix_template.specs.declared.field.FieldSpec.{FieldSpec}
+use Rattle.ipfix_template.specs.declared.template.Template.{Template}
+use Rattle.ipfix_template.specs.Template.{specifier, specifier_of, is_options}
+use Rattle.ipfix_template.specs.Equality.{same_template}
+use Rattle.ipfix_template.specs.SameTemplate.{same_template-is}
+use Rattle.ipfix_template.specs.DataRecord.{DataRecord, IsSound}
+use Rattle.ipfix_template.proofs.Encoding.{octets_of_record}
+use Rattle.policy_text.specs.declared.rule.Rule.{Rule}
+use Rattle.policy_text.specs.Policies.{Aggregate as Definition}
+use Rattle.policy_text.specs.Grammar.{IsRule, AreRules}
+use Rattle.policy_judge.specs.Occurrences.{sources, destinations}
+use Rattle.policy_judge.specs.declared.verdict.RecordVerdict.{RecordVerdict}
+use Rattle.policy_judge.specs.declared.verdict.ElementVerdict.{ElementVerdict}
+use Rattle.policy_judge.specs.Verdicts.{record_verdict_of}
+use Rattle.rule_table.specs.OfPolicy.{AreOfPolicy}
+use Rattle.address_classes.specs.Cuts.{HasCuts, HasRuleCuts, HaveCuts, most_cuts}
+use Rattle.address_classes.specs.Classes.{key_of}
+use Rattle.address_classes.proofs.ClassLaws.{same_key}
+use Rattle.flow_anonymize.specs.declared.record_classes.RecordClasses.{RecordClasses}
+use Rattle.flow_anonymize.specs.declared.plan.Plan.{Plan}
+use Rattle.flow_anonymize.specs.declared.slot.Slot.{Slot}
+use Rattle.flow_anonymize.specs.Remaining.{verdicts_of}
+use Rattle.flow_anonymize.specs.Within.{AreJudged}
+use Rattle.flow_anonymize.specs.Disclosed.{transformed, by_verdict, disclosure_of}
+use Rattle.flow_anonymize.specs.Secrecy.{AreInsideAlike, AreCoveredAlike}
+use Rattle.flow_anonymize.specs.Classes.{both, classes_of}
+use Rattle.flow_anonymize.specs.Planning.{planned, IsShowable, IsPlan}
+use Rattle.flow_anonymize.specs.Plans.{PlansFor, is_for, Discloses, IsSlot, AreKept}
+use Rattle.flow_anonymize.proofs.Bounds.{verdicts_are_judged}
+use Rattle.flow_anonymize.proofs.SecrecyLaws.{record_alike, verdicts_alike}
+use Rattle.flow_anonymize.proofs.Planning.{showable}
+
+-- ---- records of the same classes are inside the same prefixes
+
+pub record HasKeys (cuts : List ℕ) (r : DataRecord) (classes : RecordClasses) : Type 0 where
+  pub from : key_of cuts (sources r) ≡ Some classes.sources
+  pub to : key_of cuts (destinations r) ≡ Some classes.destinations
+
+keys_by : (from to : Option ℕ) (classes : RecordClasses) → both from to ≡ Some classes → (from ≡ Some classes.sources) × (to ≡ Some classes.destinations)
+keys_by None to classes e = absurd cc
+keys_by (Some from) None classes e = absurd cc
+keys_by (Some from) (Some to) classes e = (cc, cc)
+
+keys_of : (cuts : List ℕ) (r : DataRecord) (classes : RecordClasses) → classes_of cuts r ≡ Some classes → HasKeys cuts r classes
+keys_of cuts r classes e =
+    let parts = keys_by (key_of cuts (sources r)) (key_of cuts (destinations r)) classes e in
+    record { from = parts.0; to = parts.1 }
+
+inside_alike : (cuts : List ℕ) (prefix : Option Prefix) (vs ws : List (List ℕ)) (k : ℕ) → length cuts ≤ most_cuts → IfSome prefix IsPrefix → IfSome prefix (HasCuts cuts)
+    → key_of cuts vs ≡ Some k → key_of cuts ws ≡ Some k → AreInsideAlike vs ws prefix
+inside_alike cuts None vs ws k few is has one other = tt
+inside_alike cuts (Some prefix) vs ws k few is has one other = same_key cuts prefix vs ws k few is has one other
+
+covered_alike : (cuts : List ℕ) (aggregates : List Definition) (rules : List Rule) (r s : DataRecord) (classes : RecordClasses) → length cuts ≤ most_cuts → AreRules aggregates rules
+    → HaveCuts cuts rules → HasKeys cuts r classes → HasKeys cuts s classes → AllByRecursion (AreCoveredAlike r s) rules
+covered_alike cuts aggregates [] r s classes few are have one other = tt
+covered_alike cuts aggregates (rule ∷ rules) r s classes few are have one other =
+    ((inside_alike cuts rule.from (sources r) (sources s) classes.sources few are.0.from have.0.from one.from other.from,
+    inside_alike cuts rule.to (destinations r) (destinations s) classes.destinations few are.0.to have.0.to one.to other.to),
+    covered_alike cuts aggregates rules r s classes few are.1 have.1 one other)
+
+-- ---- a record has few fields
+
+specifier_some : (pen : Option ℕ) (number len : ℕ) → 0 < length (specifier_of pen number len)
+specifier_some None number len = omega (arith, length-append (be_octets 2 number) (be_octets 2 len), length-be_octets 2 number)
+specifier_some (Some pen) number len = omega (arith, length-append (be_octets 2 (number + 32768)) (be_octets 2 len ++ be_octets 4 pen), length-be_octets 2 (number + 32768))
+
+fewer : (fs : List FieldSpec) → length fs ≤ length (flat_map specifier fs)
+fewer [] = omega arith
+fewer (f ∷ fs) =
+    let all = ap length (flat_map-cons specifier f fs) ∙ length-append (specifier f) (flat_map specifier fs) in
+    omega (arith, fewer fs, all, specifier_some f.element.pen f.element.number f.length)
+
+few_fields : (r : DataRecord) → IsSound r → length r.template.fields ≤ 65535
+few_fields r sound = omega (arith, octets_of_record 256 r.template, fewer r.template.fields, sound.template_fits)
+
+-- ---- the plan of one record is that of all that are alike
+
+discloses : (for : PlansFor) (aggregates : List Definition) (r s : DataRecord) (plan : Plan) → AreRules aggregates for.rules
+    → IsPlan r.template (record_verdict_of for.name for.domain r for.rules) (verdicts_of for.name for.domain r for.rules) plan
+    → IsSound s → s.template ≡ r.template → AllByRecursion (AreCoveredAlike s r) for.rules
+    → (planned plan s.values ≡ disclosure_of for.name for.domain s for.rules) × IsShowable plan s.values
+discloses for aggregates r s plan are is sound template alike =
+    let on_record = record_alike for.name for.domain s r for.rules alike in
+    let on_fields = verdicts_alike for.name for.domain s r for.rules template alike in
+    let P1 : List ElementVerdict → Type 0 = λ ws. IsPlan r.template (record_verdict_of for.name for.domain r for.rules) ws plan in
+    let P2 : RecordVerdict → Type 0 = λ v. IsPlan r.template v (verdicts_of for.name for.domain s for.rules) plan in
+    let P3 : Template → Type 0 = λ t. IsPlan t (record_verdict_of for.name for.domain s for.rules) (verdicts_of for.name for.domain s for.rules) plan in
+    let is' = subst P3 (sym template) (subst P2 (sym on_record) (subst P1 (sym on_fields) is)) in
+    let judged = verdicts_are_judged for.name for.domain s aggregates for.rules (verdicts_of for.name for.domain s for.rules) sound are (few_fields s sound) refl in
+    (is'.leaves s.values, showable s (record_verdict_of for.name for.domain s for.rules) (verdicts_of for.name for.domain s for.rules) plan judged is')
+
+pub slot_is : (for : PlansFor) (aggregates : List Definition) (r : DataRecord) (slot : Slot) → HaveCuts for.cuts for.rules → length for.cuts ≤ most_cuts → AreRules aggregates for.rules
+    → arc_value slot.template ≡ r.template → Some slot.classes ≡ classes_of for.cuts r
+    → IsPlan r.template (record_verdict_of for.name for.domain r for.rules) (verdicts_of for.name for.domain r for.rules) slot.plan → IsSlot for slot
+slot_is for aggregates r slot cut few are template classes is = λ s sound same keys.
+    let alike = covered_alike for.cuts aggregates for.rules s r slot.classes few are cut (keys_of for.cuts s slot.classes keys) (keys_of for.cuts r slot.classes (sym classes)) in
+    let shown = discloses for aggregates r s slot.plan are is sound (same ∙ template) alike in
+    record { exact = shown.0; showable = shown.1 }
+
+-- ---- the plan at a place
+
+found_is : {A : Type 0} (test : A → Bool) (xs : List A) (k : ℕ) (a : A) → position_or_len test xs ≡ k → k < length xs → test (get_or xs k a) ≡ true
+found_is test [] k a e l = absurd (omega arith)
+found_is {A} test (x ∷ xs) k a e l =
+    elim (test x) as (λ b. test x ≡ b → cond (not b) (1 + position_or_len test xs) 0 ≡ k → test (get_or (x ∷ xs) k a) ≡ true) [
+      | true ↦ λ t (e : 0 ≡ k). rw (← e) t
+      | false ↦ λ t (e : 1 + position_or_len test xs ≡ k).
+          let next : k ≡ suc (position_or_len test xs) = omega arith in
+          rw next (found_is test xs (position_or_len test xs) a refl (omega (arith, next, l)))
+    ] refl e
+
+place_is : {A : Type 0} (test : A → Bool) (xs : List A) (k : ℕ) (a : A) → Some k ≡ position test xs → (k < length xs) × (test (get_or xs k a) ≡ true)
+place_is test xs k a e =
+    elim (nat_lt (position_or_len test xs) (length xs)) as (λ b. nat_lt (position_or_len test xs) (length xs) ≡ b → Some k ≡ cond b (Some (position_or_len test xs)) None → (k < length xs) × (test (get_or xs k a) ≡ true)) [
+      | true ↦ λ t e.
+          let there : position_or_len test xs ≡ k = cc in
+          let within : k < length xs = rw (← there) (ltb-true _ _ t) in
+          (within, found_is test xs k a there within)
+      | false ↦ λ t e. absurd cc
+    ] refl e
+
+classes_are : (c d : RecordClasses) → c.sources ≡ d.sources → c.destinations ≡ d.destinations → c ≡ d
+classes_are c d from to = ap (λ (n : ℕ). as_classes n c.destinations) from ∙ ap (as_classes d.sources) to where
+  as_classes : ℕ → ℕ → RecordClasses
+  as_classes n m = record { sources = n; destinations = m }
+
+pub slot_at : (for : PlansFor) (slots : List Slot) (classes : RecordClasses) (t : Template) (r : DataRecord) (k : ℕ) (slot : Slot) → All (IsSlot for) slots → Some k ≡ position (is_for classes t) slots
+    → slot ≡ get_or slots k slot → t ≡ r.template → IsSound r → Some classes ≡ classes_of for.cuts r → Discloses for r slot
+slot_at for slots classes t r k slot all place at template sound keys =
+    let there = place_is (is_for classes t) slots k slot place in
+    let test : is_for classes t slot ≡ true = rw (sym at) at there.1 in
+    let from = and_parts (slot.classes.sources == classes.sources) (slot.classes.destinations == classes.destinations && same_template (arc_value slot.template) t) test in
+    let to = and_parts (slot.classes.destinations == classes.destinations) (same_template (arc_value slot.template) t) from.1 in
+    let same = same_template-is (arc_value slot.template) t to.1 in
+    let same_classes = classes_are slot.classes classes (eqb-true slot.classes.sources classes.sources from.0) (eqb-true slot.classes.destinations classes.destinations to.0) in
+    let P : Slot → Type 0 = λ s. IsSlot for s in
+    let is : IsSlot for slot = subst P (sym at) (All-get_or P slots k slot there.0 all) in
+    is r sound (sym template ∙ sym same) (sym keys ∙ ap Some (sym same_classes))
+
+-- ---- for the calls
+
+pub kept_set : (for value : PlansFor) (slots : List Slot) (k : ℕ) (slot : Slot) → for ≡ value → AreKept for slots → IsSlot value slot → AreKept for (set slots k slot)
+kept_set for value slots k slot same kept is =
+    let P : PlansFor → Type 0 = λ f. IsSlot f slot in
+    record { cut = kept.cut; few = kept.few; each = All-set (IsSlot for) slots k slot (subst P (sym same) is) kept.each }
+
+pub made_anew : (for value : PlansFor) (slots : List Slot) (r : DataRecord) (slot : Slot) → for ≡ value → AreKept for slots → AreOfPolicy for.rules
+    → arc_value slot.template ≡ r.template → Some slot.classes ≡ classes_of value.cuts r
+    → IsPlan r.template (record_verdict_of for.name for.domain r for.rules) (verdicts_of for.name for.domain r for.rules) slot.plan → IsSlot value slot
+made_anew for value slots r slot same kept are template classes is =
+    let P : PlansFor → Type 0 = λ f. IsSlot f slot in
+    let keys : Some slot.classes ≡ classes_of for.cuts r = classes ∙ ap (λ (f : PlansFor). classes_of f.cuts r) (sym same) in
+    subst P same (slot_is for are.aggregates r slot kept.cut kept.few are.spelled template keys is)
+
+pub found_kept : (for value : PlansFor) (slots read : List Slot) (classes : RecordClasses) (asked : Option RecordClasses) (t : Template) (r : DataRecord) (k : ℕ) (slot : Slot) → for ≡ value → AreKept for slots
+    → read ≡ slots → Some k ≡ position (is_for classes t) read → slot ≡ get_or slots k slot → t ≡ r.template → IsSound r → asked ≡ Some classes → asked ≡ classes_of value.cuts r
+    → Discloses value r slot
+found_kept for value slots read classes asked t r k slot same kept are place at template sound is keys =
+    let P : PlansFor → Type 0 = λ f. Discloses f r slot in
+    let here : Some k ≡ position (is_for classes t) slots = place ∙ ap (position (is_for classes t)) are in
+    let own : Some classes ≡ classes_of for.cuts r = sym is ∙ keys ∙ ap (λ (f : PlansFor). classes_of f.cuts r) (sym same) in
+    subst P same (slot_at for slots classes t r k slot kept.each here at template sound own)
