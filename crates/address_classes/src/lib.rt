@@ -4,10 +4,10 @@
 //!
 //! - `classes`: [`AddressClasses`], built of rules once; `key` is asked for each record.
 //! - `cuts`: the bounds of prefixes.
-//! - `laws`: [`same_keys`], proved over the definitions.
+//! - `laws`: [`same_keys`] and [`key_of_three`], proved over the definitions.
 //!
 //! Proved: `AddressClasses::of_rules` has the bounds of each prefix that the rules name (`HaveCuts`), and `key` is made of
-//! the class of each address of a side (`key_of`). `same_keys` is what this is for: of values with one key, each of these
+//! the class of each address of a side (`key_of`), of which at most three have one (`key_of_three`). `same_keys` is what this is for: of values with one key, each of these
 //! prefixes has the same ones inside (`inside`), and two records whose sources have one key, and whose destinations too,
 //! are covered by the same rules (`covers`).
 #![tactic(auto)]
@@ -17,7 +17,7 @@ mod cuts;
 mod laws;
 
 pub use classes::AddressClasses;
-pub use laws::same_keys;
+pub use laws::{key_of_three, same_keys};
 
 #[cfg(test)]
 mod tests;
