@@ -1,9 +1,10 @@
 -- Addresses of one class are inside the same prefixes.
-use Rattle.std.proofs.Common.{◌≡◌, ◌⊎◌, ℕ, ◌+◌, ◌-◌, ◌*◌, ◌/◌, ◌^◌, ◌<◌, ◌≤◌, Bool, true, false, List, [], ◌∷◌, length, map, Some, cond, refl, ap, sym, ◌∙◌, subst, arith, inl, inr, ◌==◌, ◌&&◌}
+use Rattle.std.proofs.Common.{◌≡◌, ◌↔◌, None, ◌⊎◌, ℕ, ◌+◌, ◌-◌, ◌*◌, ◌/◌, ◌^◌, ◌<◌, ◌≤◌, Bool, true, false, List, [], ◌∷◌, length, map, Some, cond, refl, ap, sym, ◌∙◌, subst, arith, inl, inr, ◌==◌, ◌&&◌}
 use Rattle.std.specs.List.{Contains}
 use Rattle.std.proofs.Math.Nat.{div-mul-le_self, lt-div-mul-add, div-lt_iff_lt-mul, pow-le-pow_right, mul-le-mul_right, add-mul}
 use Rattle.std.proofs.lemmas.Nat.{pow-add, pow_pos, div-mul-add}
 use Rattle.std.proofs.lemmas.Bool.{cases_lt, eqb-true, eq-eqb}
+use Rattle.std.proofs.lemmas.List.{length-map}
 use Rattle.std.proofs.lemmas.List.Sums.{count_by-le-length}
 use Rattle.sequences.specs.Octets.{be_value}
 use Rattle.flow_prefix.specs.declared.prefix.Prefix.{Prefix}
@@ -13,7 +14,7 @@ use Rattle.flow_prefix.specs.Prefixes.{IsPrefix, contains}
 use Rattle.address_classes.specs.Cuts.{bounds_in, HasCuts, most_cuts}
 use Rattle.address_classes.specs.Classes.{class_of, digit_of, key_of}
 use Rattle.address_classes.proofs.CountLaws.{below_both}
-use Rattle.address_classes.proofs.KeyLaws.{AreDigits, same_digits}
+use Rattle.address_classes.proofs.KeyLaws.{AreDigits, same_digits, none_past_three}
 
 -- ---- what is inside stands between the bounds
 
@@ -170,3 +171,8 @@ pub same_key : (cuts : List ℕ) (prefix : Prefix) (vs ws : List (List ℕ)) (k 
     → key_of cuts vs ≡ Some k → key_of cuts ws ≡ Some k → map (contains prefix) vs ≡ map (contains prefix) ws
 same_key cuts prefix vs ws k few sound has one other =
     each_same cuts prefix vs ws sound has (same_digits (map (digit_of cuts) vs) (map (digit_of cuts) ws) k (all_small cuts vs few) (all_small cuts ws few) one other)
+
+pub key_of_three : (cuts : List ℕ) (vs : List (List ℕ)) → length cuts ≤ most_cuts → (key_of cuts vs ≡ None) ↔ (3 < length vs)
+key_of_three cuts vs few =
+    let counted : length (map (digit_of cuts) vs) ≡ length vs = length-map vs (digit_of cuts) in
+    subst (λ n. (key_of cuts vs ≡ None) ↔ (3 < n)) counted (none_past_three (map (digit_of cuts) vs) (all_small cuts vs few))

@@ -1,7 +1,7 @@
 -- Keys as numbers: the same key has the same digits.
-use Rattle.std.proofs.Common.{◌≡◌, ◌⊎◌, ℕ, suc, ◌+◌, ◌*◌, ◌^◌, ◌<◌, ◌≤◌, true, false, List, [], ◌∷◌, length, map, filter, Option, Some, None, cond, refl, ap, sym, ◌∙◌, arith, inl, inr, nat_lt}
+use Rattle.std.proofs.Common.{◌≡◌, ◌↔◌, ◌⊎◌, ℕ, suc, ◌+◌, ◌*◌, ◌^◌, ◌<◌, ◌≤◌, true, false, List, [], ◌∷◌, length, map, filter, Option, Some, None, cond, refl, ap, sym, ◌∙◌, arith, inl, inr, nat_lt}
 use Rattle.std.specs.List.{fold, zip, AllByRecursion}
-use Rattle.std.proofs.lemmas.Bool.{cases_lt}
+use Rattle.std.proofs.lemmas.Bool.{cases_lt, lt-ltb, le-ltb}
 use Rattle.std.proofs.lemmas.Option.{same_Some}
 use Rattle.ipfix_template.specs.declared.field.FieldSpec.{FieldSpec}
 use Rattle.ipfix_template.specs.DataRecord.{DataRecord}
@@ -90,3 +90,33 @@ same_number ds es few small e (inr l) (inr m) = (same_long 1 1 ds es few small (
 pub same_digits : (ds es : List ℕ) (k : ℕ) → AreDigits ds → AreDigits es → fold with_digit (Some 1) ds ≡ Some k → fold with_digit (Some 1) es ≡ Some k → ds ≡ es
 same_digits ds es k few small e f =
     same_number ds es few small (number 1 k ds e ∙ sym (number 1 k es f)) (cases_lt (length ds) (length es)) (cases_lt (length es) (length ds))
+
+-- ---- keys of up to three digits
+
+has_room : (a d : ℕ) → a < 2 ^ 48 → with_digit (Some a) d ≡ Some (a * 65536 + d)
+has_room a d less = rw (lt-ltb a (2 ^ 48) less) refl
+
+no_room : (a d : ℕ) → 2 ^ 48 ≤ a → with_digit (Some a) d ≡ None
+no_room a d most = rw (le-ltb a (2 ^ 48) most) refl
+
+abbrev after_two : ℕ → ℕ → ℕ
+after_two a b = (65536 + a) * 65536 + b
+
+two_digits : (a b : ℕ) (ds : List ℕ) → a < 65536 → fold with_digit (Some 1) (a ∷ b ∷ ds) ≡ fold with_digit (Some (after_two a b)) ds
+two_digits a b ds l = ap (λ k. fold with_digit k ds) (has_room (65536 + a) b (omega (arith, l)))
+
+three_digits : (a b c : ℕ) (ds : List ℕ) → a < 65536 → b < 65536 → fold with_digit (Some 1) (a ∷ b ∷ c ∷ ds) ≡ fold with_digit (Some (after_two a b * 65536 + c)) ds
+three_digits a b c ds l m = two_digits a b (c ∷ ds) l ∙ ap (λ k. fold with_digit k ds) (has_room (after_two a b) c (omega (arith, l, m)))
+
+four_digits : (a b c d : ℕ) (ds : List ℕ) → a < 65536 → b < 65536 → fold with_digit (Some 1) (a ∷ b ∷ c ∷ d ∷ ds) ≡ None
+four_digits a b c d ds l m = three_digits a b c (d ∷ ds) l m ∙ ap (λ k. fold with_digit k ds) (no_room (after_two a b * 65536 + c) d (omega arith)) ∙ full ds
+
+none_some : (key : Option ℕ) (k : ℕ) → key ≡ Some k → key ≡ None → ⊥
+none_some key k some none = cc
+
+pub none_past_three : (ds : List ℕ) → AreDigits ds → (fold with_digit (Some 1) ds ≡ None) ↔ (3 < length ds)
+none_past_three [] few = (λ e. absurd (none_some _ 1 refl e), λ l. absurd (omega (arith, l)))
+none_past_three (a ∷ []) few = (λ e. absurd (none_some _ (65536 + a) refl e), λ l. absurd (omega (arith, l)))
+none_past_three (a ∷ b ∷ []) (l, few) = (λ e. absurd (none_some _ (after_two a b) (two_digits a b [] l) e), λ l. absurd (omega (arith, l)))
+none_past_three (a ∷ b ∷ c ∷ []) (l, (m, few)) = (λ e. absurd (none_some _ (after_two a b * 65536 + c) (three_digits a b c [] l m) e), λ l. absurd (omega (arith, l)))
+none_past_three (a ∷ b ∷ c ∷ d ∷ ds) (l, (m, few)) = (λ e. omega arith, λ _. four_digits a b c d ds l m)

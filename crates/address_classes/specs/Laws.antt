@@ -1,5 +1,5 @@
 -- What keys are for.
-use Rattle.std.specs.Prelude.{◌≡◌, ℕ, ◌≤◌, List, length, map, Some, IfSome}
+use Rattle.std.specs.Prelude.{◌≡◌, ◌↔◌, ℕ, ◌<◌, ◌≤◌, List, length, map, Some, None, IfSome}
 use Rattle.ipfix_template.specs.DataRecord.{DataRecord}
 use Rattle.flow_prefix.specs.declared.prefix.Prefix.{Prefix}
 use Rattle.flow_prefix.specs.Prefixes.{IsPrefix, contains}
@@ -8,6 +8,10 @@ use Rattle.policy_judge.specs.Occurrences.{sources, destinations}
 use Rattle.policy_judge.specs.Match.{covers}
 use Rattle.address_classes.specs.Cuts.{HasCuts, HasRuleCuts, most_cuts}
 use Rattle.address_classes.specs.Classes.{key_of}
+
+-- up to three values have a key, and more have none
+abbrev pub KeyOfThree : Type 0
+KeyOfThree = (cuts : List ℕ) (vs : List (List ℕ)) → length cuts ≤ most_cuts → (key_of cuts vs ≡ None) ↔ (3 < length vs)
 
 -- of the values of one key, a prefix has the same ones inside
 abbrev pub SameInside : Type 0

@@ -4,12 +4,13 @@
 //!
 //! - `classes`: [`AddressClasses`], built of rules once; `key` is asked for each record.
 //! - `cuts`: the bounds of prefixes.
-//! - `laws`: [`same_keys`], proved over the definitions.
+//! - `laws`: [`same_keys`] and [`key_of_three`], proved over the definitions.
 //!
 //! Proved: `AddressClasses::of_rules` has the bounds of each prefix that the rules name (`HaveCuts`), and `key` is made of
 //! the class of each address of a side (`key_of`). `same_keys` is what this is for: of values with one key, each of these
 //! prefixes has the same ones inside (`inside`), and two records whose sources have one key, and whose destinations too,
-//! are covered by the same rules (`covers`).
+//! are covered by the same rules (`covers`). Up to three values have a key, and more have none (`key_of_three`). That there
+//! are no cuts but these, and so that classes are few, no clause says.
 #![tactic(auto)]
 
 mod classes;
@@ -17,7 +18,7 @@ mod cuts;
 mod laws;
 
 pub use classes::AddressClasses;
-pub use laws::same_keys;
+pub use laws::{key_of_three, same_keys};
 
 #[cfg(test)]
 mod tests;
