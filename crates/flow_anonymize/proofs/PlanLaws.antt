@@ -66,10 +66,13 @@ inside_alike cuts (Some prefix) vs ws k few is has one other = same_key cuts pre
 covered_alike : (cuts : List ℕ) (aggregates : List Definition) (rules : List Rule) (r s : DataRecord) (classes : RecordClasses) → length cuts ≤ most_cuts → AreRules aggregates rules
     → HaveCuts cuts rules → HasKeys cuts r classes → HasKeys cuts s classes → AllByRecursion (AreCoveredAlike r s) rules
 covered_alike cuts aggregates [] r s classes few are have one other = tt
-covered_alike cuts aggregates (rule ∷ rules) r s classes few are have one other =
-    ((inside_alike cuts rule.from (sources r) (sources s) classes.sources few are.0.from have.0.from one.from other.from,
-    inside_alike cuts rule.to (destinations r) (destinations s) classes.destinations few are.0.to have.0.to one.to other.to),
-    covered_alike cuts aggregates rules r s classes few are.1 have.1 one other)
+covered_alike cuts aggregates (rule ∷ rules) r s classes few are have one other = (
+  (
+    inside_alike cuts rule.from (sources r) (sources s) classes.sources few are.0.from have.0.from one.from other.from,
+    inside_alike cuts rule.to (destinations r) (destinations s) classes.destinations few are.0.to have.0.to one.to other.to,
+  ),
+  covered_alike cuts aggregates rules r s classes few are.1 have.1 one other,
+)
 
 -- ---- a record has few fields
 

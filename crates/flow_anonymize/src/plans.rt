@@ -22,15 +22,15 @@ const MOST_PLANS: usize = 16;
 /// What a policy discloses to one subscriber of the records of an observation domain: what becomes of a record is worked out once for
 /// its template and the classes of its addresses, and kept for records that are alike in both.
 #[derive(Drop)]
-pub struct Plans<'a> {
-    table: &'a RuleTable,
-    classes: &'a AddressClasses,
-    name: &'a str,
+pub struct Plans<'t, 'n> {
+    table: &'t RuleTable,
+    classes: &'t AddressClasses,
+    name: &'n str,
     domain: u32,
     slots: Vec<Slot>,
 }
 
-impl<'a> Model for Plans<'a> {
+impl<'t, 'n> Model for Plans<'t, 'n> {
     ghost use Rattle.flow_anonymize.specs.Plans.{PlansFor, AreKept};
 
     ghost Value = { PlansFor };
@@ -40,17 +40,17 @@ impl<'a> Model for Plans<'a> {
     ghost invariant = { λ p. AreKept (record { rules = p.table.now; cuts = p.classes.now; name = p.name.now; domain = p.domain }) p.slots.items };
 }
 
-impl<'a> Plans<'a> {
+impl<'t, 'n> Plans<'t, 'n> {
     ghost use Rattle.flow_anonymize.specs.Plans.{IsSlot};
 
     /// Plans for the subscriber of this name, by the rules of this table and the classes that their prefixes make. None is made yet.
     pub fn new(
         alloc: Global,
-        table: &'a RuleTable,
-        classes: &'a AddressClasses,
-        name: &'a str,
+        table: &'t RuleTable,
+        classes: &'t AddressClasses,
+        name: &'n str,
         domain: u32,
-    ) -> Plans<'a>
+    ) -> Plans<'t, 'n>
         requires { HaveCuts classes.now table.now }
         ensures { result ≡ record { rules = table.now; cuts = classes.now; name = name.now; domain = domain } }
     {

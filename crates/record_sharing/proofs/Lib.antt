@@ -1,2 +1,3 @@
 pub mod SharingLaws
 pub mod KeyLaws
+pub mod JudgeLaws

@@ -1,7 +1,9 @@
 -- What decides over a message's records: the policy in force, and the time to which the clock was advanced.
-use Rattle.std.specs.Prelude.{ℕ, List, [], ◌∷◌, map, Option, Some, None, slice_get}
+use Rattle.std.specs.Prelude.{◌≡◌, ℕ, List, [], ◌∷◌, map, Option, Some, None, slice_get}
 use Rattle.ipfix_template.specs.DataRecord.{DataRecord}
-use Rattle.policy_text.specs.Policies.{Meaning as Policy}
+use Rattle.policy_text.specs.Policies.{Meaning as Policy, Aggregate}
+use Rattle.policy_text.specs.declared.rule.Rule.{Rule}
+use Rattle.address_classes.specs.Cuts.{HaveCuts}
 use Rattle.flow_aggregate.specs.declared.timing.Timing.{Timing}
 use Rattle.flow_aggregate.specs.Counts.{Count, count_of}
 use Rattle.mediator_history.specs.Counting.{timing_at, counted_in}
@@ -12,6 +14,12 @@ pub record InForce : Type 0 where
 
 abbrev pub in_force_with : Policy → ℕ → InForce
 in_force_with policy clock = record { policy = policy; clock = clock }
+
+-- what is kept of a policy: its rules, the cuts of their prefixes, and its aggregates
+pub record IsKept (policy : Policy) (rules : List Rule) (cuts : List ℕ) (aggregates : List Aggregate) : Type 0 where
+  pub rules_are : rules ≡ policy.rules
+  pub cut : HaveCuts cuts policy.rules
+  pub aggregates_are : aggregates ≡ policy.aggregates
 
 -- where a record counts in the aggregate at a place of the policy's list
 abbrev pub timing_by : InForce → ℕ → DataRecord → Timing

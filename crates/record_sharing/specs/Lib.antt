@@ -3,5 +3,9 @@ pub use Rattle.mediator_history.specs.Disclosed
 pub use Rattle.mediator_history.specs.Auditing
 pub use Rattle.flow_aggregate.specs.Counts
 pub use Rattle.mediator_history.specs.Counting
+pub use Rattle.address_classes.specs.Cuts
+pub use Rattle.flow_anonymize.specs.Plans
+pub use Rattle.flow_anonymize.specs.Classes
 pub mod InForce
 pub mod Sharing
+pub mod Judges

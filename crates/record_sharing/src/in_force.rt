@@ -5,34 +5,40 @@ ghost use Rattle.ipfix_element.specs.Kinds.{kind_of};
 ghost use Rattle.policy_text.specs.Classes.{is_key_kind};
 ghost use Rattle.policy_text.specs.Policies.{nothing};
 
+use crate::judges::Judges;
+use crate::served::Served;
+use address_classes::AddressClasses;
 use flow_aggregate::{Count, Definition, Timing, judge_time};
 use ipfix_template::Record;
 use policy_text::{AggregateDef, Policy};
+use rule_table::RuleTable;
 use std::alloc::{AllocError, Global};
 use std::marker::Model;
 
-/// The policy in force, and the time to which the clock was advanced. The policy's aggregates are kept as groups share
-/// them.
+/// The policy in force, and the time to which the clock was advanced. The policy's rules are kept in a table too, with the classes
+/// that their prefixes make, and its aggregates as groups share them.
 #[derive(Drop)]
 pub struct InForce {
     policy: Policy,
+    table: RuleTable,
+    classes: AddressClasses,
     definitions: Vec<Definition>,
     clock: u64,
 }
 
 impl Model for InForce {
-    ghost use Rattle.std.specs.Prelude.{◌≡◌};
-    ghost use Rattle.record_sharing.specs.InForce.{InForce, in_force_with};
+    ghost use Rattle.record_sharing.specs.InForce.{InForce, in_force_with, IsKept};
 
     ghost Value = { InForce };
 
     ghost view = { λ f. in_force_with f.policy f.clock };
 
-    ghost invariant = { λ f. f.definitions.items ≡ f.policy.aggregates };
+    ghost invariant = { λ f. IsKept f.policy f.table f.classes f.definitions.items };
 }
 
 impl InForce {
     ghost use Rattle.record_sharing.specs.InForce.{in_force_with, timing_by, count_by, as_list};
+    ghost use Rattle.record_sharing.specs.Judges.{JudgeFor};
 
     /// Before the first edit and the first advance of the clock: a policy without rules.
     ///
@@ -57,17 +63,34 @@ impl InForce {
         // The kinds of a key's elements are kept by the type of policies.
         let _rules = policy.rules();
         let definitions = definitions_of(alloc, policy.aggregates())?;
+        let table = RuleTable::build(alloc, &policy)?;
+        let classes = AddressClasses::of_rules(alloc, policy.rules())?;
         Ok(InForce {
             policy,
+            table,
+            classes,
             definitions,
             clock,
         })
     }
 
-    pub fn policy(&self) -> &Policy
-        ensures { result.now ≡ self.now.policy }
+    /// What decides over the records of a message of this observation domain, for these subscriptions.
+    ///
+    /// # Errors
+    /// Want of memory.
+    pub(crate) fn judges<'t, 'n>(
+        &'t self,
+        alloc: Global,
+        domain: u32,
+        served: &[Served<'n>],
+    ) -> Result<Judges<'t, 'n>, AllocError>
+        ensures { IfOk result (λ judges. JudgeFor judges self.now domain served.now) }
     {
-        &self.policy
+        let mut judges = Judges::new(alloc, &self.table, &self.classes, domain);
+        'served: for who in served {
+            judges.add(alloc, who.name)?;
+        }
+        Ok(judges)
     }
 
     /// The time to which the clock was advanced, in milliseconds since 1970.

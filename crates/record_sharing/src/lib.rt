@@ -2,6 +2,7 @@
 //! them.
 //!
 //! - `in_force`: [`InForce`], the policy in force and the time of the clock.
+//! - `judges`: what becomes of a record, for each subscription.
 //! - `served`: [`Served`], a subscription that is served, with its subscriber's name.
 //! - `shares`: [`Shares`], what each of them is given ([`Share`]), what is added to its aggregates ([`Tally`]), and what the
 //!   audit notes ([`Note`]).
@@ -12,6 +13,7 @@
 #![tactic(auto)]
 
 mod in_force;
+mod judges;
 mod served;
 mod shares;
 

@@ -7,13 +7,15 @@ ghost use Rattle.mediator_history.specs.Counting.{counts};
 ghost use Rattle.mediator_history.specs.Disclosed.{passed};
 ghost use Rattle.mediator_history.specs.Auditing.{kept_back, reason_named, removed_of, told_of};
 ghost use Rattle.record_sharing.specs.InForce.{count_by, timing_by, as_list};
+ghost use Rattle.record_sharing.specs.Judges.{JudgeFor};
 ghost use Rattle.record_sharing.specs.Sharing.{blank, shown, tallied, shares_of, tallies_of, notes_of, note_of, noted_of_each};
 
 use crate::in_force::InForce;
+use crate::judges::Judges;
 use crate::served::Served;
 use disclosure_audit::{RemovedField, RemovedFields, What};
 use flow_aggregate::{Count, Timing};
-use flow_anonymize::{Disclosure, disclose};
+use flow_anonymize::Disclosure;
 use ipfix_template::Record;
 use std::alloc::{AllocError, Global};
 
@@ -73,8 +75,17 @@ impl Shares {
         ensures notes { IfOk result (λ s. s.notes.items ≡ notes_of domain in_force.now records.now served.now) }
     {
         let mut found = Shares::of_none(alloc, served)?;
+        let mut judges = in_force.judges(alloc, domain, served)?;
         'records: for (index, flow_record) in records.iter().enumerate() {
-            found.add_record(alloc, in_force, domain, index as u32, flow_record, served)?;
+            found.add_record(
+                alloc,
+                in_force,
+                &mut judges,
+                domain,
+                index as u32,
+                flow_record,
+                served,
+            )?;
         }
         Ok(found)
     }
@@ -109,23 +120,27 @@ impl Shares {
         &mut self,
         alloc: Global,
         in_force: &InForce,
+        judges: &mut Judges<'_, '_>,
         domain: u32,
         index: u32,
         flow_record: &Record,
         served: &[Served<'_>],
     ) -> Result<(), AllocError>
+        requires judges { JudgeFor judges.old in_force.now domain served.now }
         requires each { length self.old.shares.items ≡ length served.now }
         requires each_tally { length self.old.tallies.items ≡ length served.now }
         ensures shares { (done : List DataRecord) → map shown self.old.shares.items ≡ shares_of domain in_force.now done served.now
             → OnOk result (map shown self.new.shares.items ≡ shares_of domain in_force.now (done ++ flow_record.now ∷ []) served.now) }
         ensures tallies { (done : List DataRecord) → map tallied self.old.tallies.items ≡ tallies_of domain in_force.now done served.now
             → OnOk result (map tallied self.new.tallies.items ≡ tallies_of domain in_force.now (done ++ flow_record.now ∷ []) served.now) }
+        ensures judges { OnOk result (judges.new ≡ judges.old) }
         ensures stay { OnOk result (length self.new.shares.items ≡ length served.now) }
         ensures stay_tallies { OnOk result (length self.new.tallies.items ≡ length served.now) }
         ensures notes { OnOk result (self.new.notes.items ≡ self.old.notes.items ++ noted_of_each domain in_force.now served.now (index, flow_record.now)) }
     {
+        let classes = judges.classes_of(flow_record);
         'served: for (place, who) in served.iter().enumerate() {
-            let found = disclose(alloc, in_force.policy(), who.name, domain, flow_record)?;
+            let found = judges.disclose(alloc, place, classes, flow_record)?;
             self.add(alloc, place, index, who.sub, in_force, flow_record, found)?;
         }
         Ok(())

@@ -117,13 +117,16 @@ built policy read rules entries ss ds is same copied each up from to =
     let P1 : List Rule → Type 0 = λ rs. IsPermutation (entries_of rs) entries in
     let P2 : List Rule → Type 0 = λ rs. HaveShapes Source rs ss in
     let P3 : List Rule → Type 0 = λ rs. HaveShapes Destination rs ds in
-    subst over (sym all) (record { aggregates = policy.aggregates; spelled = is.rules }, record {
-      few = is.few_rules;
-      each = subst P1 same each;
-      ascending = up;
-      from = subst P2 same from;
-      to = subst P3 same to;
-    })
+    subst over (sym all) (
+      record { aggregates = policy.aggregates; spelled = is.rules },
+      record {
+        few = is.few_rules;
+        each = subst P1 same each;
+        ascending = up;
+        from = subst P2 same from;
+        to = subst P3 same to;
+      },
+    )
 
 pub from_both : {T E : Type 0} (r : Result T E) (P Q R : T → Type 0) → ((x : T) → P x → Q x → R x) → IfOk r P → IfOk r Q → IfOk r R
 from_both (Ok x) P Q R all p q = all x p q
