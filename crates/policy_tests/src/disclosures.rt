@@ -1,13 +1,16 @@
 //! Worked cases of disclosure. What is refused memory once is asked for again, and answers as ever.
+use address_classes::AddressClasses;
 use bytes::Bytes;
 use flow_anonymize::{
-    Disclosure, Reason, RemovedField, denied_is_secret, disclose, later_rules_never_matter,
-    only_permitted_passes, others_never_matter, passed_is_sound,
+    Disclosure, Plans, Reason, RecordClasses, RemovedField, denied_is_secret, disclose,
+    disclose_by, later_rules_never_matter, only_permitted_passes, others_never_matter,
+    passed_is_sound,
 };
 use ipfix_element::ElementId;
 use ipfix_template::{FieldSpec, Fields, Record, Template, Values};
 use policy_text::Policy;
-use std::alloc::Global;
+use rule_table::RuleTable;
+use std::alloc::{AllocError, Global};
 use std::process::Abort;
 use std::sync::Arc;
 use std::test::Fail;
@@ -95,13 +98,59 @@ fn build_policy(alloc: Global, rules: &[&str]) -> Option<Policy> {
     Policy::parse(alloc, text.as_str()).ok()
 }
 
+/// What disclosure goes by.
+#[derive(Clone, Copy)]
+enum Way {
+    /// The policy.
+    Policy,
+    /// A table of its rules.
+    Table,
+    /// A plan that was made for the same record before.
+    Plans,
+}
+
 /// What is disclosed to acme. Where memory is refused once, it is asked for again.
-fn disclosed(alloc: Global, rules: &[&str], flow_record: &Record) -> Result<Disclosure, Fail> {
+fn disclosed(
+    alloc: Global,
+    way: Way,
+    rules: &[&str],
+    flow_record: &Record,
+) -> Result<Disclosure, Fail> {
     let policy = policy_of(alloc, rules)?;
-    match disclose(alloc, &policy, "acme", DOMAIN, flow_record) {
+    match disclosed_by(alloc, way, &policy, flow_record) {
         Ok(disclosure) => Ok(disclosure),
-        Err(_) => Ok(disclose(alloc, &policy, "acme", DOMAIN, flow_record)?),
+        Err(_) => Ok(disclosed_by(alloc, way, &policy, flow_record)?),
     }
+}
+
+fn disclosed_by(
+    alloc: Global,
+    way: Way,
+    policy: &Policy,
+    flow_record: &Record,
+) -> Result<Disclosure, AllocError> {
+    match way {
+        Way::Policy => disclose(alloc, policy, "acme", DOMAIN, flow_record),
+        Way::Table => {
+            let table = RuleTable::build(alloc, policy)?;
+            disclose_by(alloc, &table, "acme", DOMAIN, flow_record)
+        }
+        Way::Plans => disclosed_again(alloc, policy, flow_record),
+    }
+}
+
+/// What is disclosed where the same record was asked for before.
+fn disclosed_again(
+    alloc: Global,
+    policy: &Policy,
+    flow_record: &Record,
+) -> Result<Disclosure, AllocError> {
+    let table = RuleTable::build(alloc, policy)?;
+    let classes = AddressClasses::of_rules(alloc, policy.rules())?;
+    let mut plans = Plans::new(alloc, &table, &classes, "acme", DOMAIN);
+    let keys = RecordClasses::of(&classes, flow_record);
+    plans.disclose(alloc, keys, flow_record)?;
+    plans.disclose(alloc, keys, flow_record)
 }
 
 /// Whether a field has this element and this length.
@@ -596,9 +645,9 @@ fn is_aggregated(wanted: &Wanted, rule: u32, definition: usize) -> bool {
 }
 
 /// That so much is disclosed.
-fn expect_case<R: Abort + AllocGlobal>(rt: &R, case: &Case) -> Result<(), Fail> {
+fn expect_case<R: Abort + AllocGlobal>(rt: &R, way: Way, case: &Case) -> Result<(), Fail> {
     let flow_record = record_of(rt.alloc(), case.fields, case.scope)?;
-    match disclosed(rt.alloc(), case.rules, &flow_record)? {
+    match disclosed(rt.alloc(), way, case.rules, &flow_record)? {
         Disclosure::Passed { kept, removed } => expect_passed(rt, case, &kept, &removed),
         Disclosure::Withheld { rule, reason } => {
             let same = is_withheld(&case.wanted, rule, reason);
@@ -616,7 +665,9 @@ fn expect_case<R: Abort + AllocGlobal>(rt: &R, case: &Case) -> Result<(), Fail> 
 #[test]
 fn disclosures(rt: HostRuntime) -> Result<(), Fail> {
     for case in CASES {
-        expect_case(&rt, case)?;
+        expect_case(&rt, Way::Policy, case)?;
+        expect_case(&rt, Way::Table, case)?;
+        expect_case(&rt, Way::Plans, case)?;
     }
     Ok(())
 }
@@ -637,7 +688,7 @@ fn expect_holders<R: Abort + AllocGlobal>(
     holders: usize,
 ) -> Result<(), Fail> {
     let flow_record = record_of(rt.alloc(), &[SIX, HTTPS], 0)?;
-    let disclosure = disclosed(rt.alloc(), rules, &flow_record)?;
+    let disclosure = disclosed(rt.alloc(), Way::Policy, rules, &flow_record)?;
     assert_eq!(rt; Arc::strong_count(flow_record.shared_template()), holders);
     drop(disclosure);
     Ok(())

@@ -225,10 +225,10 @@ fn table_agrees_with_the_walk(rt: HostRuntime) -> Result<(), Fail> {
     let alloc = rt.alloc();
     let mut random = Random::new(20);
     let mut named = 0usize;
-    for count in [0, 1, 7, 60, 300] {
+    for count in [1, 7, 40, 300, 1000, 4096] {
         let policy = random_policy(alloc, &mut random, count)?;
         let table = RuleTable::build(alloc, &policy)?;
-        for turn in 0..1000 {
+        for turn in 0..17_000 {
             let Some(flow_record) = random_record(alloc, &mut random) else {
                 return Err(Fail::new("no record"));
             };
@@ -238,6 +238,6 @@ fn table_agrees_with_the_walk(rt: HostRuntime) -> Result<(), Fail> {
             named = named.saturating_add(more);
         }
     }
-    assert!(rt; named > 5000, "only {named} verdicts named a rule");
+    assert!(rt; named > 100_000, "only {named} verdicts named a rule");
     Ok(())
 }
