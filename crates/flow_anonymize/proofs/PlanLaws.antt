@@ -1,5 +1,5 @@
 -- A plan is that of each record which is alike in template and classes.
-use Rattle.std.proofs.Common.{◌≡◌, ℕ, suc, ◌+◌, ◌≤◌, ◌<◌, Bool, true, false, List, [], ◌∷◌, ◌++◌, length, map, get_or, Option, Some, None, IfSome, cond, not, refl, sym, ap, ◌∙◌, subst, arith, length-append, nat_lt, ◌==◌, ◌&&◌}
+use Rattle.std.proofs.Common.{◌≡◌, ℕ, suc, ◌+◌, ◌≤◌, ◌<◌, Bool, true, false, List, [], ◌∷◌, ◌++◌, length, get_or, Option, Some, None, IfSome, cond, not, refl, sym, ap, ◌∙◌, subst, arith, length-append, nat_lt, ◌==◌, ◌&&◌}
 use Rattle.std.specs.Arc.{arc_value}
 use Rattle.std.proofs.Math.ListN.{set}
 use Rattle.std.specs.List.{All, AllByRecursion, flat_map, position, position_or_len}
@@ -12,28 +12,27 @@ use Rattle.flow_prefix.specs.declared.prefix.Prefix.{Prefix}
 use Rattle.flow_prefix.specs.Prefixes.{IsPrefix}
 use Rattle.ipfix_template.specs.declared.field.FieldSpec.{FieldSpec}
 use Rattle.ipfix_template.specs.declared.template.Template.{Template}
-use Rattle.ipfix_template.specs.Template.{specifier, specifier_of, is_options}
+use Rattle.ipfix_template.specs.Template.{specifier, specifier_of}
 use Rattle.ipfix_template.specs.Equality.{same_template}
 use Rattle.ipfix_template.specs.SameTemplate.{same_template-is}
 use Rattle.ipfix_template.specs.DataRecord.{DataRecord, IsSound}
 use Rattle.ipfix_template.proofs.Encoding.{octets_of_record}
 use Rattle.policy_text.specs.declared.rule.Rule.{Rule}
 use Rattle.policy_text.specs.Policies.{Aggregate as Definition}
-use Rattle.policy_text.specs.Grammar.{IsRule, AreRules}
+use Rattle.policy_text.specs.Grammar.{AreRules}
 use Rattle.policy_judge.specs.Occurrences.{sources, destinations}
 use Rattle.policy_judge.specs.declared.verdict.RecordVerdict.{RecordVerdict}
 use Rattle.policy_judge.specs.declared.verdict.ElementVerdict.{ElementVerdict}
 use Rattle.policy_judge.specs.Verdicts.{record_verdict_of}
 use Rattle.rule_table.specs.OfPolicy.{AreOfPolicy}
-use Rattle.address_classes.specs.Cuts.{HasCuts, HasRuleCuts, HaveCuts, most_cuts}
+use Rattle.address_classes.specs.Cuts.{HasCuts, HaveCuts, most_cuts}
 use Rattle.address_classes.specs.Classes.{key_of}
 use Rattle.address_classes.proofs.ClassLaws.{same_key}
 use Rattle.flow_anonymize.specs.declared.record_classes.RecordClasses.{RecordClasses}
 use Rattle.flow_anonymize.specs.declared.plan.Plan.{Plan}
 use Rattle.flow_anonymize.specs.declared.slot.Slot.{Slot}
 use Rattle.flow_anonymize.specs.Remaining.{verdicts_of}
-use Rattle.flow_anonymize.specs.Within.{AreJudged}
-use Rattle.flow_anonymize.specs.Disclosed.{transformed, by_verdict, disclosure_of}
+use Rattle.flow_anonymize.specs.Disclosed.{disclosure_of}
 use Rattle.flow_anonymize.specs.Secrecy.{AreInsideAlike, AreCoveredAlike}
 use Rattle.flow_anonymize.specs.Classes.{both, classes_of}
 use Rattle.flow_anonymize.specs.Planning.{planned, IsShowable, IsPlan}

@@ -1,8 +1,8 @@
 -- Plans: what they show, and of which records.
-use Rattle.std.proofs.Common.{◌≡◌, ◌≢◌, ℕ, ◌≤◌, List, length, sym, ap, ◌∙◌, refl}
+use Rattle.std.proofs.Common.{◌≡◌, ◌≢◌, ℕ, List, sym, refl}
 use Rattle.std.specs.Arc.{arc_value}
 use Rattle.ipfix_template.specs.declared.template.Template.{Template}
-use Rattle.ipfix_template.specs.DataRecord.{DataRecord, IsSound}
+use Rattle.ipfix_template.specs.DataRecord.{DataRecord}
 use Rattle.policy_judge.specs.declared.verdict.RecordAction.{RecordAction}
 use Rattle.policy_judge.specs.declared.verdict.RecordAction.TheVariants as on_record
 use Rattle.policy_judge.specs.declared.verdict.RecordVerdict.{RecordVerdict}
@@ -12,9 +12,9 @@ use Rattle.flow_anonymize.specs.declared.plan.Plan.{Plan}
 use Rattle.flow_anonymize.specs.declared.plan.Plan.TheVariants.{Pass, Aggregate, Withhold}
 use Rattle.flow_anonymize.specs.Outcome.{Outcome, Passes}
 use Rattle.flow_anonymize.specs.Remaining.{kept_values, removed_fields}
-use Rattle.flow_anonymize.specs.Within.{AreWithin, AreJudged}
-use Rattle.flow_anonymize.specs.Disclosed.{remaining, first_lost, transformed, by_action, by_verdict}
-use Rattle.flow_anonymize.specs.Planning.{planned, IsShowable, ShowsNone, ShowsBy, IsPlan}
+use Rattle.flow_anonymize.specs.Within.{AreJudged}
+use Rattle.flow_anonymize.specs.Disclosed.{remaining, first_lost, transformed, by_action}
+use Rattle.flow_anonymize.specs.Planning.{IsShowable, ShowsNone, IsPlan}
 use Rattle.flow_anonymize.proofs.Sound.{left_is_sound}
 use Rattle.flow_anonymize.proofs.PermittedLaws.{passed_by}
 

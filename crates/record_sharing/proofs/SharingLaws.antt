@@ -1,5 +1,5 @@
 -- Shares that grow, one subscription after another and one record after another.
-use Rattle.std.proofs.Common.{◌≡◌, ℕ, suc, ◌+◌, ◌<◌, List, [], ◌∷◌, ◌++◌, length, map, take, drop, refl, sym, ap, ◌∙◌, subst, arith, append_assoc, append-nil, ◌≤◌}
+use Rattle.std.proofs.Common.{◌≡◌, ℕ, suc, ◌+◌, ◌<◌, List, [], ◌∷◌, ◌++◌, length, map, take, drop, sym, ap, ◌∙◌, subst, arith, append_assoc, append-nil, ◌≤◌}
 use Rattle.std.specs.Prelude.{get_or, set}
 use Rattle.std.specs.List.{flat_map, enumerate_from}
 use Rattle.std.proofs.lemmas.List.{map-set, map-append, length-map, take_more, take_all, length-take-le}
@@ -7,7 +7,7 @@ use Rattle.std.proofs.Math.ListN.{get_or-map, drop_of_length-le}
 use Rattle.std.proofs.Math.Seq.{set-append_seam, get_or-append_seam, drop-cons}
 use Rattle.mediator_history.proofs.HistoryLaws.{flat_map-push}
 use Rattle.ipfix_template.specs.DataRecord.{DataRecord}
-use Rattle.flow_aggregate.specs.Counts.{Count, count_of}
+use Rattle.flow_aggregate.specs.Counts.{count_of}
 use Rattle.policy_text.specs.Policies.{Meaning as Policy}
 use Rattle.flow_anonymize.specs.Outcome.{Outcome}
 use Rattle.flow_anonymize.specs.Disclosed.{disclosure_of}

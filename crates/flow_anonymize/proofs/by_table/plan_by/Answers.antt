@@ -1,4 +1,4 @@
-use Rattle.std.proofs.Common.{◌≡◌, ◌≤◌, length, ap, ◌∙◌, arith, rules}
+use Rattle.std.proofs.Common.{◌≤◌, length, ap, arith, rules}
 use Rattle.ipfix_template.specs.declared.template.Template.{Template}
 use Rattle.flow_anonymize.proofs.Bounds.{verdicts_are_judged}
 use Rattle.flow_anonymize.proofs.by_table.plan_by.Goals as goal

@@ -1,5 +1,4 @@
-use Rattle.std.proofs.Common.{◌≡◌, map, take}
-use Rattle.record_sharing.specs.declared.served.Served.{Served}
+use Rattle.std.proofs.Common.{take}
 use Rattle.record_sharing.specs.Judges.{JudgeFor}
 use Rattle.record_sharing.proofs.in_force.InForce.judges.Given as goal
 

@@ -1,7 +1,5 @@
-use Rattle.std.proofs.Common.{refl, arith, ap, ◌∙◌, map}
-use Rattle.std.proofs.lemmas.List.{take_all}
-use Rattle.record_sharing.specs.Sharing.{shown, tallied, blank}
-use Rattle.record_sharing.proofs.SharingLaws.{as_share, blank_step}
+use Rattle.std.proofs.Common.{ap, map}
+use Rattle.record_sharing.specs.Sharing.{shown, tallied}
 use Rattle.record_sharing.proofs.shares.Shares.of_none.Goals as goal
 
 pub served-init : goal.served-init
