@@ -41,7 +41,7 @@ pub fn encode_template(id: u16, template: &Template, out: &mut Vec<u8>) -> Resul
 }
 
 /// Appends the record's values, each in its shortest text, as they stand in a Data Set (RFC 7011,
-/// sections 3.4.3 and 7).
+/// sections 3.4.3 and 7): a copy of the octets that it keeps.
 ///
 /// # Errors
 /// Want of memory, only where `out` had no room for it, and then nothing is appended.
@@ -51,16 +51,7 @@ pub fn encode_record(whole: &Record, out: &mut Vec<u8>) -> Result<(), AllocError
     ensures full { OnErr result (vec_capacity out.old < vec_len out.old + length (record_text whole.now.template.fields whole.now.values)) }
     ensures capacity { vec_capacity out.old ≤ vec_capacity out.new }
 {
-    let held = out.len();
-    let put = put_values(
-        whole.template().fields.as_slice(),
-        whole.values().as_slice(),
-        out,
-    );
-    if put.is_err() {
-        out.truncate(held);
-    }
-    put
+    out.extend_from_slice(whole.as_octets())
 }
 
 #[tactic(auto, unfolding(crate::specs::Template::template_record))]

@@ -25,16 +25,18 @@
 pub mod data_record;
 pub mod encode;
 mod equality;
+pub mod extent;
 pub mod field;
 pub mod laws;
 pub mod spans;
 pub mod template;
 pub mod values;
 
-pub use data_record::{Record, RefusedRecord, Values};
+pub use data_record::{NotMade, Record, RefusedRecord, Values};
 pub use encode::{encode_record, encode_template, encode_values};
+pub use extent::measure;
 pub use field::{FieldSpec, Fields};
 pub use laws::{one_split, one_template, record_splits_back};
-pub use spans::{Span, Split};
+pub use spans::{Extent, Span, Split};
 pub use template::{Refused, Template};
 pub use values::split;

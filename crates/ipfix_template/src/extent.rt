@@ -1,0 +1,39 @@
+//! How far a record at the front of octets reaches.
+ghost use Rattle.std.specs.Prelude.{◌≡◌, ◌≤◌, length, IfSome};
+ghost use Rattle.ipfix_template.specs.Values.{extent_at};
+ghost use Rattle.ipfix_template.specs.Shown.{Measures};
+
+use crate::field::FieldSpec;
+use crate::spans::Extent;
+use crate::template::Template;
+use crate::values::find_span;
+
+/// Finds how many octets the record of a template takes at the front of `octets`, and whether they are what
+/// `encode_record` writes for its values. It answers as [`split`](crate::split) does, makes no list of the values,
+/// and takes no memory.
+pub fn measure(template: &Template, octets: &[u8]) -> Extent
+    ensures { Measures template.now octets.now result }
+{
+    if octets.len() < template.shortest() as usize {
+        return Extent::Padding;
+    }
+    match extent_of(template.fields.as_slice(), octets) {
+        Some((used, is_shortest)) => Extent::Record { used, is_shortest },
+        None => Extent::Overrun,
+    }
+}
+
+/// How many octets the values of the fields take, and whether each stands in its shortest text.
+fn extent_of(fields: &[FieldSpec], octets: &[u8]) -> Option<(usize, bool)>
+    ensures exact { result ≡ extent_at fields.now octets.now }
+    ensures within { IfSome result (λ extent. extent.0 ≤ length octets.now) }
+{
+    let mut used = 0;
+    let mut is_shortest = true;
+    for field in fields {
+        let (start, length) = find_span(field, &octets[used..])?;
+        is_shortest = is_shortest && start == field.value_start(length);
+        used += start + length;
+    }
+    Some((used, is_shortest))
+}
