@@ -1,5 +1,5 @@
 //! A record's values at the front of octets.
-ghost use Rattle.std.specs.Prelude.{◌≡◌, ◌≤◌, ◌+◌, ◌++◌, ℕ, List, length, Some, IsSome, IsOk, IfOk, IfSome, ◌↔◌, ◌<◌};
+ghost use Rattle.std.specs.Prelude.{◌≡◌, ◌≤◌, ◌+◌, ◌++◌, ℕ, List, length, IsOk, IfOk, IfSome, ◌↔◌, ◌<◌};
 ghost use Rattle.ipfix_template.specs.Values.{Splits, span_at, values_at, record_front};
 ghost use Rattle.ipfix_template.specs.Template.{shortest_record};
 ghost use Rattle.ipfix_template.specs.Shown.{Shows, IsSplitBy, IsLaid, IsFound, spans_shown, AreFoundLaid, AreFoundWithin, IsPadding};
@@ -80,15 +80,4 @@ pub(crate) fn find_span(field: &FieldSpec, octets: &[u8]) -> Option<(usize, usiz
     }
     let length = usize::from(field.length);
     (length <= octets.len()).then_some((0, length))
-}
-
-/// Where the field's value starts at the front of octets that have it, and its length.
-pub(crate) fn span_of(field: &FieldSpec, octets: &[u8]) -> (usize, usize)
-    requires { IsSome (span_at field.now octets.now) }
-    ensures { span_at field.now octets.now ≡ Some result }
-{
-    match find_span(field, octets) {
-        Some(span) => span,
-        None => unreachable!(),
-    }
 }

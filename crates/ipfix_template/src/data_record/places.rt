@@ -1,11 +1,12 @@
 //! The values of a record, found in its octets.
-ghost use Rattle.std.specs.Prelude.{◌≡◌, ◌<◌, ◌≤◌, ◌+◌, [], true, length, take, drop, slice_index_or, IfOk};
-ghost use Rattle.ipfix_template.specs.Values.{values_in, fit_fields, record_text};
+ghost use Rattle.std.specs.Prelude.{◌≡◌, ◌<◌, ◌≤◌, ◌+◌, ◌-◌, [], length, take, drop, slice_index_or, IfOk};
+ghost use Rattle.ipfix_template.specs.Values.{values_in};
 ghost use Rattle.ipfix_template.specs.DataRecord.{IsSound};
+ghost use Rattle.ipfix_template.specs.Places.{AreKept, ArePassed};
 
 use crate::data_record::{Record, Values};
 use crate::field::FieldSpec;
-use crate::values::span_of;
+use crate::values::find_span;
 use bytes::Bytes;
 use std::alloc::{AllocError, Global};
 
@@ -18,8 +19,8 @@ impl Record {
         ensures sound { IsSound self.now }
     {
         let octets = self.octets.as_slice();
-        let (start, length) = place_of(self.template.fields.as_slice(), octets, place);
-        &octets[start..start + length]
+        let (start, end) = place_of(self.template.fields.as_slice(), octets, place);
+        &octets[start..end]
     }
 
     /// The values as a list, one for each field. Each is a part of the record's octets, and not copied.
@@ -35,36 +36,47 @@ impl Record {
     }
 }
 
-/// Where the value of the field at this place lies in a record's octets, and its length.
+/// Where the value of the field at this place starts in a record's octets, and where it ends.
 fn place_of(fields: &[FieldSpec], octets: &[u8], place: usize) -> (usize, usize)
-    requires fit { fit_fields fields.now (values_in fields.now octets.now) ≡ true }
-    requires text { octets.now ≡ record_text fields.now (values_in fields.now octets.now) }
+    requires kept { AreKept fields.now octets.now }
     requires place { place < length fields.now }
-    ensures within { result.0 + result.1 ≤ length octets.now }
-    ensures shown { take result.1 (drop result.0 octets.now) ≡ slice_index_or (values_in fields.now octets.now) place [] }
+    ensures within { (result.0 ≤ result.1) × (result.1 ≤ length octets.now) }
+    ensures shown { take (result.1 - result.0) (drop result.0 octets.now) ≡ slice_index_or (values_in fields.now octets.now) place [] }
 {
     let mut used = 0;
     for before in 0..place {
-        let (start, length) = span_of(&fields[before], &octets[used..]);
-        used += start + length;
+        (_, used) = next_place(fields, octets, before, used);
     }
-    let (start, length) = span_of(&fields[place], &octets[used..]);
-    (used + start, length)
+    next_place(fields, octets, place, used)
 }
 
 /// The values of a record's octets.
 fn cut_values(alloc: Global, fields: &[FieldSpec], octets: &Bytes) -> Result<Vec<Bytes>, AllocError>
-    requires fit { fit_fields fields.now (values_in fields.now octets.now) ≡ true }
-    requires text { octets.now ≡ record_text fields.now (values_in fields.now octets.now) }
+    requires kept { AreKept fields.now octets.now }
     ensures { IfOk result (λ values. values.items ≡ values_in fields.now octets.now) }
 {
-    let content = octets.as_slice();
     let mut values = Vec::with_capacity(alloc, fields.len())?;
     let mut used = 0;
-    for field in fields {
-        let (start, length) = span_of(field, &content[used..]);
-        values.push(octets.slice(used + start..used + start + length)?)?;
-        used += start + length;
+    for place in 0..fields.len() {
+        let (start, end) = next_place(fields, octets, place, used);
+        values.push(octets.slice(start..end)?)?;
+        used = end;
     }
     Ok(values)
+}
+
+/// Where the value of the field at this place starts and ends, with those of the fields before it in the first
+/// `used` octets.
+fn next_place(fields: &[FieldSpec], octets: &[u8], place: usize, used: usize) -> (usize, usize)
+    requires kept { AreKept fields.now octets.now }
+    requires place { place < length fields.now }
+    requires passed { ArePassed fields.now octets.now place used }
+    ensures within { (result.0 ≤ result.1) × (result.1 ≤ length octets.now) }
+    ensures shown { take (result.1 - result.0) (drop result.0 octets.now) ≡ slice_index_or (values_in fields.now octets.now) place [] }
+    ensures passed { ArePassed fields.now octets.now (place + 1) result.1 }
+{
+    match find_span(&fields[place], &octets[used..]) {
+        Some((start, length)) => (used + start, used + start + length),
+        None => unreachable!(),
+    }
 }
