@@ -1,6 +1,7 @@
 -- How far the record at the front of octets reaches, and whether it is the shortest text of its values.
-use Rattle.std.proofs.Common.{inl, inr, ◌≡◌, ℕ, zero, suc, ◌+◌, ◌-◌, ◌<◌, ◌≤◌, Bool, true, false, cond, eqb, ltb, List, [], ◌∷◌, ◌++◌, length, take, drop, get_or, Option, Some, None, refl, sym, ap, subst, ◌∙◌, arith, length-append, length-drop}
+use Rattle.std.proofs.Common.{inl, inr, ◌≡◌, ℕ, zero, suc, ◌+◌, ◌-◌, ◌*◌, ◌/◌, ◌%◌, ◌<◌, ◌≤◌, Bool, true, false, cond, eqb, ltb, List, [], ◌∷◌, ◌++◌, length, take, drop, get_or, Option, Some, None, refl, sym, ap, subst, ◌∙◌, arith, length-append, length-drop}
 use Rattle.std.specs.Prelude.{◌&&◌, ◌↔◌, MatchBool, slice_index}
+use Rattle.std.specs.Int.{byte_at}
 use Rattle.std.proofs.Math.Seq.{take-add}
 use Rattle.std.proofs.Math.Bool.{and_assoc}
 use Rattle.std.proofs.lemmas.Bool.{ltb-true, ltb-false, eqb-true, eq-eqb, and_parts, and_from, lt-ltb, le-ltb}
@@ -10,7 +11,7 @@ use Rattle.sequences.specs.Octets.{be_value, be_octets, AreOctets}
 use Rattle.sequences.specs.Options.{◌>>=◌}
 use Rattle.sequences.proofs.ListLaws.{drop_read}
 use Rattle.sequences.proofs.OptionLaws.{bind_some}
-use Rattle.sequences.proofs.OctetLaws.{length-be_octets, AreOctets-drop, AreOctets-take}
+use Rattle.sequences.proofs.OctetLaws.{length-be_octets, byte_at-pow, AreOctets-drop, AreOctets-take}
 use Rattle.ipfix_octets.specs.Variable.{IsVarText, shortest_text}
 use Rattle.ipfix_template.specs.Sequence.{End, Fault, Next}
 use Rattle.ipfix_template.specs.declared.field.FieldSpec.{FieldSpec}
@@ -37,6 +38,9 @@ length_of false value = omega arith
 pub length-value_text : (f : FieldSpec) (value : List ℕ) → length (value_text f value) ≡ value_start f (length value) + length value
 length-value_text f value = length_of (is_variable f) value
 
+abbrev two : ℕ → ℕ → List ℕ
+two a b = a ∷ b ∷ []
+
 -- two octets are those of their number
 two_octets : (a : List ℕ) → AreOctets a → length a ≡ 2 → a ≡ be_octets 2 (be_value a)
 two_octets [] fits wide = absurd (omega arith)
@@ -45,9 +49,11 @@ two_octets (x ∷ y ∷ z ∷ a) fits wide = absurd (omega arith)
 two_octets (x ∷ y ∷ []) fits wide =
     let high : x < 256 = fits 0 in
     let low : y < 256 = fits 1 in
-    let first : x ≡ (x * 256 + y) / 256 % 256 = omega arith in
-    let second : y ≡ (x * 256 + y) % 256 = omega arith in
-    cc
+    let value = be_value (x ∷ y ∷ []) in
+    let is : value ≡ x * 256 + y = omega arith in
+    let first : x ≡ value / 256 % 256 = omega (arith, is, high, low) in
+    let second : y ≡ value % 256 = omega (arith, is, high, low) in
+    ap (λ (a : ℕ). two a y) (first ∙ sym (byte_at-pow 1 value)) ∙ ap (two (byte_at 1 value)) second
 
 -- what a text of a value is beside the shortest: no shorter, and of the same octets if it isn't longer
 abbrev IsLeast : List ℕ → List ℕ → Type 0
@@ -129,13 +135,16 @@ reaches (f ∷ fs) octets fits extent low e =
     let more = reaches fs (drop (span.0 + span.1) octets) (AreOctets-drop (span.0 + span.1) octets fits) others (omega (arith, size, length-drop (span.0 + span.1) octets)) second.1 in
     subst (Reached (f ∷ fs) octets) whole (one_reached f fs octets fits span.0 span.1 others size first.1 more)
 
-others_none : (o : Option (ℕ × Bool)) (n : ℕ) (b : Bool) → (o >>= λ m. Some (n + m.0, b && m.1)) ≡ None → o ≡ None
+abbrev extent_with : ℕ → Bool → Option (ℕ × Bool)
+extent_with used short = Some (used, short)
+
+others_none : (o : Option (ℕ × Bool)) (n : ℕ) (b : Bool) → (o >>= λ m. extent_with (n + m.0) (b && m.1)) ≡ None → o ≡ None
 others_none None n b e = refl
 others_none (Some m) n b e = absurd cc
 
 none_by : (f : FieldSpec) (fs : List FieldSpec) (octets : List ℕ) (span : Option (ℕ × ℕ)) → ((rest : List ℕ) → extent_at fs rest ≡ None → values_at fs rest ≡ None)
-    → (span >>= λ s. extent_at fs (drop (s.0 + s.1) octets) >>= λ o. Some (s.0 + s.1 + o.0, eqb s.0 (value_start f s.1) && o.1)) ≡ None
-    → (span >>= λ s. values_at fs (drop (s.0 + s.1) octets) >>= λ o. Some (take s.1 (drop s.0 octets) ∷ o.0, o.1)) ≡ None
+    → (span >>= λ s. extent_at fs (drop (s.0 + s.1) octets) >>= λ o. extent_with (s.0 + s.1 + o.0) (eqb s.0 (value_start f s.1) && o.1)) ≡ None
+    → (span >>= λ s. values_at fs (drop (s.0 + s.1) octets) >>= λ o. found_values (take s.1 (drop s.0 octets) ∷ o.0, o.1)) ≡ None
 none_by f fs octets None rest e = refl
 none_by f fs octets (Some s) rest e =
     rw (rest (drop (s.0 + s.1) octets) (others_none (extent_at fs (drop (s.0 + s.1) octets)) (s.0 + s.1) (eqb s.0 (value_start f s.1)) e)) refl
@@ -174,10 +183,7 @@ with_extent used short (Some m) = Some (used + m.0, short && m.1)
 
 pub none_measured : (whole : Option (ℕ × Bool)) → with_extent 0 true whole ≡ whole
 none_measured None = refl
-none_measured (Some m) = refl
-
-abbrev extent_with : ℕ → Bool → Option (ℕ × Bool)
-extent_with used short = Some (used, short)
+none_measured (Some m) = ap (λ (n : ℕ). extent_with n m.1) (omega arith)
 
 pushed : (used n : ℕ) (short b : Bool) (o : Option (ℕ × Bool)) → with_extent (used + n) (short && b) o ≡ with_extent used short (o >>= λ m. Some (n + m.0, b && m.1))
 pushed used n short b None = refl

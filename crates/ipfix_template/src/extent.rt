@@ -31,7 +31,9 @@ fn extent_of(fields: &[FieldSpec], octets: &[u8]) -> Option<(usize, bool)>
     let mut used = 0;
     let mut is_shortest = true;
     for field in fields {
-        let (start, length) = find_span(field, &octets[used..])?;
+        let Some((start, length)) = find_span(field, &octets[used..]) else {
+            return None;
+        };
         is_shortest = is_shortest && start == field.value_start(length);
         used += start + length;
     }
