@@ -6,3 +6,4 @@ pub mod Encoding
 pub mod WrittenLaws
 pub mod TextLaws
 pub mod ExtentLaws
+pub mod ExtentClauses
