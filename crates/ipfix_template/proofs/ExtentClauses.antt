@@ -17,6 +17,7 @@ use Rattle.ipfix_template.specs.DataRecord.{FitsOneMessage, IsSound, IsKept, kep
 use Rattle.ipfix_template.specs.Shown.{Measures, IsMeasuredBy, IsReach}
 use Rattle.ipfix_template.proofs.SplitLaws.{values_at-found}
 use Rattle.ipfix_template.proofs.SplitClauses.{RecordFront, next_front, next_is, front_is}
+use Rattle.ipfix_template.proofs.ReadingLaws.{values_in-whole}
 use Rattle.ipfix_template.proofs.TextLaws.{kept_from, kept_is}
 
 -- what stands at the front is split by the fields
@@ -32,7 +33,9 @@ front_splits t octets values used fits front low =
 pub measured_by : (t : Template) (octets : List ℕ) → AreOctets octets → (e : Extent) → Measures t octets e → IsMeasuredBy t.fields octets e
 measured_by t octets fits extent.Padding m = tt
 measured_by t octets fits extent.Overrun m = tt
-measured_by t octets fits (extent.Record used short) m = front_splits t octets (values_in t.fields octets) used fits m.0 m.1
+measured_by t octets fits (extent.Record used short) m =
+    let splits = front_splits t octets (values_in t.fields octets) used fits m.0 m.1 in
+    (splits, values_in-whole t.fields (take used octets) (values_in t.fields octets) splits)
 
 reach_of : (octets text rest : List ℕ) (values found : List (List ℕ)) (used : ℕ) (front : RecordFront) → octets ≡ text ++ rest → front ≡ next_front values rest → front ≡ next_front found (drop used octets) → used ≤ length octets → used ≡ length text
 reach_of octets text rest values found used front parts is at low =

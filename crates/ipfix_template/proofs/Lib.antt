@@ -7,3 +7,4 @@ pub mod WrittenLaws
 pub mod TextLaws
 pub mod ExtentLaws
 pub mod ExtentClauses
+pub mod ReadingLaws

@@ -80,9 +80,10 @@ Measures t octets (extent.Record used is_shortest) =
 Measures t octets extent.Padding = record_front t octets ≡ End
 Measures t octets extent.Overrun = record_front t octets ≡ Fault tt
 
--- a record that is found so is split by the fields
+-- the octets of a record that is found are split by the fields, into the values that are found in them by themselves
 abbrev pub IsMeasuredBy : List FieldSpec → List ℕ → Extent → Type 0
-IsMeasuredBy fields octets (extent.Record used is_shortest) = Splits fields (take used octets) (values_in fields octets)
+IsMeasuredBy fields octets (extent.Record used is_shortest) =
+    Splits fields (take used octets) (values_in fields octets) × (values_in fields (take used octets) ≡ values_in fields octets)
 IsMeasuredBy fields octets extent.Padding = Unit {0}
 IsMeasuredBy fields octets extent.Overrun = Unit {0}
 

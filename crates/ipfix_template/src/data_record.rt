@@ -5,6 +5,7 @@ ghost use Rattle.std.specs.Arc.{arc_value};
 mod entries;
 mod parts;
 mod places;
+mod reading;
 
 use crate::encode::encode_values;
 use crate::field::FieldSpec;
