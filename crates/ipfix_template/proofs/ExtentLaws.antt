@@ -1,10 +1,10 @@
 -- How far the record at the front of octets reaches, and whether it is the shortest text of its values.
-use Rattle.std.proofs.Common.{inl, inr, ◌≡◌, ℕ, zero, suc, ◌+◌, ◌-◌, ◌*◌, ◌/◌, ◌%◌, ◌<◌, ◌≤◌, Bool, true, false, cond, eqb, ltb, List, [], ◌∷◌, ◌++◌, length, take, drop, get_or, Option, Some, None, refl, sym, ap, subst, ◌∙◌, arith, length-append, length-drop}
-use Rattle.std.specs.Prelude.{◌&&◌, ◌↔◌, MatchBool, slice_index}
+use Rattle.std.proofs.Common.{inl, inr, ◌≡◌, ℕ, ◌+◌, ◌*◌, ◌/◌, ◌%◌, ◌<◌, ◌≤◌, Bool, true, false, cond, eqb, ltb, List, [], ◌∷◌, ◌++◌, length, take, drop, get_or, Option, Some, None, refl, sym, ap, subst, ◌∙◌, arith, length-append, length-drop}
+use Rattle.std.specs.Prelude.{◌&&◌, ◌↔◌, MatchBool}
 use Rattle.std.specs.Int.{byte_at}
 use Rattle.std.proofs.Math.Seq.{take-add}
 use Rattle.std.proofs.Math.Bool.{and_assoc}
-use Rattle.std.proofs.lemmas.Bool.{ltb-true, ltb-false, eqb-true, eq-eqb, and_parts, and_from, lt-ltb, le-ltb}
+use Rattle.std.proofs.lemmas.Bool.{eqb-true, eq-eqb, and_parts, and_from, lt-ltb}
 use Rattle.std.proofs.lemmas.List.{drop-drop, drop_all, length-take-le, take_at}
 use Rattle.std.proofs.lemmas.Option.{same_Some}
 use Rattle.sequences.specs.Octets.{be_value, be_octets, AreOctets}
@@ -17,7 +17,7 @@ use Rattle.ipfix_template.specs.Sequence.{End, Fault, Next}
 use Rattle.ipfix_template.specs.declared.field.FieldSpec.{FieldSpec}
 use Rattle.ipfix_template.specs.declared.template.Template.{Template}
 use Rattle.ipfix_template.specs.Template.{is_variable, shortest_record}
-use Rattle.ipfix_template.specs.Values.{IsText, span_at, values_at, values_of, values_in, found_record, record_front, value_text, record_text, value_start, extent_at}
+use Rattle.ipfix_template.specs.Values.{IsText, span_at, values_at, values_of, values_in, record_front, value_text, record_text, value_start, extent_at}
 use Rattle.ipfix_template.proofs.SplitLaws.{span_at-found, found_values}
 use Rattle.ipfix_template.proofs.WrittenLaws.{fronts}
 
@@ -66,6 +66,7 @@ var_least text value fits (inl s) =
 var_least text value fits (inr s) = by_length (ltb (length value) 255) refl where
   wide : length text ≡ 3 + length value
   wide = omega (arith, ap length s.2, length-append s.0 value, s.1.wide)
+
   by_length : (b : Bool) → ltb (length value) 255 ≡ b → IsLeast text (cond b (length value ∷ value) (255 ∷ (be_octets 2 (length value) ++ value)))
   by_length true is = (omega (arith, wide), λ e. absurd (omega (arith, wide, e)))
   by_length false is =
@@ -108,14 +109,16 @@ one_reached f fs octets fits start len others low found more =
       values = value ∷ more.values;
       at = rw (found, more.at) (ap (λ (r : List ℕ). found_values (value ∷ more.values, r)) (drop-drop others.0 n octets));
       least = omega (arith, least.0, wide, more.least, joined);
-      shortest = (λ e.
-          let parts = and_parts (eqb start (value_start f len)) others.1 e in
-          let starts = eqb-true start (value_start f len) parts.0 in
-          let first = least.1 (omega (arith, wide, size, starts)) in
-          front ∙ ap (λ (t : List ℕ). t ++ take others.0 (drop n octets)) first ∙ ap (λ (t : List ℕ). value_text f value ++ t) (more.shortest.0 parts.1)
-      , λ e.
-          let both = fronts text (value_text f value) (take others.0 (drop n octets)) (record_text fs more.values) (omega (arith, ap length e, whole, joined, least.0, wide, more.least)) (sym front ∙ e) in
-          and_from (eqb start (value_start f len)) others.1 (eq-eqb start (value_start f len) (omega (arith, ap length both.0, wide, size))) (more.shortest.1 both.1));
+      shortest = (
+        λ e.
+            let parts = and_parts (eqb start (value_start f len)) others.1 e in
+            let starts = eqb-true start (value_start f len) parts.0 in
+            let first = least.1 (omega (arith, wide, size, starts)) in
+            front ∙ ap (λ (t : List ℕ). t ++ take others.0 (drop n octets)) first ∙ ap (λ (t : List ℕ). value_text f value ++ t) (more.shortest.0 parts.1),
+        λ e.
+            let both = fronts text (value_text f value) (take others.0 (drop n octets)) (record_text fs more.values) (omega (arith, ap length e, whole, joined, least.0, wide, more.least)) (sym front ∙ e) in
+            and_from (eqb start (value_start f len)) others.1 (eq-eqb start (value_start f len) (omega (arith, ap length both.0, wide, size))) (more.shortest.1 both.1),
+      );
     }
 
 abbrev Reached : List FieldSpec → List ℕ → ℕ × Bool → Type 0

@@ -6,3 +6,5 @@ pub mod Encoding
 pub mod WrittenLaws
 pub mod TextLaws
 pub mod ExtentLaws
+pub mod ExtentClauses
+pub mod ReadingLaws

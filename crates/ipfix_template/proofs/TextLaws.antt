@@ -1,14 +1,16 @@
 -- A record's text: its values are found in it again, each at its place.
 use Rattle.std.proofs.Common.{◌≡◌, ℕ, ◌+◌, ◌-◌, ◌<◌, ◌≤◌, true, List, [], ◌∷◌, ◌++◌, length, take, drop, get_or, Option, Some, None, refl, sym, ap, subst, ◌∙◌, arith, length-append, length-drop}
+use Rattle.std.specs.List.{zip}
+use Rattle.std.proofs.lemmas.Bool.{and_parts}
 use Rattle.std.proofs.lemmas.List.{append-nil, drop-drop, drop_at, drop_more, take_more, take_all}
 use Rattle.std.proofs.lemmas.Option.{same_Some}
 use Rattle.sequences.proofs.ListLaws.{drop_read}
 use Rattle.ipfix_template.specs.declared.field.FieldSpec.{FieldSpec}
 use Rattle.ipfix_template.specs.declared.template.Template.{Template}
-use Rattle.ipfix_template.specs.Values.{span_at, values_at, values_in, fits_field, fit_fields, value_text, record_text}
+use Rattle.ipfix_template.specs.Values.{span_at, values_in, fits_field, fit_fields, value_text, record_text}
 use Rattle.ipfix_template.specs.DataRecord.{DataRecord, IsSound, IsKept, kept_record}
 use Rattle.ipfix_template.specs.Places.{AreKept, ArePassed}
-use Rattle.ipfix_template.proofs.SplitLaws.{Finds, span_at-only, values_at-only, found_values}
+use Rattle.ipfix_template.proofs.SplitLaws.{Finds, span_at-only, values_at-only}
 use Rattle.ipfix_template.proofs.WrittenLaws.{value_text-is, record_text-splits}
 use Rattle.ipfix_template.proofs.Encoding.{fit_fields-length, fit_fields-at}
 
@@ -30,13 +32,22 @@ record_with t values = record { template = t; values = values }
 pub kept_is : (t : Template) (vs : List (List ℕ)) (octets : List ℕ) → fit_fields t.fields vs ≡ true → octets ≡ record_text t.fields vs → kept_record t octets ≡ record { template = t; values = vs }
 kept_is t vs octets fit is = ap (record_with t) (ap (values_in t.fields) is ∙ values_in-text t.fields vs fit)
 
+-- octets that are written for values that fit are such as are kept
+pub are_kept : (fs : List FieldSpec) (vs : List (List ℕ)) (octets : List ℕ) → fit_fields fs vs ≡ true → octets ≡ record_text fs vs → AreKept fs octets
+are_kept fs vs octets fit is =
+    let same : vs ≡ values_in fs octets = sym (ap (values_in fs) is ∙ values_in-text fs vs fit) in
+    record {
+      fit = subst (λ (v : List (List ℕ)). fit_fields fs v ≡ true) same fit;
+      shortest = is ∙ ap (record_text fs) same;
+    }
+
 -- octets that are written for a record may be kept
 pub kept_from : (t : Template) (vs : List (List ℕ)) (octets : List ℕ) → IsSound (record { template = t; values = vs }) → octets ≡ record_text t.fields vs → IsKept t octets
 kept_from t vs octets sound is =
     let same : vs ≡ values_in t.fields octets = sym (ap (values_in t.fields) is ∙ values_in-text t.fields vs sound.fit) in
     record {
       sound = subst (λ (v : List (List ℕ)). IsSound (record_with t v)) same sound;
-      shortest = is ∙ ap (record_text t.fields) same;
+      shortest = (are_kept t.fields vs octets sound.fit is).shortest;
     }
 
 -- a record that is made of octets that are written for another: it is that one
@@ -114,3 +125,23 @@ one_cut fs octets o value before after i start end kept lt same shown is was gro
 -- all of them
 pub all_cut : (fs : List FieldSpec) (octets : List ℕ) (i : ℕ) → AreKept fs octets → length fs ≤ i → take i (values_in fs octets) ≡ values_in fs octets
 all_cut fs octets i kept le = take_all i (values_in fs octets) (omega (arith, le, fit_fields-length fs (values_in fs octets) kept.fit))
+
+-- ---- the first value
+
+first_by : (f : FieldSpec) (fs : List FieldSpec) (vs : List (List ℕ)) (value after : List ℕ) → fit_fields (f ∷ fs) vs ≡ true → value ≡ get_or vs 0 [] → after ≡ record_text fs (drop 1 vs) → (vs ≡ value ∷ values_in fs after) × AreKept fs after
+first_by f fs [] value after fit is left = absurd cc
+first_by f fs (v ∷ vs) value after fit is left =
+    let fits = (and_parts (fits_field f v) (fit_fields fs vs) fit).1 in
+    let rest : values_in fs after ≡ vs = ap (values_in fs) left ∙ values_in-text fs vs fits in
+    (ap (λ (x : List ℕ). x ∷ vs) (sym is) ∙ ap (λ (x : List (List ℕ)). value ∷ x) (sym rest), are_kept fs vs after fits left)
+
+-- the first value, and those of the octets behind it
+pub first_cut : (fs : List FieldSpec) (octets value after : List ℕ) (start end : ℕ) → AreKept fs octets → 0 < length fs → take (end - start) (drop start octets) ≡ get_or (values_in fs octets) 0 [] → ArePassed fs octets 1 end
+    → value ≡ take (end - start) (drop start octets) → after ≡ drop end octets → (values_in fs octets ≡ value ∷ values_in (drop 1 fs) after) × AreKept (drop 1 fs) after
+first_cut [] octets value after start end kept some shown passed is rest = absurd (omega arith)
+first_cut (f ∷ fs) octets value after start end kept some shown passed is rest =
+    first_by f fs (values_in (f ∷ fs) octets) value after kept.fit (is ∙ shown) (rest ∙ passed.left)
+
+-- a field and its value more stand before those that are left
+pub first_entry : (fs others : List FieldSpec) (f : FieldSpec) (values more : List (List ℕ)) (value : List ℕ) → fs ≡ f ∷ others → values ≡ value ∷ more → zip fs values ≡ (f, value) ∷ zip others more
+first_entry fs others f values more value is at = rw (is, at) refl

@@ -79,3 +79,16 @@ Measures t octets (extent.Record used is_shortest) =
     × ((is_shortest ≡ true) ↔ (take used octets ≡ record_text t.fields (values_in t.fields octets)))
 Measures t octets extent.Padding = record_front t octets ≡ End
 Measures t octets extent.Overrun = record_front t octets ≡ Fault tt
+
+-- the octets of a record that is found are split by the fields, into the values that are found in them by themselves
+abbrev pub IsMeasuredBy : List FieldSpec → List ℕ → Extent → Type 0
+IsMeasuredBy fields octets (extent.Record used is_shortest) =
+    Splits fields (take used octets) (values_in fields octets) × (values_in fields (take used octets) ≡ values_in fields octets)
+IsMeasuredBy fields octets extent.Padding = Unit {0}
+IsMeasuredBy fields octets extent.Overrun = Unit {0}
+
+-- a record of so many octets is found
+abbrev pub IsReach : ℕ → Extent → Type 0
+IsReach size (extent.Record used is_shortest) = used ≡ size
+IsReach size extent.Padding = ⊥
+IsReach size extent.Overrun = ⊥

@@ -2,13 +2,16 @@
 ghost use Rattle.std.specs.Prelude.{◌≡◌, ◌==◌, ◌≤◌, ◌*◌, ◌↔◌, IsTrue, true, length, IfOk, MatchResult};
 ghost use Rattle.std.specs.Arc.{arc_value};
 
+mod entries;
 mod parts;
 mod places;
+mod reading;
 
 use crate::encode::encode_values;
 use crate::field::FieldSpec;
 use crate::template::Template;
 use bytes::Bytes;
+pub use entries::Entries;
 use ipfix_octets::message_format::{
     HEADER_OCTETS, LEAST_TEMPLATE_ID, OPTIONS_RECORD_HEADER_OCTETS, RECORD_HEADER_OCTETS,
     SET_HEADER_OCTETS,

@@ -1,7 +1,7 @@
 //! How far a record at the front of octets reaches.
-ghost use Rattle.std.specs.Prelude.{◌≡◌, ◌≤◌, length, IfSome};
-ghost use Rattle.ipfix_template.specs.Values.{extent_at};
-ghost use Rattle.ipfix_template.specs.Shown.{Measures};
+ghost use Rattle.std.specs.Prelude.{◌≡◌, ◌≤◌, ◌++◌, ℕ, List, length, IfSome};
+ghost use Rattle.ipfix_template.specs.Values.{Splits, extent_at};
+ghost use Rattle.ipfix_template.specs.Shown.{Measures, IsMeasuredBy, IsReach};
 
 use crate::field::FieldSpec;
 use crate::spans::Extent;
@@ -12,6 +12,17 @@ use crate::values::find_span;
 /// `encode_record` writes for its values. It answers as [`split`](crate::split) does, makes no list of the values,
 /// and takes no memory.
 pub fn measure(template: &Template, octets: &[u8]) -> Extent
+    // What is found is split by the fields.
+    ensures found { IsMeasuredBy template.now.fields octets.now result }
+    // What is split so by the fields is found, whatever follows it.
+    ensures only { (text rest : List ℕ) (values : List (List ℕ)) → octets.now ≡ text ++ rest
+        → Splits template.now.fields text values → IsReach (length text) result }
+    ensures exact { Measures template.now octets.now result }
+{
+    find_extent(template, octets)
+}
+
+fn find_extent(template: &Template, octets: &[u8]) -> Extent
     ensures { Measures template.now octets.now result }
 {
     if octets.len() < template.shortest() as usize {

@@ -32,8 +32,8 @@ pub mod spans;
 pub mod template;
 pub mod values;
 
-pub use data_record::{NotMade, Record, RefusedRecord, Values};
-pub use encode::{encode_record, encode_template, encode_values};
+pub use data_record::{Entries, NotMade, Record, RefusedRecord, Values};
+pub use encode::{encode_record, encode_template, encode_value, encode_values};
 pub use extent::measure;
 pub use field::{FieldSpec, Fields};
 pub use laws::{one_split, one_template, record_splits_back};

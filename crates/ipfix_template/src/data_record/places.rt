@@ -16,6 +16,7 @@ impl Record {
     pub fn value(&self, place: usize) -> &[u8]
         requires { place < length self.now.template.fields }
         ensures value { result.now ≡ slice_index_or self.now.values place [] }
+        ensures few { length result.now ≤ 65535 }
         ensures sound { IsSound self.now }
     {
         let octets = self.octets.as_slice();
@@ -67,7 +68,12 @@ fn cut_values(alloc: Global, fields: &[FieldSpec], octets: &Bytes) -> Result<Vec
 
 /// Where the value of the field at this place starts and ends, with those of the fields before it in the first
 /// `used` octets.
-fn next_place(fields: &[FieldSpec], octets: &[u8], place: usize, used: usize) -> (usize, usize)
+pub(crate) fn next_place(
+    fields: &[FieldSpec],
+    octets: &[u8],
+    place: usize,
+    used: usize,
+) -> (usize, usize)
     requires kept { AreKept fields.now octets.now }
     requires place { place < length fields.now }
     requires passed { ArePassed fields.now octets.now place used }
