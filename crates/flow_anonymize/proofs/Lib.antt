@@ -8,3 +8,4 @@ pub mod OtherLaws
 pub mod PermittedLaws
 pub mod Planning
 pub mod PlanLaws
+pub mod TextLaws
