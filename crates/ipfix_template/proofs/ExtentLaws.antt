@@ -17,7 +17,7 @@ use Rattle.ipfix_template.specs.Sequence.{End, Fault, Next}
 use Rattle.ipfix_template.specs.declared.field.FieldSpec.{FieldSpec}
 use Rattle.ipfix_template.specs.declared.template.Template.{Template}
 use Rattle.ipfix_template.specs.Template.{is_variable, shortest_record}
-use Rattle.ipfix_template.specs.Values.{IsText, span_at, values_at, values_of, values_in, record_front, value_text, record_text, value_start, extent_at}
+use Rattle.ipfix_template.specs.Values.{IsText, span_at, values_at, values_found, values_in, record_front, value_text, record_text, value_start, extent_at}
 use Rattle.ipfix_template.proofs.SplitLaws.{span_at-found, found_values}
 use Rattle.ipfix_template.proofs.WrittenLaws.{fronts}
 
@@ -165,7 +165,7 @@ pub record_measured : (t : Template) (octets : List ℕ) → AreOctets octets �
 unfolding record_front values_in
 record_measured t octets fits used short long low e =
     let r = reaches t.fields octets fits (used, short) low e in
-    let same : r.values ≡ values_in t.fields octets = sym (ap values_of r.at) in
+    let same : r.values ≡ values_in t.fields octets = sym (ap values_found r.at) in
     let shortest = subst (λ (vs : List (List ℕ)). (short ≡ true) ↔ (take used octets ≡ record_text t.fields vs)) same r.shortest in
     (rw (long, r.at) refl, low, shortest)
 

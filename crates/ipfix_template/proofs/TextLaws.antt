@@ -1,7 +1,7 @@
 -- A record's text: its values are found in it again, each at its place.
-use Rattle.std.proofs.Common.{◌≡◌, ℕ, ◌+◌, ◌-◌, ◌<◌, ◌≤◌, true, List, [], ◌∷◌, ◌++◌, length, take, drop, get_or, Option, Some, None, refl, sym, ap, subst, ◌∙◌, arith, length-append, length-drop}
+use Rattle.std.proofs.Common.{◌≡◌, ℕ, ◌+◌, ◌-◌, ◌<◌, ◌≤◌, true, List, [], ◌∷◌, ◌++◌, length, take, drop, get_or, Option, Some, None, refl, sym, ap, subst, ◌∙◌, arith, append_assoc, length-append, length-drop}
 use Rattle.std.specs.List.{zip}
-use Rattle.std.proofs.lemmas.Bool.{and_parts}
+use Rattle.std.proofs.lemmas.Bool.{and_parts, and_from}
 use Rattle.std.proofs.lemmas.List.{append-nil, drop-drop, drop_at, drop_more, take_more, take_all}
 use Rattle.std.proofs.lemmas.Option.{same_Some}
 use Rattle.sequences.proofs.ListLaws.{drop_read}
@@ -49,10 +49,6 @@ kept_from t vs octets sound is =
       sound = subst (λ (v : List (List ℕ)). IsSound (record_with t v)) same sound;
       shortest = (are_kept t.fields vs octets sound.fit is).shortest;
     }
-
--- a record that is made of octets that are written for another: it is that one
-pub kept_sound : (t : Template) (vs : List (List ℕ)) (octets : List ℕ) → IsSound (record { template = t; values = vs }) → octets ≡ record_text t.fields vs → IsSound (kept_record t octets)
-kept_sound t vs octets sound is = (kept_from t vs octets sound is).sound
 
 -- ---- one field after another
 
@@ -145,3 +141,26 @@ first_cut (f ∷ fs) octets value after start end kept some shown passed is rest
 -- a field and its value more stand before those that are left
 pub first_entry : (fs others : List FieldSpec) (f : FieldSpec) (values more : List (List ℕ)) (value : List ℕ) → fs ≡ f ∷ others → values ≡ value ∷ more → zip fs values ≡ (f, value) ∷ zip others more
 first_entry fs others f values more value is at = rw (is, at) refl
+
+-- ---- what is written one after another
+
+-- values behind others, as many as their fields
+pub record_text-append : (fs gs : List FieldSpec) (vs ws : List (List ℕ)) → length fs ≡ length vs → record_text (fs ++ gs) (vs ++ ws) ≡ record_text fs vs ++ record_text gs ws
+record_text-append [] gs [] ws even = refl
+record_text-append [] gs (v ∷ vs) ws even = absurd (omega arith)
+record_text-append (f ∷ fs) gs [] ws even = absurd (omega arith)
+record_text-append (f ∷ fs) gs (v ∷ vs) ws even =
+    ap (λ (t : List ℕ). value_text f v ++ t) (record_text-append fs gs vs ws (omega arith)) ∙ sym (append_assoc (value_text f v) (record_text fs vs) (record_text gs ws))
+
+pub fit_fields-append : (fs gs : List FieldSpec) (vs ws : List (List ℕ)) → fit_fields fs vs ≡ true → fit_fields gs ws ≡ true → fit_fields (fs ++ gs) (vs ++ ws) ≡ true
+fit_fields-append [] gs [] ws fit more = more
+fit_fields-append [] gs (v ∷ vs) ws fit more = absurd cc
+fit_fields-append (f ∷ fs) gs [] ws fit more = absurd cc
+fit_fields-append (f ∷ fs) gs (v ∷ vs) ws fit more =
+    let parts = and_parts (fits_field f v) (fit_fields fs vs) fit in
+    and_from (fits_field f v) (fit_fields (fs ++ gs) (vs ++ ws)) parts.0 (fit_fields-append fs gs vs ws parts.1 more)
+
+-- one value more, as `encode_value` appends it
+pub record_text-push : (fs : List FieldSpec) (f : FieldSpec) (vs : List (List ℕ)) (v : List ℕ) → length fs ≡ length vs → record_text (fs ++ f ∷ []) (vs ++ v ∷ []) ≡ record_text fs vs ++ value_text f v
+record_text-push fs f vs v even =
+    record_text-append fs (f ∷ []) vs (v ∷ []) even ∙ ap (λ (t : List ℕ). record_text fs vs ++ t) (append-nil (value_text f v))

@@ -1,4 +1,4 @@
--- What a split shows of the octets that were split.
+-- What a split shows of the octets that were split, and a measure of those that were measured.
 use Rattle.std.specs.Prelude.{◌≡◌, ◌↔◌, true, ℕ, ◌+◌, ◌-◌, ◌≤◌, List, [], ◌∷◌, length, take, drop, map, All, Option, Some, None}
 use Rattle.std.specs.Global.{Vec}
 use Rattle.ipfix_octets.specs.Sequence.{Front, End, Fault, Next}
@@ -71,8 +71,8 @@ abbrev pub AreFoundWithin : List ℕ → Option (Vec Span × ℕ) → Type 0
 AreFoundWithin octets None = Unit {0}
 AreFoundWithin octets (Some found) = AreWithin octets found.0.items × (found.1 ≤ length octets)
 
--- the answer is what stands at the front: a record of so many octets, which is shortest if these are its values in their
--- shortest texts
+-- the answer says what stands at the front: of a record how many octets it takes, and whether these are its values, each
+-- in its shortest text
 abbrev pub Measures : Template → List ℕ → Extent → Type 0
 Measures t octets (extent.Record used is_shortest) =
     (record_front t octets ≡ Next (values_in t.fields octets ∷ []) (drop used octets)) × (used ≤ length octets)
@@ -80,7 +80,7 @@ Measures t octets (extent.Record used is_shortest) =
 Measures t octets extent.Padding = record_front t octets ≡ End
 Measures t octets extent.Overrun = record_front t octets ≡ Fault tt
 
--- the octets of a record that is found are split by the fields, into the values that are found in them by themselves
+-- a record that is found is split by the fields, and its octets alone have the same values
 abbrev pub IsMeasuredBy : List FieldSpec → List ℕ → Extent → Type 0
 IsMeasuredBy fields octets (extent.Record used is_shortest) =
     Splits fields (take used octets) (values_in fields octets) × (values_in fields (take used octets) ≡ values_in fields octets)

@@ -32,13 +32,14 @@ values_at (f ∷ fs) octets = do
   others ← values_at fs (drop (span.0 + span.1) octets)
   Some (take span.1 (drop span.0 octets) ∷ others.0, others.1)
 
--- the values of fields at the front of octets, of which the octets have one for each field; else none
-abbrev pub values_of : Option (List (List ℕ) × List ℕ) → List (List ℕ)
-values_of None = []
-values_of (Some found) = found.0
+-- the values that were found; none where nothing was
+abbrev pub values_found : Option (List (List ℕ) × List ℕ) → List (List ℕ)
+values_found None = []
+values_found (Some found) = found.0
 
+-- the values of fields at the front of octets; none where the octets end before the last of them
 unfoldable pub values_in : List FieldSpec → List ℕ → List (List ℕ)
-values_in fields octets = values_of (values_at fields octets)
+values_in fields octets = values_found (values_at fields octets)
 
 -- what stands at the front of a Data Set's content: padding, which is shorter than any record, a record, or the
 -- beginning of one that runs past the end
