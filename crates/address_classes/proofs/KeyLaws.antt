@@ -25,13 +25,6 @@ pub key_from_fields : (cuts : List ℕ) (side : Side) (r : DataRecord)
     → fold (with_field cuts side) (Some 1) (zip r.template.fields r.values) ≡ key_of cuts (values_of (is_of side) r)
 key_from_fields cuts side r = over_fields cuts side (Some 1) (zip r.template.fields r.values)
 
--- the same of the fields and values as they were read
-pub key_read : (cuts : List ℕ) (side : Side) (r : DataRecord) (fields : List FieldSpec) (values : List (List ℕ)) {key : Option ℕ} → r.template.fields ≡ fields → r.values ≡ values
-    → key ≡ fold (with_field cuts side) (Some 1) (zip fields values) → key ≡ key_of cuts (values_of (is_of side) r)
-key_read cuts side r fields values same other is =
-    is ∙ sym (ap (λ fs. fold (with_field cuts side) (Some 1) (zip fs values)) same) ∙ sym (ap (λ vs. fold (with_field cuts side) (Some 1) (zip r.template.fields vs)) other)
-    ∙ key_from_fields cuts side r
-
 -- ---- digits behind a number
 
 abbrev pushed : ℕ → ℕ → ℕ
