@@ -1,7 +1,7 @@
 -- Two lists side by side, as a loop over their places sees them.
-use Rattle.std.proofs.Common.{◌≡◌, ℕ, ◌+◌, ◌<◌, ◌≤◌, Bool, true, false, List, [], ◌∷◌, ◌++◌, length, take, get_or, Option, refl, sym, ap, ◌∙◌, arith, ◌&&◌, ◌||◌}
+use Rattle.std.proofs.Common.{◌≡◌, ℕ, ◌+◌, ◌<◌, ◌≤◌, Bool, true, false, List, [], ◌∷◌, ◌++◌, length, take, get_or, Option, Some, None, refl, sym, ap, ◌∙◌, arith, ◌&&◌, ◌||◌}
 use Rattle.std.specs.List.{list_any, list_all, fold, filter_map, zip, cons_option}
-use Rattle.std.proofs.lemmas.List.{take_more, take_all}
+use Rattle.std.proofs.lemmas.List.{append-nil, take_more, take_all}
 use Rattle.std.proofs.lemmas.List.Elements.{filter_map-append}
 use Rattle.std.proofs.lemmas.List.Folds.{list_any_more, list_all_more, list_any_at, list_all_at}
 use Rattle.std.proofs.lemmas.List.Sums.{fold_more}
@@ -79,11 +79,21 @@ fold_end f start now xs ys i le is = is ∙ ap (fold f start) (all_pairs xs ys i
 
 -- ---- what is picked
 
-pub pick_next : {A B C : Type 0} (pick : A × B → Option C) (now next : List C) (xs : List A) (ys : List B) (i : ℕ) (x : A) (e : B) → IsAt xs ys i x
+pick_next : {A B C : Type 0} (pick : A × B → Option C) (now next : List C) (xs : List A) (ys : List B) (i : ℕ) (x : A) (e : B) → IsAt xs ys i x
     → now ≡ filter_map pick (take i (zip xs ys)) → next ≡ now ++ cons_option (pick (x, get_or ys i e)) [] → next ≡ filter_map pick (take (i + 1) (zip xs ys))
 pick_next pick now next xs ys i x e at was one =
     one ∙ ap (λ l. l ++ cons_option (pick (x, get_or ys i e)) []) was ∙ sym (ap (λ p. filter_map pick (take i (zip xs ys)) ++ cons_option (pick p) []) (pair_at xs ys i x e at))
     ∙ sym (ap (filter_map pick) (take_more (zip xs ys) i (x, e) (pair_within xs ys i x at)) ∙ filter_map-append pick (take i (zip xs ys)) (get_or (zip xs ys) i (x, e) ∷ []))
+
+-- one more
+pub pick_some : {A B C : Type 0} (pick : A × B → Option C) (now next : List C) (xs : List A) (ys : List B) (i : ℕ) (x : A) (e : B) (c : C) → IsAt xs ys i x
+    → now ≡ filter_map pick (take i (zip xs ys)) → pick (x, get_or ys i e) ≡ Some c → next ≡ now ++ c ∷ [] → next ≡ filter_map pick (take (i + 1) (zip xs ys))
+pick_some pick now next xs ys i x e c at was this one = pick_next pick now next xs ys i x e at was (one ∙ sym (ap (λ o. now ++ cons_option o []) this))
+
+-- none more
+pub pick_none : {A B C : Type 0} (pick : A × B → Option C) (now next : List C) (xs : List A) (ys : List B) (i : ℕ) (x : A) (e : B) → IsAt xs ys i x
+    → now ≡ filter_map pick (take i (zip xs ys)) → pick (x, get_or ys i e) ≡ None → next ≡ now → next ≡ filter_map pick (take (i + 1) (zip xs ys))
+pick_none pick now next xs ys i x e at was this same = pick_next pick now next xs ys i x e at was (same ∙ sym (append-nil now) ∙ sym (ap (λ o. now ++ cons_option o []) this))
 
 pub pick_end : {A B C : Type 0} (pick : A × B → Option C) (now : List C) (xs : List A) (ys : List B) (i : ℕ) → length xs ≤ i → now ≡ filter_map pick (take i (zip xs ys)) → now ≡ filter_map pick (zip xs ys)
 pick_end pick now xs ys i le is = is ∙ ap (filter_map pick) (all_pairs xs ys i le)
