@@ -22,8 +22,8 @@ pub run_octets-others-requires-clause-fits : goal.run_octets-others-requires-cla
 run_octets-others-requires-clause-fits c =
     omega (arith, entry_small c.args.queue.now.items c.args.count c.args.place _ _ _ c.requires.within c.requires.place c.index.ensures c.in-Bring.is)
 
-pub overflow_add-from : goal.overflow_add-from
-overflow_add-from c =
+pub overflow_add-len : goal.overflow_add-len
+overflow_add-len c =
     omega (arith, entry_small c.args.queue.now.items c.args.count c.args.place _ _ _ c.requires.within c.requires.place c.index.ensures c.in-Bring.is)
 
 pub put_head-requires : goal.put_head-requires
