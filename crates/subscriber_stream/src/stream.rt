@@ -5,6 +5,9 @@ ghost use Rattle.ipfix_octets.specs.MessageFormat.{least_template_id};
 ghost use Rattle.ipfix_template.specs.DataRecord.{DataRecord};
 ghost use Rattle.subscriber_stream.specs.declared.limits.TheConstants.{MOST_SHAPES};
 
+#[cfg(test)]
+mod tests;
+
 use crate::fitting::fitting;
 use crate::limits::Limits;
 use crate::pull_error::PullError;
