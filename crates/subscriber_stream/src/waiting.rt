@@ -10,15 +10,9 @@ use std::collections::VecDeque;
 #[derive(Drop)]
 pub(crate) enum Waiting {
     /// The template of the ID is to be announced: its record has so many octets.
-    Announce {
-        id: u16,
-        octets: u16,
-    },
+    Announce { id: u16, octets: u16 },
     /// A record of the template of the ID: its octets, as a Data Set brings them.
-    Bring {
-        id: u16,
-        octets: Bytes,
-    },
+    Bring { id: u16, octets: Bytes },
 }
 
 impl Waiting {

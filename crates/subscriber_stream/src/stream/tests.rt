@@ -37,7 +37,13 @@ fn records(alloc: Global) -> Result<Vec<Record>, Fail> {
 
 /// A stream that was given the records.
 fn stream_of(alloc: Global, records: Vec<Record>) -> Result<Stream, AllocError> {
-    let mut stream = Stream::new(alloc, Limits { queue: 1, shapes: 1 });
+    let mut stream = Stream::new(
+        alloc,
+        Limits {
+            queue: 1,
+            shapes: 1,
+        },
+    );
     stream.reserve(&records)?;
     if records.len() == 1 && stream.room(&records) {
         stream.push_reserved(records);
