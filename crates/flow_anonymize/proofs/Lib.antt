@@ -1,4 +1,3 @@
-pub mod Picks
 pub mod Turns
 pub mod Bounds
 pub mod Sound
