@@ -1,5 +1,5 @@
 -- The octets of what is shown of a record.
-use Rattle.std.proofs.Common.{◌≡◌, ℕ, ◌+◌, ◌<◌, ◌≤◌, true, false, List, [], ◌∷◌, ◌++◌, length, map, filter, drop, get_or, refl, sym, ap, ◌∙◌, subst, arith, append-nil, append_assoc, length-drop}
+use Rattle.std.proofs.Common.{◌≡◌, ℕ, zero, suc, cond, leb, eqb, ◌+◌, ◌<◌, ◌≤◌, true, false, List, [], ◌∷◌, ◌++◌, length, map, filter, drop, get_or, refl, sym, ap, ◌∙◌, subst, arith, append-nil, append_assoc, length-drop}
 use Rattle.std.specs.List.{zip, list_all}
 use Rattle.std.proofs.lemmas.Bool.{and_parts}
 use Rattle.std.proofs.lemmas.List.{drop-drop, get_or-drop, drop_all}
@@ -7,6 +7,8 @@ use Rattle.std.proofs.lemmas.Slice.Zip.{length-zip, get_or-zip}
 use Rattle.sequences.proofs.ListLaws.{drop_read}
 use Rattle.ipfix_template.proofs.Encoding.{fit_fields-at}
 use Rattle.ipfix_template.specs.declared.field.FieldSpec.{FieldSpec}
+use Rattle.sequences.proofs.OctetLaws.{length-be_octets}
+use Rattle.ipfix_template.specs.Template.{is_variable}
 use Rattle.ipfix_template.specs.Values.{fits_field, fit_fields, value_text, record_text}
 use Rattle.policy_judge.specs.declared.verdict.ElementAction.{ElementAction}
 use Rattle.policy_judge.specs.declared.verdict.ElementAction.TheVariants.{Keep, Remove, Truncate}
@@ -120,3 +122,17 @@ pub shown_verdicts : (fs : List FieldSpec) (vs : List (List ℕ)) (ws : List Ele
     → text ≡ record_text (kept_fields fs ws) (kept_values vs ws)
 shown_verdicts fs vs ws i left text same so over =
     sym (append-nil text) ∙ ap (λ t. text ++ t) (sym (no_verdicts left)) ∙ ap (λ vs. text ++ shown_texts left vs) (sym (drop_all i ws over)) ∙ so.so_far ∙ texts_are fs vs ws same
+
+-- ---- for the calls
+
+abbrev pub no_verdict : ElementVerdict
+no_verdict = record { rule = 0; action = Keep }
+
+pub any_default : {A : Type 0} (xs : List A) (i : ℕ) (d e : A) → i < length xs → get_or xs i d ≡ get_or xs i e
+any_default [] i d e l = absurd (omega arith)
+any_default (x ∷ xs) zero d e l = refl
+any_default (x ∷ xs) (suc i) d e l = any_default xs i d e (omega (arith, l))
+
+-- a value of which bits are cut off has as many octets
+pub cut_fits : (f : FieldSpec) (v cut : List ℕ) (bits : ℕ) → cut ≡ kept_octets bits v → fits_field f v ≡ true → fits_field f cut ≡ true
+cut_fits f v cut bits is fits = ap (fits_field f) is ∙ ap (λ n. cond (is_variable f) (leb n 65535) (eqb n f.length)) (length-be_octets (length v) _) ∙ fits
