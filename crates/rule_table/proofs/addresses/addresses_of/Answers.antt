@@ -1,4 +1,4 @@
-use Rattle.std.proofs.Common.{rules, true, false, Some, None, get_or, [], ◌∙◌}
+use Rattle.std.proofs.Common.{rules, true, false, Some, None, get_or, []}
 use Rattle.policy_judge.proofs.PairLaws.{pick_some, pick_none, pick_end}
 use Rattle.policy_judge.proofs.OccurrenceLaws.{field_at, is_of_read}
 use Rattle.rule_table.specs.Addresses.{address_at}
