@@ -277,6 +277,13 @@ drained_is_audited limits calls replies new run = (drained_at_end calls replies 
 -- ---- a run in turns
 
 -- no call is left
+pub run_goes_on : (start old now : Mediation) (calls left rest : List Call) (call : Call) (replies new : List Reply) (reply : Reply) → left ≡ call ∷ rest → new ≡ replies ++ reply ∷ [] → Answers old call reply now
+    → ((later : List Reply) (end : Mediation) → Runs old left later end → Runs start calls (replies ++ later) end) → (later : List Reply) (end : Mediation) → Runs now rest later end → Runs start calls (new ++ later) end
+run_goes_on start old now calls left rest call replies new reply is grown answers so_far later end runs =
+    let here : Runs old left (reply ∷ later) end = subst (λ (cs : List Call). Runs old cs (reply ∷ later) end) (sym is) (now, answers, runs) in
+    let joined : replies ++ reply ∷ later ≡ new ++ later = sym (ap (λ (rs : List Reply). rs ++ later) grown ∙ append_assoc replies (reply ∷ []) later) in
+    subst (λ (rs : List Reply). Runs start calls rs end) joined (so_far (reply ∷ later) end here)
+
 pub run_ends : (old now : Mediation) (calls : List Call) (replies : List Reply) (left : List Call) → left ≡ [] → ((later : List Reply) (end : Mediation) → Runs now left later end → Runs old calls (replies ++ later) end) → Runs old calls replies now
 run_ends old now calls replies left none so_far =
     subst (λ (rs : List Reply). Runs old calls rs now) (append-nil replies) (so_far [] now (subst (λ (cs : List Call). Runs now cs [] now) (sym none) refl))

@@ -1,7 +1,11 @@
-use Rattle.std.proofs.Common.{sym, subst}
+use Rattle.std.proofs.Common.{◌≡◌, List, ℕ, Ok, sym, ap, ◌∙◌, subst}
+use Rattle.policy_text.specs.Parsing.{policy_of}
+use Rattle.record_sharing.specs.InForce.{InForce}
+use Rattle.event_journal.specs.declared.entry.Entry.TheVariants.{Edit}
 use Rattle.mediator_state.specs.declared.fault.Fault.{Fault}
+use Rattle.mediator_state.specs.Standing.{Stands}
 use Rattle.mediator_state.specs.Calls.{RefusesEdit}
-use Rattle.mediator_state.proofs.CallLaws.{err_gives, refused_edit}
+use Rattle.mediator_state.proofs.CallLaws.{accepts_one, err_gives, refused_edit}
 use Rattle.mediator_state.proofs.state.State.edit.Goals as goal
 
 pub returns-in_err-make_room-clause-err : goal.returns-in_err-make_room-clause-err
@@ -11,3 +15,16 @@ returns-in_err-make_room-clause-err g c =
     subst (λ (why : Fault). RefusesEdit why (g.C.Chronicle.limits c.args.self.now.chronicle) h c.args.text.now) (sym is)
     (refused_edit c.in_err-make_room.field-0.0 (g.C.Chronicle.limits c.args.self.now.chronicle) (g.C.Chronicle.count c.args.self.now.chronicle) (g.C.Chronicle.octets c.args.self.now.chronicle) h c.args.text.now c.in_ok-text.text c.in_ok-policy.policy
     c.in_ok-text.ensures (g.met.C.Chronicle.counted c.args.self.now.chronicle h s.told) c.in_ok-policy.ensures.ok c.in_err-make_room.ensures.err))
+
+pub returns-clause-ok : goal.returns-clause-ok
+returns-clause-ok g c =
+    let spelled : policy_of c.args.text.now ≡ Ok c.in_ok-in_force.in_force.policy = c.in_ok-policy.ensures.ok ∙ ap (λ (f : InForce). Ok f.policy) (sym c.in_ok-in_force.ensures) in
+    λ h s. record {
+      policy = c.in_ok-policy.policy;
+      spelled = c.in_ok-policy.ensures.ok;
+      number = c.put_in_force-edits.ensures.value h (subst (λ e. Stands e h) (sym c.make_room.ensures.engine) s.stands);
+      accepts = accepts_one g.C.Chronicle.tells g.C.Chronicle.limits g.C.Chronicle.count g.C.Chronicle.octets c.args.self.now c.make_room.new.self c.push_reserved.new.self c.put_in_force-edits.new.self h (Edit c.in_ok-text.text) (Edit c.args.text.now)
+          s (g.met.C.Chronicle.counted c.args.self.now.chronicle h s.told) c.make_room.ensures.limits c.make_room.ensures.count c.make_room.ensures.octets c.in_ok-make_room.ensures.room
+          (ap (λ (n : List ℕ). Edit n) c.in_ok-text.ensures)
+          c.make_room.ensures.tells c.push_reserved.ensures.tells c.make_room.ensures.engine (λ f st. c.put_in_force-edits.ensures.stands f c.args.text.now st spelled);
+    }
