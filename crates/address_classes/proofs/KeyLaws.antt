@@ -25,12 +25,14 @@ pub key_from_fields : (cuts : List ℕ) (side : Side) (r : DataRecord)
     → fold (with_field cuts side) (Some 1) (zip r.template.fields r.values) ≡ key_of cuts (values_of (is_of side) r)
 key_from_fields cuts side r = over_fields cuts side (Some 1) (zip r.template.fields r.values)
 
--- the same of the fields and values as they were read
-pub key_read : (cuts : List ℕ) (side : Side) (r : DataRecord) (fields : List FieldSpec) (values : List (List ℕ)) {key : Option ℕ} → r.template.fields ≡ fields → r.values ≡ values
-    → key ≡ fold (with_field cuts side) (Some 1) (zip fields values) → key ≡ key_of cuts (values_of (is_of side) r)
-key_read cuts side r fields values same other is =
-    is ∙ sym (ap (λ fs. fold (with_field cuts side) (Some 1) (zip fs values)) same) ∙ sym (ap (λ vs. fold (with_field cuts side) (Some 1) (zip r.template.fields vs)) other)
-    ∙ key_from_fields cuts side r
+-- a field of this side, and one that isn't, as they were read
+pub with_field-own : (cuts : List ℕ) (side : Side) (f : FieldSpec) (read value : List ℕ) (digit : ℕ) (key next : Option ℕ) → is_of side f.element ≡ true → read ≡ value → digit ≡ digit_of cuts read → next ≡ with_digit key digit
+    → next ≡ with_field cuts side key (f, value)
+with_field-own cuts side f read value digit key next has is asked made =
+    made ∙ ap (with_digit key) (asked ∙ ap (digit_of cuts) is) ∙ sym (ap (λ b. cond b (with_digit key (digit_of cuts value)) key) has)
+
+pub with_field-other : (cuts : List ℕ) (side : Side) (f : FieldSpec) (value : List ℕ) (key next : Option ℕ) → is_of side f.element ≡ false → next ≡ key → next ≡ with_field cuts side key (f, value)
+with_field-other cuts side f value key next has same = same ∙ sym (ap (λ b. cond b (with_digit key (digit_of cuts value)) key) has)
 
 -- ---- digits behind a number
 

@@ -7,9 +7,8 @@ ghost use Rattle.address_classes.specs.Cuts.{AreCuts, HaveCuts, most_cuts};
 ghost use Rattle.address_classes.specs.Classes.{class_of, digit_of, with_digit, with_field, key_of};
 
 use crate::cuts::sorted_cuts;
-use bytes::Bytes;
 use flow_prefix::number;
-use ipfix_template::{FieldSpec, Record};
+use ipfix_template::Record;
 use policy_judge::Side;
 use policy_text::Rule;
 use std::alloc::{AllocError, Global};
@@ -74,9 +73,7 @@ impl AddressClasses {
     {
         // What is read of the cuts has what their type keeps of them, as `few` says.
         let _count = self.cuts.len();
-        let fields = flow_record.template().fields.as_slice();
-        let values = flow_record.values().as_slice();
-        key_of_fields(self, side, fields, values)
+        key_of_fields(self, side, flow_record)
     }
 
     /// The class of a value, odd for 4 octets and even for 16; 0 for a value that is no address.
@@ -112,35 +109,17 @@ fn count_below(numbers: &[u128], bound: u128) -> usize
 }
 
 /// The key of those values whose fields are of this side.
-fn key_of_fields(
-    classes: &AddressClasses,
-    side: Side,
-    fields: &[FieldSpec],
-    values: &[Bytes],
-) -> Option<u64>
-    ensures { result ≡ fold (with_field classes.now side) (Some 1) (zip fields.now values.now) }
+fn key_of_fields(classes: &AddressClasses, side: Side, flow_record: &Record) -> Option<u64>
+    ensures { result ≡ fold (with_field classes.now side) (Some 1) (zip flow_record.now.template.fields flow_record.now.values) }
 {
-    fields.iter().zip(values).fold(
-        Some(EMPTY_KEY),
-        |key, (field, value)| with_field(classes, side, key, field, value.as_slice()),
-    )
-}
-
-/// A key with the digit of a field's value, if the field is of this side.
-fn with_field(
-    classes: &AddressClasses,
-    side: Side,
-    key: Option<u64>,
-    field: &FieldSpec,
-    value: &[u8],
-) -> Option<u64>
-    ensures { result ≡ with_field classes.now side key (field.now, value.now) }
-{
-    if side.has(field.element) {
-        with_digit(key, classes.digit(value))
-    } else {
-        key
+    let fields = flow_record.template().fields.as_slice();
+    let mut key = Some(EMPTY_KEY);
+    for place in 0..fields.len() {
+        if side.has(fields[place].element) {
+            key = with_digit(key, classes.digit(flow_record.value(place)));
+        }
     }
+    key
 }
 
 /// A key with one digit more, if it has fewer than three.

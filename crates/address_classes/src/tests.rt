@@ -35,7 +35,7 @@ fn put_field(
 fn record_of(alloc: Global, specs: Vec<FieldSpec>, values: Vec<Bytes>) -> Option<Record> {
     let fields = Fields::from_vec(specs).ok()?;
     let template = Arc::new(alloc, Template { fields, scope: 0 }).ok()?;
-    Record::try_new(template, Values::from_vec(values)).ok()
+    Record::try_new(alloc, template, Values::from_vec(values)).ok()
 }
 
 /// A record of these elements and values.

@@ -80,7 +80,7 @@ fn put_minute(out: &mut Vec<u8>, list: &[Flow], minute: u8) -> Result<(), AllocE
 }
 
 fn put_record(out: &mut Vec<u8>, closed: &Record) -> Result<(), AllocError> {
-    for value in closed.values().as_slice() {
+    for (_, value) in closed.entries() {
         out.extend_from_slice(value)?;
     }
     Ok(())

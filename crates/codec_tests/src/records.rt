@@ -39,6 +39,10 @@ pub(crate) fn values_of(alloc: Global, texts: &[&'static [u8]]) -> Result<Values
     Ok(Values::from_vec(values))
 }
 
-pub(crate) fn record_of(template: Arc<Template>, values: Values) -> Result<Record, Fail> {
-    Ok(Record::try_new(template, values).map_err(|_| "refused")?)
+pub(crate) fn record_of(
+    alloc: Global,
+    template: Arc<Template>,
+    values: Values,
+) -> Result<Record, Fail> {
+    Ok(Record::try_new(alloc, template, values).map_err(|_| "refused")?)
 }

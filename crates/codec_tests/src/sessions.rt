@@ -502,9 +502,9 @@ fn expect_value(rt: &impl Abort, name: &str, found: &[u8], wanted: &[u8]) {
     assert_eq!(rt; found, wanted, "a value of {name}");
 }
 
-fn expect_values(rt: &impl Abort, name: &str, found: &[Bytes], wanted: &[&[u8]]) {
-    assert_eq!(rt; found.len(), wanted.len(), "values of {name}");
-    for (value, octets) in found.iter().zip(wanted) {
+fn expect_values(rt: &impl Abort, name: &str, found: &Record, wanted: &[&[u8]]) {
+    assert_eq!(rt; found.template().fields.len(), wanted.len(), "values of {name}");
+    for ((_, value), octets) in found.entries().zip(wanted) {
         expect_value(rt, name, value, octets);
     }
 }
@@ -512,7 +512,7 @@ fn expect_values(rt: &impl Abort, name: &str, found: &[Bytes], wanted: &[&[u8]])
 fn expect_records(rt: &impl Abort, name: &str, found: &[Record], wanted: &[&[&[u8]]]) {
     assert_eq!(rt; found.len(), wanted.len(), "records of {name}");
     for (next, values) in found.iter().zip(wanted) {
-        expect_values(rt, name, next.values().as_slice(), values);
+        expect_values(rt, name, next, values);
     }
 }
 
@@ -589,8 +589,8 @@ const TWO_RECORDS: &[u8] = b"\x00\x0a\x00\x28\x65\x53\xf1\x00\x00\x00\x00\x00\x0
 
 /// That a record has this one value.
 fn has_value(rt: &impl Abort, record: Option<&Record>, wanted: &[u8]) {
-    let value = record.and_then(|record| record.values().as_slice().first());
-    assert_eq!(rt; value.map(|value| &value[..]), Some(wanted));
+    let entry = record.and_then(|record| record.entries().next());
+    assert_eq!(rt; entry.map(|(_, value)| value), Some(wanted));
 }
 
 #[test]

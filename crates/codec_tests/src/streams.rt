@@ -368,7 +368,7 @@ fn records_of(alloc: Global, given: &[Given]) -> Result<Vec<Record>, Fail> {
     let mut records = Vec::new(alloc);
     for next in given {
         let template = template_of(alloc, &next.layout)?;
-        records.push(record_of(template, values_of(alloc, next.values)?)?)?;
+        records.push(record_of(alloc, template, values_of(alloc, next.values)?)?)?;
     }
     Ok(records)
 }
@@ -490,7 +490,7 @@ fn many_templates(alloc: Global) -> Result<Vec<Arc<Template>>, Fail> {
 fn round_of(alloc: Global, templates: &[Arc<Template>]) -> Result<Vec<Record>, Fail> {
     let mut records = Vec::new(alloc);
     for template in templates {
-        records.push(record_of(template.clone()?, values_of(alloc, &[b"\x2a"])?)?)?;
+        records.push(record_of(alloc, template.clone()?, values_of(alloc, &[b"\x2a"])?)?)?;
     }
     Ok(records)
 }

@@ -141,19 +141,16 @@ seconds_wide = refl
 abbrev pub place_in : Element → List FieldSpec → Option ℕ
 place_in e fields = position (λ f. is_same_element e f.element) fields
 
-pub place_within : (e : Element) (r : DataRecord) (fields : List FieldSpec) (values : List (List ℕ)) (i : ℕ) → IsSound r → fields ≡ r.template.fields → values ≡ r.values
-    → place_in e fields ≡ Some i → i < length values
-place_within e r fields values i sound same_fields same_values at =
+pub place_within : (e : Element) (r : DataRecord) (fields : List FieldSpec) (i : ℕ) → fields ≡ r.template.fields → place_in e fields ≡ Some i → i < length r.template.fields
+place_within e r fields i same at =
     let found = position-Some (λ f. is_same_element e f.element) fields i some_field at in
-    let each : length fields ≡ length values = rw (same_fields, same_values) (fit_fields-length r.template.fields r.values sound.fit) in
-    omega (arith, each, found.0)
+    omega (arith, ap length same, found.0)
 
-pub first_is : (e : Element) (r : DataRecord) (fields : List FieldSpec) (values : List (List ℕ)) (i : ℕ) (v : List ℕ) → IsSound r → fields ≡ r.template.fields → values ≡ r.values
-    → place_in e fields ≡ Some i → v ≡ get_or values i v → first_value e r ≡ Some v
-first_is e r fields values i v sound same_fields same_values at is =
-    let within = place_within e r fields values i sound same_fields same_values at in
-    let place : place_in e r.template.fields ≡ Some i = rw (← same_fields) at in
-    let value : slice_get r.values i ≡ Some v = rw (← same_values) (slice_get-get_or values i v within ∙ ap (λ x. Some x) (sym is)) in
+pub first_is : (e : Element) (r : DataRecord) (fields : List FieldSpec) (i : ℕ) (v : List ℕ) → IsSound r → fields ≡ r.template.fields → place_in e fields ≡ Some i → v ≡ get_or r.values i [] → first_value e r ≡ Some v
+first_is e r fields i v sound same at is =
+    let within : i < length r.values = omega (arith, place_within e r fields i same at, fit_fields-length r.template.fields r.values sound.fit) in
+    let place : place_in e r.template.fields ≡ Some i = rw (← same) at in
+    let value : slice_get r.values i ≡ Some v = slice_get-get_or r.values i [] within ∙ ap (λ x. Some x) (sym is) in
     rw place value
 
 -- the kinds of key elements have a full width

@@ -44,8 +44,8 @@ impl ClosedAggregate {
         ensures { IfOk result (λ r. r ≡ record_of self.now) }
     {
         let template = self.group.definition().closed_template()?;
-        let values = self.values(alloc)?;
-        Ok(Record::new(template, Values::from_vec(values)))
+        let values = Values::from_vec(self.values(alloc)?);
+        Record::new(alloc, template, &values)
     }
 
     #[tactic(auto, unfolding(crate::specs::Closed::closed_values))]

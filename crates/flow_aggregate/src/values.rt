@@ -29,9 +29,8 @@ pub(crate) fn first_value(flow_record: &Record, element: ElementId) -> Option<&[
     ensures wide { IfSome result (λ v. IsWide element v.now) }
 {
     let fields = flow_record.template().fields.as_slice();
-    let values = flow_record.values().as_slice();
     let place = place_of(fields, element)?;
-    Some(values[place].as_slice())
+    Some(flow_record.value(place))
 }
 
 /// The place of the first field of the element.

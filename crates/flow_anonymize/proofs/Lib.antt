@@ -1,4 +1,3 @@
-pub mod Picks
 pub mod Turns
 pub mod Bounds
 pub mod Sound
@@ -8,3 +7,4 @@ pub mod OtherLaws
 pub mod PermittedLaws
 pub mod Planning
 pub mod PlanLaws
+pub mod TextLaws

@@ -93,7 +93,7 @@ few_fields r sound = omega (arith, octets_of_record 256 r.template, fewer r.temp
 discloses : (for : PlansFor) (aggregates : List Definition) (r s : DataRecord) (plan : Plan) → AreRules aggregates for.rules
     → IsPlan r.template (record_verdict_of for.name for.domain r for.rules) (verdicts_of for.name for.domain r for.rules) plan
     → IsSound s → s.template ≡ r.template → AllByRecursion (AreCoveredAlike s r) for.rules
-    → (planned plan s.values ≡ disclosure_of for.name for.domain s for.rules) × IsShowable plan s.values
+    → (planned plan s.values ≡ disclosure_of for.name for.domain s for.rules) × IsShowable plan s
 discloses for aggregates r s plan are is sound template alike =
     let on_record = record_alike for.name for.domain s r for.rules alike in
     let on_fields = verdicts_alike for.name for.domain s r for.rules template alike in

@@ -1,8 +1,8 @@
 -- Plans: what they show, and of which records.
-use Rattle.std.proofs.Common.{◌≡◌, ◌≢◌, ℕ, List, sym, refl}
+use Rattle.std.proofs.Common.{◌≡◌, ◌≢◌, ℕ, List, sym, ap, subst, refl}
 use Rattle.std.specs.Arc.{arc_value}
 use Rattle.ipfix_template.specs.declared.template.Template.{Template}
-use Rattle.ipfix_template.specs.DataRecord.{DataRecord}
+use Rattle.ipfix_template.specs.DataRecord.{DataRecord, IsSound}
 use Rattle.policy_judge.specs.declared.verdict.RecordAction.{RecordAction}
 use Rattle.policy_judge.specs.declared.verdict.RecordAction.TheVariants as on_record
 use Rattle.policy_judge.specs.declared.verdict.RecordVerdict.{RecordVerdict}
@@ -11,10 +11,10 @@ use Rattle.disclosure_audit.specs.declared.entry.RemovedField.{RemovedField}
 use Rattle.flow_anonymize.specs.declared.plan.Plan.{Plan}
 use Rattle.flow_anonymize.specs.declared.plan.Plan.TheVariants.{Pass, Aggregate, Withhold}
 use Rattle.flow_anonymize.specs.Outcome.{Outcome, Passes}
-use Rattle.flow_anonymize.specs.Remaining.{kept_values, removed_fields}
+use Rattle.flow_anonymize.specs.Remaining.{kept_fields, kept_values, removed_fields}
 use Rattle.flow_anonymize.specs.Within.{AreJudged}
 use Rattle.flow_anonymize.specs.Disclosed.{remaining, first_lost, transformed, by_action}
-use Rattle.flow_anonymize.specs.Planning.{IsShowable, ShowsNone, IsPlan}
+use Rattle.flow_anonymize.specs.Planning.{ShowsRecord, IsShowable, ShowsNone, IsPlan}
 use Rattle.flow_anonymize.proofs.Sound.{left_is_sound}
 use Rattle.flow_anonymize.proofs.PermittedLaws.{passed_by}
 
@@ -31,19 +31,23 @@ shows_none t verdict ws (Pass template removed by) values is other =
 shows_none t verdict ws (Aggregate rule definition) values is other = tt
 shows_none t verdict ws (Withhold rule reason) values is other = tt
 
-pub none_showable : (plan : Plan) (values : List (List ℕ)) → ShowsNone plan → IsShowable plan values
-none_showable (Pass template removed by) values none = absurd none
-none_showable (Aggregate rule definition) values none = tt
-none_showable (Withhold rule reason) values none = tt
+pub none_showable : (plan : Plan) (r : DataRecord) → ShowsNone plan → IsShowable plan r
+none_showable (Pass template removed by) r none = absurd none
+none_showable (Aggregate rule definition) r none = tt
+none_showable (Withhold rule reason) r none = tt
 
 -- ---- what is shown of records on which the verdicts are these
 
-pub showable : (r : DataRecord) (verdict : RecordVerdict) (ws : List ElementVerdict) (plan : Plan) → AreJudged r ws → IsPlan r.template verdict ws plan → IsShowable plan r.values
+pub showable : (r : DataRecord) (verdict : RecordVerdict) (ws : List ElementVerdict) (plan : Plan) → AreJudged r ws → IsPlan r.template verdict ws plan → IsShowable plan r
 showable r verdict ws (Pass template removed by) judged is =
     let same : by.items ≡ ws = is.by in
     let kept : DataRecord = record { template = arc_value template; values = kept_values r.values by.items } in
     let passed = passed_by verdict.action verdict.rule (first_lost r.template.scope (removed_fields ws)) (remaining r ws) (removed_fields ws) kept removed.items (sym (is.leaves r.values)) in
     let left = left_is_sound r ws judged.sound judged.each passed.none_lost passed.has_octets in
-    (rw same judged.within, rw (← passed.record_is) left)
+    let P : List ElementVerdict → Type 0 = λ ws. ShowsRecord r (arc_value template) ws in
+    let fields : (arc_value template).fields ≡ kept_fields r.template.fields ws = ap (λ (x : DataRecord). x.template.fields) (sym passed.record_is) in
+    let values : kept_values r.values ws ≡ kept.values = ap (λ (x : DataRecord). x.values) passed.record_is in
+    let sound : IsSound (record { template = arc_value template; values = kept_values r.values ws }) = subst (λ (v : List (List ℕ)). IsSound (record { template = arc_value template; values = v })) (sym values) (subst IsSound passed.record_is left) in
+    subst P (sym same) (record { each = judged.each; within = judged.within; fields = fields; sound = sound })
 showable r verdict ws (Aggregate rule definition) judged is = tt
 showable r verdict ws (Withhold rule reason) judged is = tt

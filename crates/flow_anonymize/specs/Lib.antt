@@ -23,3 +23,4 @@ pub mod OtherRules
 pub mod Planning
 pub mod Classes
 pub mod Plans
+pub mod Texts

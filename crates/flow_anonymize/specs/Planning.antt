@@ -1,14 +1,14 @@
 -- What becomes of all records of one template for which the verdicts are the same, whatever their values.
-use Rattle.std.specs.Prelude.{◌≡◌, ℕ, List}
+use Rattle.std.specs.Prelude.{◌≡◌, ℕ, List, length}
 use Rattle.std.specs.Arc.{arc_value}
 use Rattle.ipfix_template.specs.declared.template.Template.{Template}
-use Rattle.ipfix_template.specs.DataRecord.{IsSound}
+use Rattle.ipfix_template.specs.DataRecord.{DataRecord, IsSound}
 use Rattle.policy_judge.specs.declared.verdict.RecordVerdict.{RecordVerdict}
 use Rattle.policy_judge.specs.declared.verdict.ElementVerdict.{ElementVerdict}
 use Rattle.flow_anonymize.specs.declared.plan.Plan.{Plan}
 use Rattle.flow_anonymize.specs.declared.plan.Plan.TheVariants.{Pass, Aggregate, Withhold}
 use Rattle.flow_anonymize.specs.Outcome.{Outcome, Passes, Aggregates, Withholds}
-use Rattle.flow_anonymize.specs.Remaining.{kept_values}
+use Rattle.flow_anonymize.specs.Remaining.{kept_fields, kept_values}
 use Rattle.flow_anonymize.specs.Within.{AreWithin}
 use Rattle.flow_anonymize.specs.Disclosed.{transformed, by_verdict}
 
@@ -18,12 +18,18 @@ planned (Pass template removed verdicts) values = Passes (record { template = ar
 planned (Aggregate rule definition) values = Aggregates rule definition
 planned (Withhold rule reason) values = Withholds rule reason
 
--- what a plan needs of a record of which something is shown: no more bits are kept than its values have, and what is shown is a record
-abbrev pub IsShowable : Plan → List (List ℕ) → Type 0
-IsShowable (Pass template removed verdicts) values =
-    AreWithin values verdicts.items × IsSound (record { template = arc_value template; values = kept_values values verdicts.items })
-IsShowable (Aggregate rule definition) values = Unit {0}
-IsShowable (Withhold rule reason) values = Unit {0}
+-- what is shown of a record has these fields of its, and is a record; no more bits are kept than its values have
+pub record ShowsRecord (r : DataRecord) (t : Template) (verdicts : List ElementVerdict) : Type 0 where
+  pub each : length verdicts ≡ length r.template.fields
+  pub within : AreWithin r.values verdicts
+  pub fields : t.fields ≡ kept_fields r.template.fields verdicts
+  pub sound : IsSound (record { template = t; values = kept_values r.values verdicts })
+
+-- what a plan needs of a record, if something of it is shown
+abbrev pub IsShowable : Plan → DataRecord → Type 0
+IsShowable (Pass template removed verdicts) r = ShowsRecord r (arc_value template) verdicts.items
+IsShowable (Aggregate rule definition) r = Unit {0}
+IsShowable (Withhold rule reason) r = Unit {0}
 
 -- nothing is shown of the record itself
 abbrev pub ShowsNone : Plan → Type 0

@@ -27,7 +27,7 @@ is_for classes t slot = slot.classes.sources == classes.sources && (slot.classes
 -- what a plan makes of a record is what is disclosed of it
 pub record Discloses (for : PlansFor) (r : DataRecord) (slot : Slot) : Type 0 where
   pub exact : planned slot.plan r.values ≡ disclosure_of for.name for.domain r for.rules
-  pub showable : IsShowable slot.plan r.values
+  pub showable : IsShowable slot.plan r
 
 -- of each record that it is for
 abbrev pub IsSlot : PlansFor → Slot → Type 0

@@ -1,5 +1,5 @@
 -- What is known of the verdicts on a record's fields: one for each, and no more bits are kept than a value has.
-use Rattle.std.specs.Prelude.{◌≡◌, ℕ, ◌≤◌, ◌*◌, List, length}
+use Rattle.std.specs.Prelude.{◌≡◌, ℕ, ◌≤◌, ◌*◌, Bool, true, false, List, length}
 use Rattle.std.specs.List.{zip, AllByRecursion}
 use Rattle.ipfix_template.specs.DataRecord.{DataRecord, IsSound}
 use Rattle.policy_judge.specs.declared.verdict.ElementAction.{ElementAction}
@@ -13,6 +13,15 @@ IsWithin value (Truncate bits) = bits ≤ 8 * length value
 
 abbrev pub AreWithin : List (List ℕ) → List ElementVerdict → Type 0
 AreWithin values verdicts = AllByRecursion (λ p. IsWithin p.0 p.1.action) (zip values verdicts)
+
+-- the field stays as it is
+abbrev pub stays_whole : ElementAction → Bool
+stays_whole Keep = true
+stays_whole Remove = false
+stays_whole (Truncate bits) = false
+
+abbrev pub is_whole : ElementVerdict → Bool
+is_whole verdict = stays_whole verdict.action
 
 pub record AreJudged (r : DataRecord) (verdicts : List ElementVerdict) : Type 0 where
   pub sound : IsSound r

@@ -47,7 +47,7 @@ pub(crate) fn plan_by(
     flow_record: &Record,
 ) -> Result<Plan, AllocError>
     ensures plan { IfOk result (λ plan. IsPlan flow_record.now.template (record_verdict_of name.now domain flow_record.now table.now) (verdicts_of name.now domain flow_record.now table.now) plan) }
-    ensures showable { IfOk result (λ plan. IsShowable plan flow_record.now.values) }
+    ensures showable { IfOk result (λ plan. IsShowable plan flow_record.now) }
     ensures at_once { (record_verdict_of name.now domain flow_record.now table.now).action ≢ on_record.Pass → IsOk result }
 {
     let Ok(candidates) = table.candidates(alloc, name, domain, flow_record) else {

@@ -8,9 +8,9 @@ ghost use Rattle.flow_anonymize.specs.Disclosed.{remaining_template, first_lost,
 
 use crate::disclosure::{Disclosure, Reason};
 use crate::fields::{kept_fields, removed_fields};
-use crate::values::kept_values;
+use crate::values::kept_text;
 use disclosure_audit::RemovedField;
-use ipfix_template::{Fields, Record, Template, Values};
+use ipfix_template::{Fields, Record, Template};
 use policy_judge::{ElementVerdict, RecordAction, RecordVerdict};
 use std::alloc::{AllocError, Global};
 use std::sync::Arc;
@@ -68,7 +68,7 @@ impl Plan {
     ) -> Result<Plan, AllocError>
         requires { AreJudged flow_record.now verdicts.items }
         ensures passing { IfOk result (λ plan. IsPassing flow_record.now.template verdicts.items plan) }
-        ensures showable { IfOk result (λ plan. IsShowable plan flow_record.now.values) }
+        ensures showable { IfOk result (λ plan. IsShowable plan flow_record.now) }
     {
         let removed = removed_fields(alloc, &verdicts)?;
         if let Some(field) = first_lost(&removed, flow_record.template().scope) {
@@ -91,7 +91,7 @@ impl Plan {
         })
     }
 
-    /// What is disclosed of a record by its plan. A value that stays as it is is shared, and not copied.
+    /// What is disclosed of a record by its plan.
     ///
     /// # Errors
     /// Want of memory.
@@ -100,7 +100,7 @@ impl Plan {
         alloc: Global,
         flow_record: &Record,
     ) -> Result<Disclosure, AllocError>
-        requires { IsShowable self.now flow_record.now.values }
+        requires { IsShowable self.now flow_record.now }
         ensures exact { IfOk result (λ d. shown d ≡ planned self.now flow_record.now.values) }
         // What is said of a record that isn't shown takes no memory.
         ensures at_once { ShowsNone self.now → IsOk result }
@@ -123,10 +123,9 @@ impl Plan {
     }
 }
 
-ghost use Rattle.ipfix_template.specs.DataRecord.{IsSound};
 ghost use Rattle.flow_anonymize.specs.Outcome.{Passes};
 ghost use Rattle.flow_anonymize.specs.Remaining.{kept_values};
-ghost use Rattle.flow_anonymize.specs.Within.{AreWithin};
+ghost use Rattle.flow_anonymize.specs.Planning.{ShowsRecord};
 
 /// The record that passes.
 fn pass(
@@ -136,12 +135,11 @@ fn pass(
     verdicts: &[ElementVerdict],
     flow_record: &Record,
 ) -> Result<Disclosure, AllocError>
-    requires within { AreWithin flow_record.now.values verdicts.now }
-    requires sound { IsSound (record { template = arc_value template.now; values = kept_values flow_record.now.values verdicts.now }) }
+    requires { ShowsRecord flow_record.now (arc_value template.now) verdicts.now }
     ensures { IfOk result (λ d. shown d ≡ Passes (record { template = arc_value template.now; values = kept_values flow_record.now.values verdicts.now }) removed.now) }
 {
-    let values = kept_values(alloc, flow_record.values().as_slice(), verdicts)?;
-    let kept = Record::new(template.clone()?, Values::from_vec(values));
+    let text = kept_text(alloc, flow_record, verdicts)?;
+    let kept = Record::from_octets(template.clone()?, text);
     let removed = Vec::from_slice(alloc, removed)?;
     Ok(Disclosure::Passed { kept, removed })
 }

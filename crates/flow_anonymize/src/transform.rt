@@ -49,7 +49,7 @@ fn plan_of(
     flow_record: &Record,
 ) -> Result<Plan, AllocError>
     ensures plan { IfOk result (λ plan. IsPlan flow_record.now.template (record_verdict_of name.now domain flow_record.now policy.now.rules) (verdicts_of name.now domain flow_record.now policy.now.rules) plan) }
-    ensures showable { IfOk result (λ plan. IsShowable plan flow_record.now.values) }
+    ensures showable { IfOk result (λ plan. IsShowable plan flow_record.now) }
     ensures at_once { (record_verdict_of name.now domain flow_record.now policy.now.rules).action ≢ on_record.Pass → IsOk result }
 {
     if let Some(plan) = Plan::for_verdict(record_verdict(policy, name, domain, flow_record)) {

@@ -5,11 +5,8 @@ use Rattle.std.proofs.lemmas.List.{append-nil, take_more, map_push, length-take,
 use Rattle.sequences.proofs.SequenceLaws.{with_front-append, with_front-nil, read_all-step}
 use Rattle.ipfix_template.specs.Sequence.{Front, End, Fault, Next, with_front, read_on, read_all}
 use Rattle.ipfix_template.specs.declared.template.Template.{Template}
-use Rattle.ipfix_template.specs.declared.spans.Span.{Span}
-use Rattle.ipfix_template.specs.declared.spans.Split.TheVariants.{Record}
-use Rattle.ipfix_template.specs.Values.{Splits, record_front, records_in}
-use Rattle.ipfix_template.specs.Shown.{octets_of, values_shown, Shows}
-use Rattle.ipfix_template.specs.DataRecord.{DataRecord, IsSound}
+use Rattle.ipfix_template.specs.Values.{Splits, record_front, records_in, values_in}
+use Rattle.ipfix_template.specs.DataRecord.{DataRecord, IsSound, kept_record}
 use Rattle.ipfix_session.specs.declared.read_error.ReadError.{ReadError}
 use Rattle.ipfix_session.specs.declared.read_error.ReadError.TheVariants.{Malformed, RecordOverrun, OutOfMemory}
 use Rattle.ipfix_session.specs.Contents.{record_of}
@@ -19,15 +16,6 @@ use Rattle.ipfix_session.proofs.Soundness.{record_takes, sound_of}
 
 abbrev pub Rows : Type 0
 Rows = List (List (List ℕ))
-
--- ---- one value more
-
-pub value_more : (octets : List ℕ) (spans : List Span) (span : Span) (i : ℕ) (values : List (List ℕ)) → i < length spans → span ≡ get_or spans i span → values ≡ values_shown octets (take i spans)
-    → values ++ take (span.start + span.length - span.start) (drop span.start octets) ∷ [] ≡ values_shown octets (take (i + 1) spans)
-value_more octets spans span i values lt is e =
-    let wide : span.start + span.length - span.start ≡ span.length = omega arith in
-    let more : take (i + 1) spans ≡ take i spans ++ span ∷ [] = take_more spans i span lt ∙ ap (λ (s : Span). take i spans ++ s ∷ []) (sym is) in
-    rw (more, map_push (octets_of octets) (take i spans) span, e, wide) refl
 
 -- ---- one record more
 
@@ -72,20 +60,34 @@ pub none_shown : (t : Template) (old new : List ℕ) (found : Option DataRecord)
 none_shown t old new None other shown = shown
 none_shown t old new (Some r) other shown = absurd (other r refl)
 
--- ---- a record that was split
+-- ---- a record that was measured
 
-pub split_sound : (t d s : Template) (rest r : List ℕ) (spans sp : List Span) (values : List (List ℕ)) (used : ℕ) → d ≡ t → r ≡ rest → sp ≡ spans → values ≡ values_shown rest sp → s ≡ t → IsKeepable t → 20 + length rest ≤ 65535
-    → Splits d.fields (take used r) (values_shown r spans) → IsSound (record { template = s; values = values })
-split_sound t d s rest r spans sp values used is-t is-r is-sp is-values is-s keepable few splits =
-    let same : values_shown r spans ≡ values = ap (λ (o : List ℕ). values_shown o spans) is-r ∙ ap (values_shown rest) (sym is-sp) ∙ sym is-values in
-    let P : Template → Type 0 = λ x. Splits x.fields (take used r) (values_shown r spans) in
-    let Q : List (List ℕ) → Type 0 = λ vs. Splits t.fields (take used r) vs in
-    let sound = sound_of t (take used r) values keepable (omega (arith, few, length-take used r, ap length is-r)) (subst Q same (subst P is-t splits)) in
-    let S : Template → Type 0 = λ x. IsSound (record { template = x; values = values }) in
-    subst S (sym is-s) sound
+-- the octets that were taken are a sound record, and it stood at the front
+pub record Taken (t : Template) (rest text : List ℕ) (used : ℕ) : Type 0 where
+  pub sound : IsSound (kept_record t text)
+  pub splits : Splits t.fields text (values_in t.fields text)
+  pub front : record_front t rest ≡ Next (values_in t.fields text ∷ []) (drop used rest)
 
-pub split_shorter : (t d : Template) (rest r new : List ℕ) (spans : Vec Span) (used : ℕ) → d ≡ t → r ≡ rest → new ≡ drop used rest → IsKeepable t → Shows r (record_front d r) (Record spans used) → length new < length rest
-split_shorter t d rest r new spans used is-t is-r is-new keepable shows =
-    let at : record_front t r ≡ Next (values_shown r spans.items ∷ []) (drop used r) = ap (λ (x : Template). record_front x r) (sym is-t) ∙ shows.0 in
-    let less = record_takes t keepable.accepted r (drop used r) (values_shown r spans.items ∷ []) at in
-    omega (arith, less, ap length is-r, ap length is-new, ap (λ (o : List ℕ). length (drop used o)) is-r)
+abbrev next_front : List (List ℕ) → List ℕ → Front (List (List ℕ)) (Unit {0})
+next_front values rest = Next (values ∷ []) rest
+
+pub taken : (t d : Template) (rest r text : List ℕ) (used : ℕ) → d ≡ t → r ≡ rest → text ≡ take used rest → IsKeepable t → 20 + length rest ≤ 65535
+    → Splits d.fields (take used r) (values_in d.fields r) → values_in d.fields (take used r) ≡ values_in d.fields r
+    → record_front d r ≡ Next (values_in d.fields r ∷ []) (drop used r) → Taken t rest text used
+taken t d rest r text used is-t is-r is-text keepable few splits same front =
+    let P : Template → List ℕ → Type 0 = λ x o. Splits x.fields (take used o) (values_in x.fields o) in
+    let split : Splits t.fields (take used rest) (values_in t.fields rest) = subst (λ (x : Template). P x rest) is-t (subst (λ (o : List ℕ). P d o) is-r splits) in
+    let alike : values_in t.fields (take used rest) ≡ values_in t.fields rest = subst (λ (x : Template). values_in x.fields (take used rest) ≡ values_in x.fields rest) is-t (subst (λ (o : List ℕ). values_in d.fields (take used o) ≡ values_in d.fields o) is-r same) in
+    let at : record_front t rest ≡ next_front (values_in t.fields rest) (drop used rest) = subst (λ (x : Template). record_front x rest ≡ next_front (values_in x.fields rest) (drop used rest)) is-t (subst (λ (o : List ℕ). record_front d o ≡ next_front (values_in d.fields o) (drop used o)) is-r front) in
+    let found : values_in t.fields text ≡ values_in t.fields rest = ap (values_in t.fields) is-text ∙ alike in
+    let own : Splits t.fields text (values_in t.fields text) = subst (λ (v : List (List ℕ)). Splits t.fields text v) (sym found) (subst (λ (x : List ℕ). Splits t.fields x (values_in t.fields rest)) (sym is-text) split) in
+    record {
+      sound = sound_of t text (values_in t.fields text) keepable (omega (arith, few, length-take used rest, ap length is-text)) own;
+      splits = own;
+      front = at ∙ ap (λ (v : List (List ℕ)). next_front v (drop used rest)) (sym found);
+    }
+
+pub taken_shorter : (t : Template) (rest text new : List ℕ) (used : ℕ) → new ≡ drop used rest → IsKeepable t → Taken t rest text used → length new < length rest
+taken_shorter t rest text new used is-new keepable is =
+    let less = record_takes t keepable.accepted rest (drop used rest) (values_in t.fields text ∷ []) is.front in
+    omega (arith, less, ap length is-new)

@@ -2,18 +2,17 @@
 ghost use Rattle.std.specs.Prelude.{◌≡◌, ◌≤◌, ◌<◌, length, IfOk, IfSome};
 ghost use Rattle.std.specs.Arc.{arc_value};
 ghost use Rattle.ipfix_template.specs.DataRecord.{FitsOneMessage};
-ghost use Rattle.ipfix_template.specs.Shown.{AreWithin, values_shown};
 ghost use Rattle.ipfix_session.specs.Keeping.{IsKeepable};
 ghost use Rattle.ipfix_session.specs.DataSets.{ShowsRecord, AddsRecords, Shortens};
 
 use crate::read_error::ReadError;
 use bytes::Bytes;
-use ipfix_template::{Record, Span, Split, Template, Values, split};
+use ipfix_template::{Extent, Record, Template, measure};
 use std::alloc::{AllocError, Global};
 use std::sync::Arc;
 
-/// Adds the records of a Data Set's content, read by its template. The values are cut from the content,
-/// and not copied.
+/// Adds the records of a Data Set's content, read by its template. Their octets are cut from the content, and not copied,
+/// where each value stands in its shortest text.
 ///
 /// # Errors
 /// RecordOverrun where the last record goes past the content, or want of memory.
@@ -45,27 +44,13 @@ fn first_record(
     ensures shown { ShowsRecord (arc_value template.now) rest.old rest.new result }
     ensures shorter { Shortens rest.old rest.new result }
 {
-    match split(alloc, template, rest)? {
-        Split::Padding => Ok(None),
-        Split::Overrun => Err(ReadError::RecordOverrun),
-        Split::Record { spans, used } => {
-            let values = cut_values(alloc, rest, &spans)?;
-            let _front = rest.split_to(used)?;
+    match measure(template, rest) {
+        Extent::Padding => Ok(None),
+        Extent::Overrun => Err(ReadError::RecordOverrun),
+        Extent::Record { used, is_shortest } => {
             let shared = template.clone()?;
-            Ok(Some(Record::new(shared, values)))
+            let text = rest.split_to(used)?;
+            Ok(Some(Record::read(alloc, shared, text, is_shortest)?))
         }
     }
-}
-
-/// The values at these places of the octets, which stay where they are.
-fn cut_values(alloc: Global, octets: &Bytes, spans: &[Span]) -> Result<Values, AllocError>
-    requires within { AreWithin octets.now spans.now }
-    requires few { length octets.now ≤ 65535 }
-    ensures { IfOk result (λ values. values ≡ values_shown octets.now spans.now) }
-{
-    let mut values = Vec::with_capacity(alloc, spans.len())?;
-    for span in spans {
-        values.push(octets.slice(span.start..span.start + span.length)?)?;
-    }
-    Ok(Values::from_vec(values))
 }

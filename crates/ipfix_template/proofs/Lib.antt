@@ -4,3 +4,7 @@ pub mod SplitClauses
 pub mod Laid
 pub mod Encoding
 pub mod WrittenLaws
+pub mod TextLaws
+pub mod ExtentLaws
+pub mod ExtentClauses
+pub mod ReadingLaws

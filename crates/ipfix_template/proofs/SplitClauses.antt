@@ -13,10 +13,10 @@ use Rattle.ipfix_template.specs.Values.{Splits, values_at, found_record, record_
 use Rattle.ipfix_template.specs.Shown.{values_shown, Shows, IsSplitBy, IsFound, IsPadding}
 use Rattle.ipfix_template.proofs.SplitLaws.{values_at-found, values_at-only, Splits-least, found_values}
 
-abbrev RecordFront : Type 0
+abbrev pub RecordFront : Type 0
 RecordFront = Front (List (List ℕ)) (Unit {0})
 
-next_is : (short : Bool) (found : Option (List (List ℕ) × List ℕ)) (values : List (List ℕ)) (rest : List ℕ) → cond short End (found_record found) ≡ Next (values ∷ []) rest → found ≡ Some (values, rest)
+pub next_is : (short : Bool) (found : Option (List (List ℕ) × List ℕ)) (values : List (List ℕ)) (rest : List ℕ) → cond short End (found_record found) ≡ Next (values ∷ []) rest → found ≡ Some (values, rest)
 next_is true found values rest e = absurd cc
 next_is false None values rest e = absurd cc
 next_is false (Some found) values rest e =
@@ -45,7 +45,7 @@ front_is t octets text rest values parts is =
     let long : ltb (length octets) (shortest_record t) ≡ false = le-ltb _ _ (omega (arith, least, ap length parts, length-append text rest)) in
     rw (long, parts, found) refl
 
-abbrev next_front : List (List ℕ) → List ℕ → RecordFront
+abbrev pub next_front : List (List ℕ) → List ℕ → RecordFront
 next_front values rest = Next (values ∷ []) rest
 
 shown_is : (octets text rest : List ℕ) (values : List (List ℕ)) (front : RecordFront) → octets ≡ text ++ rest → front ≡ next_front values rest → (s : Split) → Shows octets front s → IsFound octets values (length text) s

@@ -30,7 +30,7 @@ value_by : (variable : Bool) (len : ℕ) (value : List ℕ) → cond variable (l
 value_by true len value fits = shortest_text-is value (leb-true _ _ fits)
 value_by false len value fits = (refl, eqb-true _ _ fits)
 
-value_text-is : (f : FieldSpec) (value : List ℕ) → fits_field f value ≡ true → IsText f (value_text f value) value
+pub value_text-is : (f : FieldSpec) (value : List ℕ) → fits_field f value ≡ true → IsText f (value_text f value) value
 value_text-is f value fits = value_by (is_variable f) f.length value fits
 
 -- values that fit are split again from what is written for them
@@ -48,7 +48,7 @@ record_text-only fs vs text before after values fit parts is =
 -- ---- templates
 
 -- fronts of the same length of equal lists are equal, and so is what follows
-fronts : (a b x y : List ℕ) → length a ≡ length b → a ++ x ≡ b ++ y → (a ≡ b) × (x ≡ y)
+pub fronts : (a b x y : List ℕ) → length a ≡ length b → a ++ x ≡ b ++ y → (a ≡ b) × (x ≡ y)
 fronts a b x y wide e =
     (sym (take_at a x (length a) refl) ∙ ap (take (length a)) e ∙ take_at b y (length a) (sym wide), sym (drop_at a x (length a) refl) ∙ ap (drop (length a)) e ∙ drop_at b y (length a) (sym wide))
 

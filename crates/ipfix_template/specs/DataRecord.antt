@@ -3,7 +3,7 @@ use Rattle.std.specs.Prelude.{◌≡◌, ℕ, ◌+◌, ◌≤◌, true, List, le
 use Rattle.ipfix_octets.specs.MessageFormat.{header_octets, set_header_octets, least_template_id}
 use Rattle.ipfix_template.specs.declared.template.Template.{Template}
 use Rattle.ipfix_template.specs.Template.{IsAccepted, is_options, template_record}
-use Rattle.ipfix_template.specs.Values.{fit_fields, record_text}
+use Rattle.ipfix_template.specs.Values.{fit_fields, record_text, values_in}
 
 -- a template and values for its fields
 pub record DataRecord : Type 0 where
@@ -20,3 +20,13 @@ pub record IsSound (r : DataRecord) : Type 0 where
   pub fit : fit_fields r.template.fields r.values ≡ true
   pub template_fits : FitsOneMessage (template_record least_template_id (is_options r.template) r.template)
   pub record_fits : FitsOneMessage (record_text r.template.fields r.values)
+
+-- a record as it is kept: its template, and the octets that its values are found in
+abbrev pub kept_record : Template → List ℕ → DataRecord
+kept_record template octets = record { template = template; values = values_in template.fields octets }
+
+-- what is kept is a record, and its octets are its values in their shortest texts, one after another (RFC 7011,
+-- sections 3.4.3 and 7)
+pub record IsKept (t : Template) (octets : List ℕ) : Type 0 where
+  pub sound : IsSound (kept_record t octets)
+  pub shortest : octets ≡ record_text t.fields (values_in t.fields octets)

@@ -1,12 +1,15 @@
--- What a split shows of the octets that were split.
-use Rattle.std.specs.Prelude.{◌≡◌, ℕ, ◌+◌, ◌-◌, ◌≤◌, List, [], ◌∷◌, length, take, drop, map, All, Option, Some, None}
+-- What a split shows of the octets that were split, and a measure of those that were measured.
+use Rattle.std.specs.Prelude.{◌≡◌, ◌↔◌, true, ℕ, ◌+◌, ◌-◌, ◌≤◌, List, [], ◌∷◌, length, take, drop, map, All, Option, Some, None}
 use Rattle.std.specs.Global.{Vec}
 use Rattle.ipfix_octets.specs.Sequence.{Front, End, Fault, Next}
 use Rattle.ipfix_template.specs.declared.field.FieldSpec.{FieldSpec}
 use Rattle.ipfix_template.specs.declared.spans.Span.{Span}
 use Rattle.ipfix_template.specs.declared.spans.Split.{Split}
 use Rattle.ipfix_template.specs.declared.spans.Split.TheVariants.{Record, Padding, Overrun}
-use Rattle.ipfix_template.specs.Values.{IsText, Splits}
+use Rattle.ipfix_template.specs.declared.spans.Extent.{Extent}
+use Rattle.ipfix_template.specs.declared.spans.Extent.TheVariants as extent
+use Rattle.ipfix_template.specs.declared.template.Template.{Template}
+use Rattle.ipfix_template.specs.Values.{IsText, Splits, record_front, record_text, values_in}
 
 abbrev pub octets_of : List ℕ → Span → List ℕ
 octets_of octets span = take span.length (drop span.start octets)
@@ -67,3 +70,25 @@ AreFoundLaid fields octets (Some found) = AreLaid fields 0 octets found.0.items 
 abbrev pub AreFoundWithin : List ℕ → Option (Vec Span × ℕ) → Type 0
 AreFoundWithin octets None = Unit {0}
 AreFoundWithin octets (Some found) = AreWithin octets found.0.items × (found.1 ≤ length octets)
+
+-- the answer says what stands at the front: of a record how many octets it takes, and whether these are its values, each
+-- in its shortest text
+abbrev pub Measures : Template → List ℕ → Extent → Type 0
+Measures t octets (extent.Record used is_shortest) =
+    (record_front t octets ≡ Next (values_in t.fields octets ∷ []) (drop used octets)) × (used ≤ length octets)
+    × ((is_shortest ≡ true) ↔ (take used octets ≡ record_text t.fields (values_in t.fields octets)))
+Measures t octets extent.Padding = record_front t octets ≡ End
+Measures t octets extent.Overrun = record_front t octets ≡ Fault tt
+
+-- a record that is found is split by the fields, and its octets alone have the same values
+abbrev pub IsMeasuredBy : List FieldSpec → List ℕ → Extent → Type 0
+IsMeasuredBy fields octets (extent.Record used is_shortest) =
+    Splits fields (take used octets) (values_in fields octets) × (values_in fields (take used octets) ≡ values_in fields octets)
+IsMeasuredBy fields octets extent.Padding = Unit {0}
+IsMeasuredBy fields octets extent.Overrun = Unit {0}
+
+-- a record of so many octets is found
+abbrev pub IsReach : ℕ → Extent → Type 0
+IsReach size (extent.Record used is_shortest) = used ≡ size
+IsReach size extent.Padding = ⊥
+IsReach size extent.Overrun = ⊥

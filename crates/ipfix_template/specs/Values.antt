@@ -32,6 +32,15 @@ values_at (f ∷ fs) octets = do
   others ← values_at fs (drop (span.0 + span.1) octets)
   Some (take span.1 (drop span.0 octets) ∷ others.0, others.1)
 
+-- the values that were found; none where nothing was
+abbrev pub values_found : Option (List (List ℕ) × List ℕ) → List (List ℕ)
+values_found None = []
+values_found (Some found) = found.0
+
+-- the values of fields at the front of octets; none where the octets end before the last of them
+unfoldable pub values_in : List FieldSpec → List ℕ → List (List ℕ)
+values_in fields octets = values_found (values_at fields octets)
+
 -- what stands at the front of a Data Set's content: padding, which is shorter than any record, a record, or the
 -- beginning of one that runs past the end
 abbrev pub found_record : Option (List (List ℕ) × List ℕ) → Front (List (List ℕ)) (Unit {0})
@@ -67,3 +76,15 @@ abbrev pub record_text : List FieldSpec → List (List ℕ) → List ℕ
 record_text [] values = []
 record_text (f ∷ fs) [] = []
 record_text (f ∷ fs) (v ∷ vs) = value_text f v ++ record_text fs vs
+
+-- where a value starts in its shortest text
+abbrev pub value_start : FieldSpec → ℕ → ℕ
+value_start f len = if is_variable f then (if nat_lt len 255 then 1 else 3) else 0
+
+-- how many octets the values of fields take at the front of octets, and whether each stands in its shortest text
+unfoldable pub extent_at : List FieldSpec → List ℕ → Option (ℕ × Bool)
+extent_at [] octets = Some (0, true)
+extent_at (f ∷ fs) octets = do
+  span ← span_at f octets
+  others ← extent_at fs (drop (span.0 + span.1) octets)
+  Some (span.0 + span.1 + others.0, (span.0 == value_start f span.1) && others.1)

@@ -1,17 +1,23 @@
 //! Records: a template, and values that fit it.
-ghost use Rattle.std.specs.Prelude.{◌≡◌, ◌==◌, ◌≤◌, ◌*◌, ◌↔◌, IsTrue, true, length, MatchResult};
+ghost use Rattle.std.specs.Prelude.{◌≡◌, ◌==◌, ◌≤◌, ◌*◌, ◌↔◌, IsTrue, true, length, IfOk, MatchResult};
 ghost use Rattle.std.specs.Arc.{arc_value};
 
+mod entries;
 mod parts;
+mod places;
+mod reading;
 
-use crate::field::{FieldSpec, Fields};
+use crate::encode::encode_values;
+use crate::field::FieldSpec;
 use crate::template::Template;
 use bytes::Bytes;
+pub use entries::Entries;
 use ipfix_octets::message_format::{
     HEADER_OCTETS, LEAST_TEMPLATE_ID, OPTIONS_RECORD_HEADER_OCTETS, RECORD_HEADER_OCTETS,
     SET_HEADER_OCTETS,
 };
 use ipfix_octets::variable::LONGEST_VALUE;
+use std::alloc::{AllocError, Global};
 use std::marker::Model;
 use std::sync::Arc;
 
@@ -70,72 +76,105 @@ impl Values {
 /// [`Template::check`] (under the least ID, as an options template where it has scope fields), that there
 /// is a value that fits for each field, and that template and record each fit one message. Records of
 /// one Data Set share their template.
+///
+/// Its values are kept as the octets that [`encode_record`](crate::encode_record) writes for them, each value in
+/// its shortest text, one after another; they may be a part of the message that brought them.
 #[derive(Drop)]
 pub struct Record {
     template: Arc<Template>,
-    values: Values,
+    octets: Bytes,
 }
 
 impl Model for Record {
     ghost use Rattle.std.specs.Arc.{arc_value};
-    ghost use Rattle.ipfix_template.specs.DataRecord.{DataRecord, IsSound};
+    ghost use Rattle.ipfix_template.specs.DataRecord.{DataRecord, IsKept, kept_record};
 
     ghost Value = { DataRecord };
 
-    ghost view = { λ r. record { template = arc_value r.template; values = r.values } };
+    ghost view = { λ r. kept_record (arc_value r.template) r.octets };
 
-    ghost invariant = { λ r. IsSound (record { template = arc_value r.template; values = r.values }) };
+    ghost invariant = { λ r. IsKept (arc_value r.template) r.octets };
 }
 
-/// A template and values that are no record.
+/// Why a template and values were made no record.
+#[derive(Clone, Copy, Debug, PartialEq, Eq)]
+pub enum NotMade {
+    /// They are no record.
+    NoRecord,
+    /// They are one, and there was no memory for its octets.
+    OutOfMemory,
+}
+
+/// A template and values that were made no record, and why.
 #[derive(Drop)]
 pub struct RefusedRecord {
     pub template: Arc<Template>,
     pub values: Values,
+    pub why: NotMade,
 }
 
 impl Record {
-    ghost use Rattle.ipfix_template.specs.DataRecord.{DataRecord, IsSound};
+    ghost use Rattle.ipfix_template.specs.DataRecord.{DataRecord, IsSound, IsKept, kept_record};
+    ghost use Rattle.ipfix_template.specs.Refusals.{IsWhy};
 
     /// The record of a template and values.
     ///
     /// # Errors
-    /// Both of them again, exactly where they are no record.
-    pub fn try_new(template: Arc<Template>, values: Values) -> Result<Record, RefusedRecord>
+    /// Both of them again: as [`NotMade::NoRecord`] exactly where they are no record, else for want of memory.
+    pub fn try_new(
+        alloc: Global,
+        template: Arc<Template>,
+        values: Values,
+    ) -> Result<Record, RefusedRecord>
         ensures { MatchResult result
             (λ r. (r ≡ record { template = arc_value template; values = values }) × IsSound r)
             (λ refused. (arc_value refused.template ≡ arc_value template) × (refused.values ≡ values)
-            × (IsSound (record { template = arc_value template; values = values }) → ⊥)) }
+            × IsWhy refused.why (record { template = arc_value template; values = values })) }
     {
-        if is_record(&template, values.as_slice()) {
-            Ok(Record { template, values })
-        } else {
-            Err(RefusedRecord { template, values })
+        if !is_record(&template, values.as_slice()) {
+            let why = NotMade::NoRecord;
+            return Err(RefusedRecord {
+                template,
+                values,
+                why,
+            });
+        }
+        match text_of(alloc, &template, &values) {
+            Ok(octets) => Ok(Record { template, octets }),
+            Err(_) => {
+                let why = NotMade::OutOfMemory;
+                Err(RefusedRecord {
+                    template,
+                    values,
+                    why,
+                })
+            }
         }
     }
 
     /// The record of a template and values of which it is known that they are one.
-    pub fn new(template: Arc<Template>, values: Values) -> Record
-        requires { IsSound (record { template = arc_value template; values = values }) }
-        ensures { result ≡ record { template = arc_value template; values = values } }
+    ///
+    /// # Errors
+    /// Want of memory for its octets.
+    pub fn new(
+        alloc: Global,
+        template: Arc<Template>,
+        values: &Values,
+    ) -> Result<Record, AllocError>
+        requires { IsSound (record { template = arc_value template; values = values.now }) }
+        ensures { IfOk result (λ r. r ≡ record { template = arc_value template; values = values.now }) }
     {
-        Record { template, values }
+        let octets = text_of(alloc, &template, values)?;
+        Ok(Record { template, octets })
     }
 
-    /// The template, of which a record keeps that it passes its check.
-    pub fn template(&self) -> &Template
-        ensures value { result.now ≡ self.now.template }
-        ensures sound { IsSound self.now }
+    /// The record of a template and octets of which it is known that they are its values, each in its
+    /// shortest text. Nothing is copied, and it takes no memory.
+    pub fn from_octets(template: Arc<Template>, octets: Bytes) -> Record
+        requires { IsKept (arc_value template) octets }
+        ensures { result ≡ kept_record (arc_value template) octets }
     {
-        &self.template
-    }
-
-    /// The values, one for each field.
-    pub fn values(&self) -> &Values
-        ensures value { result.now ≡ self.now.values }
-        ensures sound { IsSound self.now }
-    {
-        &self.values
+        Record { template, octets }
     }
 }
 
@@ -144,6 +183,17 @@ ghost use Rattle.std.specs.List.{flat_map};
 ghost use Rattle.ipfix_octets.specs.MessageFormat.{least_template_id};
 ghost use Rattle.ipfix_template.specs.Template.{is_options, specifier, template_record};
 ghost use Rattle.ipfix_template.specs.Values.{fits_field, fit_fields, value_text, record_text};
+
+/// What is written for values that fit their fields.
+fn text_of(alloc: Global, template: &Template, values: &Values) -> Result<Bytes, AllocError>
+    requires { fit_fields template.now.fields values.now ≡ true }
+    ensures { IfOk result (λ octets. octets ≡ record_text template.now.fields values.now) }
+{
+    let size = record_octets(template.fields.as_slice(), values.as_slice());
+    let mut octets = Vec::with_capacity(alloc, size)?;
+    encode_values(template, values, &mut octets)?;
+    Ok(Bytes::from_vec(octets)?)
+}
 
 /// Whether the values are a record of the template.
 fn is_record(template: &Template, values: &[Bytes]) -> bool
@@ -226,9 +276,5 @@ fn value_octets(field: &FieldSpec, value: &[u8]) -> usize
     ensures exact { result ≡ length (value_text field.now value.now) }
     ensures few { result ≤ 65538 }
 {
-    if !field.is_variable() {
-        return value.len();
-    }
-    let head = if value.len() < 255 { 1 } else { 3 };
-    head + value.len()
+    field.value_start(value.len()) + value.len()
 }

@@ -2,7 +2,7 @@
 ghost use Rattle.std.specs.Prelude.{◌≡◌, ◌≤◌, ◌<◌, ◌^◌, ◌+◌, ◌++◌, true, length, take, None, OnOk, OnErr, vec_len, vec_capacity};
 ghost use Rattle.std.specs.List.{flat_map};
 ghost use Rattle.ipfix_template.specs.Template.{refusal_of, is_options, specifier, record_head, template_record};
-ghost use Rattle.ipfix_template.specs.Values.{fits_field, fit_fields, value_text, record_text};
+ghost use Rattle.ipfix_template.specs.Values.{fit_fields, record_text};
 ghost use Rattle.ipfix_template.specs.DataRecord.{IsSound};
 
 mod parts;
@@ -11,8 +11,7 @@ use crate::data_record::Record;
 use crate::field::FieldSpec;
 use crate::template::Template;
 use bytes::Bytes;
-use ipfix_octets::write_varlen;
-pub use parts::encode_values;
+pub use parts::{encode_value, encode_values};
 use std::alloc::AllocError;
 
 /// The enterprise bit of a Field Specifier's element number (RFC 7011, section 3.2).
@@ -41,7 +40,7 @@ pub fn encode_template(id: u16, template: &Template, out: &mut Vec<u8>) -> Resul
 }
 
 /// Appends the record's values, each in its shortest text, as they stand in a Data Set (RFC 7011,
-/// sections 3.4.3 and 7).
+/// sections 3.4.3 and 7): a copy of the octets that it keeps.
 ///
 /// # Errors
 /// Want of memory, only where `out` had no room for it, and then nothing is appended.
@@ -51,16 +50,7 @@ pub fn encode_record(whole: &Record, out: &mut Vec<u8>) -> Result<(), AllocError
     ensures full { OnErr result (vec_capacity out.old < vec_len out.old + length (record_text whole.now.template.fields whole.now.values)) }
     ensures capacity { vec_capacity out.old ≤ vec_capacity out.new }
 {
-    let held = out.len();
-    let put = put_values(
-        whole.template().fields.as_slice(),
-        whole.values().as_slice(),
-        out,
-    );
-    if put.is_err() {
-        out.truncate(held);
-    }
-    put
+    out.extend_from_slice(whole.as_octets())
 }
 
 #[tactic(auto, unfolding(crate::specs::Template::template_record))]
@@ -132,21 +122,7 @@ fn put_values(fields: &[FieldSpec], values: &[Bytes], out: &mut Vec<u8>) -> Resu
     ensures capacity { vec_capacity out.old ≤ vec_capacity out.new }
 {
     for (field, value) in fields.iter().zip(values) {
-        put_value(field, value, out)?;
+        encode_value(field, value, out)?;
     }
     Ok(())
-}
-
-fn put_value(field: &FieldSpec, value: &[u8], out: &mut Vec<u8>) -> Result<(), AllocError>
-    requires { fits_field field.now value.now ≡ true }
-    ensures ok { OnOk result (out.new.items ≡ out.old.items ++ value_text field.now value.now) }
-    ensures err { OnErr result (out.new.items ≡ out.old.items) }
-    ensures full { OnErr result (vec_capacity out.old < vec_len out.old + length (value_text field.now value.now)) }
-    ensures capacity { vec_capacity out.old ≤ vec_capacity out.new }
-{
-    if field.is_variable() {
-        write_varlen(value, out)
-    } else {
-        out.extend_from_slice(value)
-    }
 }

@@ -21,12 +21,24 @@ pub struct FieldSpec {
 
 impl FieldSpec {
     ghost use Rattle.ipfix_template.specs.Template.{is_variable, least_octets, has_allowed_length};
+    ghost use Rattle.ipfix_template.specs.Values.{value_start};
 
     /// Whether each value brings its own length.
     pub fn is_variable(self) -> bool
         ensures { result ≡ is_variable self }
     {
         self.length == VARIABLE
+    }
+
+    /// Where a value of so many octets starts in its shortest text: behind a length of one octet or three, or
+    /// of none.
+    pub(crate) fn value_start(self, length: usize) -> usize
+        ensures { result ≡ value_start self length }
+    {
+        if !self.is_variable() {
+            return 0;
+        }
+        if length < 255 { 1 } else { 3 }
     }
 
     /// The octets that the field takes at least in a record: its length, or the length octet of an

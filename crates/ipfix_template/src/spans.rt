@@ -17,3 +17,15 @@ pub enum Split {
     /// The beginning of a record that runs past the end.
     Overrun,
 }
+
+/// What stands at the front of a Data Set's content, as [`Split`] says it, but for the values.
+#[derive(Clone, Copy, Debug, PartialEq, Eq)]
+pub enum Extent {
+    /// A record: the octets that it takes, and whether each of its values stands in its shortest text (RFC 7011,
+    /// section 7).
+    Record { used: usize, is_shortest: bool },
+    /// Fewer octets than the shortest record has.
+    Padding,
+    /// The beginning of a record that runs past the end.
+    Overrun,
+}

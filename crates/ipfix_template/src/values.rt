@@ -1,5 +1,5 @@
 //! A record's values at the front of octets.
-ghost use Rattle.std.specs.Prelude.{◌≡◌, ◌≤◌, ◌+◌, ◌++◌, ℕ, List, length, Ok, IsOk, IfOk, IfSome, ◌↔◌, ◌<◌};
+ghost use Rattle.std.specs.Prelude.{◌≡◌, ◌≤◌, ◌+◌, ◌++◌, ℕ, List, length, IsOk, IfOk, IfSome, ◌↔◌, ◌<◌};
 ghost use Rattle.ipfix_template.specs.Values.{Splits, span_at, values_at, record_front};
 ghost use Rattle.ipfix_template.specs.Template.{shortest_record};
 ghost use Rattle.ipfix_template.specs.Shown.{Shows, IsSplitBy, IsLaid, IsFound, spans_shown, AreFoundLaid, AreFoundWithin, IsPadding};
@@ -71,7 +71,7 @@ fn find_values(
 }
 
 /// Where the field's value starts at the front of `octets`, and its length.
-fn find_span(field: &FieldSpec, octets: &[u8]) -> Option<(usize, usize)>
+pub(crate) fn find_span(field: &FieldSpec, octets: &[u8]) -> Option<(usize, usize)>
     ensures exact { result ≡ span_at field.now octets.now }
     ensures within { IfSome result (λ f. f.0 + f.1 ≤ length octets.now) }
 {

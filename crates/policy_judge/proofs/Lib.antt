@@ -1,3 +1,4 @@
+pub mod PairLaws
 pub mod OccurrenceLaws
 pub mod FirstRuleLaws
 pub mod NeverLaws

@@ -1,7 +1,15 @@
 -- Tests of the values that a filter picks, as tests of what is picked from.
-use Rattle.std.proofs.Common.{◌≡◌, ℕ, suc, arith, Bool, true, false, List, [], ◌∷◌, length, map, filter, not, cond, refl, ap, nat_lt, ◌&&◌, ◌||◌}
+use Rattle.std.proofs.Common.{◌≡◌, ℕ, suc, arith, Bool, true, false, List, [], ◌∷◌, length, get_or, ◌<◌, map, filter, not, cond, refl, ap, sym, ◌∙◌, nat_lt, ◌&&◌, ◌||◌}
 use Rattle.std.proofs.lemmas.Bool.Decides.{nat_tests}
-use Rattle.std.specs.List.{list_any, list_all}
+use Rattle.std.specs.List.{list_any, list_all, zip}
+use Rattle.ipfix_template.specs.declared.field.FieldSpec.{FieldSpec}
+use Rattle.ipfix_template.specs.DataRecord.{DataRecord, IsSound}
+use Rattle.ipfix_template.proofs.Encoding.{fit_fields-length}
+use Rattle.flow_prefix.specs.declared.prefix.Prefix.{Prefix}
+use Rattle.flow_prefix.specs.Prefixes.{contains}
+use Rattle.policy_judge.specs.declared.occurrences.Side.{Side}
+use Rattle.policy_judge.specs.Sides.{is_of}
+use Rattle.policy_judge.proofs.PairLaws.{IsAt, any_first}
 
 pub any_picked : {A B : Type 0} (picks : A → Bool) (view : A → B) (test : B → Bool) (xs : List A)
     → list_any test (map view (filter picks xs)) ≡ list_any (λ x. picks x && test (view x)) xs
@@ -26,3 +34,57 @@ some_picked picks view [] = refl
 some_picked picks view (x ∷ xs) =
     elim (picks x) as (λ b. nat_lt 0 (length (map view (cond b (x ∷ filter picks xs) (filter picks xs)))) ≡ (b || list_any picks xs))
     [ true ↦ nat_lt-suc (length (map view (filter picks xs))) | false ↦ some_picked picks view xs ]
+
+-- ---- a record's occurrences, field by field
+
+-- there are as many values as fields
+pub even : (r : DataRecord) → IsSound r → length r.template.fields ≡ length r.values
+even r sound = fit_fields-length r.template.fields r.values sound.fit
+
+-- the field at a place, as it was read
+pub field_at : (r : DataRecord) (fields : List FieldSpec) (f : FieldSpec) (i : ℕ) → IsSound r → fields ≡ r.template.fields → i < length fields → f ≡ get_or fields i f
+    → IsAt r.template.fields r.values i f
+field_at r fields f i sound same lt is = record {
+  even = even r sound;
+  within = omega (arith, lt, ap length same);
+  is = is ∙ ap (λ fs. get_or fs i f) same;
+}
+
+-- an occurrence that is inside
+abbrev pub is_inside : Side → Prefix → FieldSpec × List ℕ → Bool
+is_inside side prefix p = is_of side p.0.element && contains prefix p.1
+
+-- no occurrence, or one that is inside
+abbrev pub is_not_outside : Side → Prefix → FieldSpec × List ℕ → Bool
+is_not_outside side prefix p = not (is_of side p.0.element) || contains prefix p.1
+
+pub some_field : (side : Side) (r : DataRecord) (fields : List FieldSpec) {b : Bool} → IsSound r → fields ≡ r.template.fields
+    → b ≡ list_any (λ f. is_of side f.element) fields → b ≡ list_any (λ p. is_of side p.0.element) (zip r.template.fields r.values)
+some_field side r fields sound same is =
+    is ∙ ap (list_any (λ f. is_of side f.element)) same ∙ sym (any_first (λ f. is_of side f.element) r.template.fields r.values (even r sound))
+
+-- what was asked of a field, and of its value
+pub is_of_read : (side : Side) (fields : List FieldSpec) (f : FieldSpec) (i : ℕ) (has b : Bool) → f ≡ get_or fields i f → has ≡ is_of side (get_or fields i f).element → has ≡ b
+    → is_of side f.element ≡ b
+is_of_read side fields f i has b is asked e = ap (λ g. is_of side g.element) is ∙ sym asked ∙ e
+
+contains_read : (prefix : Prefix) (read value : List ℕ) (within b : Bool) → read ≡ value → within ≡ contains prefix read → within ≡ b → contains prefix value ≡ b
+contains_read prefix read value within b is asked e = sym (ap (contains prefix) is) ∙ sym asked ∙ e
+
+second_tells : (a b c : Bool) → a ≡ true → b ≡ c → (a && b) ≡ c
+second_tells a b c holds is = ap (λ x. x && b) holds ∙ is
+
+second_tells-not : (a b c : Bool) → a ≡ true → b ≡ c → (not a || b) ≡ c
+second_tells-not a b c holds is = ap (λ x. not x || b) holds ∙ is
+
+pub inside_if : (side : Side) (prefix : Prefix) (f : FieldSpec) (read value : List ℕ) (within b : Bool) → is_of side f.element ≡ true → read ≡ value → within ≡ contains prefix read → within ≡ b
+    → is_inside side prefix (f, value) ≡ b
+inside_if side prefix f read value within b has is asked e = second_tells (is_of side f.element) (contains prefix value) b has (contains_read prefix read value within b is asked e)
+
+pub not_outside_if : (side : Side) (prefix : Prefix) (f : FieldSpec) (read value : List ℕ) (within b : Bool) → is_of side f.element ≡ true → read ≡ value → within ≡ contains prefix read → within ≡ b
+    → is_not_outside side prefix (f, value) ≡ b
+not_outside_if side prefix f read value within b has is asked e = second_tells-not (is_of side f.element) (contains prefix value) b has (contains_read prefix read value within b is asked e)
+
+pub other_side : (side : Side) (prefix : Prefix) (f : FieldSpec) (value : List ℕ) → is_of side f.element ≡ false
+    → (is_inside side prefix (f, value) ≡ false) × (is_not_outside side prefix (f, value) ≡ true)
+other_side side prefix f value has = (ap (λ b. b && contains prefix value) has, ap (λ b. not b || contains prefix value) has)

@@ -4,7 +4,6 @@ ghost use Rattle.flow_prefix.specs.Prefixes.{contains};
 ghost use Rattle.policy_judge.specs.Occurrences.{values_of};
 ghost use Rattle.policy_judge.specs.Match.{are_inside};
 
-use bytes::Bytes;
 use flow_prefix::Prefix;
 use ipfix_element::ElementId;
 use ipfix_template::{FieldSpec, Record};
@@ -52,37 +51,49 @@ ghost use Rattle.policy_judge.specs.Sides.{is_of};
 pub(crate) fn are_inside(flow_record: &Record, side: Side, denies: bool, prefix: &Prefix) -> bool
     ensures { result ≡ are_inside denies (values_of (is_of side) flow_record.now) prefix.now }
 {
-    let fields = flow_record.template().fields.as_slice();
-    let values = flow_record.values().as_slice();
     if denies {
-        some_inside(fields, values, side, prefix)
+        some_inside(flow_record, side, prefix)
     } else {
-        occurs(fields, values, side) && each_inside(fields, values, side, prefix)
+        occurs(flow_record, side) && each_inside(flow_record, side, prefix)
     }
 }
 
 /// Whether there is an occurrence.
-fn occurs(fields: &[FieldSpec], values: &[Bytes], side: Side) -> bool
-    ensures { result ≡ list_any (λ p. is_of side p.0.element) (zip fields.now values.now) }
+fn occurs(flow_record: &Record, side: Side) -> bool
+    ensures { result ≡ list_any (λ p. is_of side p.0.element) (zip flow_record.now.template.fields flow_record.now.values) }
 {
-    fields
-        .iter()
-        .zip(values)
-        .any(|(field, _)| side.has(field.element))
+    has_field(flow_record.template().fields.as_slice(), side)
+}
+
+/// Whether a field is of this side.
+fn has_field(fields: &[FieldSpec], side: Side) -> bool
+    ensures { result ≡ list_any (λ f. is_of side f.element) fields.now }
+{
+    fields.iter().any(|field| side.has(field.element))
 }
 
 /// Whether some occurrence is inside.
-fn some_inside(fields: &[FieldSpec], values: &[Bytes], side: Side, prefix: &Prefix) -> bool
-    ensures { result ≡ list_any (λ p. is_of side p.0.element && contains prefix.now p.1) (zip fields.now values.now) }
+fn some_inside(flow_record: &Record, side: Side, prefix: &Prefix) -> bool
+    ensures { result ≡ list_any (λ p. is_of side p.0.element && contains prefix.now p.1) (zip flow_record.now.template.fields flow_record.now.values) }
 {
-    fields.iter().zip(values).any(|(field, value)| side.has(field.element)
-        && prefix.contains(value.as_slice()))
+    let fields = flow_record.template().fields.as_slice();
+    for place in 0..fields.len() {
+        if side.has(fields[place].element) && prefix.contains(flow_record.value(place)) {
+            return true;
+        }
+    }
+    false
 }
 
 /// Whether each occurrence is inside.
-fn each_inside(fields: &[FieldSpec], values: &[Bytes], side: Side, prefix: &Prefix) -> bool
-    ensures { result ≡ list_all (λ p. not (is_of side p.0.element) || contains prefix.now p.1) (zip fields.now values.now) }
+fn each_inside(flow_record: &Record, side: Side, prefix: &Prefix) -> bool
+    ensures { result ≡ list_all (λ p. not (is_of side p.0.element) || contains prefix.now p.1) (zip flow_record.now.template.fields flow_record.now.values) }
 {
-    fields.iter().zip(values).all(|(field, value)| !side.has(field.element)
-        || prefix.contains(value.as_slice()))
+    let fields = flow_record.template().fields.as_slice();
+    for place in 0..fields.len() {
+        if side.has(fields[place].element) && !prefix.contains(flow_record.value(place)) {
+            return false;
+        }
+    }
+    true
 }

@@ -73,7 +73,7 @@ fn build_record(alloc: Global, fields: &[Field], scope: u16) -> Option<Record> {
     }
     let fields = Fields::from_vec(specs).ok()?;
     let template = Arc::new(alloc, Template { fields, scope }).ok()?;
-    Record::try_new(template, Values::from_vec(values)).ok()
+    Record::try_new(alloc, template, Values::from_vec(values)).ok()
 }
 
 /// A policy of these rules, which may name the aggregates `old` and `web`.
@@ -168,10 +168,10 @@ fn expect_specs<R: Abort>(rt: &R, specs: &[FieldSpec], expected: &[Field]) {
 }
 
 /// That these are the values, in this order, and no others.
-fn expect_values<R: Abort>(rt: &R, values: &[Bytes], expected: &[Field]) {
-    assert_eq!(rt; values.len(), expected.len());
-    for (value, (_, _, octets)) in values.iter().zip(expected) {
-        assert!(rt; value.as_slice() == *octets);
+fn expect_values<R: Abort>(rt: &R, kept: &Record, expected: &[Field]) {
+    assert_eq!(rt; kept.template().fields.len(), expected.len());
+    for ((_, value), (_, _, octets)) in kept.entries().zip(expected) {
+        assert!(rt; value == *octets);
     }
 }
 
@@ -620,7 +620,7 @@ fn expect_passed<R: Abort>(
         Wanted::Passed(fields, gone) => {
             assert_eq!(rt; kept.template().scope, case.scope, "{}", case.name);
             expect_specs(rt, kept.template().fields.as_slice(), fields);
-            expect_values(rt, kept.values().as_slice(), fields);
+            expect_values(rt, kept, fields);
             expect_removed(rt, removed, gone);
             Ok(())
         }

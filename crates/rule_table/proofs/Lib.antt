@@ -1,5 +1,6 @@
 pub mod Members
 pub mod FirstLaws
+pub mod AddressLaws
 pub mod ShapeLaws
 pub mod IndexLaws
 pub mod AskedLaws

@@ -1,11 +1,11 @@
 ghost use Rattle.std.specs.Prelude.{◌≡◌, ◌==◌, ◌&&◌, IfOk, IfSome, OnOk};
 ghost use Rattle.std.specs.List.{Contains, list_any};
 ghost use Rattle.flow_prefix.specs.Bits.{truncated};
-ghost use Rattle.rule_table.specs.Addresses.{address_of, address_at, addresses_of, shape_of, named};
+ghost use Rattle.rule_table.specs.Addresses.{address_of, addresses_of, shape_of, named};
 ghost use Rattle.rule_table.specs.Index.{HaveShapes};
 
 use flow_prefix::{Prefix, number};
-use ipfix_template::{FieldSpec, Record};
+use ipfix_template::Record;
 use policy_judge::Side;
 use policy_text::Rule;
 use std::alloc::{AllocError, Global};
@@ -43,23 +43,15 @@ pub(crate) fn addresses_of(
     ensures { IfOk result (λ addresses. addresses.items ≡ addresses_of side flow_record.now) }
 {
     let fields = flow_record.template().fields.as_slice();
-    let values = flow_record.values().as_slice();
-    fields
-        .iter()
-        .zip(values)
-        .filter_map(|(field, value)| address_at(side, field, value.as_slice()))
-        .collect(alloc)
-}
-
-/// The address that a field of this side holds.
-fn address_at(side: Side, field: &FieldSpec, value: &[u8]) -> Option<Address>
-    ensures { result ≡ address_at side (field.now, value.now) }
-{
-    if side.has(field.element) {
-        address_of(value)
-    } else {
-        None
+    let mut addresses = Vec::new(alloc);
+    for place in 0..fields.len() {
+        if side.has(fields[place].element) {
+            if let Some(address) = address_of(flow_record.value(place)) {
+                addresses.push(address)?;
+            }
+        }
     }
+    Ok(addresses)
 }
 
 /// The address that a value of 4 octets, or of 16, writes.

@@ -124,8 +124,8 @@ fn collect<E: EntryLedger, H: RecordLedger, R: Wait + Abort>(
 fn add_values(session: &mut Session, message: &[u8], values: &mut Vec<u8>) -> Result<(), Fail> {
     let read = session.apply(message).map_err(|_| "malformed")?;
     for record in &read.records {
-        for value in record.values().as_slice() {
-            values.extend_from_slice(value.as_slice())?;
+        for (_, value) in record.entries() {
+            values.extend_from_slice(value)?;
         }
     }
     Ok(())

@@ -4,14 +4,14 @@ use Rattle.std.specs.List.{flat_map}
 use Rattle.std.proofs.lemmas.Bool.{eqb-true, eq-eqb}
 use Rattle.std.proofs.lemmas.List.{append-nil}
 use Rattle.ipfix_template.specs.declared.template.Template.{Template}
-use Rattle.ipfix_template.specs.DataRecord.{DataRecord}
+use Rattle.ipfix_template.specs.DataRecord.{DataRecord, kept_record}
 use Rattle.ipfix_template.specs.Template.{is_options, template_record}
 use Rattle.ipfix_template.specs.Values.{record_text}
 use Rattle.ipfix_template.proofs.Encoding.{length-template_record}
 use Rattle.subscriber_stream.specs.declared.waiting.Waiting.{Waiting}
 use Rattle.subscriber_stream.specs.declared.waiting.Waiting.TheVariants.{Announce, Bring}
 use Rattle.subscriber_stream.specs.Message.{Set, Announces, Brings, with_record, sets_of, template_set, set_head, set_text, body}
-use Rattle.subscriber_stream.specs.Waiting.{shape_at, parts_of, AreKept, joins, total, run, pieces}
+use Rattle.subscriber_stream.specs.Waiting.{shape_at, parts_of, IsEntry, AreKept, joins, total, run, pieces}
 
 -- the octets of a record in a Data Set
 abbrev pub spelled : DataRecord → List ℕ
@@ -88,16 +88,20 @@ content_with last id r (Brings other rs ∷ sets) = by_test (nat_eq id other) wh
 
 -- ---- along the queue
 
-abbrev entry : List Template → ℕ → List (List ℕ) → DataRecord
-entry shapes id values = record { template = shape_at shapes id; values = values }
+abbrev entry : List Template → ℕ → List ℕ → DataRecord
+entry shapes id octets = kept_record (shape_at shapes id) octets
+
+-- the octets that are kept of a record are those that a Data Set brings
+pub spelled-kept : (shapes : List Template) (id : ℕ) (octets : List ℕ) → IsEntry shapes id octets → spelled (entry shapes id octets) ≡ octets
+spelled-kept shapes id octets is = sym is.kept.shortest
 
 -- the records that join a set are its content
 pub run_content : (shapes : List Template) (id : ℕ) (ws : List Waiting) → AreKept shapes ws → run id ws ≡ content_after id (sets_of (parts_of shapes ws))
 run_content shapes id [] kept = refl
 run_content shapes id (Announce other octets ∷ ws) kept = refl
-run_content shapes id (Bring other octets values ∷ ws) kept =
-    by_test (nat_eq id other) refl (run_content shapes id ws kept.1) kept.0.counted ∙ sym (content_with id other (entry shapes other values) (sets_of (parts_of shapes ws))) where
-      by_test : (b : Bool) → nat_eq id other ≡ b → run id ws ≡ content_after id (sets_of (parts_of shapes ws)) → octets ≡ length (spelled (entry shapes other values)) → cond b (octets + run id ws) 0 ≡ cond b (length (spelled (entry shapes other values)) + content_after other (sets_of (parts_of shapes ws))) 0
+run_content shapes id (Bring other octets ∷ ws) kept =
+    by_test (nat_eq id other) refl (run_content shapes id ws kept.1) (ap length (spelled-kept shapes other octets kept.0)) ∙ sym (content_with id other (entry shapes other octets) (sets_of (parts_of shapes ws))) where
+      by_test : (b : Bool) → nat_eq id other ≡ b → run id ws ≡ content_after id (sets_of (parts_of shapes ws)) → length (spelled (entry shapes other octets)) ≡ length octets → cond b (length octets + run id ws) 0 ≡ cond b (length (spelled (entry shapes other octets)) + content_after other (sets_of (parts_of shapes ws))) 0
       by_test true is others here =
           let moved : content_after id (sets_of (parts_of shapes ws)) ≡ content_after other (sets_of (parts_of shapes ws)) = ap (λ (n : ℕ). content_after n (sets_of (parts_of shapes ws))) (eqb-true id other is) in
           omega (arith, others, here, moved)
@@ -127,20 +131,21 @@ texts_pieces shapes last (Announce id octets ∷ ws) kept =
     announced_text last id shape (sets_of (parts_of shapes ws))
     ∙ ap (λ (t : List ℕ). (set_head (template_set shape) (length written) ++ written) ++ t) (texts_pieces shapes None ws kept.1)
     ∙ ap (λ (n : ℕ). (set_head (template_set shape) n ++ written) ++ pieces shapes None ws) len
-texts_pieces shapes last (Bring id octets values ∷ ws) kept =
-    by_test (joins last id) refl (texts_pieces shapes (Some id) ws kept.1) (run_content shapes id ws kept.1) kept.0.counted where
-      by_test : (b : Bool) → joins last id ≡ b → text_after (Some id) (sets_of (parts_of shapes ws)) ≡ pieces shapes (Some id) ws → run id ws ≡ content_after id (sets_of (parts_of shapes ws)) → octets ≡ length (spelled (entry shapes id values))
-          → text_after last (with_record id (entry shapes id values) (sets_of (parts_of shapes ws))) ≡ (cond b [] (set_head id (octets + run id ws)) ++ spelled (entry shapes id values)) ++ pieces shapes (Some id) ws
+texts_pieces shapes last (Bring id octets ∷ ws) kept =
+    by_test (joins last id) refl (texts_pieces shapes (Some id) ws kept.1) (run_content shapes id ws kept.1) (ap length (spelled-kept shapes id octets kept.0))
+    ∙ ap (λ (t : List ℕ). (cond (joins last id) [] (set_head id (length octets + run id ws)) ++ t) ++ pieces shapes (Some id) ws) (spelled-kept shapes id octets kept.0) where
+      by_test : (b : Bool) → joins last id ≡ b → text_after (Some id) (sets_of (parts_of shapes ws)) ≡ pieces shapes (Some id) ws → run id ws ≡ content_after id (sets_of (parts_of shapes ws)) → length (spelled (entry shapes id octets)) ≡ length octets
+          → text_after last (with_record id (entry shapes id octets) (sets_of (parts_of shapes ws))) ≡ (cond b [] (set_head id (length octets + run id ws)) ++ spelled (entry shapes id octets)) ++ pieces shapes (Some id) ws
       by_test true is rest others here =
-          joined_text last id (entry shapes id values) (sets_of (parts_of shapes ws)) is ∙ ap (λ (t : List ℕ). spelled (entry shapes id values) ++ t) rest
+          joined_text last id (entry shapes id octets) (sets_of (parts_of shapes ws)) is ∙ ap (λ (t : List ℕ). spelled (entry shapes id octets) ++ t) rest
       by_test false is rest others here =
-          let r = entry shapes id values in
-          let content : length (spelled r) + content_after id (sets_of (parts_of shapes ws)) ≡ octets + run id ws = omega (arith, others, here) in
+          let r = entry shapes id octets in
+          let content : length (spelled r) + content_after id (sets_of (parts_of shapes ws)) ≡ length octets + run id ws = omega (arith, others, here) in
           opened_text last id r (sets_of (parts_of shapes ws)) is
           ∙ with_texts id r (sets_of (parts_of shapes ws))
           ∙ ap (λ (n : ℕ). set_head id n ++ (spelled r ++ text_after (Some id) (sets_of (parts_of shapes ws)))) content
-          ∙ ap (λ (t : List ℕ). set_head id (octets + run id ws) ++ (spelled r ++ t)) rest
-          ∙ sym (append_assoc (set_head id (octets + run id ws)) (spelled r) (pieces shapes (Some id) ws))
+          ∙ ap (λ (t : List ℕ). set_head id (length octets + run id ws) ++ (spelled r ++ t)) rest
+          ∙ sym (append_assoc (set_head id (length octets + run id ws)) (spelled r) (pieces shapes (Some id) ws))
 
 length-set_head : (id octets : ℕ) → length (set_head id octets) ≡ 4
 unfolding set_head
@@ -156,14 +161,13 @@ length-pieces shapes last (Announce id octets ∷ ws) kept =
     let head = length-set_head (template_set shape) octets in
     let others = length-pieces shapes None ws kept.1 in
     omega (arith, length-append (set_head (template_set shape) octets ++ written) (pieces shapes None ws), length-append (set_head (template_set shape) octets) written, len, head, others)
-length-pieces shapes last (Bring id octets values ∷ ws) kept =
-    by_test (joins last id) (length-pieces shapes (Some id) ws kept.1) kept.0.counted where
-      by_test : (b : Bool) → length (pieces shapes (Some id) ws) ≡ total (Some id) ws → octets ≡ length (spelled (entry shapes id values)) → length ((cond b [] (set_head id (octets + run id ws)) ++ spelled (entry shapes id values)) ++ pieces shapes (Some id) ws) ≡ cond b octets (4 + octets) + total (Some id) ws
-      by_test true others here =
-          omega (arith, length-append (spelled (entry shapes id values)) (pieces shapes (Some id) ws), others, here)
-      by_test false others here =
-          let head = length-set_head id (octets + run id ws) in
-          omega (arith, length-append (set_head id (octets + run id ws) ++ spelled (entry shapes id values)) (pieces shapes (Some id) ws), length-append (set_head id (octets + run id ws)) (spelled (entry shapes id values)), others, here, head)
+length-pieces shapes last (Bring id octets ∷ ws) kept =
+    by_test (joins last id) (length-pieces shapes (Some id) ws kept.1) where
+      by_test : (b : Bool) → length (pieces shapes (Some id) ws) ≡ total (Some id) ws → length ((cond b [] (set_head id (length octets + run id ws)) ++ octets) ++ pieces shapes (Some id) ws) ≡ cond b (length octets) (4 + length octets) + total (Some id) ws
+      by_test true others = omega (arith, length-append octets (pieces shapes (Some id) ws), others)
+      by_test false others =
+          let head = length-set_head id (length octets + run id ws) in
+          omega (arith, length-append (set_head id (length octets + run id ws) ++ octets) (pieces shapes (Some id) ws), length-append (set_head id (length octets + run id ws)) octets, others, head)
 
 pub body_pieces : (shapes : List Template) (ws : List Waiting) → AreKept shapes ws → body (parts_of shapes ws) ≡ pieces shapes None ws
 unfolding body

@@ -6,7 +6,7 @@ use Rattle.ipfix_template.specs.declared.template.Template.{Template}
 use Rattle.ipfix_template.specs.Template.{refusal_of}
 use Rattle.subscriber_stream.specs.declared.waiting.Waiting.{Waiting}
 use Rattle.subscriber_stream.specs.declared.waiting.Waiting.TheVariants.{Announce, Bring}
-use Rattle.subscriber_stream.specs.Waiting.{IsAnnouncement, IsEntry, IsKept, AreKept, joins, cost, data_set, total, run}
+use Rattle.subscriber_stream.specs.Waiting.{IsAnnouncement, IsKept, AreKept, joins, cost, data_set, total, run}
 
 -- each that waits is kept
 pub kept_at : (shapes : List Template) (ws : List Waiting) (i : ℕ) (w : Waiting) → AreKept shapes ws → i < length ws → IsKept shapes (get_or ws i w)
@@ -21,12 +21,12 @@ accepted_under id options t low is = rw (le-ltb id 256 low) is
 
 abbrev octets_in : Waiting → ℕ
 octets_in (Announce id octets) = octets
-octets_in (Bring id octets values) = octets
+octets_in (Bring id octets) = length octets
 
 cost-least : (last : Option ℕ) (w : Waiting) → octets_in w ≤ cost last w
 cost-least last (Announce id octets) = omega arith
-cost-least last (Bring id octets values) = by_test (joins last id) where
-  by_test : (b : Bool) → octets ≤ cond b octets (4 + octets)
+cost-least last (Bring id octets) = by_test (joins last id) where
+  by_test : (b : Bool) → length octets ≤ cond b (length octets) (4 + length octets)
   by_test true = omega arith
   by_test false = omega arith
 
@@ -40,8 +40,8 @@ total-from last (v ∷ ws) (suc i) w lt = omega (arith, total-from (data_set v) 
 pub run-total : (id : ℕ) (ws : List Waiting) → run id ws ≤ total (Some id) ws
 run-total id [] = omega arith
 run-total id (Announce other octets ∷ ws) = omega arith
-run-total id (Bring other octets values ∷ ws) = by_test (nat_eq id other) refl (run-total id ws) where
-  by_test : (b : Bool) → nat_eq id other ≡ b → run id ws ≤ total (Some id) ws → run id (Bring other octets values ∷ ws) ≤ total (Some id) (Bring other octets values ∷ ws)
+run-total id (Bring other octets ∷ ws) = by_test (nat_eq id other) refl (run-total id ws) where
+  by_test : (b : Bool) → nat_eq id other ≡ b → run id ws ≤ total (Some id) ws → run id (Bring other octets ∷ ws) ≤ total (Some id) (Bring other octets ∷ ws)
   by_test true is le =
       let h : run id ws ≤ total (Some other) ws = (let P : ℕ → Type 0 = λ n. run id ws ≤ total (Some n) ws in subst P (eqb-true id other is) le) in
       rw is (omega arith)
@@ -51,14 +51,10 @@ pub announcement_at : (shapes : List Template) (ws : List Waiting) (i id octets 
 announcement_at shapes ws i id octets v all lt is e =
     let P : Waiting → Type 0 = λ w. IsKept shapes w in subst P (sym is ∙ e) (kept_at shapes ws i v all lt)
 
-pub entry_at : (shapes : List Template) (ws : List Waiting) (i id octets : ℕ) (values : List (List ℕ)) (v : Waiting) → AreKept shapes ws → i < length ws → v ≡ get_or ws i v → v ≡ Bring id octets values → IsEntry shapes id octets values
-entry_at shapes ws i id octets values v all lt is e =
-    let P : Waiting → Type 0 = λ w. IsKept shapes w in subst P (sym is ∙ e) (kept_at shapes ws i v all lt)
-
 -- a record and those that join its set are no more than the whole message
-pub entry_small : (ws : List Waiting) (count i id octets : ℕ) (values : List (List ℕ)) (v : Waiting) → count ≤ length ws → i < count → v ≡ get_or ws i v → v ≡ Bring id octets values → octets + run id (drop (i + 1) (take count ws)) ≤ total None (take count ws)
-entry_small ws count i id octets values v within lt is e =
-    let here : get_or (take count ws) i v ≡ Bring id octets values = get_or-take count ws i v lt ∙ sym is ∙ e in
+pub entry_small : (ws : List Waiting) (count i id : ℕ) (octets : List ℕ) (v : Waiting) → count ≤ length ws → i < count → v ≡ get_or ws i v → v ≡ Bring id octets → length octets + run id (drop (i + 1) (take count ws)) ≤ total None (take count ws)
+entry_small ws count i id octets v within lt is e =
+    let here : get_or (take count ws) i v ≡ Bring id octets = get_or-take count ws i v lt ∙ sym is ∙ e in
     let P : Waiting → Type 0 = λ w. octets_in w + total (data_set w) (drop (suc i) (take count ws)) ≤ total None (take count ws) in
     let all = subst P here (total-from None (take count ws) i v (omega (arith, length-take count ws))) in
     rw add-one (omega (arith, all, run-total id (drop (suc i) (take count ws))))

@@ -49,7 +49,7 @@ something_waits (w ∷ ws) some = omega arith
 pub none_followed : (ws : List Waiting) → AreFollowed ws → entries ws ≡ 0 → length ws ≡ 0
 none_followed [] all none = refl
 none_followed (Announce id octets ∷ ws) all none = absurd (omega (arith, all.0, none))
-none_followed (Bring id octets values ∷ ws) all none = absurd (omega (arith, none))
+none_followed (Bring id octets ∷ ws) all none = absurd (omega (arith, none))
 
 entries_none : (ws : List Waiting) → length ws ≡ 0 → entries ws ≡ 0
 entries_none [] none = refl

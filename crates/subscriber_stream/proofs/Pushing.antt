@@ -7,11 +7,12 @@ use Rattle.std.proofs.lemmas.List.{map-append}
 use Rattle.std.proofs.Math.ListN.{get_or-append}
 use Rattle.std.proofs.Math.Seq.{get_or-append_seam}
 use Rattle.ipfix_template.specs.declared.template.Template.{Template}
-use Rattle.ipfix_template.specs.DataRecord.{DataRecord, IsSound}
+use Rattle.ipfix_template.specs.DataRecord.{DataRecord, IsSound, IsKept as IsKeptOf, kept_record}
 use Rattle.ipfix_template.specs.Template.{IsAccepted, is_options, template_record}
-use Rattle.ipfix_template.specs.Values.{fit_fields, record_text}
+use Rattle.ipfix_template.specs.Values.{record_text}
 use Rattle.ipfix_template.specs.Equality.{same_template}
 use Rattle.ipfix_template.specs.SameTemplate.{same_template-is}
+use Rattle.ipfix_template.proofs.TextLaws.{kept_is, kept_from}
 use Rattle.subscriber_stream.specs.declared.limits.Limits.{Limits}
 use Rattle.subscriber_stream.specs.declared.waiting.Waiting.{Waiting}
 use Rattle.subscriber_stream.specs.declared.waiting.Waiting.TheVariants.{Announce, Bring}
@@ -92,27 +93,23 @@ kept_grown shapes grown (Announce id octets ∷ ws) longer before kept =
       (record { low = kept.0.low; known = omega (arith, kept.0.known); accepted = subst A same kept.0.accepted; counted = subst C same kept.0.counted; few = kept.0.few }, others.0),
       ap (λ (t : Template). Announcement id t ∷ parts_of shapes ws) same ∙ ap (λ (ps : List Part). Announcement id (shape_at grown id) ∷ ps) others.1,
     )
-kept_grown shapes grown (Bring id octets values ∷ ws) longer before kept =
+kept_grown shapes grown (Bring id octets ∷ ws) longer before kept =
     let others = kept_grown shapes grown ws longer before kept.1 in
     let same = same_shape_at shapes grown id before kept.0.low kept.0.known in
-    let F : Template → Type 0 = λ t. fit_fields t.fields values ≡ true in
-    let C : Template → Type 0 = λ t. octets ≡ length (record_text t.fields values) in (
-      (record { low = kept.0.low; known = omega (arith, kept.0.known); fit = subst F same kept.0.fit; counted = subst C same kept.0.counted; few = kept.0.few }, others.0),
-      ap (λ (t : Template). Entry id (record { template = t; values = values }) ∷ parts_of shapes ws) same ∙ ap (λ (ps : List Part). Entry id (record { template = shape_at grown id; values = values }) ∷ ps) others.1,
+    let K : Template → Type 0 = λ t. IsKeptOf t octets in (
+      (record { low = kept.0.low; known = omega (arith, kept.0.known); kept = subst K same kept.0.kept; few = kept.0.few }, others.0),
+      ap (λ (t : Template). Entry id (kept_record t octets) ∷ parts_of shapes ws) same ∙ ap (λ (ps : List Part). Entry id (kept_record (shape_at grown id) octets) ∷ ps) others.1,
     )
 
 -- ---- what is put behind it
 
 -- the record, and before it the announcement of a shape that is not among those before
-abbrev pub new_waiting : List Template → DataRecord → ℕ → ℕ → List Waiting
-new_waiting shapes r announced octets = new_parts (256 + position_or_len (same_template r.template) shapes) (cond (is_among r.template shapes) None (Some announced)) octets r.values
+abbrev pub new_waiting : List Template → DataRecord → ℕ → List Waiting
+new_waiting shapes r announced = new_parts (256 + position_or_len (same_template r.template) shapes) (cond (is_among r.template shapes) None (Some announced)) (record_text r.template.fields r.values)
 
--- the octets of a template's record and of a record
-pub record AreOctetsOf (r : DataRecord) (announced octets : ℕ) : Type 0 where
-  pub template : announced ≡ length (template_record 256 (is_options r.template) r.template)
-  pub template_few : announced ≤ 65515
-  pub text : octets ≡ length (record_text r.template.fields r.values)
-  pub text_few : octets ≤ 65515
+-- the octets of a template's record
+abbrev pub IsAnnounced : DataRecord → ℕ → Type 0
+IsAnnounced r announced = announced ≡ length (template_record 256 (is_options r.template) r.template)
 
 record IsPut (shapes : List Template) (r : DataRecord) (grown : List Template) (new_parts' : List Waiting) : Type 0 where
   kept : AreKept grown new_parts'
@@ -121,69 +118,73 @@ record IsPut (shapes : List Template) (r : DataRecord) (grown : List Template) (
   counted : length shapes + announcements new_parts' ≡ length grown
   few : length new_parts' ≤ 2
 
-shape_is : (grown : List Template) (r : DataRecord) (id announced octets : ℕ) → shape_at grown id ≡ r.template → IsSound r → AreOctetsOf r announced octets
-    → IsAccepted (shape_at grown id) × (announced ≡ length (template_record 256 (is_options (shape_at grown id)) (shape_at grown id))) × (fit_fields (shape_at grown id).fields r.values ≡ true) × (octets ≡ length (record_text (shape_at grown id).fields r.values))
-shape_is grown r id announced octets there sound are =
-    let P : Template → Type 0 = λ t. IsAccepted t × (announced ≡ length (template_record 256 (is_options t) t)) × (fit_fields t.fields r.values ≡ true) × (octets ≡ length (record_text t.fields r.values)) in
-    let here : P r.template = (sound.accepted, are.template, sound.fit, are.text) in
-    subst P (sym there) here
+-- what a template is to the record that is given
+abbrev IsShapeOf : DataRecord → ℕ → Template → Type 0
+IsShapeOf r announced t =
+    IsAccepted t × (announced ≡ length (template_record 256 (is_options t) t)) × IsKeptOf t (record_text r.template.fields r.values) × (kept_record t (record_text r.template.fields r.values) ≡ r)
 
-put_by : (shapes : List Template) (r : DataRecord) (announced octets : ℕ) (b : Bool) → is_among r.template shapes ≡ b → IsSound r → AreOctetsOf r announced octets
-    → IsPut shapes r (cond b shapes (shapes ++ r.template ∷ [])) (new_parts (256 + position_or_len (same_template r.template) shapes) (cond b None (Some announced)) octets r.values)
-put_by shapes r announced octets true is sound are =
+shape_is : (grown : List Template) (r : DataRecord) (id announced : ℕ) → shape_at grown id ≡ r.template → IsSound r → IsAnnounced r announced → IsShapeOf r announced (shape_at grown id)
+shape_is grown r id announced there sound is =
+    let octets = record_text r.template.fields r.values in
+    let here : IsShapeOf r announced r.template = (sound.accepted, is, kept_from r.template r.values octets sound refl, kept_is r.template r.values octets sound.fit refl) in
+    subst (IsShapeOf r announced) (sym there) here
+
+put_by : (shapes : List Template) (r : DataRecord) (announced : ℕ) (b : Bool) → is_among r.template shapes ≡ b → IsSound r → IsAnnounced r announced
+    → IsPut shapes r (cond b shapes (shapes ++ r.template ∷ [])) (new_parts (256 + position_or_len (same_template r.template) shapes) (cond b None (Some announced)) (record_text r.template.fields r.values))
+put_by shapes r announced true is sound announces =
     let id = 256 + position_or_len (same_template r.template) shapes in
     let at = placed shapes r.template true is in
-    let facts = shape_is shapes r id announced octets at.there sound are in
+    let facts = shape_is shapes r id announced at.there sound announces in
     record {
-      kept = (record { low = omega arith; known = omega (arith, at.known); fit = facts.2; counted = facts.3; few = are.text_few }, tt);
-      shown = ap (λ (t : Template). Entry id (record { template = t; values = r.values }) ∷ []) at.there ∙ sym (ap (λ (b : Bool). cond b (Entry id r ∷ []) (Announcement id r.template ∷ Entry id r ∷ [])) is);
+      kept = (record { low = omega arith; known = omega (arith, at.known); kept = facts.2; few = omega (arith, sound.record_fits) }, tt);
+      shown = ap (λ (q : DataRecord). Entry id q ∷ []) facts.3 ∙ sym (ap (λ (b : Bool). cond b (Entry id r ∷ []) (Announcement id r.template ∷ Entry id r ∷ [])) is);
       one_entry = refl;
       counted = omega arith;
       few = omega arith;
     }
-put_by shapes r announced octets false is sound are =
+put_by shapes r announced false is sound announces =
     let id = 256 + position_or_len (same_template r.template) shapes in
     let grown = shapes ++ r.template ∷ [] in
     let at = placed shapes r.template false is in
-    let facts = shape_is grown r id announced octets at.there sound are in
+    let facts = shape_is grown r id announced at.there sound announces in
     record {
       kept = (
-        record { low = omega arith; known = omega (arith, at.known); accepted = facts.0; counted = facts.1; few = are.template_few },
-        (record { low = omega arith; known = omega (arith, at.known); fit = facts.2; counted = facts.3; few = are.text_few }, tt),
+        record { low = omega arith; known = omega (arith, at.known); accepted = facts.0; counted = facts.1; few = omega (arith, announces, sound.template_fits) },
+        (record { low = omega arith; known = omega (arith, at.known); kept = facts.2; few = omega (arith, sound.record_fits) }, tt),
       );
-      shown = ap (λ (t : Template). Announcement id t ∷ Entry id (record { template = t; values = r.values }) ∷ []) at.there ∙ sym (ap (λ (b : Bool). cond b (Entry id r ∷ []) (Announcement id r.template ∷ Entry id r ∷ [])) is);
+      shown = ap (λ (t : Template). Announcement id t ∷ Entry id (kept_record (shape_at grown id) (record_text r.template.fields r.values)) ∷ []) at.there ∙ ap (λ (q : DataRecord). Announcement id r.template ∷ Entry id q ∷ []) facts.3 ∙ sym (ap (λ (b : Bool). cond b (Entry id r ∷ []) (Announcement id r.template ∷ Entry id r ∷ [])) is);
       one_entry = refl;
       counted = omega (arith, length-append shapes (r.template ∷ []));
       few = omega arith;
     }
 
-put : (shapes : List Template) (r : DataRecord) (announced octets : ℕ) → IsSound r → AreOctetsOf r announced octets → IsPut shapes r (with_shape shapes r.template) (new_waiting shapes r announced octets)
-put shapes r announced octets sound are = put_by shapes r announced octets (is_among r.template shapes) refl sound are
+put : (shapes : List Template) (r : DataRecord) (announced : ℕ) → IsSound r → IsAnnounced r announced → IsPut shapes r (with_shape shapes r.template) (new_waiting shapes r announced)
+put shapes r announced sound announces = put_by shapes r announced (is_among r.template shapes) refl sound announces
 
 announcements-append : (vs ws : List Waiting) → announcements (vs ++ ws) ≡ announcements vs + announcements ws
 announcements-append [] ws = omega arith
 announcements-append (Announce id octets ∷ vs) ws = omega (arith, announcements-append vs ws)
-announcements-append (Bring id octets values ∷ vs) ws = announcements-append vs ws
+announcements-append (Bring id octets ∷ vs) ws = announcements-append vs ws
 
 entries-append : (vs ws : List Waiting) → entries (vs ++ ws) ≡ entries vs + entries ws
 entries-append [] ws = omega arith
 entries-append (Announce id octets ∷ vs) ws = entries-append vs ws
-entries-append (Bring id octets values ∷ vs) ws = omega (arith, entries-append vs ws)
+entries-append (Bring id octets ∷ vs) ws = omega (arith, entries-append vs ws)
 
 followed_append : (vs ws : List Waiting) → AreFollowed vs → AreFollowed ws → AreFollowed (vs ++ ws)
 followed_append [] ws first second = second
 followed_append (Announce id octets ∷ vs) ws first second =
     (omega (arith, first.0, entries-append vs ws), followed_append vs ws first.1 second)
-followed_append (Bring id octets values ∷ vs) ws first second = followed_append vs ws first second
+followed_append (Bring id octets ∷ vs) ws first second = followed_append vs ws first second
 
-followed_new : (id : ℕ) (announced : Option ℕ) (octets : ℕ) (values : List (List ℕ)) → AreFollowed (new_parts id announced octets values)
-followed_new id None octets values = tt
-followed_new id (Some announced) octets values = (omega arith, tt)
+followed_new : (id : ℕ) (announced : Option ℕ) (octets : List ℕ) → AreFollowed (new_parts id announced octets)
+followed_new id None octets = tt
+followed_new id (Some announced) octets = (omega arith, tt)
 
 -- the table and the queue before and after, and what the record asks for
-pub record Takes (table grown : Table) (limits : Limits) (waiting handed spare : ℕ) (r : DataRecord) (announced octets : ℕ) : Type 0 where
+pub record Takes (table grown : Table) (limits : Limits) (waiting handed spare : ℕ) (r : DataRecord) (announced : ℕ) : Type 0 where
   pub sound : IsSound r
-  pub are : AreOctetsOf r announced octets
+  pub announces : IsAnnounced r announced
   pub some : 0 < spare
   pub few : length (with_shape table.shapes r.template) ≤ limits.shapes
   pub queue : waiting + 1 ≤ limits.queue
@@ -191,19 +192,19 @@ pub record Takes (table grown : Table) (limits : Limits) (waiting handed spare :
   pub shapes : grown.shapes ≡ with_shape table.shapes r.template
   pub spare_left : table.spare ≤ grown.spare + 1
 
-pub taken : (table grown : Table) (queue : List Waiting) (capacity : ℕ) (limits : Limits) (waiting handed announced spare : ℕ) (r : DataRecord) (announced_octets octets : ℕ)
-    → IsConsistent table queue capacity limits waiting handed announced spare → Takes table grown limits waiting handed spare r announced_octets octets
-    → IsConsistent grown (queue ++ new_waiting table.shapes r announced_octets octets) capacity limits (waiting + 1) handed announced (spare - 1) × (parts_of grown.shapes (queue ++ new_waiting table.shapes r announced_octets octets) ≡ parts_of table.shapes queue ++ parts_for table.shapes r)
-taken table grown queue capacity limits waiting handed announced spare r announced_octets octets is takes =
-    let new = new_waiting table.shapes r announced_octets octets in
-    let one = put table.shapes r announced_octets octets takes.sound takes.are in
+pub taken : (table grown : Table) (queue : List Waiting) (capacity : ℕ) (limits : Limits) (waiting handed announced spare : ℕ) (r : DataRecord) (announced_octets : ℕ)
+    → IsConsistent table queue capacity limits waiting handed announced spare → Takes table grown limits waiting handed spare r announced_octets
+    → IsConsistent grown (queue ++ new_waiting table.shapes r announced_octets) capacity limits (waiting + 1) handed announced (spare - 1) × (parts_of grown.shapes (queue ++ new_waiting table.shapes r announced_octets) ≡ parts_of table.shapes queue ++ parts_for table.shapes r)
+taken table grown queue capacity limits waiting handed announced spare r announced_octets is takes =
+    let new = new_waiting table.shapes r announced_octets in
+    let one = put table.shapes r announced_octets takes.sound takes.announces in
     let at = placed table.shapes r.template (is_among r.template table.shapes) refl in
     let old = kept_grown table.shapes (with_shape table.shapes r.template) queue at.longer at.before is.kept in
     let K : List Template → Type 0 = λ shapes. AreKept shapes (queue ++ new) in
     let len : length grown.shapes ≡ length (with_shape table.shapes r.template) = ap length takes.shapes in (
       record {
         kept = subst K (sym takes.shapes) (kept_append (with_shape table.shapes r.template) queue new old.0 one.kept);
-        followed = followed_append queue new is.followed (followed_new _ _ _ _);
+        followed = followed_append queue new is.followed (followed_new _ _ _);
         counted = omega (arith, is.counted, entries-append queue new, one.one_entry);
         announced_before = omega (arith, is.announced_before, announcements-append queue new, one.counted, len);
         few_shapes = omega (arith, takes.few, len);
@@ -225,12 +226,12 @@ then_some-not true x = refl
 then_some-not false x = refl
 
 -- what the code puts behind the queue
-pub put_is : (shapes : List Template) (r : DataRecord) (t : Template) (place : ℕ) (is_new : Bool) (announcement : Option ℕ) (announced octets : ℕ) (values : List (List ℕ)) → t ≡ r.template → place ≡ position_or_len (same_template t) shapes → is_new ≡ not (is_among t shapes) → announcement ≡ then_some is_new announced → values ≡ r.values
-    → new_parts (256 + place) announcement octets values ≡ new_waiting shapes r announced octets
-put_is shapes r t place is_new announcement announced octets values t_is place_is new_is announcement_is values_is =
+pub put_is : (shapes : List Template) (r : DataRecord) (t : Template) (place : ℕ) (is_new : Bool) (announcement : Option ℕ) (announced : ℕ) (octets : List ℕ) → t ≡ r.template → place ≡ position_or_len (same_template t) shapes → is_new ≡ not (is_among t shapes) → announcement ≡ then_some is_new announced → octets ≡ record_text r.template.fields r.values
+    → new_parts (256 + place) announcement octets ≡ new_waiting shapes r announced
+put_is shapes r t place is_new announcement announced octets t_is place_is new_is announcement_is octets_is =
     let place_too : place ≡ position_or_len (same_template r.template) shapes = place_is ∙ ap (λ (t : Template). position_or_len (same_template t) shapes) t_is in
     let announcement_too : announcement ≡ cond (is_among r.template shapes) None (Some announced) = announcement_is ∙ ap (λ (b : Bool). then_some b announced) (new_is ∙ ap (λ (t : Template). not (is_among t shapes)) t_is) ∙ then_some-not (is_among r.template shapes) announced in
-    ap (λ (n : ℕ). new_parts (256 + n) announcement octets values) place_too ∙ ap (λ (a : Option ℕ). new_parts (256 + position_or_len (same_template r.template) shapes) a octets values) announcement_too ∙ ap (λ (vs : List (List ℕ)). new_parts (256 + position_or_len (same_template r.template) shapes) (cond (is_among r.template shapes) None (Some announced)) octets vs) values_is
+    ap (λ (n : ℕ). new_parts (256 + n) announcement octets) place_too ∙ ap (λ (a : Option ℕ). new_parts (256 + position_or_len (same_template r.template) shapes) a octets) announcement_too ∙ ap (new_parts (256 + position_or_len (same_template r.template) shapes) (cond (is_among r.template shapes) None (Some announced))) octets_is
 
 -- the view after it
 pub given_one-view : (k : Kept) (r : DataRecord) (shapes : List Template) (limits : Limits) (spare handed announced : ℕ) (waiting new_parts' : List Part) (grown : List Template) → k ≡ record { standing = record { shapes = shapes; handed = handed; announced = announced; waiting = waiting }; limits = limits; spare = spare } → grown ≡ with_shape shapes r.template → new_parts' ≡ waiting ++ parts_for shapes r

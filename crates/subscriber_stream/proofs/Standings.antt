@@ -21,7 +21,7 @@ use Rattle.subscriber_stream.proofs.ShapeLaws.{shapes_after-first, shapes_on, sh
 pub queued_entries : (shapes : List Template) (ws : List Waiting) → length (records_in (parts_of shapes ws)) ≡ entries ws
 queued_entries shapes [] = refl
 queued_entries shapes (Announce id octets ∷ ws) = queued_entries shapes ws
-queued_entries shapes (Bring id octets values ∷ ws) = ap suc (queued_entries shapes ws)
+queued_entries shapes (Bring id octets ∷ ws) = ap suc (queued_entries shapes ws)
 
 pub stands_at_start : StandsAt at_start [] 0
 unfolding parts shapes_of
@@ -191,9 +191,9 @@ pub announce_out : (shapes : List Template) (limits : Limits) (spare handed anno
 unfolding handed_one
 announce_out shapes limits spare handed announced ws qs id octets is = rw is refl
 
-pub bring_out : (shapes : List Template) (limits : Limits) (spare handed announced : ℕ) (ws qs : List Waiting) (id octets : ℕ) (values : List (List ℕ)) → ws ≡ Bring id octets values ∷ qs → kept_of shapes limits spare (handed + 1) announced qs ≡ handed_one (kept_of shapes limits spare handed announced ws)
+pub bring_out : (shapes : List Template) (limits : Limits) (spare handed announced : ℕ) (ws qs : List Waiting) (id : ℕ) (octets : List ℕ) → ws ≡ Bring id octets ∷ qs → kept_of shapes limits spare (handed + 1) announced qs ≡ handed_one (kept_of shapes limits spare handed announced ws)
 unfolding handed_one
-bring_out shapes limits spare handed announced ws qs id octets values is = rw is refl
+bring_out shapes limits spare handed announced ws qs id octets is = rw is refl
 
 -- ---- many records, and a message
 

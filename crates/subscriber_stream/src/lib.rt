@@ -1,6 +1,7 @@
 //! A subscriber's own stream of IPFIX messages: what it is given are records, and what it hands out are
 //! messages that announce each template under an ID of this stream before the first record of it
-//! (RFC 7011, sections 3 and 8).
+//! (RFC 7011, sections 3 and 8). Until it is handed out, a record waits as the ID of its template and its octets,
+//! each value in its shortest text, and its message copies them.
 //!
 //! - [`stream`]: `Stream`, which queues records and builds the messages.
 //! - [`limits`]: `Limits`, how many records may wait, and how many templates may be announced.
@@ -13,7 +14,8 @@
 //! after it (`ok`); it answers `None` exactly where nothing is queued (`end`), which takes no memory (`quiet`), and a
 //! refused pull changes nothing (`err`). `room` is exact (`room`, `exact`). `reserve` changes nothing but the
 //! reserved room, and takes no memory where that is enough (`enough`). `push_reserved` takes no memory, and the list
-//! is then that list followed by the records (`ok`). `queued`, `handed` and `shapes` are exact. Laws:
+//! is then that list followed by the records (`ok`). `queued`, `handed` and `shapes` are exact. The type keeps that
+//! the octets of each record that waits are its values' (`IsEntry`), so that a copy of them is the record. Laws:
 //! `octets_of_pulls`, `parts_bring_the_list`, `parts_go_on`, `shapes_go_on`, `one_shape`, `sets_are_longest`,
 //! `longest_run`.
 #![tactic(auto)]

@@ -1,5 +1,5 @@
 //! The templates of a stream's records, each with its place.
-ghost use Rattle.std.specs.Prelude.{◌≡◌, ◌≤◌, ◌<◌, ◌+◌, [], length, not, OnOk, OnErr};
+ghost use Rattle.std.specs.Prelude.{◌≡◌, ◌≤◌, ◌<◌, ◌+◌, true, [], length, not, IfSome, OnOk, OnErr};
 ghost use Rattle.std.specs.Arc.{arc_value};
 ghost use Rattle.std.specs.List.{position_or_len};
 ghost use Rattle.ipfix_template.specs.Equality.{same_template};
@@ -12,10 +12,12 @@ use std::marker::Model;
 use std::sync::Arc;
 
 /// The distinct templates of a stream's records, in the order of first use. A template's place in it is
-/// found by its hash.
+/// found by its hash, but for the one that was placed last, which is tried before.
 #[derive(Drop)]
 pub(crate) struct ShapeTable {
     shapes: IndexSet<Arc<Template>>,
+    /// The place that was answered last: the next record most likely has the template that stands there.
+    last: usize,
 }
 
 impl Model for ShapeTable {
@@ -36,6 +38,7 @@ impl ShapeTable {
     {
         ShapeTable {
             shapes: IndexSet::new(alloc),
+            last: 0,
         }
     }
 
@@ -84,8 +87,36 @@ impl ShapeTable {
         ensures added { result.1 ≡ not (is_among (arc_value shape) self.old.shapes) }
         ensures kept { self.old.spare ≤ self.new.spare + 1 }
     {
+        if let Some(place) = self.place_again(&shape) {
+            return (place, false);
+        }
+        self.place_by_hash(shape)
+    }
+
+    /// The template's place, where it is the one that was answered last. No hash is taken.
+    fn place_again(&self, shape: &Template) -> Option<usize>
+        ensures { IfSome result (λ place. (place ≡ position_or_len (same_template shape.now) self.now.shapes) × (is_among shape.now self.now.shapes ≡ true)) }
+    {
+        // The templates are distinct, so that one that is equal to this one has its place.
+        if self.last < self.shapes.len() && shape == self.shape(self.last) {
+            return Some(self.last);
+        }
+        None
+    }
+
+    /// The same as [`ShapeTable::place_reserved`], by the template's hash.
+    fn place_by_hash(&mut self, shape: Arc<Template>) -> (usize, bool)
+        requires { 0 < self.old.spare }
+        ensures shapes { self.new.shapes ≡ with_shape self.old.shapes (arc_value shape) }
+        ensures place { result.0 ≡ position_or_len (same_template (arc_value shape)) self.old.shapes }
+        ensures added { result.1 ≡ not (is_among (arc_value shape) self.old.shapes) }
+        ensures kept { self.old.spare ≤ self.new.spare + 1 }
+    {
         match self.shapes.insert_full(shape) {
-            Ok(placed) => placed,
+            Ok(placed) => {
+                self.last = placed.0;
+                placed
+            }
             Err(_) => unreachable!(),
         }
     }

@@ -5,6 +5,9 @@ ghost use Rattle.ipfix_octets.specs.MessageFormat.{least_template_id};
 ghost use Rattle.ipfix_template.specs.DataRecord.{DataRecord};
 ghost use Rattle.subscriber_stream.specs.declared.limits.TheConstants.{MOST_SHAPES};
 
+#[cfg(test)]
+mod tests;
+
 use crate::fitting::fitting;
 use crate::limits::Limits;
 use crate::pull_error::PullError;
@@ -168,13 +171,12 @@ impl Stream {
         requires count { self.old.standing.handed + queued self.old.standing + 1 < 2 ^ 64 }
         ensures { self.new ≡ given_one self.old next }
     {
-        let octets = next.octets() as u16;
         let template_octets = next.template_octets() as u16;
-        let (template, values) = next.into_parts();
+        let (template, octets) = next.into_parts();
         let (place, is_new) = self.shapes.place_reserved(template);
         let id = LEAST_TEMPLATE_ID + place as u16;
         let announced = is_new.then_some(template_octets);
-        put_waiting(&mut self.queue, id, announced, octets, values);
+        put_waiting(&mut self.queue, id, announced, octets);
         self.waiting += 1;
         self.spare -= 1;
     }

@@ -12,7 +12,7 @@ use bytes::Bytes;
 use ipfix_octets::message_format::{
     IPFIX_VERSION, LEAST_TEMPLATE_ID, OPTIONS_TEMPLATE_SET, SET_HEADER_OCTETS, TEMPLATE_SET,
 };
-use ipfix_template::{Template, encode_template, encode_values};
+use ipfix_template::{Template, encode_template};
 use std::alloc::{AllocError, Global};
 use std::collections::VecDeque;
 
@@ -93,12 +93,12 @@ fn put_part(
         Waiting::Announce { id, octets } => {
             put_announcement(*id, shape_of(shapes, *id), *octets, out)
         }
-        Waiting::Bring { id, octets, values } => {
+        Waiting::Bring { id, octets } => {
             if !joins(last, *id) {
                 let others = run_octets(queue, place + 1, count, *id);
-                put_head(*id, usize::from(*octets) + others, out)?;
+                put_head(*id, octets.len() + others, out)?;
             }
-            encode_values(shape_of(shapes, *id), values, out)
+            out.extend_from_slice(octets)
         }
     }
 }
@@ -167,8 +167,7 @@ fn run_octets(queue: &VecDeque<Waiting>, place: usize, count: usize, id: u16) ->
             Waiting::Bring {
                 id: other,
                 octets: more,
-                ..
-            } if id == *other => octets += usize::from(*more),
+            } if id == *other => octets += more.len(),
             _ => return octets,
         }
     }

@@ -2,16 +2,25 @@
 ghost use Rattle.std.specs.Prelude.{◌≡◌, ◌≤◌, length};
 ghost use Rattle.std.specs.Arc.{arc_value};
 
-use crate::data_record::{RECORD_ROOM, Record, Values, record_octets, template_octets};
+use crate::data_record::{RECORD_ROOM, Record, template_octets};
 use crate::template::Template;
+use bytes::Bytes;
 use std::sync::Arc;
 
 impl Record {
     ghost use Rattle.ipfix_octets.specs.MessageFormat.{least_template_id};
-    ghost use Rattle.ipfix_template.specs.DataRecord.{IsSound};
+    ghost use Rattle.ipfix_template.specs.DataRecord.{IsSound, IsKept};
     ghost use Rattle.ipfix_template.specs.Template.{is_options, template_record};
     ghost use Rattle.ipfix_template.specs.Values.{record_text};
     ghost use Rattle.ipfix_template.specs.declared.data_record.TheConstants.{RECORD_ROOM};
+
+    /// The template, of which a record keeps that it passes its check.
+    pub fn template(&self) -> &Template
+        ensures value { result.now ≡ self.now.template }
+        ensures sound { IsSound self.now }
+    {
+        &self.template
+    }
 
     /// The template as records share it.
     pub fn shared_template(&self) -> &Arc<Template>
@@ -21,22 +30,32 @@ impl Record {
         &self.template
     }
 
-    /// The template and the values.
-    pub fn into_parts(self) -> (Arc<Template>, Values)
-        ensures template { arc_value result.0 ≡ self.template }
-        ensures values { result.1 ≡ self.values }
-        ensures sound { IsSound self }
+    /// The values as `encode_record` appends them: each in its shortest text, one after another.
+    pub fn as_octets(&self) -> &Bytes
+        ensures value { result.now ≡ record_text self.now.template.fields self.now.values }
+        ensures kept { IsKept self.now.template result.now }
+        ensures sound { IsSound self.now }
     {
-        let Record { template, values } = self;
-        (template, values)
+        &self.octets
     }
 
-    /// The octets of what `encode_record` appends, at most [`RECORD_ROOM`].
+    /// The template and the octets.
+    pub fn into_parts(self) -> (Arc<Template>, Bytes)
+        ensures template { arc_value result.0 ≡ self.template }
+        ensures octets { result.1 ≡ record_text self.template.fields self.values }
+        ensures kept { IsKept self.template result.1 }
+        ensures sound { IsSound self }
+    {
+        let Record { template, octets } = self;
+        (template, octets)
+    }
+
+    /// How many octets `encode_record` appends, at most [`RECORD_ROOM`].
     pub fn octets(&self) -> usize
         ensures exact { result ≡ length (record_text self.now.template.fields self.now.values) }
         ensures fits { result ≤ RECORD_ROOM }
     {
-        record_octets(self.template().fields.as_slice(), self.values().as_slice())
+        self.octets.len()
     }
 
     /// The octets of what `encode_template` appends for the record's template, at most [`RECORD_ROOM`].

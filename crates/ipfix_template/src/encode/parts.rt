@@ -1,10 +1,12 @@
 //! What is written for values apart from their record.
 ghost use Rattle.std.specs.Prelude.{◌≡◌, ◌<◌, ◌≤◌, ◌+◌, ◌++◌, true, length, OnOk, OnErr, vec_len, vec_capacity};
-ghost use Rattle.ipfix_template.specs.Values.{fit_fields, record_text};
+ghost use Rattle.ipfix_template.specs.Values.{fits_field, fit_fields, value_text, record_text};
 
 use crate::data_record::Values;
 use crate::encode::put_values;
+use crate::field::FieldSpec;
 use crate::template::Template;
+use ipfix_octets::write_varlen;
 use std::alloc::AllocError;
 
 /// Appends values that fit the template, as `encode_record` does those of a record.
@@ -28,4 +30,22 @@ pub fn encode_values(
         out.truncate(held);
     }
     put
+}
+
+/// Appends a value that fits its field, in its shortest text, as `encode_record` does each of a record.
+///
+/// # Errors
+/// Want of memory, only where `out` had no room for it, and then nothing is appended.
+pub fn encode_value(field: &FieldSpec, value: &[u8], out: &mut Vec<u8>) -> Result<(), AllocError>
+    requires { fits_field field.now value.now ≡ true }
+    ensures ok { OnOk result (out.new.items ≡ out.old.items ++ value_text field.now value.now) }
+    ensures err { OnErr result (out.new.items ≡ out.old.items) }
+    ensures full { OnErr result (vec_capacity out.old < vec_len out.old + length (value_text field.now value.now)) }
+    ensures capacity { vec_capacity out.old ≤ vec_capacity out.new }
+{
+    if field.is_variable() {
+        write_varlen(value, out)
+    } else {
+        out.extend_from_slice(value)
+    }
 }

@@ -1,5 +1,5 @@
 use Rattle.std.proofs.Common.{arith}
-use Rattle.subscriber_stream.proofs.Pieces.{accepted_under, announcement_at, entry_at, entry_small}
+use Rattle.subscriber_stream.proofs.Pieces.{accepted_under, announcement_at, entry_small}
 use Rattle.subscriber_stream.proofs.writing.put_part.Goals as goal
 
 pub shape_of-requires-in-Announce-clause-low : goal.shape_of-requires-in-Announce-clause-low
@@ -20,24 +20,12 @@ put_announcement-requires c =
 
 pub run_octets-others-requires-clause-fits : goal.run_octets-others-requires-clause-fits
 run_octets-others-requires-clause-fits c =
-    omega (arith, entry_small c.args.queue.now.items c.args.count c.args.place _ _ _ _ c.requires.within c.requires.place c.index.ensures c.in-Bring.is)
+    omega (arith, entry_small c.args.queue.now.items c.args.count c.args.place _ _ _ c.requires.within c.requires.place c.index.ensures c.in-Bring.is)
 
-pub overflow_add-from : goal.overflow_add-from
-overflow_add-from c =
-    omega (arith, entry_small c.args.queue.now.items c.args.count c.args.place _ _ _ _ c.requires.within c.requires.place c.index.ensures c.in-Bring.is)
+pub overflow_add-len : goal.overflow_add-len
+overflow_add-len c =
+    omega (arith, entry_small c.args.queue.now.items c.args.count c.args.place _ _ _ c.requires.within c.requires.place c.index.ensures c.in-Bring.is)
 
 pub put_head-requires : goal.put_head-requires
 put_head-requires c =
-    omega (arith, entry_small c.args.queue.now.items c.args.count c.args.place _ _ _ _ c.requires.within c.requires.place c.index.ensures c.in-Bring.is)
-
-pub shape_of-requires-in-Bring-clause-low : goal.shape_of-requires-in-Bring-clause-low
-shape_of-requires-in-Bring-clause-low c =
-    (entry_at c.args.shapes.now.shapes c.args.queue.now.items c.args.place _ _ _ _ c.requires.kept (omega arith) c.index.ensures c.in-Bring.is).low
-
-pub shape_of-requires-in-Bring-clause-known : goal.shape_of-requires-in-Bring-clause-known
-shape_of-requires-in-Bring-clause-known c =
-    (entry_at c.args.shapes.now.shapes c.args.queue.now.items c.args.place _ _ _ _ c.requires.kept (omega arith) c.index.ensures c.in-Bring.is).known
-
-pub encode_values-requires : goal.encode_values-requires
-encode_values-requires c =
-    rw c.shape_of-in-Bring.ensures (entry_at c.args.shapes.now.shapes c.args.queue.now.items c.args.place _ _ _ _ c.requires.kept (omega arith) c.index.ensures c.in-Bring.is).fit
+    omega (arith, entry_small c.args.queue.now.items c.args.count c.args.place _ _ _ c.requires.within c.requires.place c.index.ensures c.in-Bring.is)

@@ -10,8 +10,10 @@ returns-clause-showable c =
     let removed = c.deref-2.ensures.value ∙ c.in_ok-removed.ensures ∙ ap removed_fields c.deref.ensures.value in
     let scope = ap (λ (t : Template). t.scope) c.template.ensures.value in
     let octets = c.shortest.ensures ∙ ap shortest_record c.deref-5.ensures in
-    let template = rw c.deref-3.ensures.value at c.in_ok-template.ensures in (
-      c.requires.within,
-      found_sound c.args.flow_record.now c.args.verdicts.items c.template.result.now.scope c.deref-2.result.now _ _ c.requires scope removed (sym c.in_default.ensures) template
-          (λ none. c.if-shortest-eq0.false (octets ∙ none)) refl,
-    )
+    let template = rw c.deref-3.ensures.value at c.in_ok-template.ensures in
+    record {
+      each = c.requires.each;
+      within = c.requires.within;
+      fields = ap (λ (t : Template). t.fields) template;
+      sound = found_sound c.args.flow_record.now c.args.verdicts.items c.template.result.now.scope c.deref-2.result.now _ _ c.requires scope removed (sym c.in_default.ensures) template (λ none. c.if-shortest-eq0.false (octets ∙ none)) refl;
+    }

@@ -7,4 +7,4 @@ returns-in-Some-Announce c =
 
 pub returns-in-Some-Bring : goal.returns-in-Some-Bring
 returns-in-Some-Bring c =
-    rw (← c.self.view_is) (bring_out _ _ _ _ _ _ _ _ _ _ (rw c.in-Some-Bring.field-0-is at c.in-Some-Bring.ensures.items))
+    rw (← c.self.view_is) (bring_out _ _ _ _ _ _ _ _ _ (rw c.in-Some-Bring.field-0-is at c.in-Some-Bring.ensures.items))

@@ -26,13 +26,13 @@ overflow_add-self c =
     let queue = rw (← c.self.view_is) at c.requires.queue in
     omega (arith, queue, queued_entries c.self.inside.shapes.shapes c.self.inside.queue.items, c.self.invariant.counted)
 
-takes : (c : goal.After-self-2-1) → Takes c.self.inside.shapes c.place_reserved-place.new.self c.self.inside.limits c.self.inside.waiting c.self.inside.handed c.self.inside.spare c.args.next c.template_octets-template_octets.result c.octets-octets.result
+takes : (c : goal.After-self-2-1) → Takes c.self.inside.shapes c.place_reserved-place.new.self c.self.inside.limits c.self.inside.waiting c.self.inside.handed c.self.inside.spare c.args.next c.template_octets-template_octets.result
 takes c =
     let below = rw (← c.self.view_is) at c.requires.count in
     let queue = rw (← c.self.view_is) at c.requires.queue in
     record {
       sound = c.into_parts-template.ensures.sound;
-      are = record { template = c.template_octets-template_octets.ensures.exact; template_few = c.template_octets-template_octets.ensures.fits; text = c.octets-octets.ensures.exact; text_few = c.octets-octets.ensures.fits };
+      announces = c.template_octets-template_octets.ensures.exact;
       some = rw (← c.self.view_is) at c.requires.reserved;
       few = rw (← c.self.view_is) at c.requires.shapes;
       queue = omega (arith, queue, queued_entries c.self.inside.shapes.shapes c.self.inside.queue.items, c.self.invariant.counted);
@@ -41,14 +41,14 @@ takes c =
       spare_left = c.place_reserved-place.ensures.kept;
     }
 
-queue_is : (c : goal.After-self-2-1) → c.put_waiting.new.queue.items ≡ c.self.inside.queue.items ++ new_waiting c.self.inside.shapes.shapes c.args.next c.template_octets-template_octets.result c.octets-octets.result
+queue_is : (c : goal.After-self-2-1) → c.put_waiting.new.queue.items ≡ c.self.inside.queue.items ++ new_waiting c.self.inside.shapes.shapes c.args.next c.template_octets-template_octets.result
 queue_is c =
-    c.put_waiting.ensures.items ∙ ap (λ (ws : List Waiting). c.self.inside.queue.items ++ ws) (put_is c.self.inside.shapes.shapes c.args.next _ _ _ _ _ _ _ c.into_parts-template.ensures.template c.place_reserved-place.ensures.place c.place_reserved-place.ensures.added c.then_some-announced.ensures c.into_parts-template.ensures.values)
+    c.put_waiting.ensures.items ∙ ap (λ (ws : List Waiting). c.self.inside.queue.items ++ ws) (put_is c.self.inside.shapes.shapes c.args.next _ _ _ _ _ _ c.into_parts-template.ensures.template c.place_reserved-place.ensures.place c.place_reserved-place.ensures.added c.then_some-announced.ensures c.into_parts-template.ensures.octets)
 
 pub invariant_of-self : goal.invariant_of-self
 invariant_of-self c =
-    rw (queue_is c, c.put_waiting.ensures.capacity) (taken c.self.inside.shapes c.place_reserved-place.new.self c.self.inside.queue.items _ _ _ _ _ _ c.args.next _ _ c.self.invariant (takes c)).0
+    rw (queue_is c, c.put_waiting.ensures.capacity) (taken c.self.inside.shapes c.place_reserved-place.new.self c.self.inside.queue.items _ _ _ _ _ _ c.args.next _ c.self.invariant (takes c)).0
 
 pub returns : goal.returns
 returns c =
-    given_one-view c.args.self.now c.args.next _ _ _ _ _ _ _ _ (sym c.self.view_is) (takes c).shapes (ap (λ (ws : List Waiting). parts_of c.place_reserved-place.new.self.shapes ws) (queue_is c) ∙ (taken c.self.inside.shapes c.place_reserved-place.new.self c.self.inside.queue.items _ _ _ _ _ _ c.args.next _ _ c.self.invariant (takes c)).1)
+    given_one-view c.args.self.now c.args.next _ _ _ _ _ _ _ _ (sym c.self.view_is) (takes c).shapes (ap (λ (ws : List Waiting). parts_of c.place_reserved-place.new.self.shapes ws) (queue_is c) ∙ (taken c.self.inside.shapes c.place_reserved-place.new.self c.self.inside.queue.items _ _ _ _ _ _ c.args.next _ c.self.invariant (takes c)).1)

@@ -3,7 +3,7 @@ use Rattle.std.proofs.lemmas.List.{map_push}
 use Rattle.std.specs.Arc.{arc_value}
 use Rattle.ipfix_template.specs.Equality.{same_template}
 use Rattle.subscriber_stream.proofs.TableLaws.{list_any-map, position_or_len-map, map-chosen}
-use Rattle.subscriber_stream.proofs.shape_table.ShapeTable.place_reserved.Goals as goal
+use Rattle.subscriber_stream.proofs.shape_table.ShapeTable.place_by_hash.Goals as goal
 
 pub returns-clause-shapes : goal.returns-clause-shapes
 returns-clause-shapes c =
