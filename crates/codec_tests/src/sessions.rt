@@ -503,7 +503,11 @@ fn expect_value(rt: &impl Abort, name: &str, found: &[u8], wanted: &[u8]) {
 }
 
 fn expect_values(rt: &impl Abort, name: &str, found: &Record, wanted: &[&[u8]]) {
-    assert_eq!(rt; found.template().fields.len(), wanted.len(), "values of {name}");
+    assert_eq!(rt;
+        found.template().fields.len(),
+        wanted.len(),
+        "values of {name}"
+    );
     for ((_, value), octets) in found.entries().zip(wanted) {
         expect_value(rt, name, value, octets);
     }
