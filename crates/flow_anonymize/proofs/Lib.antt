@@ -7,4 +7,6 @@ pub mod OtherLaws
 pub mod PermittedLaws
 pub mod Planning
 pub mod PlanLaws
+pub mod ShelfLaws
+pub mod OutputLaws
 pub mod TextLaws

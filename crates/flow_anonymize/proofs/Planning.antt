@@ -42,7 +42,7 @@ pub showable : (r : DataRecord) (verdict : RecordVerdict) (ws : List ElementVerd
 showable r verdict ws (Pass template removed by) judged is =
     let same : by.items ≡ ws = is.by in
     let kept : DataRecord = record { template = arc_value template; values = kept_values r.values by.items } in
-    let passed = passed_by verdict.action verdict.rule (first_lost r.template.scope (removed_fields ws)) (remaining r ws) (removed_fields ws) kept removed.items (sym (is.leaves r.values)) in
+    let passed = passed_by verdict.action verdict.rule (first_lost r.template.scope (removed_fields ws)) (remaining r ws) (removed_fields ws) kept removed (sym (is.leaves r.values)) in
     let left = left_is_sound r ws judged.sound judged.each passed.none_lost passed.has_octets in
     let P : List ElementVerdict → Type 0 = λ ws. ShowsRecord r (arc_value template) ws in
     let fields : (arc_value template).fields ≡ kept_fields r.template.fields ws = ap (λ (x : DataRecord). x.template.fields) (sym passed.record_is) in

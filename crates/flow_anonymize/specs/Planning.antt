@@ -1,8 +1,9 @@
 -- What becomes of all records of one template for which the verdicts are the same, whatever their values.
-use Rattle.std.specs.Prelude.{◌≡◌, ℕ, List, length}
+use Rattle.std.specs.Prelude.{◌≡◌, ℕ, List, [], length, Option, Some, None}
 use Rattle.std.specs.Arc.{arc_value}
 use Rattle.ipfix_template.specs.declared.template.Template.{Template}
 use Rattle.ipfix_template.specs.DataRecord.{DataRecord, IsSound}
+use Rattle.ipfix_template.specs.Values.{record_text}
 use Rattle.policy_judge.specs.declared.verdict.RecordVerdict.{RecordVerdict}
 use Rattle.policy_judge.specs.declared.verdict.ElementVerdict.{ElementVerdict}
 use Rattle.flow_anonymize.specs.declared.plan.Plan.{Plan}
@@ -14,7 +15,7 @@ use Rattle.flow_anonymize.specs.Disclosed.{transformed, by_verdict}
 
 -- what a plan makes of a record with these values
 abbrev pub planned : Plan → List (List ℕ) → Outcome
-planned (Pass template removed verdicts) values = Passes (record { template = arc_value template; values = kept_values values verdicts.items }) removed.items
+planned (Pass template removed verdicts) values = Passes (record { template = arc_value template; values = kept_values values verdicts.items }) removed
 planned (Aggregate rule definition) values = Aggregates rule definition
 planned (Withhold rule reason) values = Withholds rule reason
 
@@ -52,3 +53,15 @@ pub record IsPlan (t : Template) (on_record : RecordVerdict) (on_fields : List E
 pub record IsPassing (t : Template) (on_fields : List ElementVerdict) (plan : Plan) : Type 0 where
   pub leaves : (values : List (List ℕ)) → planned plan values ≡ transformed (record { template = t; values = values }) on_fields
   pub by : ShowsBy on_fields plan
+
+-- the template of what is shown of records
+abbrev pub shown_template : Plan → Option Template
+shown_template (Pass template removed verdicts) = Some (arc_value template)
+shown_template (Aggregate rule definition) = None
+shown_template (Withhold rule reason) = None
+
+-- the octets of the record that passes, each value in its shortest text (RFC 7011, section 7)
+abbrev pub passed_text : Outcome → List ℕ
+passed_text (Passes kept removed) = record_text kept.template.fields kept.values
+passed_text (Aggregates rule definition) = []
+passed_text (Withholds rule reason) = []

@@ -19,17 +19,21 @@
 #![tactic(auto)]
 
 mod by_table;
+mod decision;
 mod disclosure;
 mod fields;
 mod laws;
+mod output;
 mod plan;
 mod plans;
 mod record_classes;
+mod shelf;
 mod slot;
 mod transform;
 mod values;
 
 pub use by_table::disclose_by;
+pub use decision::Decision;
 pub use disclosure::{Disclosure, Reason};
 pub use disclosure_audit::RemovedField;
 pub use laws::{

@@ -1,15 +1,17 @@
 //! What becomes of all records of one template for which the verdicts are the same.
-ghost use Rattle.std.specs.Prelude.{◌≡◌, ◌≢◌, ◌<◌, ◌≤◌, ℕ, List, length, IsOk, IfOk, MatchOption};
+ghost use Rattle.std.specs.Prelude.{◌≡◌, ◌≢◌, ◌<◌, ◌≤◌, ◌++◌, ℕ, List, length, IsOk, IfOk, OnOk, MatchOption};
+ghost use Rattle.std.specs.Option.{option_map};
 ghost use Rattle.std.specs.Arc.{arc_value};
 ghost use Rattle.flow_anonymize.specs.Outcome.{Outcome, shown};
 ghost use Rattle.flow_anonymize.specs.Remaining.{removed_fields};
 ghost use Rattle.flow_anonymize.specs.Within.{AreJudged};
 ghost use Rattle.flow_anonymize.specs.Disclosed.{remaining_template, first_lost, first_rule_of, by_verdict};
 
+use crate::decision::Decision;
 use crate::disclosure::{Disclosure, Reason};
 use crate::fields::{kept_fields, removed_fields};
 use crate::values::kept_text;
-use disclosure_audit::RemovedField;
+use disclosure_audit::{RemovedField, RemovedFields};
 use ipfix_template::{Fields, Record, Template};
 use policy_judge::{ElementVerdict, RecordAction, RecordVerdict};
 use std::alloc::{AllocError, Global};
@@ -21,7 +23,7 @@ pub(crate) enum Plan {
     /// They pass: with this template, without these fields, and each field by the verdict on it.
     Pass {
         template: Arc<Template>,
-        removed: Vec<RemovedField>,
+        removed: RemovedFields,
         verdicts: Vec<ElementVerdict>,
     },
     /// They count in the aggregate at this place of the policy's list, by the rule of this number.
@@ -37,7 +39,8 @@ pub(crate) enum Plan {
 }
 
 impl Plan {
-    ghost use Rattle.flow_anonymize.specs.Planning.{planned, IsShowable, ShowsNone, IsPassing};
+    ghost use Rattle.flow_anonymize.specs.Planning.{planned, passed_text, shown_template, IsShowable, ShowsNone, IsPassing};
+    ghost use Rattle.flow_anonymize.specs.Outcome.{decision_of};
 
     /// The plan for records that don't pass.
     pub(crate) fn for_verdict(verdict: RecordVerdict) -> Option<Plan>
@@ -86,7 +89,7 @@ impl Plan {
         }
         Ok(Plan::Pass {
             template,
-            removed,
+            removed: RemovedFields::from_vec(alloc, removed)?,
             verdicts,
         })
     }
@@ -121,6 +124,61 @@ impl Plan {
             }),
         }
     }
+
+    /// Appends what is shown of a record by its plan.
+    ///
+    /// # Errors
+    /// Want of memory.
+    pub(crate) fn put_shown(
+        &self,
+        alloc: Global,
+        flow_record: &Record,
+        text: &mut Vec<u8>,
+    ) -> Result<(), AllocError>
+        requires { IsShowable self.now flow_record.now }
+        ensures { OnOk result (text.new.items ≡ text.old.items ++ passed_text (planned self.now flow_record.now.values)) }
+    {
+        match self {
+            Plan::Pass {
+                template: _,
+                removed: _,
+                verdicts,
+            } => text.extend_from_slice(&kept_text(alloc, flow_record, verdicts)?),
+            Plan::Aggregate { .. } | Plan::Withhold { .. } => Ok(()),
+        }
+    }
+
+    /// The template of what is shown, if anything is.
+    pub(crate) fn template(&self) -> Option<&Arc<Template>>
+        ensures { option_map (λ t. arc_value t.now) result ≡ shown_template self.now }
+    {
+        match self {
+            Plan::Pass { template, .. } => Some(template),
+            Plan::Aggregate { .. } | Plan::Withhold { .. } => None,
+        }
+    }
+
+    /// What is said of a record by its plan.
+    ///
+    /// # Errors
+    /// Want of memory.
+    pub(crate) fn decision(&self) -> Result<Decision, AllocError>
+        ensures { (values : List (List ℕ)) → IfOk result (λ d. d ≡ decision_of (planned self.now values)) }
+    {
+        Ok(match self {
+            Plan::Pass { removed, .. } => Decision::Passed {
+                removed: removed.clone()?,
+            },
+            Plan::Aggregate { rule, definition } => Decision::Aggregated {
+                rule: *rule,
+                definition: *definition,
+            },
+            Plan::Withhold { rule, reason } => Decision::Withheld {
+                rule: *rule,
+                reason: *reason,
+            },
+        })
+    }
 }
 
 ghost use Rattle.flow_anonymize.specs.Outcome.{Passes};
@@ -131,7 +189,7 @@ ghost use Rattle.flow_anonymize.specs.Planning.{ShowsRecord};
 fn pass(
     alloc: Global,
     template: &Arc<Template>,
-    removed: &[RemovedField],
+    removed: &RemovedFields,
     verdicts: &[ElementVerdict],
     flow_record: &Record,
 ) -> Result<Disclosure, AllocError>
@@ -140,7 +198,7 @@ fn pass(
 {
     let text = kept_text(alloc, flow_record, verdicts)?;
     let kept = Record::from_octets(template.clone()?, text);
-    let removed = Vec::from_slice(alloc, removed)?;
+    let removed = removed.clone()?;
     Ok(Disclosure::Passed { kept, removed })
 }
 
