@@ -36,7 +36,7 @@ added_by domain f name r = map count_of (counts f.policy.aggregates f.clock r (o
 
 -- a share and a tally as pairs: the subscription with what it is given, or with what is added to its aggregates
 abbrev pub shown : Share → ℕ × List DataRecord
-shown s = (s.sub, s.given.items)
+shown s = (s.sub, s.given)
 
 abbrev pub tallied : Tally → ℕ × List Count
 tallied t = (t.sub, t.counts.items)
