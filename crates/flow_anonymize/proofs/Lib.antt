@@ -8,3 +8,4 @@ pub mod PermittedLaws
 pub mod Planning
 pub mod PlanLaws
 pub mod TextLaws
+pub mod StepLaws

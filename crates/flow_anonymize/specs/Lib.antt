@@ -24,3 +24,4 @@ pub mod Planning
 pub mod Classes
 pub mod Plans
 pub mod Texts
+pub mod Steps

@@ -26,6 +26,7 @@ mod plan;
 mod plans;
 mod record_classes;
 mod slot;
+mod steps;
 mod transform;
 mod values;
 
