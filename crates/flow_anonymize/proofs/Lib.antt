@@ -1,4 +1,3 @@
-pub mod Turns
 pub mod Bounds
 pub mod Sound
 pub mod Places

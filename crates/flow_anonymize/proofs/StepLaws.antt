@@ -1,5 +1,5 @@
 -- Steps show of the text of values what is left of them.
-use Rattle.std.proofs.Common.{◌≡◌, ℕ, ◌+◌, ◌-◌, ◌*◌, ◌^◌, ◌/◌, ◌<◌, ◌≤◌, Bool, true, false, cond, ltb, leb, min, List, [], ◌∷◌, ◌++◌, length, take, drop, get_or, Option, Some, refl, sym, ap, ◌∙◌, subst, arith, append-nil, append_assoc, length-append}
+use Rattle.std.proofs.Common.{◌≡◌, ℕ, ◌+◌, ◌-◌, ◌*◌, ◌^◌, ◌/◌, ◌<◌, ◌≤◌, Bool, true, false, cond, ltb, leb, min, List, [], ◌∷◌, ◌++◌, length, take, drop, get_or, Option, Some, refl, sym, ap, ◌∙◌, subst, arith, append_assoc, length-append}
 use Rattle.std.specs.Prelude.{unwrap_or}
 use Rattle.std.specs.List.{zip}
 use Rattle.std.proofs.Math.Seq.{take-add}
@@ -197,17 +197,6 @@ all_made fs ws n steps new last end ended made =
 pub no_more : (last : Step) (steps : List Step) → ((octets : List ℕ) → shown_at last octets ≡ []) → AreAlike steps (steps ++ last ∷ [])
 no_more last [] none octets = sym (ap (λ t. t ++ []) (none octets))
 no_more last (step ∷ steps) none octets = ap (λ t. shown_at step octets ++ t) (no_more last steps none (behind step octets))
-
--- ---- writing by them, one after another
-
-pub put_more : (steps : List Step) (i : ℕ) (s : Step) (text new rest next whole : List ℕ) → i < length steps → s ≡ get_or steps i s → new ≡ text ++ shown_at s rest → next ≡ behind s rest
-    → text ++ shown_by (drop i steps) rest ≡ whole → new ++ shown_by (drop (i + 1) steps) next ≡ whole
-put_more steps i s text new rest next whole lt is grown at so =
-    ap (λ t. t ++ shown_by (drop (i + 1) steps) next) grown ∙ ap (λ o. (text ++ shown_at s rest) ++ shown_by (drop (i + 1) steps) o) at
-    ∙ append_assoc text (shown_at s rest) (shown_by (drop (i + 1) steps) (behind s rest)) ∙ ap (λ ss. text ++ shown_by ss rest) (sym (drop_read steps i s lt is)) ∙ so
-
-pub put_all : (steps : List Step) (i : ℕ) (text rest whole : List ℕ) → length steps ≤ i → text ++ shown_by (drop i steps) rest ≡ whole → text ≡ whole
-put_all steps i text rest whole over so = sym (append-nil text) ∙ ap (λ ss. text ++ shown_by ss rest) (sym (drop_all i steps over)) ∙ so
 
 -- ---- for the calls
 

@@ -1,5 +1,5 @@
 //! What is shown of a record, by a few steps over its octets that are worked out once for a plan.
-ghost use Rattle.std.specs.Prelude.{◌≡◌, ◌+◌, ◌≤◌, ◌++◌, ◌∷◌, [], List, length, take, drop, IfOk, IfSome, OnOk};
+ghost use Rattle.std.specs.Prelude.{◌≡◌, ◌+◌, ◌≤◌, ◌++◌, ◌∷◌, [], List, length, take, drop, IfOk, IfSome, OnOk, OnErr};
 ghost use Rattle.flow_prefix.specs.Bits.{kept_octets};
 ghost use Rattle.flow_anonymize.specs.declared.steps.Step.{Step};
 ghost use Rattle.flow_anonymize.specs.Steps.{variable_span, shown_at, behind, shown_by, step_of, AreAlike, AreSteps};
@@ -105,13 +105,27 @@ fn end(last: Step, steps: &mut Vec<Step>) -> Result<(), AllocError>
 /// Appends what the steps show of octets.
 ///
 /// # Errors
-/// Want of memory.
+/// Want of memory, and then nothing is appended.
 pub(crate) fn put_by_steps(
     steps: &[Step],
     octets: &[u8],
     text: &mut Vec<u8>,
 ) -> Result<(), AllocError>
-    ensures { OnOk result (text.new.items ≡ text.old.items ++ shown_by steps.now octets.now) }
+    ensures ok { OnOk result (text.new.items ≡ text.old.items ++ shown_by steps.now octets.now) }
+    ensures err { OnErr result (text.new.items ≡ text.old.items) }
+{
+    let held = text.len();
+    let put = put_steps(steps, octets, text);
+    if put.is_err() {
+        text.truncate(held);
+    }
+    put
+}
+
+/// The same, and what stood there stays on an error.
+fn put_steps(steps: &[Step], octets: &[u8], text: &mut Vec<u8>) -> Result<(), AllocError>
+    ensures ok { OnOk result (text.new.items ≡ text.old.items ++ shown_by steps.now octets.now) }
+    ensures err { OnErr result (take (length text.old.items) text.new.items ≡ text.old.items) }
 {
     let mut rest = octets;
     'steps: for step in steps {
@@ -124,6 +138,7 @@ pub(crate) fn put_by_steps(
 fn put_step<'o>(step: Step, octets: &'o [u8], text: &mut Vec<u8>) -> Result<&'o [u8], AllocError>
     ensures shown { OnOk result (text.new.items ≡ text.old.items ++ shown_at step octets.now) }
     ensures behind { IfOk result (λ rest. rest.now ≡ behind step octets.now) }
+    ensures err { OnErr result (take (length text.old.items) text.new.items ≡ text.old.items) }
 {
     match step {
         Step::Show(count) => {
@@ -188,7 +203,8 @@ fn put_truncated(
     bits: usize,
     text: &mut Vec<u8>,
 ) -> Result<(), AllocError>
-    ensures { OnOk result (text.new.items ≡ text.old.items ++ (before.now ++ kept_octets bits octets.now)) }
+    ensures ok { OnOk result (text.new.items ≡ text.old.items ++ (before.now ++ kept_octets bits octets.now)) }
+    ensures err { OnErr result (take (length text.old.items) text.new.items ≡ text.old.items) }
 {
     text.extend_from_slice(before)?;
     put_first_bits(octets, bits, text)
@@ -196,7 +212,8 @@ fn put_truncated(
 
 /// Appends octets with their first bits and the others 0; all of them where they have no more bits.
 fn put_first_bits(octets: &[u8], bits: usize, text: &mut Vec<u8>) -> Result<(), AllocError>
-    ensures { OnOk result (text.new.items ≡ text.old.items ++ kept_octets bits octets.now) }
+    ensures ok { OnOk result (text.new.items ≡ text.old.items ++ kept_octets bits octets.now) }
+    ensures err { OnErr result (text.new.items ≡ text.old.items) }
 {
     let most = octets.len().saturating_mul(8);
     keep_bits(octets, bits.min(most), text)
