@@ -1,5 +1,5 @@
 -- Steps show of the text of values what is left of them.
-use Rattle.std.proofs.Common.{◌≡◌, ℕ, ◌+◌, ◌-◌, ◌*◌, ◌^◌, ◌/◌, ◌<◌, ◌≤◌, Bool, true, false, cond, ltb, leb, min, List, [], ◌∷◌, ◌++◌, length, take, drop, get_or, Option, Some, refl, sym, ap, ◌∙◌, subst, arith, append_assoc, length-append}
+use Rattle.std.proofs.Common.{◌≡◌, ℕ, ◌+◌, ◌-◌, ◌*◌, ◌^◌, ◌/◌, ◌<◌, Bool, true, false, cond, ltb, leb, min, List, [], ◌∷◌, ◌++◌, length, take, drop, get_or, Option, Some, refl, sym, ap, ◌∙◌, arith, append_assoc, length-append}
 use Rattle.std.specs.Prelude.{unwrap_or}
 use Rattle.std.specs.List.{zip}
 use Rattle.std.proofs.Math.Seq.{take-add}
@@ -12,15 +12,15 @@ use Rattle.ipfix_octets.specs.Variable.{shortest_text, varlen_at}
 use Rattle.ipfix_template.specs.declared.field.FieldSpec.{FieldSpec}
 use Rattle.ipfix_template.specs.Template.{is_variable}
 use Rattle.ipfix_template.specs.Values.{span_at, fits_field, fit_fields, value_text, record_text}
-use Rattle.ipfix_template.proofs.SplitLaws.{Finds, span_at-only}
+use Rattle.ipfix_template.proofs.SplitLaws.{span_at-only}
 use Rattle.ipfix_template.proofs.WrittenLaws.{value_text-is}
 use Rattle.ipfix_template.proofs.Encoding.{fit_fields-length}
 use Rattle.policy_judge.specs.declared.verdict.ElementAction.{ElementAction}
 use Rattle.policy_judge.specs.declared.verdict.ElementAction.TheVariants as on_field
 use Rattle.policy_judge.specs.declared.verdict.ElementVerdict.{ElementVerdict}
-use Rattle.flow_prefix.specs.Bits.{truncated, kept_octets}
+use Rattle.flow_prefix.specs.Bits.{kept_octets}
 use Rattle.flow_anonymize.specs.declared.steps.Step.{Step}
-use Rattle.flow_anonymize.specs.declared.steps.Step.TheVariants.{Show, Skip, ShowVariable, SkipVariable, Truncate, TruncateVariable}
+use Rattle.flow_anonymize.specs.declared.steps.Step.TheVariants.{Show, Skip, SkipVariable}
 use Rattle.flow_anonymize.specs.Texts.{shown_text, shown_texts}
 use Rattle.flow_anonymize.specs.Steps.{variable_span, variable_octets, truncated_text, shown_at, behind, shown_by, step_of, AreAlike, AreSteps}
 use Rattle.flow_anonymize.proofs.TextLaws.{texts_are}

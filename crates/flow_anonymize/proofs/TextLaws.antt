@@ -1,21 +1,15 @@
 -- The octets of what is shown of a record.
-use Rattle.std.proofs.Common.{◌≡◌, ℕ, zero, suc, cond, leb, eqb, ◌+◌, ◌<◌, ◌≤◌, true, false, List, [], ◌∷◌, ◌++◌, length, map, filter, drop, get_or, refl, sym, ap, ◌∙◌, subst, arith, append-nil, append_assoc, length-drop}
+use Rattle.std.proofs.Common.{◌≡◌, ℕ, true, List, [], ◌∷◌, ◌++◌, length, refl, sym, ap, ◌∙◌, arith}
 use Rattle.std.specs.List.{zip, list_all}
 use Rattle.std.proofs.lemmas.Bool.{and_parts}
-use Rattle.std.proofs.lemmas.List.{drop-drop, get_or-drop, drop_all}
-use Rattle.std.proofs.lemmas.Slice.Zip.{length-zip, get_or-zip}
-use Rattle.sequences.proofs.ListLaws.{drop_read}
-use Rattle.ipfix_template.proofs.Encoding.{fit_fields-at}
 use Rattle.ipfix_template.specs.declared.field.FieldSpec.{FieldSpec}
-use Rattle.sequences.proofs.OctetLaws.{length-be_octets}
-use Rattle.ipfix_template.specs.Template.{is_variable}
-use Rattle.ipfix_template.specs.Values.{fits_field, fit_fields, value_text, record_text}
+use Rattle.ipfix_template.specs.Values.{value_text, record_text}
 use Rattle.policy_judge.specs.declared.verdict.ElementAction.{ElementAction}
 use Rattle.policy_judge.specs.declared.verdict.ElementAction.TheVariants.{Keep, Remove, Truncate}
 use Rattle.policy_judge.specs.declared.verdict.ElementVerdict.{ElementVerdict}
 use Rattle.flow_prefix.specs.Bits.{kept_octets}
-use Rattle.flow_anonymize.specs.Remaining.{keeps, is_kept, shown_value, kept_fields, kept_values}
-use Rattle.flow_anonymize.specs.Within.{IsWithin, AreWithin, stays_whole, is_whole}
+use Rattle.flow_anonymize.specs.Remaining.{kept_fields, kept_values}
+use Rattle.flow_anonymize.specs.Within.{stays_whole, is_whole}
 use Rattle.flow_anonymize.specs.Texts.{shown_text, shown_texts}
 
 -- field by field, or as a whole

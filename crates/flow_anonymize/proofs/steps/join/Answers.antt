@@ -1,5 +1,4 @@
-use Rattle.flow_anonymize.specs.declared.steps.Step.{Step}
-use Rattle.std.proofs.Common.{◌∷◌, List}
+use Rattle.std.proofs.Common.{◌∷◌}
 use Rattle.flow_anonymize.proofs.StepLaws.{alike_behind}
 use Rattle.flow_anonymize.proofs.steps.join.Goals as goal
 

@@ -1,4 +1,4 @@
-use Rattle.std.proofs.Common.{sym, ap, ◌∙◌, rules}
+use Rattle.std.proofs.Common.{ap, ◌∙◌, rules}
 use Rattle.std.proofs.lemmas.Result.{IfOk-weaker}
 use Rattle.ipfix_template.proofs.Encoding.{fit_fields-length}
 use Rattle.flow_anonymize.specs.Steps.{shown_by}
