@@ -1,4 +1,3 @@
-pub mod Turns
 pub mod Bounds
 pub mod Sound
 pub mod Places
@@ -10,3 +9,4 @@ pub mod PlanLaws
 pub mod ShelfLaws
 pub mod OutputLaws
 pub mod TextLaws
+pub mod StepLaws

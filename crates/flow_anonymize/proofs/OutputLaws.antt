@@ -13,9 +13,9 @@ use Rattle.record_runs.specs.Pieces.{pieces, AreEnds}
 use Rattle.record_runs.proofs.PieceLaws.{ends_push, pieces_written}
 use Rattle.flow_anonymize.specs.declared.plan.Plan.{Plan}
 use Rattle.flow_anonymize.specs.declared.plan.Plan.TheVariants.{Pass, Aggregate, Withhold}
-use Rattle.flow_anonymize.specs.Outcome.{passed}
+use Rattle.flow_anonymize.specs.Outcome.{passed, passed_text}
 use Rattle.flow_anonymize.specs.Remaining.{kept_values}
-use Rattle.flow_anonymize.specs.Planning.{planned, IsShowable, shown_template, passed_text}
+use Rattle.flow_anonymize.specs.Planning.{planned, IsShowable, shown_template}
 use Rattle.flow_anonymize.specs.Output.{OutputOf, open_records, IsWriting, IsOutput}
 
 some_is : (t s : Template) → Some t ≡ Some s → t ≡ s
@@ -27,10 +27,10 @@ pub record IsPassed (p : Plan) (r : DataRecord) (t : Template) : Type 0 where
   pub is : passed (planned p r.values) ≡ kept_record t (passed_text (planned p r.values)) ∷ []
 
 pub passed_is : (p : Plan) (r : DataRecord) (t : Template) → IsShowable p r → Some t ≡ shown_template p → IsPassed p r t
-passed_is (Pass template removed by) r t shows same =
+passed_is (Pass template removed by steps) r t shows same =
     let values = kept_values r.values by.items in
     let here : t ≡ arc_value template = some_is t (arc_value template) same in
-    subst (IsPassed (Pass template removed by) r) (sym here) (record {
+    subst (IsPassed (Pass template removed by steps) r) (sym here) (record {
       kept = kept_from (arc_value template) values (record_text (arc_value template).fields values) shows.sound refl;
       is = ap (λ (k : DataRecord). k ∷ []) (sym (kept_is (arc_value template) values (record_text (arc_value template).fields values) shows.sound.fit refl));
     })

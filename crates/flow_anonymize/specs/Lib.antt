@@ -28,3 +28,4 @@ pub mod Output
 pub mod Shelf
 pub use Rattle.record_runs.specs.Runs
 pub use Rattle.record_runs.specs.Pieces
+pub mod Steps

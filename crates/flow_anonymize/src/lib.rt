@@ -5,7 +5,7 @@
 //! - `disclosure`: [`Disclosure`], with [`RemovedField`] and [`Reason`].
 //! - `transform`: [`disclose`].
 //! - `fields`: the verdict on each field, and which fields stay.
-//! - `values`: what is shown of their values.
+//! - `steps`, `values`: what is shown of their values, by a few steps over a record's octets.
 //! - `laws`: [`only_permitted_passes`], [`passed_is_sound`], [`denied_is_secret`], [`others_never_matter`]
 //!   and [`later_rules_never_matter`], proved over the definitions.
 //!
@@ -29,13 +29,14 @@ mod plans;
 mod record_classes;
 mod shelf;
 mod slot;
+mod steps;
 mod transform;
 mod values;
 
 pub use by_table::disclose_by;
 pub use decision::Decision;
 pub use disclosure::{Disclosure, Reason};
-pub use disclosure_audit::RemovedField;
+pub use disclosure_audit::{RemovedField, RemovedFields};
 pub use laws::{
     denied_is_secret, later_rules_never_matter, only_permitted_passes, others_never_matter,
     passed_is_sound,

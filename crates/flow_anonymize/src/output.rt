@@ -91,12 +91,7 @@ impl Output {
     ///
     /// # Errors
     /// Want of memory.
-    pub(crate) fn add(
-        &mut self,
-        alloc: Global,
-        plan: &Plan,
-        flow_record: &Record,
-    ) -> Result<(), AllocError>
+    pub(crate) fn add(&mut self, plan: &Plan, flow_record: &Record) -> Result<(), AllocError>
         requires showable { IsShowable plan.now flow_record.now }
         requires begun { IsSome self.old.writing }
         requires same { self.old.writing ≡ shown_template plan.now }
@@ -104,7 +99,7 @@ impl Output {
     {
         self.renew_long_run()?;
         self.ends.reserve(1)?;
-        match put_shown(alloc, plan, flow_record, &mut self.text) {
+        match put_shown(plan, flow_record, &mut self.text) {
             Ok(end) => {
                 self.ends.push_reserved(end);
                 Ok(())
@@ -161,22 +156,17 @@ impl Output {
     }
 }
 
-ghost use Rattle.flow_anonymize.specs.Planning.{passed_text};
+ghost use Rattle.flow_anonymize.specs.Outcome.{passed_text};
 
 /// Appends what is shown of a record by a plan, and answers where it ends.
 ///
 /// # Errors
 /// Want of memory, or of numbers for the end.
-fn put_shown(
-    alloc: Global,
-    plan: &Plan,
-    flow_record: &Record,
-    text: &mut Vec<u8>,
-) -> Result<u32, AllocError>
+fn put_shown(plan: &Plan, flow_record: &Record, text: &mut Vec<u8>) -> Result<u32, AllocError>
     requires { IsShowable plan.now flow_record.now }
     ensures text { OnOk result (text.new.items ≡ text.old.items ++ passed_text (planned plan.now flow_record.now.values)) }
     ensures end { IfOk result (λ end. end ≡ length text.new.items) }
 {
-    plan.put_shown(alloc, flow_record, text)?;
+    plan.put_shown(flow_record, text)?;
     u32::try_from(text.len()).map_err(|_| AllocError)
 }

@@ -1,8 +1,8 @@
 //! What becomes of all records of one template for which the verdicts are the same.
-ghost use Rattle.std.specs.Prelude.{◌≡◌, ◌≢◌, ◌<◌, ◌≤◌, ◌++◌, ℕ, List, length, IsOk, IfOk, OnOk, MatchOption};
+ghost use Rattle.std.specs.Prelude.{◌≡◌, ◌≢◌, ◌<◌, ◌≤◌, ◌++◌, ℕ, List, length, IsOk, IfOk, OnOk, OnErr, MatchOption};
 ghost use Rattle.std.specs.Option.{option_map};
 ghost use Rattle.std.specs.Arc.{arc_value};
-ghost use Rattle.flow_anonymize.specs.Outcome.{Outcome, shown};
+ghost use Rattle.flow_anonymize.specs.Outcome.{Outcome, shown, passed_text, IsKeptAsText};
 ghost use Rattle.flow_anonymize.specs.Remaining.{removed_fields};
 ghost use Rattle.flow_anonymize.specs.Within.{AreJudged};
 ghost use Rattle.flow_anonymize.specs.Disclosed.{remaining_template, first_lost, first_rule_of, by_verdict};
@@ -10,6 +10,7 @@ ghost use Rattle.flow_anonymize.specs.Disclosed.{remaining_template, first_lost,
 use crate::decision::Decision;
 use crate::disclosure::{Disclosure, Reason};
 use crate::fields::{kept_fields, removed_fields};
+use crate::steps::{Step, put_by_steps, steps_of};
 use crate::values::kept_text;
 use disclosure_audit::{RemovedField, RemovedFields};
 use ipfix_template::{Fields, Record, Template};
@@ -20,11 +21,13 @@ use std::sync::Arc;
 /// What becomes of records, but for their values.
 #[derive(Drop)]
 pub(crate) enum Plan {
-    /// They pass: with this template, without these fields, and each field by the verdict on it.
+    /// They pass: with this template, without these fields, and each field by the verdict on it, which these steps over a
+    /// record's octets do.
     Pass {
         template: Arc<Template>,
         removed: RemovedFields,
         verdicts: Vec<ElementVerdict>,
+        steps: Vec<Step>,
     },
     /// They count in the aggregate at this place of the policy's list, by the rule of this number.
     Aggregate {
@@ -39,7 +42,7 @@ pub(crate) enum Plan {
 }
 
 impl Plan {
-    ghost use Rattle.flow_anonymize.specs.Planning.{planned, passed_text, shown_template, IsShowable, ShowsNone, IsPassing};
+    ghost use Rattle.flow_anonymize.specs.Planning.{planned, shown_template, IsShowable, ShowsNone, IsPassing};
     ghost use Rattle.flow_anonymize.specs.Outcome.{decision_of};
 
     /// The plan for records that don't pass.
@@ -87,10 +90,12 @@ impl Plan {
                 reason: Reason::Empty,
             });
         }
+        let steps = steps_of(alloc, flow_record.template().fields.as_slice(), &verdicts)?;
         Ok(Plan::Pass {
             template,
             removed: RemovedFields::from_vec(alloc, removed)?,
             verdicts,
+            steps,
         })
     }
 
@@ -113,7 +118,8 @@ impl Plan {
                 template,
                 removed,
                 verdicts,
-            } => pass(alloc, template, removed, verdicts, flow_record),
+                steps,
+            } => pass(alloc, template, removed, verdicts, steps, flow_record),
             Plan::Aggregate { rule, definition } => Ok(Disclosure::Aggregated {
                 rule: *rule,
                 definition: *definition,
@@ -125,26 +131,26 @@ impl Plan {
         }
     }
 
-    /// Appends what is shown of a record by its plan.
+    /// Appends what is shown of a record that passes: the octets of the record that is kept, under the plan's template. Of others
+    /// nothing is appended.
     ///
     /// # Errors
-    /// Want of memory.
+    /// Want of memory, and then nothing is appended.
     pub(crate) fn put_shown(
         &self,
-        alloc: Global,
         flow_record: &Record,
         text: &mut Vec<u8>,
     ) -> Result<(), AllocError>
         requires { IsShowable self.now flow_record.now }
-        ensures { OnOk result (text.new.items ≡ text.old.items ++ passed_text (planned self.now flow_record.now.values)) }
+        ensures ok { OnOk result (text.new.items ≡ text.old.items ++ passed_text (planned self.now flow_record.now.values)) }
+        ensures err { OnErr result (text.new.items ≡ text.old.items) }
+        ensures kept { IsKeptAsText (planned self.now flow_record.now.values) }
+        ensures at_once { ShowsNone self.now → IsOk result }
     {
         match self {
-            Plan::Pass {
-                template: _,
-                removed: _,
-                verdicts,
-            } => text.extend_from_slice(&kept_text(alloc, flow_record, verdicts)?),
-            Plan::Aggregate { .. } | Plan::Withhold { .. } => Ok(()),
+            Plan::Pass { steps, .. } => put_by_steps(steps, flow_record.as_octets(), text),
+            Plan::Aggregate { .. } => Ok(()),
+            Plan::Withhold { .. } => Ok(()),
         }
     }
 
@@ -191,12 +197,13 @@ fn pass(
     template: &Arc<Template>,
     removed: &RemovedFields,
     verdicts: &[ElementVerdict],
+    steps: &[Step],
     flow_record: &Record,
 ) -> Result<Disclosure, AllocError>
-    requires { ShowsRecord flow_record.now (arc_value template.now) verdicts.now }
+    requires { ShowsRecord flow_record.now (arc_value template.now) verdicts.now steps.now }
     ensures { IfOk result (λ d. shown d ≡ Passes (record { template = arc_value template.now; values = kept_values flow_record.now.values verdicts.now }) removed.now) }
 {
-    let text = kept_text(alloc, flow_record, verdicts)?;
+    let text = kept_text(alloc, flow_record, verdicts, steps)?;
     let kept = Record::from_octets(template.clone()?, text);
     let removed = removed.clone()?;
     Ok(Disclosure::Passed { kept, removed })

@@ -121,7 +121,7 @@ impl<'t, 'n> Plans<'t, 'n> {
         // A record keeps that it is sound.
         let _template = flow_record.template();
         match self.shelf.place_of(classes) {
-            Some(place) => self.shelf.give(alloc, place, flow_record),
+            Some(place) => self.shelf.give(place, flow_record),
             None => self.disclose_anew(alloc, classes, flow_record),
         }
     }
@@ -143,7 +143,7 @@ impl<'t, 'n> Plans<'t, 'n> {
         let _template = flow_record.template();
         let slot = self.planned(alloc, classes, flow_record)?;
         let place = self.shelf.keep(slot)?;
-        self.shelf.give(alloc, place, flow_record)
+        self.shelf.give(place, flow_record)
     }
 
     /// The plan for a record, to be kept.

@@ -93,7 +93,6 @@ impl Shelf {
     /// Want of memory.
     pub(crate) fn give(
         &mut self,
-        alloc: Global,
         place: usize,
         flow_record: &Record,
     ) -> Result<Decision, AllocError>
@@ -106,7 +105,7 @@ impl Shelf {
         let is_open = self.open == Some(place);
         let open = self.open.take();
         let plan = &self.slots[place].plan;
-        pass(alloc, plan, is_open, flow_record, &mut self.output)?;
+        pass(plan, is_open, flow_record, &mut self.output)?;
         self.open = match plan.template() {
             Some(_) => Some(place),
             None => open,
@@ -147,7 +146,6 @@ ghost use Rattle.flow_anonymize.specs.Shelf.{WritesOn};
 /// # Errors
 /// Want of memory.
 fn pass(
-    alloc: Global,
     plan: &Plan,
     is_open: bool,
     flow_record: &Record,
@@ -164,5 +162,5 @@ fn pass(
     if !is_open {
         output.begin(template.clone()?)?;
     }
-    output.add(alloc, plan, flow_record)
+    output.add(plan, flow_record)
 }
