@@ -19,7 +19,7 @@ const OCTETS4: usize = 4;
 const OCTETS6: usize = 16;
 
 /// The key of no value.
-const EMPTY_KEY: u64 = 1;
+pub(crate) const EMPTY_KEY: u64 = 1;
 
 /// One above the greatest digit of a key.
 const DIGITS: u64 = 0x1_0000;
@@ -78,7 +78,7 @@ impl AddressClasses {
 
     /// The class of a value, odd for 4 octets and even for 16; 0 for a value that is no address.
     #[tactic(auto, unfolding(crate::specs::Classes::digit_of))]
-    fn digit(&self, octets: &[u8]) -> u16
+    pub(crate) fn digit(&self, octets: &[u8]) -> u16
         ensures { result ≡ digit_of self.now octets.now }
     {
         if octets.len() == OCTETS4 {
@@ -123,7 +123,7 @@ fn key_of_fields(classes: &AddressClasses, side: Side, flow_record: &Record) -> 
 }
 
 /// A key with one digit more, if it has fewer than three.
-fn with_digit(key: Option<u64>, digit: u16) -> Option<u64>
+pub(crate) fn with_digit(key: Option<u64>, digit: u16) -> Option<u64>
     ensures { result ≡ with_digit key digit }
 {
     match key {

@@ -15,10 +15,14 @@
 
 mod classes;
 mod cuts;
+mod keys;
 mod laws;
+mod place;
+mod places;
 
 pub use classes::AddressClasses;
 pub use laws::{key_of_three, same_keys};
+pub use places::AddressPlaces;
 
 #[cfg(test)]
 mod tests;
