@@ -1,19 +1,18 @@
 -- Where the values of a side stand, field by field.
 use Rattle.std.proofs.Common.{◌≡◌, ◌==◌, ℕ, ◌+◌, ◌-◌, ◌*◌, ◌<◌, ◌≤◌, Bool, true, false, cond, List, [], ◌∷◌, ◌++◌, length, take, drop, map, filter, get_or, Option, Some, None, IfSome, refl, sym, ap, subst, ◌∙◌, arith, length-append, length-drop, append-nil}
-use Rattle.std.specs.List.{All, zip, fold}
+use Rattle.std.specs.List.{zip, fold}
 use Rattle.std.proofs.lemmas.Bool.{eqb-true}
-use Rattle.std.proofs.lemmas.List.{drop-drop, drop_at, drop_more, take_at, take_more, map_push, append-nil}
+use Rattle.std.proofs.lemmas.List.{drop-drop, drop_at, drop_more, take_at, map_push, append-nil}
 use Rattle.std.proofs.lemmas.List.Elements.{All-push, filter_more}
 use Rattle.std.proofs.lemmas.List.Folds.{fold-map}
 use Rattle.sequences.proofs.ListLaws.{drop_read}
 use Rattle.ipfix_template.specs.declared.field.FieldSpec.{FieldSpec}
 use Rattle.ipfix_template.specs.Template.{is_variable}
-use Rattle.ipfix_template.specs.Values.{fits_field, fit_fields, value_text, record_text}
+use Rattle.ipfix_template.specs.Values.{fits_field, value_text, record_text}
 use Rattle.ipfix_template.specs.DataRecord.{DataRecord, IsSound}
 use Rattle.ipfix_template.proofs.Encoding.{fit_fields-length, fit_fields-at}
 use Rattle.policy_judge.specs.declared.occurrences.Side.{Side}
 use Rattle.policy_judge.specs.Sides.{is_of}
-use Rattle.policy_judge.specs.Occurrences.{values_of}
 use Rattle.policy_judge.proofs.PairLaws.{IsAt, pair_within, pair_at, all_pairs}
 use Rattle.policy_judge.proofs.OccurrenceLaws.{field_at}
 use Rattle.address_classes.specs.declared.place.Place.{Place}

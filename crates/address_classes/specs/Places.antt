@@ -1,5 +1,5 @@
--- Where the addresses of a side stand in each record of a template: no field but those of fixed length before it, and a
--- value's place in the octets is the template's (RFC 7011, section 3.4.3).
+-- Where the addresses of a side stand in each record of a template: the template fixes the place of a value of fixed length
+-- before which only such fields stand (RFC 7011, section 3.4.3).
 use Rattle.std.specs.Prelude.{◌≡◌, ◌<◌, ◌≤◌, ℕ, ◌+◌, ◌-◌, List, [], length, take, drop, map, slice_index_or, Option, Some, None, if◌then◌else◌}
 use Rattle.std.specs.List.{All}
 use Rattle.ipfix_template.specs.declared.field.FieldSpec.{FieldSpec}

@@ -1,7 +1,5 @@
-use Rattle.std.proofs.Common.{◌≡◌, ◌≤◌, ◌+◌, true, false, sym, ◌∙◌, arith, rules}
-use Rattle.policy_judge.specs.Sides.{is_of}
-use Rattle.address_classes.specs.Places.{place_at}
-use Rattle.address_classes.proofs.PlaceLaws.{ArePlacesTo, next_few, next_start, own_place, other_place, all_places}
+use Rattle.std.proofs.Common.{sym, ◌∙◌, rules}
+use Rattle.address_classes.proofs.PlaceLaws.{next_few, next_start, own_place, other_place, all_places}
 use Rattle.address_classes.proofs.place.places_of.Goals.{then-has+in_ok-push, else-has}
 use Rattle.address_classes.proofs.place.places_of.Goals as goal
 
