@@ -1,5 +1,6 @@
 pub mod CountLaws
 pub mod CutLaws
 pub mod KeyLaws
+pub mod PlaceLaws
 pub mod ClassLaws
 pub mod CoverLaws

@@ -7,4 +7,5 @@ pub use Rattle.policy_judge.specs.Match
 pub use Rattle.policy_judge.specs.Sides
 pub mod Cuts
 pub mod Classes
+pub mod Places
 pub mod Laws
