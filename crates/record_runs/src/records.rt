@@ -1,11 +1,14 @@
 //! Lists of records, kept as runs.
-ghost use Rattle.std.specs.Prelude.{◌≡◌, ◌==◌, ◌++◌, [], ◌∷◌, length, IfOk, OnOk, OnErr};
+ghost use Rattle.std.specs.Prelude.{◌≡◌, ◌==◌, ◌<◌, ◌^◌, ◌++◌, [], ◌∷◌, length, IfOk, OnOk, OnErr};
 ghost use Rattle.std.specs.List.{AllByRecursion};
 
 use crate::run::Run;
 use ipfix_template::Record;
 use std::alloc::{AllocError, Global};
 use std::marker::Model;
+
+/// As many records as a list may have. More find no place in memory.
+const MOST_RECORDS: usize = isize::MAX as usize;
 
 /// Data Records one after another, of any templates. Contracts see the list of them.
 #[derive(Drop)]
@@ -16,7 +19,7 @@ pub struct Records {
 }
 
 impl Model for Records {
-    ghost use Rattle.std.specs.Prelude.{◌≡◌, List, length};
+    ghost use Rattle.std.specs.Prelude.{◌≡◌, ◌<◌, ◌^◌, List, length};
     ghost use Rattle.std.specs.List.{AllByRecursion};
     ghost use Rattle.ipfix_template.specs.DataRecord.{DataRecord};
     ghost use Rattle.record_runs.specs.Runs.{records_in, IsKeptRun};
@@ -25,7 +28,7 @@ impl Model for Records {
 
     ghost view = { λ r. records_in r.runs.items };
 
-    ghost invariant = { λ r. (r.count ≡ length (records_in r.runs.items)) × AllByRecursion IsKeptRun r.runs.items };
+    ghost invariant = { λ r. (r.count ≡ length (records_in r.runs.items)) × (r.count < 2 ^ 63) × AllByRecursion IsKeptRun r.runs.items };
 }
 
 impl Records {
@@ -46,6 +49,7 @@ impl Records {
     #[tactic(auto, using(crate::proofs::RunLaws::kept_runs_sound))]
     pub fn len(&self) -> usize
         ensures value { result ≡ length self.now }
+        ensures few { result < 2 ^ 63 }
         ensures sound { AllByRecursion IsSound self.now }
     {
         self.count
@@ -85,12 +89,13 @@ impl Records {
         ensures ok { OnOk result (self.new ≡ self.old ++ records_of run) }
         ensures err { OnErr result (self.new ≡ self.old) }
     {
-        let Some(count) = self.count.checked_add(run.len()) else {
+        let more = run.len();
+        if more > MOST_RECORDS - self.count {
             return Err(AllocError);
-        };
+        }
         self.runs.reserve(1)?;
         self.runs.push_reserved(run);
-        self.count = count;
+        self.count += more;
         Ok(())
     }
 
