@@ -40,19 +40,19 @@ start_below (suc n) from [] last lt are = absurd (omega arith)
 start_below (suc n) from (e ∷ es) last lt are = start_below n e es last (omega arith) are.1
 
 -- where a text stands
-piece_at : (octets : List ℕ) (n from : ℕ) (ends : List ℕ) → n < length ends → take (get_or ends n 0 - get_or (from ∷ ends) n 0) (drop (get_or (from ∷ ends) n 0) octets) ≡ get_or (pieces octets from ends) n []
+pub piece_at : (octets : List ℕ) (n from : ℕ) (ends : List ℕ) → n < length ends → take (get_or ends n 0 - get_or (from ∷ ends) n 0) (drop (get_or (from ∷ ends) n 0) octets) ≡ get_or (pieces octets from ends) n []
 piece_at octets zero from [] lt = absurd (omega arith)
 piece_at octets zero from (e ∷ es) lt = refl
 piece_at octets (suc n) from [] lt = absurd (omega arith)
 piece_at octets (suc n) from (e ∷ es) lt = piece_at octets n e es (omega arith)
 
 -- the end that is called the next of those from 0 on
-next_end : (n : ℕ) (ends : List ℕ) → get_or (0 ∷ ends) (n + 1) 0 ≡ get_or ends n 0
+pub next_end : (n : ℕ) (ends : List ℕ) → get_or (0 ∷ ends) (n + 1) 0 ≡ get_or ends n 0
 next_end n ends = rw add-one refl
 
-pub place_within : (octets ends : List ℕ) (n start end : ℕ) → n < length ends → AreEnds 0 ends (length octets) → start ≡ get_or (0 ∷ ends) n 0 → end ≡ get_or (0 ∷ ends) (n + 1) 0 → (start ≤ end) × (end ≤ length octets)
-place_within octets ends n start end lt are from to =
-    (omega (arith, from, to, next_end n ends, start_below n 0 ends (length octets) lt are), omega (arith, to, end_within (n + 1) 0 ends (length octets) (omega arith) are))
+pub place_within : (ends : List ℕ) (n start end last : ℕ) → n < length ends → AreEnds 0 ends last → start ≡ get_or (0 ∷ ends) n 0 → end ≡ get_or (0 ∷ ends) (n + 1) 0 → (start ≤ end) × (end ≤ last)
+place_within ends n start end last lt are from to =
+    (omega (arith, from, to, next_end n ends, start_below n 0 ends last lt are), omega (arith, to, end_within (n + 1) 0 ends last (omega arith) are))
 
 pub place_shows : (octets ends : List ℕ) (n start end : ℕ) → n < length ends → start ≡ get_or (0 ∷ ends) n 0 → end ≡ get_or (0 ∷ ends) (n + 1) 0 → take (end - start) (drop start octets) ≡ get_or (pieces octets 0 ends) n []
 place_shows octets ends n start end lt from to = rw (from, to, next_end n ends) (piece_at octets n 0 ends lt)
