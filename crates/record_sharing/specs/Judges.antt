@@ -1,10 +1,8 @@
 -- What judges a message's records for its subscriptions, and what each was given so far.
 use Rattle.std.specs.Prelude.{◌≡◌, ℕ, List, map, Option, Some}
-use Rattle.std.specs.List.{All}
 use Rattle.ipfix_template.specs.declared.template.Template.{Template}
 use Rattle.ipfix_template.specs.DataRecord.{DataRecord}
 use Rattle.policy_text.specs.declared.rule.Rule.{Rule}
-use Rattle.address_classes.specs.Cuts.{HaveCuts}
 use Rattle.flow_anonymize.specs.Plans.{PlansFor}
 use Rattle.record_sharing.specs.InForce.{InForce}
 use Rattle.record_sharing.specs.declared.judges.Judge.{Judge}
@@ -36,10 +34,6 @@ plans_for rules cuts domain template name = record { rules = rules; cuts = cuts;
 -- the same plans, for the records of this template
 abbrev pub of_template : Template → PlansFor → PlansFor
 of_template t p = record { rules = p.rules; cuts = p.cuts; name = p.name; domain = p.domain; template = Some t }
-
-pub record AreJudges (rules : List Rule) (cuts : List ℕ) (judges : List Judge) : Type 0 where
-  pub cut : HaveCuts cuts rules
-  pub each : All (λ j. j.plans.for.cuts ≡ cuts) judges
 
 -- they judge by what is in force, for these subscriptions, the records of this template
 abbrev pub JudgeFor : Judges → InForce → ℕ → Option Template → List Served → Type 0

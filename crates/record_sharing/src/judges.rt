@@ -36,13 +36,14 @@ pub(crate) struct Judges<'t, 'n> {
 }
 
 impl<'t, 'n> Model for Judges<'t, 'n> {
-    ghost use Rattle.record_sharing.specs.Judges.{Judges, judges_of, AreJudges};
+    ghost use Rattle.address_classes.specs.Cuts.{HaveCuts};
+    ghost use Rattle.record_sharing.specs.Judges.{Judges, judges_of};
 
     ghost Value = { Judges };
 
     ghost view = { λ j. judges_of j.table.now j.classes.now j.domain j.judges.items };
 
-    ghost invariant = { λ j. AreJudges j.table.now j.classes.now j.judges.items };
+    ghost invariant = { λ j. HaveCuts j.classes.now j.table.now };
 }
 
 impl<'t, 'n> Judges<'t, 'n> {
@@ -85,10 +86,7 @@ impl<'t, 'n> Judges<'t, 'n> {
     pub(crate) fn begin(&mut self, template: &Arc<Template>) -> Result<(), AllocError>
         ensures { OnOk result (self.new ≡ record self.old { fors = map (of_template (arc_value template.now)) self.old.fors }) }
     {
-        'judges: for place in 0..self.judges.len() {
-            self.judges[place].plans.begin(template)?;
-        }
-        Ok(())
+        begin_each(&mut self.judges, template)
     }
 
     /// The classes of a record's addresses.
@@ -112,6 +110,7 @@ impl<'t, 'n> Judges<'t, 'n> {
     ) -> Result<Decision, AllocError>
         requires there { place < length self.old.fors }
         requires template { (p : PlansFor) → slice_get self.old.fors place ≡ Some p → p.template ≡ Some flow_record.now.template }
+        requires cuts { (p : PlansFor) → slice_get self.old.fors place ≡ Some p → p.cuts ≡ self.old.cuts }
         requires classes { classes ≡ classes_of self.old.cuts flow_record.now }
         ensures decision { (p : PlansFor) → slice_get self.old.fors place ≡ Some p → IfOk result (λ d. d ≡ decision_of (outcome_for p flow_record.now)) }
         ensures given { (p : PlansFor) (before after : List (ℕ × List DataRecord)) (s : ℕ × List DataRecord) → slice_get self.old.fors place ≡ Some p → self.old.shares ≡ before ++ s ∷ after → length before ≡ place
@@ -133,11 +132,50 @@ impl<'t, 'n> Judges<'t, 'n> {
         ensures { IfOk result (λ shares. map shown shares.items ≡ self.entry.shares) }
     {
         let Judges { judges, .. } = self;
-        let mut shares = Vec::with_capacity(alloc, judges.len())?;
-        for Judge { sub, plans } in judges {
-            let given = plans.into_records()?;
-            shares.push(Share { sub, given })?;
-        }
-        Ok(shares)
+        shares_of(alloc, judges)
+    }
+}
+
+ghost use Rattle.record_sharing.specs.Judges.{for_of, given_to, of_template};
+
+/// Begins with records of this template, for each.
+///
+/// # Errors
+/// Want of memory.
+fn begin_each(judges: &mut Vec<Judge<'_, '_>>, template: &Arc<Template>) -> Result<(), AllocError>
+    ensures fors { OnOk result (map for_of judges.new.items ≡ map (of_template (arc_value template.now)) (map for_of judges.old.items)) }
+    ensures shares { OnOk result (map given_to judges.new.items ≡ map given_to judges.old.items) }
+{
+    'judges: for place in 0..judges.len() {
+        judges[place].plans.begin(template)?;
+    }
+    Ok(())
+}
+
+/// What each was given, in their order.
+///
+/// # Errors
+/// Want of memory.
+fn shares_of(alloc: Global, judges: Vec<Judge<'_, '_>>) -> Result<Vec<Share>, AllocError>
+    ensures { IfOk result (λ shares. map shown shares.items ≡ map given_to judges.entry.items) }
+{
+    let mut shares = Vec::new(alloc);
+    'judges: for judge in judges {
+        shares.push(judge.into_share()?)?;
+    }
+    Ok(shares)
+}
+
+impl<'t, 'n> Judge<'t, 'n> {
+    /// What it was given.
+    ///
+    /// # Errors
+    /// Want of memory.
+    fn into_share(self) -> Result<Share, AllocError>
+        ensures { IfOk result (λ share. shown share ≡ given_to self.entry) }
+    {
+        let Judge { sub, plans } = self;
+        let given = plans.into_records()?;
+        Ok(Share { sub, given })
     }
 }

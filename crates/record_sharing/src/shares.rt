@@ -1,8 +1,8 @@
 //! What each subscription is given of one message, and what is kept back from it.
 ghost use Rattle.std.specs.Prelude.{◌≡◌, ◌++◌, ◌∷◌, ◌≤◌, ◌<◌, ◌+◌, ◌^◌, ℕ, List, [], Some, None, length, map, IfOk, OnOk};
-ghost use Rattle.std.specs.List.{AllByRecursion, flat_map, enumerate_from};
+ghost use Rattle.std.specs.List.{flat_map, enumerate_from};
 ghost use Rattle.ipfix_template.specs.DataRecord.{DataRecord};
-ghost use Rattle.record_runs.specs.Runs.{IsKeptRun, records_of, records_in};
+ghost use Rattle.record_runs.specs.Runs.{records_of, records_in};
 ghost use Rattle.flow_anonymize.specs.Outcome.{Outcome, decision_of};
 ghost use Rattle.flow_aggregate.specs.Counts.{Count as OneCount, count_of};
 ghost use Rattle.mediator_history.specs.Counting.{counts};
@@ -125,7 +125,6 @@ impl Sums {
         runs: &[Run],
         served: &[Served<'_>],
     ) -> Result<(), AllocError>
-        requires kept { AllByRecursion IsKeptRun runs.now }
         requires few { length (records_in runs.now) ≤ 2 ^ 32 }
         requires judges { JudgeFor judges.old in_force.now domain None served.now }
         requires blank { judges.old.shares ≡ map blank served.now }
@@ -154,7 +153,6 @@ impl Sums {
         run: &Run,
         served: &[Served<'_>],
     ) -> Result<(), AllocError>
-        requires kept { IsKeptRun run.now }
         requires few { before + length run.now.texts ≤ 2 ^ 32 }
         requires judges { JudgesAny judges.old in_force.now domain served.now }
         requires each { length judges.old.shares ≡ length served.now }

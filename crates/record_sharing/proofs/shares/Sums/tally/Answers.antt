@@ -1,7 +1,7 @@
 use Rattle.std.proofs.Common.{◌∷◌, [], ap}
 use Rattle.record_sharing.specs.Sharing.{tallied}
 use Rattle.record_sharing.proofs.SharingLaws.{as_share, share_grows}
-use Rattle.record_sharing.proofs.shares.Shares.tally.Goals as goal
+use Rattle.record_sharing.proofs.shares.Sums.tally.Goals as goal
 
 pub returns-clause-tallies : goal.returns-clause-tallies
 returns-clause-tallies c before after s split at =
