@@ -40,6 +40,7 @@ pub(crate) enum Plan {
 }
 
 impl Plan {
+    ghost use Rattle.ipfix_template.specs.DataRecord.{IsKept, kept_record};
     ghost use Rattle.flow_anonymize.specs.Planning.{planned, template_by, removed_by, IsShowable, ShowsNone, IsPassing};
 
     /// The plan for records that don't pass.
@@ -146,6 +147,30 @@ impl Plan {
     {
         match self {
             Plan::Pass { steps, .. } => put_by_steps(steps, flow_record.as_octets(), text),
+            Plan::Aggregate { .. } => Ok(()),
+            Plan::Withhold { .. } => Ok(()),
+        }
+    }
+
+    /// The same of a record that is kept as octets under a template, as those of a run are.
+    ///
+    /// # Errors
+    /// Want of memory, and then nothing is appended.
+    pub(crate) fn put_shown_of(
+        &self,
+        template: &Template,
+        octets: &[u8],
+        text: &mut Vec<u8>,
+    ) -> Result<(), AllocError>
+        requires kept { IsKept template.now octets.now }
+        requires showable { IsShowable self.now (kept_record template.now octets.now) }
+        ensures ok { OnOk result (text.new.items ≡ text.old.items ++ passed_text (planned self.now (kept_record template.now octets.now).values)) }
+        ensures err { OnErr result (text.new.items ≡ text.old.items) }
+        ensures kept { IsKeptAsText (planned self.now (kept_record template.now octets.now).values) }
+        ensures at_once { ShowsNone self.now → IsOk result }
+    {
+        match self {
+            Plan::Pass { steps, .. } => put_by_steps(steps, octets, text),
             Plan::Aggregate { .. } => Ok(()),
             Plan::Withhold { .. } => Ok(()),
         }
