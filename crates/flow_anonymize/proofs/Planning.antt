@@ -61,7 +61,7 @@ showable r verdict ws (Withhold rule reason) judged is = tt
 -- what is shown is kept as its text
 pub kept_as_text : (plan : Plan) (r : DataRecord) → IsShowable plan r → IsKeptAsText (planned plan r.values)
 kept_as_text (Pass template removed by steps) r shows =
-    record { may = kept_from (arc_value template) (kept_values r.values by.items) _ shows.sound refl; same = kept_is (arc_value template) (kept_values r.values by.items) _ shows.sound.fit refl }
+    record { is_kept = kept_from (arc_value template) (kept_values r.values by.items) _ shows.sound refl; same = kept_is (arc_value template) (kept_values r.values by.items) _ shows.sound.fit refl }
 kept_as_text (Aggregate rule definition) r shows = tt
 kept_as_text (Withhold rule reason) r shows = tt
 

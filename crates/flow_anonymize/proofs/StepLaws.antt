@@ -1,11 +1,11 @@
 -- Steps show of the text of values what is left of them.
-use Rattle.std.proofs.Common.{◌≡◌, ℕ, ◌+◌, ◌-◌, ◌*◌, ◌^◌, ◌/◌, ◌<◌, Bool, true, false, cond, ltb, leb, min, List, [], ◌∷◌, ◌++◌, length, take, drop, get_or, Option, Some, refl, sym, ap, ◌∙◌, arith, append_assoc, length-append}
+use Rattle.std.proofs.Common.{◌≡◌, ℕ, ◌+◌, ◌<◌, Bool, true, false, cond, ltb, leb, min, List, [], ◌∷◌, ◌++◌, length, take, drop, get_or, Option, Some, refl, sym, ap, ◌∙◌, arith, append_assoc, length-append}
 use Rattle.std.specs.Prelude.{unwrap_or}
 use Rattle.std.specs.List.{zip}
 use Rattle.std.proofs.Math.Seq.{take-add}
 use Rattle.std.proofs.lemmas.Bool.{and_parts, eqb-true, leb-true, leb-false}
 use Rattle.std.proofs.lemmas.List.{drop-drop, drop_at, take_at, drop_all}
-use Rattle.sequences.specs.Octets.{be_value, be_octets}
+use Rattle.sequences.specs.Octets.{be_octets}
 use Rattle.sequences.proofs.OctetLaws.{length-be_octets}
 use Rattle.sequences.proofs.ListLaws.{drop_read}
 use Rattle.ipfix_octets.specs.Variable.{shortest_text, varlen_at}
@@ -41,15 +41,6 @@ show_both front back after octets =
 
 pub skip_both : (front back : ℕ) (after : List Step) → AreAlike (Skip (front + back) ∷ after) (Skip front ∷ Skip back ∷ after)
 skip_both front back after octets = ap (shown_by after) (sym (drop-drop back front octets))
-
--- ---- the first bits of octets
-
-min_keeps : (w n : ℕ) → w - min n w ≡ w - n
-min_keeps w n = omega arith
-
-pub all_bits : (n : ℕ) (octets : List ℕ) → kept_octets (min n (8 * length octets)) octets ≡ kept_octets n octets
-all_bits n octets =
-    ap (λ k. be_octets (length octets) (be_value octets / 2 ^ k * 2 ^ k)) (min_keeps (8 * length octets) n)
 
 -- ---- one field
 

@@ -42,7 +42,7 @@ passed_text (Withholds rule reason) = []
 
 -- octets that may be kept under a template, and are this record
 pub record IsTextOf (kept : DataRecord) (octets : List ℕ) : Type 0 where
-  pub may : IsKept kept.template octets
+  pub is_kept : IsKept kept.template octets
   pub same : kept_record kept.template octets ≡ kept
 
 -- the record that passes is kept as its text

@@ -1,5 +1,5 @@
 //! Plans that are kept for records that come again.
-ghost use Rattle.std.specs.Prelude.{◌≡◌, ◌++◌, [], Some, None, true, IfOk, OnOk};
+ghost use Rattle.std.specs.Prelude.{◌≡◌, ◌++◌, [], Some, None, true, IfOk, OnOk, OnErr};
 ghost use Rattle.std.specs.Arc.{arc_value};
 ghost use Rattle.address_classes.specs.Cuts.{HaveCuts};
 ghost use Rattle.flow_anonymize.specs.Outcome.{passed, decision_of};
@@ -75,6 +75,7 @@ impl<'t, 'n> Plans<'t, 'n> {
     /// Want of memory, and then nothing has changed.
     pub fn begin(&mut self, template: &Arc<Template>) -> Result<(), AllocError>
         ensures ok { OnOk result (self.new ≡ record { for = record self.old.for { template = Some (arc_value template.now) }; given = self.old.given }) }
+        ensures err { OnErr result (self.new ≡ self.old) }
     {
         if self.is_for(template) {
             return Ok(());

@@ -1,6 +1,6 @@
 //! What is shown of a record, by a few steps over its octets that are worked out once for a plan.
 ghost use Rattle.std.specs.Prelude.{◌≡◌, ◌+◌, ◌≤◌, ◌++◌, ◌∷◌, [], List, length, take, drop, IfOk, IfSome, OnOk, OnErr};
-ghost use Rattle.flow_prefix.specs.Bits.{kept_octets};
+ghost use Rattle.flow_prefix.specs.Bits.{truncated, kept_octets};
 ghost use Rattle.flow_anonymize.specs.declared.steps.Step.{Step};
 ghost use Rattle.flow_anonymize.specs.Steps.{variable_span, shown_at, behind, shown_by, step_of, AreAlike, AreSteps};
 
@@ -215,6 +215,27 @@ fn put_first_bits(octets: &[u8], bits: usize, text: &mut Vec<u8>) -> Result<(), 
     ensures ok { OnOk result (text.new.items ≡ text.old.items ++ kept_octets bits octets.now) }
     ensures err { OnErr result (text.new.items ≡ text.old.items) }
 {
+    if let [a, b, c, d] = octets {
+        return put_bits_of_four([*a, *b, *c, *d], bits, text);
+    }
     let most = octets.len().saturating_mul(8);
     keep_bits(octets, bits.min(most), text)
+}
+
+/// The same for four octets, as an IPv4 address has.
+fn put_bits_of_four(octets: [u8; 4], bits: usize, text: &mut Vec<u8>) -> Result<(), AllocError>
+    ensures ok { OnOk result (text.new.items ≡ text.old.items ++ kept_octets bits octets) }
+    ensures err { OnErr result (text.new.items ≡ text.old.items) }
+{
+    let kept = first_bits(u32::from_be_bytes(octets), bits.min(32));
+    text.extend_from_slice(&kept.to_be_bytes())
+}
+
+/// A number with its first bits and the others 0.
+fn first_bits(number: u32, bits: usize) -> u32
+    requires { bits ≤ 32 }
+    ensures { result ≡ truncated 32 bits number }
+{
+    let dropped = 32 - bits;
+    ((u64::from(number) >> dropped) << dropped) as u32
 }
