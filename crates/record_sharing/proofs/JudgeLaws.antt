@@ -84,12 +84,15 @@ begun_all t old now place so over =
 
 -- one subscription more
 pub judge_more : (before new : Judges) (f : InForce) (domain : ℕ) (served : List Served) (n : ℕ) (who other : Served) → JudgeFor before f domain None (take n served) → n < length served → who ≡ get_or served n other
-    → new.fors ≡ before.fors ++ plans_for f.policy.rules before.cuts domain None who.name.now ∷ [] → new.cuts ≡ before.cuts → JudgeFor new f domain None (take (n + 1) served)
-judge_more before new f domain served n who other so l at grown cuts =
+    → new.template ≡ before.template → new.fors ≡ before.fors ++ plans_for f.policy.rules before.cuts domain None who.name.now ∷ [] → new.cuts ≡ before.cuts → JudgeFor new f domain None (take (n + 1) served)
+judge_more before new f domain served n who other so l at template grown cuts =
     let for = λ (who : Served). plans_for f.policy.rules before.cuts domain None who.name.now in
-    grown ∙ ap (λ ps. ps ++ for who ∷ []) so ∙ sym (map-append for (take n served) (who ∷ []))
-    ∙ ap (λ w. map for (take n served ++ w ∷ [])) at ∙ ap (map for) (sym (take_more served n other l))
-    ∙ ap (λ c. map (λ (who : Served). plans_for f.policy.rules c domain None who.name.now) (take (n + 1) served)) (sym cuts)
+    record {
+      template_is = template ∙ so.template_is;
+      fors = grown ∙ ap (λ ps. ps ++ for who ∷ []) so.fors ∙ sym (map-append for (take n served) (who ∷ []))
+          ∙ ap (λ w. map for (take n served ++ w ∷ [])) at ∙ ap (map for) (sym (take_more served n other l))
+          ∙ ap (λ c. map (λ (who : Served). plans_for f.policy.rules c domain None who.name.now) (take (n + 1) served)) (sym cuts);
+    }
 
 pub judge_all : (j : Judges) (f : InForce) (domain : ℕ) (served : List Served) (n : ℕ) → JudgeFor j f domain None (take n served) → length served ≤ n → JudgeFor j f domain None served
 judge_all j f domain served n so over = subst (λ l. JudgeFor j f domain None l) (take_all n served over) so
@@ -99,27 +102,47 @@ map_twice f g [] = refl
 map_twice f g (x ∷ xs) = ap (λ ys. g (f x) ∷ ys) (map_twice f g xs)
 
 -- those that begin with records of a template
-pub judge_begun : (before new : Judges) (f : InForce) (domain : ℕ) (template : Option Template) (t : Template) (served : List Served) → JudgeFor before f domain template served → new.fors ≡ map (of_template t) before.fors → new.cuts ≡ before.cuts
-    → JudgeFor new f domain (Some t) served
-judge_begun before new f domain template t served so begun cuts =
-    begun ∙ ap (map (of_template t)) so ∙ map_twice (λ (who : Served). plans_for f.policy.rules before.cuts domain template who.name.now) (of_template t) served
-    ∙ ap (λ c. map (λ (who : Served). plans_for f.policy.rules c domain (Some t) who.name.now) served) (sym cuts)
+pub judge_begun : (before new : Judges) (f : InForce) (domain : ℕ) (template : Option Template) (t : Template) (served : List Served) → JudgeFor before f domain template served
+    → new.template ≡ Some t → new.fors ≡ map (of_template t) before.fors → new.cuts ≡ before.cuts → JudgeFor new f domain (Some t) served
+judge_begun before new f domain template t served so is begun cuts = record {
+  template_is = is;
+  fors = begun ∙ ap (map (of_template t)) so.fors ∙ map_twice (λ (who : Served). plans_for f.policy.rules before.cuts domain template who.name.now) (of_template t) served
+      ∙ ap (λ c. map (λ (who : Served). plans_for f.policy.rules c domain (Some t) who.name.now) served) (sym cuts);
+}
 
-pub judge_same : (before new : Judges) (f : InForce) (domain : ℕ) (template : Option Template) (served : List Served) → JudgeFor before f domain template served → new.fors ≡ before.fors → new.cuts ≡ before.cuts → JudgeFor new f domain template served
-judge_same before new f domain template served so fors cuts =
-    fors ∙ so ∙ ap (λ c. map (λ (who : Served). plans_for f.policy.rules c domain template who.name.now) served) (sym cuts)
+pub judge_same : (before new : Judges) (f : InForce) (domain : ℕ) (template : Option Template) (served : List Served) → JudgeFor before f domain template served → new.template ≡ before.template → new.fors ≡ before.fors → new.cuts ≡ before.cuts
+    → JudgeFor new f domain template served
+judge_same before new f domain template served so is fors cuts = record {
+  template_is = is ∙ so.template_is;
+  fors = fors ∙ so.fors ∙ ap (λ c. map (λ (who : Served). plans_for f.policy.rules c domain template who.name.now) served) (sym cuts);
+}
 
 -- whose they are, at a place
 pub judge_at : (j : Judges) (f : InForce) (domain : ℕ) (template : Option Template) (served : List Served) (n : ℕ) (who other : Served) → JudgeFor j f domain template served → n < length served → who ≡ get_or served n other
     → slice_get j.fors n ≡ Some (plans_for f.policy.rules j.cuts domain template who.name.now)
 judge_at j f domain template served n who other so l at =
     let for = λ (who : Served). plans_for f.policy.rules j.cuts domain template who.name.now in
-    ap (λ ps. slice_get ps n) so ∙ got for served n who other l at
+    ap (λ ps. slice_get ps n) so.fors ∙ got for served n who other l at
   where
     got : {A B : Type 0} (f : A → B) (xs : List A) (n : ℕ) (x other : A) → n < length xs → x ≡ get_or xs n other → slice_get (map f xs) n ≡ Some (f x)
     got f [] n x other l at = absurd (omega arith)
     got f (y ∷ ys) zero x other l at = ap (λ z. Some (f z)) (sym at)
     got f (y ∷ ys) (suc n) x other l at = got f ys n x other (omega (arith, l)) at
 
+-- which are for that template, and by those cuts
+judge_is : (j : Judges) (f : InForce) (domain : ℕ) (template : Option Template) (served : List Served) (n : ℕ) (who other : Served) (p : PlansFor) → JudgeFor j f domain template served → n < length served → who ≡ get_or served n other
+    → slice_get j.fors n ≡ Some p → p ≡ plans_for f.policy.rules j.cuts domain template who.name.now
+judge_is j f domain template served n who other p so l at there = some_is (sym there ∙ judge_at j f domain template served n who other so l at) where
+  some_is : {p q : PlansFor} → Some p ≡ Some q → p ≡ q
+  some_is e = cc
+
+pub template_at : (j : Judges) (f : InForce) (domain : ℕ) (template : Option Template) (served : List Served) (n : ℕ) (who other : Served) (p : PlansFor) → JudgeFor j f domain template served → n < length served → who ≡ get_or served n other
+    → slice_get j.fors n ≡ Some p → p.template ≡ template
+template_at j f domain template served n who other p so l at there = ap (λ (p : PlansFor). p.template) (judge_is j f domain template served n who other p so l at there)
+
+pub cuts_at : (j : Judges) (f : InForce) (domain : ℕ) (template : Option Template) (served : List Served) (n : ℕ) (who other : Served) (p : PlansFor) → JudgeFor j f domain template served → n < length served → who ≡ get_or served n other
+    → slice_get j.fors n ≡ Some p → p.cuts ≡ j.cuts
+cuts_at j f domain template served n who other p so l at there = ap (λ (p : PlansFor). p.cuts) (judge_is j f domain template served n who other p so l at there)
+
 pub there_for : (j : Judges) (f : InForce) (domain : ℕ) (template : Option Template) (served : List Served) (n : ℕ) → JudgeFor j f domain template served → n < length served → n < length j.fors
-there_for j f domain template served n so l = omega (arith, l, ap length so, length-map served (λ (who : Served). plans_for f.policy.rules j.cuts domain template who.name.now))
+there_for j f domain template served n so l = omega (arith, l, ap length so.fors, length-map served (λ (who : Served). plans_for f.policy.rules j.cuts domain template who.name.now))

@@ -10,6 +10,8 @@ use Rattle.mediator_history.proofs.HistoryLaws.{flat_map-push}
 use Rattle.ipfix_template.specs.DataRecord.{DataRecord, kept_record}
 use Rattle.record_runs.specs.Runs.{RunOf, records_of, records_in}
 use Rattle.flow_aggregate.specs.Counts.{count_of}
+use Rattle.flow_anonymize.specs.declared.decision.Decision.{Decision}
+use Rattle.policy_text.specs.Policies.{Aggregate}
 use Rattle.flow_anonymize.specs.Outcome as outcome
 use Rattle.flow_anonymize.specs.Outcome.{Outcome, Passes, Aggregates, Withholds}
 use Rattle.mediator_history.specs.Counting.{counts}
@@ -19,7 +21,7 @@ use Rattle.record_sharing.specs.InForce.{InForce}
 use Rattle.record_sharing.specs.declared.served.Served.{Served}
 use Rattle.record_sharing.specs.declared.shares.Tally.{Tally}
 use Rattle.record_sharing.specs.declared.shares.Note.{Note}
-use Rattle.record_sharing.specs.Sharing.{outcome_by, given_by, added_by, kept_by, tallied, blank, share_by, shares_of, tallies_of, note_of, noted, noted_of_each, notes_of}
+use Rattle.record_sharing.specs.Sharing.{outcome_by, given_by, added_by, kept_by, kept_back_by, counts_by, tallied, blank, share_by, shares_of, tallies_of, note_of, noted, noted_of_each, notes_of}
 
 abbrev pub as_share : {X : Type 0} → ℕ → List X → ℕ × List X
 as_share sub items = (sub, items)
@@ -141,21 +143,36 @@ passed_same (Passes kept removed) = refl
 passed_same (Aggregates rule definition) = refl
 passed_same (Withholds rule reason) = refl
 
--- one subscription more, for which this becomes of the record
-pub adding_step : (old new new2 : List (ℕ × List DataRecord)) (told tnew tnew2 : List Tally) (before notes notes2 : List Note) (domain : ℕ) (f : InForce) (index : ℕ) (r : DataRecord) (served : List Served) (place : ℕ) (who other : Served)
-    → IsAdding old new told tnew before notes domain f index r served place → place < length served → who ≡ get_or served place other
-    → GrowsAt new new2 place (outcome.passed (outcome_by domain f who.name.now r)) → GrowsAt (map tallied tnew) (map tallied tnew2) place (added_by domain f who.name.now r)
-    → length new2 ≡ length new → length tnew2 ≡ length tnew → notes2 ≡ notes ++ map (note_of index who.sub) (kept_by domain f who.name.now r)
+counts_same : (aggregates : List Aggregate) (clock : ℕ) (r : DataRecord) (o : Outcome) → counts_by aggregates clock r (outcome.decision_of o) ≡ counts aggregates clock r o
+counts_same aggregates clock r (Passes kept removed) = refl
+counts_same aggregates clock r (Aggregates rule definition) = refl
+counts_same aggregates clock r (Withholds rule reason) = refl
+
+kept_back_same : (aggregates : List Aggregate) (clock : ℕ) (r : DataRecord) (o : Outcome) → kept_back_by aggregates clock r (outcome.decision_of o) ≡ kept_back aggregates clock r o
+kept_back_same aggregates clock r (Passes kept removed) = refl
+kept_back_same aggregates clock r (Aggregates rule definition) = refl
+kept_back_same aggregates clock r (Withholds rule reason) = refl
+
+-- one subscription more, for which this is decided of the record
+pub adding_step : (old new new2 : List (ℕ × List DataRecord)) (told tnew tnew2 : List Tally) (before notes notes2 : List Note) (domain : ℕ) (f : InForce) (index : ℕ) (r : DataRecord) (served : List Served) (place : ℕ) (who other : Served) (found : Decision)
+    → IsAdding old new told tnew before notes domain f index r served place → place < length served → who ≡ get_or served place other → found ≡ outcome.decision_of (outcome_by domain f who.name.now r)
+    → GrowsAt new new2 place (outcome.passed (outcome_by domain f who.name.now r)) → GrowsAt (map tallied tnew) (map tallied tnew2) place (map count_of (counts_by f.policy.aggregates f.clock r found))
+    → length new2 ≡ length new → length tnew2 ≡ length tnew → notes2 ≡ notes ++ map (note_of index who.sub) (kept_back_by f.policy.aggregates f.clock r found)
     → IsAdding old new2 told tnew2 before notes2 domain f index r served (place + 1)
-adding_step old new new2 told tnew tnew2 before notes notes2 domain f index r served place who other so within at gives tallies same same_too notes_grow = record {
-  shares = sharing_step (given_by domain f) old new new2 r served place who other so.shares within at (λ before after s split at. gives before after s split at ∙ ap (λ g. before ++ grown s g ∷ after) (passed_same (outcome_by domain f who.name.now r)));
-  tallies = sharing_step (added_by domain f) (map tallied told) (map tallied tnew) (map tallied tnew2) r served place who other so.tallies within at tallies;
-  noting = notes_grow ∙ ap (λ n. n ++ map (note_of index who.sub) (kept_by domain f who.name.now r)) so.noting
+adding_step old new new2 told tnew tnew2 before notes notes2 domain f index r served place who other found so within at is gives tallies same same_too notes_grow = record {
+  shares = sharing_step (given_by domain f) old new new2 r served place who other so.shares within at (λ b a s split l. gives b a s split l ∙ ap (λ g. b ++ grown s g ∷ a) (passed_same o));
+  tallies = sharing_step (added_by domain f) (map tallied told) (map tallied tnew) (map tallied tnew2) r served place who other so.tallies within at
+      (λ b a s split l. tallies b a s split l ∙ ap (λ (d : Decision). b ++ grown s (map count_of (counts_by f.policy.aggregates f.clock r d)) ∷ a) is ∙ ap (λ c. b ++ grown s (map count_of c) ∷ a) (counts_same f.policy.aggregates f.clock r o));
+  noting = notes_grow ∙ ap (λ (d : Decision). notes ++ map (note_of index who.sub) (kept_back_by f.policy.aggregates f.clock r d)) is ∙ ap (λ k. notes ++ map (note_of index who.sub) k) (kept_back_same f.policy.aggregates f.clock r o)
+      ∙ ap (λ n. n ++ map (note_of index who.sub) (kept_by domain f who.name.now r)) so.noting
       ∙ append_assoc before (flat_map (noted domain f (index, r)) (take place served)) (noted domain f (index, r) who)
       ∙ ap (λ l. before ++ l) (sym (flat_map-push (noted domain f (index, r)) (take place served) who) ∙ ap (flat_map (noted domain f (index, r))) (sym (more_served served place who other within at)));
   stay = same ∙ so.stay;
   stay_tallies = same_too ∙ so.stay_tallies;
 }
+  where
+    o : Outcome
+    o = outcome_by domain f who.name.now r
 
 -- ---- the records of a run, one after another
 

@@ -8,12 +8,13 @@ use Rattle.record_sharing.specs.InForce.{InForce}
 use Rattle.record_sharing.specs.declared.judges.Judge.{Judge}
 use Rattle.record_sharing.specs.declared.served.Served.{Served}
 
--- by these rules and the cuts of their prefixes, for an observation domain; for each subscription, what its plans are for, and its number with what
+-- by these rules and the cuts of their prefixes, for an observation domain, and the records of a template, if one is named; for each subscription, what its plans are for, and its number with what
 -- it was given
 pub record Judges : Type 0 where
   pub rules : List Rule
   pub cuts : List ℕ
   pub domain : ℕ
+  pub template : Option Template
   pub fors : List PlansFor
   pub shares : List (ℕ × List DataRecord)
 
@@ -24,8 +25,8 @@ for_of j = j.plans.for
 abbrev pub given_to : Judge → ℕ × List DataRecord
 given_to j = (j.sub, j.plans.given)
 
-abbrev pub judges_of : List Rule → List ℕ → ℕ → List Judge → Judges
-judges_of rules cuts domain judges = record { rules = rules; cuts = cuts; domain = domain; fors = map for_of judges; shares = map given_to judges }
+abbrev pub judges_of : List Rule → List ℕ → ℕ → Option Template → List Judge → Judges
+judges_of rules cuts domain template judges = record { rules = rules; cuts = cuts; domain = domain; template = template; fors = map for_of judges; shares = map given_to judges }
 
 -- plans by these, for the records of a template, if one is named, and the subscriber of a name
 abbrev pub plans_for : List Rule → List ℕ → ℕ → Option Template → List ℕ → PlansFor
@@ -36,8 +37,9 @@ abbrev pub of_template : Template → PlansFor → PlansFor
 of_template t p = record { rules = p.rules; cuts = p.cuts; name = p.name; domain = p.domain; template = Some t }
 
 -- they judge by what is in force, for these subscriptions, the records of this template
-abbrev pub JudgeFor : Judges → InForce → ℕ → Option Template → List Served → Type 0
-JudgeFor j f domain template served = j.fors ≡ map (λ who. plans_for f.policy.rules j.cuts domain template who.name.now) served
+pub record JudgeFor (j : Judges) (f : InForce) (domain : ℕ) (template : Option Template) (served : List Served) : Type 0 where
+  pub template_is : j.template ≡ template
+  pub fors : j.fors ≡ map (λ who. plans_for f.policy.rules j.cuts domain template who.name.now) served
 
 -- the records of some template, or of none yet
 pub record JudgesAny (j : Judges) (f : InForce) (domain : ℕ) (served : List Served) : Type 0 where

@@ -1,5 +1,5 @@
 //! What becomes of a message's records, for each subscription.
-ghost use Rattle.std.specs.Prelude.{◌≡◌, ◌<◌, ◌++◌, ◌∷◌, [], ℕ, List, Some, None, map, length, slice_get, IfOk, OnOk};
+ghost use Rattle.std.specs.Prelude.{◌≡◌, ◌<◌, ◌++◌, ◌∷◌, [], ℕ, List, Some, None, true, map, length, slice_get, IfOk, OnOk};
 ghost use Rattle.std.specs.Arc.{arc_value};
 ghost use Rattle.ipfix_template.specs.DataRecord.{DataRecord};
 ghost use Rattle.address_classes.specs.Cuts.{HaveCuts};
@@ -9,7 +9,7 @@ ghost use Rattle.flow_anonymize.specs.Plans.{PlansFor, outcome_for};
 ghost use Rattle.record_sharing.specs.Sharing.{shown};
 
 use crate::shares::Share;
-use address_classes::AddressClasses;
+use address_classes::{AddressClasses, AddressPlaces};
 use flow_anonymize::{Decision, Plans, RecordClasses};
 use ipfix_template::{Record, Template};
 use rule_table::RuleTable;
@@ -32,6 +32,8 @@ pub(crate) struct Judges<'t, 'n> {
     table: &'t RuleTable,
     classes: &'t AddressClasses,
     domain: u32,
+    /// Where the addresses stand in the records that come.
+    places: Option<AddressPlaces>,
     judges: Vec<Judge<'t, 'n>>,
 }
 
@@ -41,7 +43,7 @@ impl<'t, 'n> Model for Judges<'t, 'n> {
 
     ghost Value = { Judges };
 
-    ghost view = { λ j. judges_of j.table.now j.classes.now j.domain j.judges.items };
+    ghost view = { λ j. judges_of j.table.now j.classes.now j.domain j.places j.judges.items };
 
     ghost invariant = { λ j. HaveCuts j.classes.now j.table.now };
 }
@@ -57,12 +59,13 @@ impl<'t, 'n> Judges<'t, 'n> {
         domain: u32,
     ) -> Judges<'t, 'n>
         requires { HaveCuts classes.now table.now }
-        ensures { result ≡ record { rules = table.now; cuts = classes.now; domain = domain; fors = []; shares = [] } }
+        ensures { result ≡ record { rules = table.now; cuts = classes.now; domain = domain; template = None; fors = []; shares = [] } }
     {
         Judges {
             table,
             classes,
             domain,
+            places: None,
             judges: Vec::new(alloc),
         }
     }
@@ -83,17 +86,38 @@ impl<'t, 'n> Judges<'t, 'n> {
     ///
     /// # Errors
     /// Want of memory.
-    pub(crate) fn begin(&mut self, template: &Arc<Template>) -> Result<(), AllocError>
-        ensures { OnOk result (self.new ≡ record self.old { fors = map (of_template (arc_value template.now)) self.old.fors }) }
+    pub(crate) fn begin(
+        &mut self,
+        alloc: Global,
+        template: &Arc<Template>,
+    ) -> Result<(), AllocError>
+        ensures { OnOk result (self.new ≡ record self.old { template = Some (arc_value template.now); fors = map (of_template (arc_value template.now)) self.old.fors }) }
     {
+        if !self.is_for(template) {
+            self.places = Some(AddressPlaces::of(alloc, template.clone()?)?);
+        }
         begin_each(&mut self.judges, template)
+    }
+
+    /// Whether records of this template come already.
+    fn is_for(&self, template: &Template) -> bool
+        ensures { result ≡ true → self.now.template ≡ Some template.now }
+    {
+        match &self.places {
+            Some(places) => places.template() == template,
+            None => false,
+        }
     }
 
     /// The classes of a record's addresses.
     pub(crate) fn classes_of(&self, flow_record: &Record) -> Option<RecordClasses>
+        requires { self.now.template ≡ Some flow_record.now.template }
         ensures { result ≡ classes_of self.now.cuts flow_record.now }
     {
-        RecordClasses::of(self.classes, flow_record)
+        match &self.places {
+            Some(places) => RecordClasses::at(self.classes, places, flow_record),
+            None => unreachable!(),
+        }
     }
 
     /// Judges a record, of whose addresses these are the classes, for the subscription at a place: gives what passes, and says what
@@ -116,6 +140,7 @@ impl<'t, 'n> Judges<'t, 'n> {
         ensures given { (p : PlansFor) (before after : List (ℕ × List DataRecord)) (s : ℕ × List DataRecord) → slice_get self.old.fors place ≡ Some p → self.old.shares ≡ before ++ s ∷ after → length before ≡ place
             → OnOk result (self.new.shares ≡ before ++ (s.0, s.1 ++ passed (outcome_for p flow_record.now)) ∷ after) }
         ensures fors { self.new.fors ≡ self.old.fors }
+        ensures template { self.new.template ≡ self.old.template }
         ensures cuts { self.new.cuts ≡ self.old.cuts }
         ensures stay { length self.new.shares ≡ length self.old.shares }
     {

@@ -3,13 +3,11 @@ ghost use Rattle.std.specs.Prelude.{◌≡◌, ◌++◌, ◌∷◌, ◌≤◌, �
 ghost use Rattle.std.specs.List.{flat_map, enumerate_from};
 ghost use Rattle.ipfix_template.specs.DataRecord.{DataRecord};
 ghost use Rattle.record_runs.specs.Runs.{records_of, records_in};
-ghost use Rattle.flow_anonymize.specs.Outcome.{Outcome, decision_of};
 ghost use Rattle.flow_aggregate.specs.Counts.{Count as OneCount, count_of};
-ghost use Rattle.mediator_history.specs.Counting.{counts};
-ghost use Rattle.mediator_history.specs.Auditing.{kept_back, reason_named, removed_of, told_of};
+ghost use Rattle.mediator_history.specs.Auditing.{reason_named, removed_of, told_of};
 ghost use Rattle.record_sharing.specs.InForce.{count_by, timing_by, as_list};
 ghost use Rattle.record_sharing.specs.Judges.{JudgeFor, JudgesAny};
-ghost use Rattle.record_sharing.specs.Sharing.{blank, shown, tallied, shares_of, tallies_of, notes_of, note_of, noted_of_each};
+ghost use Rattle.record_sharing.specs.Sharing.{blank, counts_by, kept_back_by, shown, tallied, shares_of, tallies_of, notes_of, note_of, noted_of_each};
 
 use crate::in_force::InForce;
 use crate::judges::Judges;
@@ -166,7 +164,7 @@ impl Sums {
         ensures stay { OnOk result (length judges.new.shares ≡ length served.now) }
         ensures stay_tallies { OnOk result (length self.new.tallies.items ≡ length served.now) }
     {
-        judges.begin(run.shared_template())?;
+        judges.begin(alloc, run.shared_template())?;
         'records: for place in 0..run.len() {
             let flow_record = run.record(place)?;
             let index = (before + place) as u32;
@@ -218,10 +216,10 @@ impl Sums {
         found: Decision,
     ) -> Result<(), AllocError>
         requires within { place < length self.old.tallies.items }
-        ensures tallies { (o : Outcome) (before after : List (ℕ × List OneCount)) (s : ℕ × List OneCount) → found ≡ decision_of o → map tallied self.old.tallies.items ≡ before ++ s ∷ after → length before ≡ place
-            → OnOk result (map tallied self.new.tallies.items ≡ before ++ (s.0, s.1 ++ map count_of (counts in_force.now.policy.aggregates in_force.now.clock flow_record.now o)) ∷ after) }
+        ensures tallies { (before after : List (ℕ × List OneCount)) (s : ℕ × List OneCount) → map tallied self.old.tallies.items ≡ before ++ s ∷ after → length before ≡ place
+            → OnOk result (map tallied self.new.tallies.items ≡ before ++ (s.0, s.1 ++ map count_of (counts_by in_force.now.policy.aggregates in_force.now.clock flow_record.now found)) ∷ after) }
         ensures stay { OnOk result (length self.new.tallies.items ≡ length self.old.tallies.items) }
-        ensures notes { (o : Outcome) → found ≡ decision_of o → OnOk result (self.new.notes.items ≡ self.old.notes.items ++ map (note_of index sub) (kept_back in_force.now.policy.aggregates in_force.now.clock flow_record.now o)) }
+        ensures notes { OnOk result (self.new.notes.items ≡ self.old.notes.items ++ map (note_of index sub) (kept_back_by in_force.now.policy.aggregates in_force.now.clock flow_record.now found)) }
     {
         match found {
             Decision::Passed { removed } => self.note_removed(index, sub, removed),
