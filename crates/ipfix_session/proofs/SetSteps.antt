@@ -30,8 +30,8 @@ Rows = List (List (List ℕ))
 abbrev rows_of_texts : Template → List (List ℕ) → Rows
 rows_of_texts t texts = map (values_in t.fields) texts
 
-abbrev row_result : Rows → Result Rows (Unit {0})
-row_result rows = Ok rows
+abbrev pub read_rows : Rows → Result Rows (Unit {0})
+read_rows rows = Ok rows
 
 -- ---- one record more
 
@@ -117,7 +117,7 @@ pub reads_all : (t : Template) (content rest : List ℕ) (found : RecordEnds) �
 reads_all t content rest found is-rest keepable end done =
     let rows = rows_of_texts t (pieces content 0 found.ends.items) in (
       record { ends = done.ascend; within = done.within; texts = done.texts; kept = done.kept },
-      sym done.read ∙ ap (λ (o : List ℕ). with_front rows (read_all (record_front t) o)) (sym is-rest) ∙ ap (with_front rows) (at_front t keepable rest End end) ∙ ap row_result (append-nil rows),
+      sym done.read ∙ ap (λ (o : List ℕ). with_front rows (read_all (record_front t) o)) (sym is-rest) ∙ ap (with_front rows) (at_front t keepable rest End end) ∙ ap read_rows (append-nil rows),
     )
 
 pub reads_overrun : (t : Template) (content rest ends : List ℕ) (used : ℕ) (is_shortest : Bool) → rest ≡ drop used content → IsKeepable t → record_front t rest ≡ Fault tt → ReadsOn t content ends used is_shortest → records_in t content ≡ Err tt
@@ -142,7 +142,7 @@ none_of t content (e ∷ es) none = absurd (omega arith)
 pub none_added : (t : Template) (content : List ℕ) (found : RecordEnds) (records : List DataRecord) → FindsEnds t content (Ok found) → length found.ends.items ≡ 0 → AddsRecords t content records records (Ok tt)
 none_added t content found records finds none =
     let is = none_of t content found.ends.items none in
-    ([], finds.1 ∙ ap (λ (ts : List (List ℕ)). row_result (rows_of_texts t ts)) is, sym (append-nil records))
+    ([], finds.1 ∙ ap (λ (ts : List (List ℕ)). read_rows (rows_of_texts t ts)) is, sym (append-nil records))
 
 pub not_added : (t : Template) (content : List ℕ) (old new : List DataRecord) (e : ReadError) → FindsEnds t content (Err e) → AddsRecords t content old new (Err e)
 not_added t content old new e finds = finds
