@@ -9,7 +9,8 @@ ghost use Rattle.ipfix_session.specs.DataSets.{AddsRecords, AreFound, FindsEnds}
 
 use crate::read_error::ReadError;
 use bytes::Bytes;
-use ipfix_template::{Extent, Record, Template, measure};
+use ipfix_template::{Extent, Record, Template};
+use record_layout::Layout;
 use record_runs::{Records, Run};
 use std::alloc::{AllocError, Global};
 use std::sync::Arc;
@@ -39,7 +40,8 @@ pub(crate) fn read_set(
     requires fits { FitsOneMessage content.now }
     ensures { AddsRecords (arc_value template.now) content.now records.old records.new result }
 {
-    let found = find_ends(alloc, template, content)?;
+    let layout = Layout::of(alloc, template.clone()?)?;
+    let found = find_ends(alloc, &layout, content)?;
     if found.ends.is_empty() {
         return Ok(());
     }
@@ -49,17 +51,17 @@ pub(crate) fn read_set(
 }
 
 /// Finds where the records of a content end: the longest record that stands at each place, until only padding is left.
-fn find_ends(alloc: Global, template: &Template, content: &[u8]) -> Result<RecordEnds, ReadError>
-    requires keepable { IsKeepable template.now }
+fn find_ends(alloc: Global, layout: &Layout, content: &[u8]) -> Result<RecordEnds, ReadError>
+    requires keepable { IsKeepable layout.now }
     requires fits { FitsOneMessage content.now }
-    ensures { FindsEnds template.now content.now result }
+    ensures { FindsEnds layout.now content.now result }
 {
-    let most = content.len() / (template.shortest() as usize).max(1);
+    let most = content.len() / (layout.template().shortest() as usize).max(1);
     let mut ends = Vec::with_capacity(alloc, most)?;
     let mut used = 0;
     let mut is_shortest = true;
     'records: loop {
-        match measure(template, &content[used..]) {
+        match layout.measure(&content[used..]) {
             Extent::Padding => {
                 return Ok(RecordEnds {
                     ends,

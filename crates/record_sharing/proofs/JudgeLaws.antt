@@ -8,7 +8,23 @@ use Rattle.flow_anonymize.specs.Plans.{PlansFor}
 use Rattle.record_sharing.specs.declared.judges.Judge.{Judge}
 use Rattle.record_sharing.specs.declared.served.Served.{Served}
 use Rattle.record_sharing.specs.InForce.{InForce}
+use Rattle.record_sharing.specs.Sharing.{blank}
 use Rattle.record_sharing.specs.Judges.{Judges, judges_of, for_of, given_to, plans_for, of_template, JudgeFor}
+
+got_map : {A B : Type 0} (f : A → B) (xs : List A) (n : ℕ) (x other : A) → n < length xs → x ≡ get_or xs n other → slice_get (map f xs) n ≡ Some (f x)
+got_map f [] n x other l at = absurd (omega arith)
+got_map f (y ∷ ys) zero x other l at = ap (λ z. Some (f z)) (sym at)
+got_map f (y ∷ ys) (suc n) x other l at = got_map f ys n x other (omega (arith, l)) at
+
+-- ---- a judge at its place
+
+pub own_for : (judges : List Judge) (fors : List PlansFor) (k : ℕ) (was : Judge) → map for_of judges ≡ fors → k < length fors → was ≡ get_or judges k was → slice_get fors k ≡ Some (for_of was)
+own_for judges fors k was view l at = ap (λ ps. slice_get ps k) (sym view) ∙ got_map for_of judges k was was (omega (arith, l, ap length view, length-map judges for_of)) at
+
+pub which_for : (judges : List Judge) (fors : List PlansFor) (k : ℕ) (was : Judge) (p : PlansFor) → map for_of judges ≡ fors → k < length fors → was ≡ get_or judges k was → slice_get fors k ≡ Some p → p ≡ for_of was
+which_for judges fors k was p view l at there = some_is (sym there ∙ own_for judges fors k was view l at) where
+  some_is : {p q : PlansFor} → Some p ≡ Some q → p ≡ q
+  some_is e = cc
 
 -- ---- a judge that changes at its place
 
@@ -29,7 +45,7 @@ begun_start t js = record { fors = refl; shares = refl; many = refl }
 
 begin_at : (t : Template) (old now : List Judge) (place : ℕ) (was j : Judge) → place < length now → map for_of now ≡ map (of_template t) (map for_of (take place old)) ++ map for_of (drop place old)
     → was ≡ get_or now place was → for_of j ≡ of_template t (for_of was) → place < length old
-    → map for_of (set now place j) ≡ map (of_template t) (map for_of (take (place + 1) old)) ++ map for_of (drop (place + 1) old)
+    → map for_of (set now place j) ≡ map (of_template t) (map for_of (take (suc place) old)) ++ map for_of (drop (suc place) old)
 begin_at t [] now place was j l fors at is l2 = absurd (omega arith)
 begin_at t (o ∷ old) [] place was j l fors at is l2 = absurd (omega arith)
 begin_at t (o ∷ old) (n ∷ now) zero was j l fors at is l2 =
@@ -51,6 +67,9 @@ begin_at t (o ∷ old) (n ∷ now) (suc place) was j l fors at is l2 =
     tail_is : {p q : PlansFor} {ps qs : List PlansFor} → p ∷ ps ≡ q ∷ qs → ps ≡ qs
     tail_is e = cc
 
+one_more : (n : ℕ) → suc n ≡ n + 1
+one_more n = omega arith
+
 length-set-same : {A : Type 0} (xs : List A) (k : ℕ) (x : A) → length (set xs k x) ≡ length xs
 length-set-same [] k x = refl
 length-set-same (y ∷ ys) zero x = refl
@@ -59,7 +78,7 @@ length-set-same (y ∷ ys) (suc k) x = ap (λ n. suc n) (length-set-same ys k x)
 pub begun_step : (t : Template) (old now : List Judge) (place : ℕ) (was j : Judge) → HaveBegun t old now place → place < length now → was ≡ get_or now place was → for_of j ≡ of_template t (for_of was) → given_to j ≡ given_to was
     → HaveBegun t old (set now place j) (place + 1)
 begun_step t old now place was j so l at is given = record {
-  fors = begin_at t old now place was j l so.fors at is (omega (arith, l, so.many));
+  fors = begin_at t old now place was j l so.fors at is (omega (arith, l, so.many)) ∙ ap (λ n. map (of_template t) (map for_of (take n old)) ++ map for_of (drop n old)) (one_more place);
   shares = set_same given_to now place was j l at given ∙ so.shares;
   many = length-set-same now place j ∙ so.many;
 }
@@ -94,6 +113,23 @@ judge_more before new f domain served n who other so l at template grown cuts =
           ∙ ap (λ c. map (λ (who : Served). plans_for f.policy.rules c domain None who.name.now) (take (n + 1) served)) (sym cuts);
     }
 
+-- the same of those that were given nothing yet
+abbrev pub with_judge : Judges → ℕ → List ℕ → Judges
+with_judge j sub name = record { rules = j.rules; cuts = j.cuts; domain = j.domain; template = j.template; fors = j.fors ++ plans_for j.rules j.cuts j.domain None name ∷ []; shares = j.shares ++ (sub, []) ∷ [] }
+
+pub more_judges : (before new : Judges) (f : InForce) (domain : ℕ) (served : List Served) (n : ℕ) (who other : Served) → JudgeFor before f domain None (take n served) → before.rules ≡ f.policy.rules → before.domain ≡ domain → before.shares ≡ map blank (take n served)
+    → n < length served → who ≡ get_or served n other → new ≡ with_judge before who.sub who.name.now
+    → JudgeFor new f domain None (take (n + 1) served) × (new.rules ≡ f.policy.rules) × (new.domain ≡ domain) × (new.shares ≡ map blank (take (n + 1) served))
+more_judges before new f domain served n who other so rules domain_is shares l at is =
+    let empty : Served → ℕ × List DataRecord = blank in
+    let grown = ap (λ (j : Judges). j.fors) is ∙ ap (λ rs. before.fors ++ plans_for rs before.cuts before.domain None who.name.now ∷ []) rules ∙ ap (λ d. before.fors ++ plans_for f.policy.rules before.cuts d None who.name.now ∷ []) domain_is in (
+      judge_more before new f domain served n who other so l at (ap (λ (j : Judges). j.template) is) grown (ap (λ (j : Judges). j.cuts) is),
+      ap (λ (j : Judges). j.rules) is ∙ rules,
+      ap (λ (j : Judges). j.domain) is ∙ domain_is,
+      ap (λ (j : Judges). j.shares) is ∙ ap (λ s. s ++ empty who ∷ []) shares ∙ sym (map-append empty (take n served) (who ∷ []))
+          ∙ ap (λ w. map empty (take n served ++ w ∷ [])) at ∙ ap (map empty) (sym (take_more served n other l)),
+    )
+
 pub judge_all : (j : Judges) (f : InForce) (domain : ℕ) (served : List Served) (n : ℕ) → JudgeFor j f domain None (take n served) → length served ≤ n → JudgeFor j f domain None served
 judge_all j f domain served n so over = subst (λ l. JudgeFor j f domain None l) (take_all n served over) so
 
@@ -122,27 +158,23 @@ pub judge_at : (j : Judges) (f : InForce) (domain : ℕ) (template : Option Temp
     → slice_get j.fors n ≡ Some (plans_for f.policy.rules j.cuts domain template who.name.now)
 judge_at j f domain template served n who other so l at =
     let for = λ (who : Served). plans_for f.policy.rules j.cuts domain template who.name.now in
-    ap (λ ps. slice_get ps n) so.fors ∙ got for served n who other l at
-  where
-    got : {A B : Type 0} (f : A → B) (xs : List A) (n : ℕ) (x other : A) → n < length xs → x ≡ get_or xs n other → slice_get (map f xs) n ≡ Some (f x)
-    got f [] n x other l at = absurd (omega arith)
-    got f (y ∷ ys) zero x other l at = ap (λ z. Some (f z)) (sym at)
-    got f (y ∷ ys) (suc n) x other l at = got f ys n x other (omega (arith, l)) at
+    ap (λ ps. slice_get ps n) so.fors ∙ got_map for served n who other l at
 
 -- which are for that template, and by those cuts
-judge_is : (j : Judges) (f : InForce) (domain : ℕ) (template : Option Template) (served : List Served) (n : ℕ) (who other : Served) (p : PlansFor) → JudgeFor j f domain template served → n < length served → who ≡ get_or served n other
-    → slice_get j.fors n ≡ Some p → p ≡ plans_for f.policy.rules j.cuts domain template who.name.now
-judge_is j f domain template served n who other p so l at there = some_is (sym there ∙ judge_at j f domain template served n who other so l at) where
-  some_is : {p q : PlansFor} → Some p ≡ Some q → p ≡ q
+got_any : {A B : Type 0} (f : A → B) (P : B → Type 0) (xs : List A) (n : ℕ) (y : B) → ((x : A) → P (f x)) → slice_get (map f xs) n ≡ Some y → P y
+got_any f P [] n y so e = absurd cc
+got_any f P (x ∷ xs) zero y so e = subst P (some_is e) (so x) where
+  some_is : Some (f x) ≡ Some y → f x ≡ y
   some_is e = cc
+got_any f P (x ∷ xs) (suc n) y so e = got_any f P xs n y so e
 
-pub template_at : (j : Judges) (f : InForce) (domain : ℕ) (template : Option Template) (served : List Served) (n : ℕ) (who other : Served) (p : PlansFor) → JudgeFor j f domain template served → n < length served → who ≡ get_or served n other
-    → slice_get j.fors n ≡ Some p → p.template ≡ template
-template_at j f domain template served n who other p so l at there = ap (λ (p : PlansFor). p.template) (judge_is j f domain template served n who other p so l at there)
+pub template_at : (j : Judges) (f : InForce) (domain : ℕ) (template : Option Template) (served : List Served) (n : ℕ) (p : PlansFor) → JudgeFor j f domain template served → slice_get j.fors n ≡ Some p → p.template ≡ template
+template_at j f domain template served n p so there =
+    got_any (λ (who : Served). plans_for f.policy.rules j.cuts domain template who.name.now) (λ (p : PlansFor). p.template ≡ template) served n p (λ who. refl) (ap (λ ps. slice_get ps n) (sym so.fors) ∙ there)
 
-pub cuts_at : (j : Judges) (f : InForce) (domain : ℕ) (template : Option Template) (served : List Served) (n : ℕ) (who other : Served) (p : PlansFor) → JudgeFor j f domain template served → n < length served → who ≡ get_or served n other
-    → slice_get j.fors n ≡ Some p → p.cuts ≡ j.cuts
-cuts_at j f domain template served n who other p so l at there = ap (λ (p : PlansFor). p.cuts) (judge_is j f domain template served n who other p so l at there)
+pub cuts_at : (j : Judges) (f : InForce) (domain : ℕ) (template : Option Template) (served : List Served) (n : ℕ) (p : PlansFor) → JudgeFor j f domain template served → slice_get j.fors n ≡ Some p → p.cuts ≡ j.cuts
+cuts_at j f domain template served n p so there =
+    got_any (λ (who : Served). plans_for f.policy.rules j.cuts domain template who.name.now) (λ (p : PlansFor). p.cuts ≡ j.cuts) served n p (λ who. refl) (ap (λ ps. slice_get ps n) (sym so.fors) ∙ there)
 
 pub there_for : (j : Judges) (f : InForce) (domain : ℕ) (template : Option Template) (served : List Served) (n : ℕ) → JudgeFor j f domain template served → n < length served → n < length j.fors
 there_for j f domain template served n so l = omega (arith, l, ap length so.fors, length-map served (λ (who : Served). plans_for f.policy.rules j.cuts domain template who.name.now))

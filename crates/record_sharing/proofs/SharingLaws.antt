@@ -127,14 +127,14 @@ adding_start s t n domain f index r served same same_too = record {
 pub record HasAdded (old new : List (ℕ × List DataRecord)) (told tnew : List Tally) (before notes : List Note) (domain : ℕ) (f : InForce) (index : ℕ) (r : DataRecord) (served : List Served) : Type 0 where
   pub shares : (done : List DataRecord) → old ≡ shares_of domain f done served → new ≡ shares_of domain f (done ++ r ∷ []) served
   pub tallies : (done : List DataRecord) → map tallied told ≡ tallies_of domain f done served → map tallied tnew ≡ tallies_of domain f (done ++ r ∷ []) served
-  pub notes : notes ≡ before ++ noted_of_each domain f served (index, r)
+  pub noting : notes ≡ before ++ noted_of_each domain f served (index, r)
 
 pub added : (old new : List (ℕ × List DataRecord)) (told tnew : List Tally) (before notes : List Note) (domain : ℕ) (f : InForce) (index : ℕ) (r : DataRecord) (served : List Served) (place : ℕ)
     → IsAdding old new told tnew before notes domain f index r served place → length served ≤ place → HasAdded old new told tnew before notes domain f index r served
 added old new told tnew before notes domain f index r served place so over = record {
   shares = sharing_end (given_by domain f) old new r served place so.shares over;
   tallies = sharing_end (added_by domain f) (map tallied told) (map tallied tnew) r served place so.tallies over;
-  notes = so.noting ∙ ap (λ l. before ++ flat_map (noted domain f (index, r)) l) (take_all place served over);
+  noting = so.noting ∙ ap (λ l. before ++ flat_map (noted domain f (index, r)) l) (take_all place served over);
 }
 
 -- what passes, by whichever definition
@@ -210,7 +210,7 @@ pub running_step : (old new new2 : List (ℕ × List DataRecord)) (told tnew tne
 running_step old new new2 told tnew tnew2 before notes notes2 domain f first index rs served place r other so within at numbered adds same same_too = record {
   shares = λ done start. adds.shares (done ++ take place rs) (so.shares done start) ∙ ap (λ l. shares_of domain f l served) (longer done);
   tallies = λ done start. adds.tallies (done ++ take place rs) (so.tallies done start) ∙ ap (λ l. tallies_of domain f l served) (longer done);
-  noting = adds.notes ∙ ap (λ l. l ++ noted_of_each domain f served (index, r)) so.noting
+  noting = adds.noting ∙ ap (λ l. l ++ noted_of_each domain f served (index, r)) so.noting
       ∙ append_assoc before (flat_map (noted_of_each domain f served) (enumerate_from first (take place rs))) (noted_of_each domain f served (index, r))
       ∙ ap (λ l. before ++ l) (
       ap (λ i. flat_map (noted_of_each domain f served) (enumerate_from first (take place rs)) ++ noted_of_each domain f served (i, r)) here
@@ -234,13 +234,13 @@ running_step old new new2 told tnew tnew2 before notes notes2 domain f first ind
 pub record HasRun (old new : List (ℕ × List DataRecord)) (told tnew : List Tally) (before notes : List Note) (domain : ℕ) (f : InForce) (first : ℕ) (rs : List DataRecord) (served : List Served) : Type 0 where
   pub shares : (done : List DataRecord) → old ≡ shares_of domain f done served → new ≡ shares_of domain f (done ++ rs) served
   pub tallies : (done : List DataRecord) → map tallied told ≡ tallies_of domain f done served → map tallied tnew ≡ tallies_of domain f (done ++ rs) served
-  pub notes : notes ≡ before ++ flat_map (noted_of_each domain f served) (enumerate_from first rs)
+  pub noting : notes ≡ before ++ flat_map (noted_of_each domain f served) (enumerate_from first rs)
 
 pub has_run : (old new : List (ℕ × List DataRecord)) (told tnew : List Tally) (before notes : List Note) (domain : ℕ) (f : InForce) (first : ℕ) (rs : List DataRecord) (served : List Served) (place : ℕ)
     → IsRunning old new told tnew before notes domain f first rs served place → length rs ≤ place → HasRun old new told tnew before notes domain f first rs served
 has_run old new told tnew before notes domain f first rs served place so over =
     let P : List DataRecord → Type 0 = λ l. HasRun old new told tnew before notes domain f first l served in
-    subst P (take_all place rs over) (record { shares = so.shares; tallies = so.tallies; notes = so.noting })
+    subst P (take_all place rs over) (record { shares = so.shares; tallies = so.tallies; noting = so.noting })
 
 -- ---- one run after another
 
@@ -270,7 +270,7 @@ pub shares_step : (s s2 : List (ℕ × List DataRecord)) (t t2 : List Tally) (n 
 shares_step s s2 t t2 n n2 domain f runs served place before more run other so within at many adds same same_too = record {
   sharing = adds.shares (records_in (take place runs)) so.sharing ∙ ap (λ l. shares_of domain f l served) (sym grows);
   tallying = adds.tallies (records_in (take place runs)) so.tallying ∙ ap (λ l. tallies_of domain f l served) (sym grows);
-  noting = adds.notes ∙ ap (λ l. l ++ flat_map (noted_of_each domain f served) (enumerate_from before (records_of run))) so.noting
+  noting = adds.noting ∙ ap (λ l. l ++ flat_map (noted_of_each domain f served) (enumerate_from before (records_of run))) so.noting
       ∙ ap (λ i. notes_of domain f (records_in (take place runs)) served ++ flat_map (noted_of_each domain f served) (enumerate_from i (records_of run))) start
       ∙ sym (flat_map-append (noted_of_each domain f served) (enumerate_from 0 (records_in (take place runs))) (enumerate_from (0 + length (records_in (take place runs))) (records_of run)))
       ∙ ap (flat_map (noted_of_each domain f served)) (sym (enumerate-append 0 (records_in (take place runs)) (records_of run)))

@@ -7,15 +7,15 @@ use Rattle.ipfix_session.proofs.data_set.find_ends.Goals as goal
 
 pub returns-in-Padding : goal.returns-in-Padding
 returns-in-Padding c =
-    reads_all c.args.template.now c.args.content.now _ (record { ends = c.records.ends; used = c.records.used; is_shortest = c.records.is_shortest }) (take_rest c.args.content.now c.records.used) c.requires.keepable c.in-Padding.ensures.exact c.records.invariant
+    reads_all c.args.layout.now c.args.content.now _ (record { ends = c.records.ends; used = c.records.used; is_shortest = c.records.is_shortest }) (take_rest c.args.content.now c.records.used) c.requires.keepable c.in-Padding.ensures.exact c.records.invariant
 
 pub returns-in-Overrun : goal.returns-in-Overrun
 returns-in-Overrun c =
-    reads_overrun c.args.template.now c.args.content.now _ c.records.ends.items c.records.used c.records.is_shortest (take_rest c.args.content.now c.records.used) c.requires.keepable c.in-Overrun.ensures.exact c.records.invariant
+    reads_overrun c.args.layout.now c.args.content.now _ c.records.ends.items c.records.used c.records.is_shortest (take_rest c.args.content.now c.records.used) c.requires.keepable c.in-Overrun.ensures.exact c.records.invariant
 
 pub records-smaller : goal.records-smaller
 records-smaller c =
-    let t = c.args.template.now in
+    let t = c.args.layout.now in
     let content = c.args.content.now in
     let rest = take (length content - c.records.used) (drop c.records.used content) in
     let is = measured t rest c.in-Record.size c.in-Record.as_written c.in-Record.ensures.found c.in-Record.ensures.exact in
@@ -23,7 +23,7 @@ records-smaller c =
 
 pub records-preserved : goal.records-preserved
 records-preserved c =
-    let t = c.args.template.now in
+    let t = c.args.layout.now in
     let content = c.args.content.now in
     let rest = take (length content - c.records.used) (drop c.records.used content) in
     let both : c.if-is_shortest.is_shortest ≡ (c.records.is_shortest && c.in-Record.as_written) = elim c.if-is_shortest.branch [ then-is_shortest w ↦ search rules | else-is_shortest w ↦ search rules ] in
