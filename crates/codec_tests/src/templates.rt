@@ -39,7 +39,11 @@ fn written(rt: &impl Abort, alloc: Global, whole: &Record) -> Result<Vec<u8>, Al
 #[test]
 fn record_of_the_appendix(rt: HostRuntime) -> Result<(), Fail> {
     let alloc = rt.alloc();
-    let whole = record_of(alloc, template_of(alloc, &TRAFFIC)?, values_of(alloc, VALUES)?)?;
+    let whole = record_of(
+        alloc,
+        template_of(alloc, &TRAFFIC)?,
+        values_of(alloc, VALUES)?,
+    )?;
     assert_eq!(rt; written(&rt, alloc, &whole)?.as_slice(), WRITTEN);
     Ok(())
 }
