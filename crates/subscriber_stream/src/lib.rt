@@ -20,6 +20,7 @@
 //! `longest_run`.
 #![tactic(auto)]
 
+mod announcing;
 mod fitting;
 pub mod laws;
 pub mod limits;
@@ -27,6 +28,7 @@ pub mod pull_error;
 mod room;
 mod shape_table;
 pub mod stream;
+mod texts;
 mod waiting;
 mod writing;
 

@@ -1,4 +1,4 @@
-//! A record waits as the ID of its shape and its octets.
+//! A run of records waits as the ID of its shape and its octets, and is handed out record by record.
 use crate::limits::Limits;
 use crate::stream::Stream;
 use crate::waiting::Waiting;
@@ -6,6 +6,7 @@ use bytes::Bytes;
 use ipfix_element::ElementId;
 use ipfix_octets::message_format::LEAST_TEMPLATE_ID;
 use ipfix_template::{FieldSpec, Fields, Record, Template, Values};
+use record_runs::{Records, Run};
 use std::alloc::{AllocError, Global};
 use std::process::Abort;
 use std::sync::Arc;

@@ -1,0 +1,23 @@
+use Rattle.std.proofs.Common.{◌≡◌, ◌+◌, ◌≤◌, take, drop, length, sym, ap, ◌∙◌, arith, length-drop}
+use Rattle.std.specs.List.{concat}
+use Rattle.std.proofs.lemmas.List.{drop-drop}
+use Rattle.record_runs.specs.Pieces.{pieces, AreEnds}
+use Rattle.subscriber_stream.proofs.TextLaws.{IsFront, is_front, count_few, drop_pieces, ends_of_rest}
+use Rattle.subscriber_stream.proofs.texts.Texts.front.Goals as goal
+
+few : (c : goal.After-deref) → c.args.count ≤ length (drop c.self.inside.handed c.self.inside.ends.items)
+few c = count_few c.self.inside.octets c.self.inside.start _ c.args.count (rw (← c.self.view_is) at c.requires)
+
+pub end_of-end-requires : goal.end_of-end-requires
+end_of-end-requires c =
+    omega (arith, few c, length-drop c.self.inside.handed c.self.inside.ends.items, ap length c.deref.ensures.value, c.self.invariant.1)
+
+pub between-requires : goal.between-requires
+between-requires c =
+    let front = is_front c.self.inside.octets c.self.inside.start (drop c.self.inside.handed c.self.inside.ends.items) c.args.count c.end_of-end.result (count_few c.self.inside.octets c.self.inside.start _ c.args.count (rw (← c.self.view_is) at c.requires)) c.self.invariant.0 (rw c.deref.ensures.value at c.end_of-end.ensures) in
+    record { order = front.behind; within = rw c.deref-2.ensures front.within }
+
+pub returns : goal.returns
+returns c =
+    let front = is_front c.self.inside.octets c.self.inside.start (drop c.self.inside.handed c.self.inside.ends.items) c.args.count c.end_of-end.result (count_few c.self.inside.octets c.self.inside.start _ c.args.count (rw (← c.self.view_is) at c.requires)) c.self.invariant.0 (rw c.deref.ensures.value at c.end_of-end.ensures) in
+    rw (← c.self.view_is) (c.between.ensures ∙ rw c.deref-2.ensures front.shown)
