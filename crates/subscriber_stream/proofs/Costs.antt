@@ -1,10 +1,10 @@
 -- How the octets of a message are added up, part by part and place by place of the queue.
-use Rattle.std.proofs.Common.{◌≡◌, ℕ, zero, suc, ◌+◌, ◌<◌, ◌≤◌, Bool, true, false, cond, leb, List, [], ◌∷◌, ◌++◌, length, take, drop, get_or, Option, None, refl, sym, ap, ◌∙◌, arith, take-add, length-append, append_assoc}
-use Rattle.std.proofs.lemmas.List.{append-nil, take-append-le, drop-drop, drop_at, take_all}
+use Rattle.std.proofs.Common.{◌≡◌, ℕ, suc, ◌+◌, ◌<◌, ◌≤◌, Bool, true, false, cond, leb, List, [], ◌∷◌, ◌++◌, length, take, drop, get_or, Option, None, refl, sym, ap, ◌∙◌, arith, take-add, length-append}
+use Rattle.std.proofs.lemmas.List.{take-append-le, drop-drop, drop_at, take_all}
 use Rattle.subscriber_stream.specs.declared.waiting.Waiting.{Waiting}
 use Rattle.subscriber_stream.specs.Items.{Item, cost, data_set, last_after, total, fits}
 use Rattle.subscriber_stream.specs.Waiting.{items_of, items_in, IsFilled, set_after}
-use Rattle.subscriber_stream.proofs.Queues.{items_from, items_past, set_is_last}
+use Rattle.subscriber_stream.proofs.Queues.{items_from, set_is_last}
 
 -- ---- parts behind others
 
@@ -111,11 +111,6 @@ IsRun-over target queue place parts octets last w more whole run next over =
       octets_are = octets_with target queue place parts octets last w more whole run next;
       within = few_with target queue place parts octets last w more whole run next;
     }
-
-pub IsRun-all : (target : ℕ) (queue : List Waiting) (place parts octets : ℕ) (last : Option ℕ) → IsRun target queue place parts octets last → length queue ≤ place → IsLongest target queue parts octets
-IsRun-all target queue place parts octets last run all =
-    let none : fits target last octets (items_in (drop place queue)) ≡ 0 = ap (fits target last octets) (items_past queue place all) in
-    record { parts_are = omega (arith, run.fit, none); octets_are = run.counted; within = omega (arith, run.whole) }
 
 pub IsRun-more : (target : ℕ) (queue : List Waiting) (place parts octets : ℕ) (last : Option ℕ) (w : Waiting) (more whole : ℕ) → IsRun target queue place parts octets last → IsNext target queue place octets last w more whole → IsFilled w → length (items_of w) ≤ more → IsRun target queue (place + 1) (parts + more) whole (set_after w)
 IsRun-more target queue place parts octets last w more whole run next filled all =

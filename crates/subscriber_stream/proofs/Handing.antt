@@ -1,12 +1,11 @@
 -- What a stream keeps where the first records of a run are handed out.
-use Rattle.std.proofs.Common.{◌≡◌, ℕ, zero, suc, ◌+◌, ◌-◌, ◌<◌, ◌≤◌, ◌^◌, List, [], ◌∷◌, ◌++◌, length, drop, refl, sym, ap, subst, ◌∙◌, arith, length-append}
-use Rattle.std.proofs.lemmas.List.{length-map}
+use Rattle.std.proofs.Common.{◌≡◌, ℕ, zero, suc, ◌+◌, ◌-◌, ◌≤◌, List, [], ◌∷◌, ◌++◌, length, drop, refl, sym, ap, subst, arith, length-append}
 use Rattle.ipfix_template.specs.declared.template.Template.{Template}
 use Rattle.subscriber_stream.specs.declared.limits.Limits.{Limits}
 use Rattle.subscriber_stream.specs.declared.waiting.Waiting.{Waiting}
-use Rattle.subscriber_stream.specs.declared.waiting.Waiting.TheVariants.{Announce, Bring}
+use Rattle.subscriber_stream.specs.declared.waiting.Waiting.TheVariants.{Bring}
 use Rattle.subscriber_stream.specs.Table.{Table}
-use Rattle.subscriber_stream.specs.Items.{Item, Brought, AreKept, AreFollowed, announcements, entries}
+use Rattle.subscriber_stream.specs.Items.{Item, AreKept, AreFollowed, announcements, entries}
 use Rattle.subscriber_stream.specs.Waiting.{items_in, AreFilled, rest_of}
 use Rattle.subscriber_stream.specs.Steps.{IsConsistent}
 use Rattle.subscriber_stream.proofs.RunLaws.{brings}

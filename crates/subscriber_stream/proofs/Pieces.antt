@@ -1,10 +1,9 @@
 -- Parts that wait, place by place.
-use Rattle.std.proofs.Common.{◌≡◌, ℕ, zero, suc, ◌+◌, ◌<◌, ◌≤◌, Bool, true, false, cond, List, [], ◌∷◌, ◌++◌, length, take, drop, get_or, Option, Some, None, refl, sym, subst, ◌∙◌, arith, nat_eq, add-one}
+use Rattle.std.proofs.Common.{◌≡◌, ℕ, zero, suc, ◌≤◌, Bool, true, false, List, [], ◌∷◌, ◌++◌, take, Some, None, refl, subst, arith, nat_eq}
 use Rattle.std.proofs.lemmas.Bool.{le-ltb, eqb-true}
-use Rattle.std.proofs.lemmas.List.{get_or-take, length-take}
 use Rattle.ipfix_template.specs.declared.template.Template.{Template}
 use Rattle.ipfix_template.specs.Template.{refusal_of}
-use Rattle.subscriber_stream.specs.Items.{Item, Announced, Brought, IsAnnouncement, IsKept, AreKept, joins, cost, data_set, total, run}
+use Rattle.subscriber_stream.specs.Items.{Item, Announced, Brought, AreKept, total, run}
 
 -- an ID of 256 or more is as good as 256
 pub accepted_under : (id : ℕ) (options : Bool) (t : Template) → 256 ≤ id → refusal_of 256 options t ≡ None → refusal_of id options t ≡ None
@@ -27,11 +26,6 @@ pub kept_take : (shapes : List Template) (n : ℕ) (ws : List Item) → AreKept 
 kept_take shapes zero ws all = tt
 kept_take shapes (suc n) [] all = tt
 kept_take shapes (suc n) (w ∷ ws) all = (all.0, kept_take shapes n ws all.1)
-
-pub kept_drop : (shapes : List Template) (n : ℕ) (ws : List Item) → AreKept shapes ws → AreKept shapes (drop n ws)
-kept_drop shapes zero ws all = all
-kept_drop shapes (suc n) [] all = tt
-kept_drop shapes (suc n) (w ∷ ws) all = kept_drop shapes n ws all.1
 
 pub kept_append : (shapes : List Template) (vs ws : List Item) → AreKept shapes vs → AreKept shapes ws → AreKept shapes (vs ++ ws)
 kept_append shapes [] ws first second = second

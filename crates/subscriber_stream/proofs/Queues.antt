@@ -1,11 +1,10 @@
 -- A queue, and what it is part by part.
-use Rattle.std.proofs.Common.{◌≡◌, ℕ, zero, suc, ◌+◌, ◌-◌, ◌<◌, ◌≤◌, List, [], ◌∷◌, ◌++◌, length, get_or, drop, Option, Some, None, refl, sym, ap, subst, ◌∙◌, arith, append_assoc}
+use Rattle.std.proofs.Common.{◌≡◌, ℕ, zero, suc, ◌+◌, ◌<◌, ◌≤◌, List, [], ◌∷◌, ◌++◌, length, get_or, drop, Option, Some, refl, sym, ap, subst, ◌∙◌, arith, append_assoc}
 use Rattle.std.proofs.lemmas.List.{drop_all}
 use Rattle.sequences.proofs.ListLaws.{drop_read}
-use Rattle.ipfix_template.specs.declared.template.Template.{Template}
 use Rattle.subscriber_stream.specs.declared.waiting.Waiting.{Waiting}
 use Rattle.subscriber_stream.specs.declared.waiting.Waiting.TheVariants.{Announce, Bring}
-use Rattle.subscriber_stream.specs.Items.{Item, AreKept, last_after}
+use Rattle.subscriber_stream.specs.Items.{Item, last_after}
 use Rattle.subscriber_stream.specs.Waiting.{items_of, items_in, IsFilled, AreFilled, set_after}
 use Rattle.subscriber_stream.proofs.RunLaws.{brings}
 

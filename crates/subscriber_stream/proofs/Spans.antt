@@ -1,16 +1,16 @@
 -- What is written for a run or an announcement, where other parts follow it.
 use Rattle.std.proofs.Common.{◌≡◌, ℕ, zero, suc, ◌+◌, ◌-◌, ◌<◌, ◌≤◌, Bool, true, false, cond, List, [], ◌∷◌, ◌++◌, length, take, drop, get_or, Option, Some, None, refl, sym, ap, subst, ◌∙◌, arith, append_assoc, length-append, min, nat_eq}
 use Rattle.std.specs.List.{concat}
-use Rattle.std.proofs.lemmas.List.{append-nil, length-map, take_min}
+use Rattle.std.proofs.lemmas.List.{length-map, take_min}
 use Rattle.std.proofs.lemmas.Bool.{eqb-true, eqb-false}
 use Rattle.ipfix_template.specs.declared.template.Template.{Template}
 use Rattle.subscriber_stream.specs.declared.waiting.Waiting.{Waiting}
 use Rattle.subscriber_stream.specs.declared.waiting.Waiting.TheVariants.{Announce, Bring}
 use Rattle.subscriber_stream.specs.Message.{set_head}
-use Rattle.subscriber_stream.specs.Items.{Item, Brought, IsAnnouncement, AreKept, joins, cost, total, run, pieces}
-use Rattle.subscriber_stream.specs.Waiting.{items_of, items_in, IsFilled, AreFilled, set_after, span}
+use Rattle.subscriber_stream.specs.Items.{Item, Brought, IsAnnouncement, AreKept, joins, total, run, pieces}
+use Rattle.subscriber_stream.specs.Waiting.{items_of, items_in, IsFilled, set_after, span}
 use Rattle.subscriber_stream.proofs.RunLaws.{brings, head, cost_is, same_id}
-use Rattle.subscriber_stream.proofs.Queues.{items_from, items_past}
+use Rattle.subscriber_stream.proofs.Queues.{items_from}
 use Rattle.subscriber_stream.proofs.Pieces.{run-total}
 
 -- none is left of no parts, and one less of one more
@@ -145,20 +145,6 @@ IsWriting-next shapes queue count start place left last out new w is lt at some 
       kept = (kept_behind shapes (items_of w) (items_in rest) (subst K from is.kept)).1;
     }
 
--- where nothing is left to write, all is written
-pub IsWriting-done : (shapes : List Template) (queue : List Waiting) (count : ℕ) (start : List ℕ) (place left : ℕ) (last : Option ℕ) (out : List ℕ) → IsWriting shapes queue count start place left last out → left ≡ 0 → out ≡ start ++ pieces shapes None (take count (items_in queue))
-IsWriting-done shapes queue count start place left last out is none =
-    sym (append-nil out) ∙ ap (λ (n : ℕ). out ++ pieces shapes last (take n (items_in (drop place queue)))) (sym none) ∙ is.written
-
-take_none : (n : ℕ) → take {A = Item} n [] ≡ []
-take_none zero = refl
-take_none (suc n) = refl
-
-pub IsWriting-all : (shapes : List Template) (queue : List Waiting) (count : ℕ) (start : List ℕ) (place left : ℕ) (last : Option ℕ) (out : List ℕ) → IsWriting shapes queue count start place left last out → length queue ≤ place → out ≡ start ++ pieces shapes None (take count (items_in queue))
-IsWriting-all shapes queue count start place left last out is all =
-    let none : take left (items_in (drop place queue)) ≡ [] = ap (take left) (items_past queue place all) ∙ take_none left in
-    sym (append-nil out) ∙ ap (λ (ws : List Item). out ++ pieces shapes last ws) (sym none) ∙ is.written
-
 -- ---- the records of one ID
 
 -- those up to this place are counted
@@ -199,12 +185,3 @@ pub counting_over : (queue : List Waiting) (id start count place left octets : �
 counting_over queue id start count place left octets w is lt at some filled apart =
     let none : run id (take left (items_in (drop place queue))) ≡ 0 = ap (λ (ws : List Item). run id (take left ws)) (items_from queue place w lt at) ∙ ended id left w (items_in (drop (place + 1) queue)) some filled apart in
     omega (arith, is.counted, none)
-
-pub counting_done : (queue : List Waiting) (id start count place left octets : ℕ) → IsCounting queue id start count place left octets → left ≡ 0 → octets ≡ run id (take count (items_in (drop start queue)))
-counting_done queue id start count place left octets is none =
-    omega (arith, is.counted, ap (λ (n : ℕ). run id (take n (items_in (drop place queue)))) none)
-
-pub counting_all : (queue : List Waiting) (id start count place left octets : ℕ) → IsCounting queue id start count place left octets → length queue ≤ place → octets ≡ run id (take count (items_in (drop start queue)))
-counting_all queue id start count place left octets is all =
-    let none : take left (items_in (drop place queue)) ≡ [] = ap (take left) (items_past queue place all) ∙ take_none left in
-    omega (arith, is.counted, ap (run id) none)

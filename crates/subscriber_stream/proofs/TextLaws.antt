@@ -96,6 +96,9 @@ fitting_few room (text ∷ texts) = by_test (leb (length text) room) (fitting_fe
   by_test true others = omega arith
   by_test false others = omega arith
 
+pub few_fitting : (room : ℕ) (texts : List (List ℕ)) (count : ℕ) → count ≡ fitting_texts room texts → count ≤ length texts
+few_fitting room texts count is = omega (arith, is, fitting_few room texts)
+
 -- and they have at most so many octets
 pub fitting_small : (room : ℕ) (texts : List (List ℕ)) → length (concat (take (fitting_texts room texts) texts)) ≤ room
 fitting_small room [] = omega arith

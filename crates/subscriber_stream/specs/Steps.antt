@@ -6,7 +6,7 @@ use Rattle.subscriber_stream.specs.Shapes.{with_shape}
 use Rattle.subscriber_stream.specs.Parts.{Part, Announcement, Entry, parts_for}
 use Rattle.subscriber_stream.specs.Table.{Table}
 use Rattle.subscriber_stream.specs.declared.waiting.Waiting.{Waiting}
-use Rattle.subscriber_stream.specs.Items.{Item, AreKept, AreFollowed, announcements, entries}
+use Rattle.subscriber_stream.specs.Items.{AreKept, AreFollowed, announcements, entries}
 use Rattle.subscriber_stream.specs.Waiting.{items_in, AreFilled}
 use Rattle.subscriber_stream.specs.Standing.{Standing, Kept}
 

@@ -1,6 +1,6 @@
 use Rattle.std.proofs.Common.{◌+◌, arith}
 use Rattle.subscriber_stream.proofs.Queues.{filled_at}
-use Rattle.subscriber_stream.proofs.Costs.{IsRun, IsNext, IsLongest, IsRun-none, IsRun-over, IsRun-more, IsRun-all, few_with}
+use Rattle.subscriber_stream.proofs.Costs.{IsNext, IsLongest, IsRun-none, IsRun-over, IsRun-more, few_with}
 use Rattle.subscriber_stream.proofs.fitting.whole_run.Goals as goal
 
 pub loop-place-init : goal.loop-place-init

@@ -1,4 +1,4 @@
-use Rattle.std.proofs.Common.{◌≡◌, sym, ◌∙◌}
+use Rattle.std.proofs.Common.{sym, ◌∙◌}
 use Rattle.std.specs.Arc.{arc_value}
 use Rattle.subscriber_stream.proofs.Rooms.{none_more, unknown_more, known_more}
 use Rattle.subscriber_stream.proofs.room.is_new_at.Goals as goal

@@ -1,6 +1,6 @@
-use Rattle.std.proofs.Common.{ℕ, ◌+◌, ◌-◌, sym, ap, arith}
-use Rattle.subscriber_stream.proofs.TextLaws.{fitting_few}
-use Rattle.subscriber_stream.proofs.RunLaws.{Fitted, head, fitted, none_fitted, fits_closed}
+use Rattle.std.proofs.Common.{ℕ, ◌+◌, sym, ap, arith}
+use Rattle.subscriber_stream.proofs.TextLaws.{few_fitting}
+use Rattle.subscriber_stream.proofs.RunLaws.{Fitted, fitted, none_fitted, fits_closed}
 use Rattle.subscriber_stream.proofs.waiting.fitting_records.Goals as goal
 
 pub returns-then-opened-target-clause-parts : goal.returns-then-opened-target-clause-parts
@@ -12,8 +12,7 @@ returns-then-parts-eq0-clause-parts c =
     none_fitted c.args.target c.args.last c.args.id c.args.octets _ c.args.texts.now _ (ap (λ (n : ℕ). c.args.octets + n) c.head_octets.ensures) (omega arith) (rw c.from-target.ensures at c.fitting-parts.ensures) c.if-parts-eq0.true
 
 pub octets-requires : goal.octets-requires
-octets-requires c =
-    omega (arith, c.fitting-parts.ensures, fitting_few (c.from-target.result - (c.args.octets + c.head_octets.result)) c.args.texts.now)
+octets-requires c = few_fitting _ _ _ c.fitting-parts.ensures
 
 is_fitted : (c : goal.After-octets) → Fitted c.args.target c.args.last c.args.id c.args.octets c.args.texts.now c.fitting-parts.result (c.args.octets + c.head_octets.result + c.octets.result)
 is_fitted c =

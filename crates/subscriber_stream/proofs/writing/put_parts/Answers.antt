@@ -1,6 +1,6 @@
 use Rattle.std.proofs.Common.{arith}
 use Rattle.subscriber_stream.proofs.Queues.{filled_at}
-use Rattle.subscriber_stream.proofs.Spans.{IsWriting, can_write, IsWriting-next, IsWriting-done, IsWriting-all}
+use Rattle.subscriber_stream.proofs.Spans.{can_write, IsWriting-next}
 use Rattle.subscriber_stream.proofs.writing.put_parts.Goals as goal
 
 pub put_span-requires-clause-filled : goal.put_span-requires-clause-filled

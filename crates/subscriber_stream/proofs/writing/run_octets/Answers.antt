@@ -1,9 +1,9 @@
-use Rattle.std.proofs.Common.{◌∙◌, ap, arith, refl}
+use Rattle.std.proofs.Common.{◌∙◌, ap, arith}
 use Rattle.subscriber_stream.specs.declared.waiting.Waiting.{Waiting}
 use Rattle.subscriber_stream.specs.Waiting.{set_after}
 use Rattle.subscriber_stream.specs.Items.{joins}
 use Rattle.subscriber_stream.proofs.Queues.{filled_at}
-use Rattle.subscriber_stream.proofs.Spans.{IsCounting, counting_more, counting_over, counting_done, counting_all, other_set}
+use Rattle.subscriber_stream.proofs.Spans.{counting_more, counting_over, other_set}
 use Rattle.subscriber_stream.proofs.writing.run_octets.Goals as goal
 
 pub returns-in-Announce : goal.returns-in-Announce

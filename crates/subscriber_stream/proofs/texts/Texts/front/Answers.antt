@@ -1,8 +1,5 @@
-use Rattle.std.proofs.Common.{◌≡◌, ◌+◌, ◌≤◌, take, drop, length, sym, ap, ◌∙◌, arith, length-drop}
-use Rattle.std.specs.List.{concat}
-use Rattle.std.proofs.lemmas.List.{drop-drop}
-use Rattle.record_runs.specs.Pieces.{pieces, AreEnds}
-use Rattle.subscriber_stream.proofs.TextLaws.{IsFront, is_front, count_few, drop_pieces, ends_of_rest}
+use Rattle.std.proofs.Common.{◌≤◌, drop, length, ap, ◌∙◌, arith, length-drop}
+use Rattle.subscriber_stream.proofs.TextLaws.{is_front, count_few}
 use Rattle.subscriber_stream.proofs.texts.Texts.front.Goals as goal
 
 few : (c : goal.After-deref) → c.args.count ≤ length (drop c.self.inside.handed c.self.inside.ends.items)

@@ -1,4 +1,4 @@
-use Rattle.std.proofs.Common.{drop, sym, ◌∙◌, arith, length-drop}
+use Rattle.std.proofs.Common.{drop, arith, length-drop}
 use Rattle.record_runs.proofs.PieceLaws.{length_pieces}
 use Rattle.subscriber_stream.proofs.texts.Texts.len.Goals as goal
 
