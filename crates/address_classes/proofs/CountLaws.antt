@@ -8,7 +8,7 @@ use Rattle.std.specs.List.Sorted.{IsNonDecreasing}
 use Rattle.address_classes.specs.Cuts.{narrow_cuts}
 use Rattle.address_classes.specs.Classes.{class_of}
 
-one_more : (cut : ℕ) (cuts : List ℕ) (address : ℕ) → cut < address → class_of (cut ∷ cuts) address ≡ 1 + class_of cuts address
+pub one_more : (cut : ℕ) (cuts : List ℕ) (address : ℕ) → cut < address → class_of (cut ∷ cuts) address ≡ 1 + class_of cuts address
 one_more cut cuts address below = sum_by-cons (λ c. cond (nat_lt c address) 1 0) cut cuts ∙ ap (λ b. cond b 1 0 + class_of cuts address) (lt-ltb cut address below)
 
 none_more : (cut : ℕ) (cuts : List ℕ) (address : ℕ) → address ≤ cut → class_of (cut ∷ cuts) address ≡ class_of cuts address

@@ -7,7 +7,8 @@ ghost use Rattle.policy_judge.specs.Occurrences.{values_of};
 ghost use Rattle.address_classes.specs.Cuts.{AreCuts, HaveCuts, most_cuts};
 ghost use Rattle.address_classes.specs.Classes.{class_of, digit_of, with_digit, with_field, key_of};
 
-use crate::cuts::{narrow_cuts, sorted_cuts};
+use crate::cuts::sorted_cuts;
+use crate::narrow::NarrowCuts;
 use ipfix_template::Record;
 use policy_judge::Side;
 use policy_text::Rule;
@@ -33,7 +34,7 @@ pub struct AddressClasses {
     /// Before and behind each prefix, ascending.
     cuts: Vec<u128>,
     /// Those below 2^32, among which an address of IPv4 lies.
-    narrow: Vec<u32>,
+    narrow: NarrowCuts,
 }
 
 impl Model for AddressClasses {
@@ -44,7 +45,7 @@ impl Model for AddressClasses {
 
     ghost view = { λ c. c.cuts.items };
 
-    ghost invariant = { λ c. AreKeptCuts c.cuts.items c.narrow.items };
+    ghost invariant = { λ c. AreKeptCuts c.cuts.items c.narrow };
 }
 
 impl AddressClasses {
@@ -57,7 +58,7 @@ impl AddressClasses {
         ensures { IfOk result (λ classes. HaveCuts classes rules.now) }
     {
         let cuts = sorted_cuts(alloc, rules)?;
-        let narrow = narrow_cuts(alloc, &cuts)?;
+        let narrow = NarrowCuts::of(alloc, &cuts)?;
         Ok(AddressClasses { cuts, narrow })
     }
 
@@ -106,7 +107,7 @@ impl AddressClasses {
         ensures class { result ≡ class_of self.now address }
         ensures few { result ≤ most_cuts }
     {
-        narrow_count_below(&self.narrow, address) as u16
+        self.narrow.class(address)
     }
 }
 
@@ -132,15 +133,6 @@ fn wide_number(octets: &[u8]) -> u128
 
 /// How many of ascending numbers are below a bound.
 fn count_below(numbers: &[u128], bound: u128) -> usize
-    requires { IsNonDecreasing numbers.now }
-    ensures class { result ≡ class_of numbers.now bound }
-    ensures within { result ≤ length numbers.now }
-{
-    numbers.partition_point(|number| *number < bound)
-}
-
-/// As [`count_below`], of numbers of 32 bits.
-fn narrow_count_below(numbers: &[u32], bound: u32) -> usize
     requires { IsNonDecreasing numbers.now }
     ensures class { result ≡ class_of numbers.now bound }
     ensures within { result ≤ length numbers.now }

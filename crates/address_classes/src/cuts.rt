@@ -1,7 +1,7 @@
 ghost use Rattle.std.specs.Prelude.{◌≡◌, ◌≤◌, ◌+◌, ◌-◌, ◌*◌, ◌^◌, ◌++◌, length, min, IfOk, OnOk};
 ghost use Rattle.std.specs.List.{flat_map};
 ghost use Rattle.std.specs.List.Sorted.{IsNonDecreasing};
-ghost use Rattle.address_classes.specs.Cuts.{bounds_of, cuts_at, cuts_named, cuts_of, HaveCuts, most_cuts, narrow_cuts};
+ghost use Rattle.address_classes.specs.Cuts.{bounds_of, cuts_at, cuts_named, cuts_of, HaveCuts, most_cuts};
 
 use flow_prefix::Prefix;
 use policy_text::Rule;
@@ -12,9 +12,6 @@ const WIDTH4: u32 = 32;
 
 /// The bits of an address of IPv6.
 const WIDTH6: u32 = 128;
-
-/// One above the highest address of IPv4.
-const ABOVE4: u128 = 0x1_0000_0000;
 
 /// The first address and the last one inside a prefix.
 #[derive(Clone, Copy, Debug)]
@@ -33,19 +30,6 @@ pub(crate) fn sorted_cuts(alloc: Global, rules: &[Rule]) -> Result<Vec<u128>, Al
     let mut cuts = listed_cuts(alloc, rules)?;
     cuts.sort_unstable();
     Ok(cuts)
-}
-
-/// The cuts among the addresses of IPv4, in their order.
-pub(crate) fn narrow_cuts(alloc: Global, cuts: &[u128]) -> Result<Vec<u32>, AllocError>
-    ensures { IfOk result (λ narrow. narrow.items ≡ narrow_cuts cuts.now) }
-{
-    let mut narrow = Vec::new(alloc);
-    for cut in cuts {
-        if *cut < ABOVE4 {
-            narrow.push(*cut as u32)?;
-        }
-    }
-    Ok(narrow)
 }
 
 /// The cuts in the order of the rules.

@@ -5,7 +5,7 @@
 //! - `classes`: [`AddressClasses`], built of rules once; `key` is asked for each record.
 //! - `places`, `place`: [`AddressPlaces`], built of a template once: where the addresses of its records stand.
 //! - `keys`: `AddressClasses::keys`, the keys of both sides by these places alone.
-//! - `cuts`: the bounds of prefixes.
+//! - `cuts`, `narrow`: the bounds of prefixes, and those among the addresses of IPv4.
 //! - `laws`: [`same_keys`] and [`key_of_three`], proved over the definitions.
 //!
 //! Proved: `AddressClasses::of_rules` has the bounds of each prefix that the rules name (`HaveCuts`), and `key` is made of
@@ -20,6 +20,7 @@ mod classes;
 mod cuts;
 mod keys;
 mod laws;
+mod narrow;
 mod place;
 mod places;
 
