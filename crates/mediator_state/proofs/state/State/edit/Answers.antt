@@ -32,5 +32,5 @@ returns-clause-ok g c =
 
 pub put_in_force-edits-requires-clause-somewhere : goal.put_in_force-edits-requires-clause-somewhere
 put_in_force-edits-requires-clause-somewhere g c =
-    subst (λ (e : Engine). StandsSomewhere e _) (sym c.make_room.ensures.engine)
-    (somewhere g.C.Chronicle.tells c.args.self.now (g.C.Chronicle.count c.args.self.now.chronicle) (g.C.Chronicle.octets c.args.self.now.chronicle) _ (g.met.C.Chronicle.counted c.args.self.now.chronicle) c.len-position.ensures.value c.requires.stands)
+    subst (λ (e : Engine). StandsSomewhere e c.len-position.result) (sym c.make_room.ensures.engine)
+    (somewhere g.C.Chronicle.tells c.args.self.now (g.C.Chronicle.count c.args.self.now.chronicle) (g.C.Chronicle.octets c.args.self.now.chronicle) c.len-position.result (g.met.C.Chronicle.counted c.args.self.now.chronicle) c.len-position.ensures.value c.requires.stands)
