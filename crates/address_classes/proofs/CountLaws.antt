@@ -1,11 +1,14 @@
 -- How many cuts are below an address.
-use Rattle.std.proofs.Common.{◌≡◌, ◌⊎◌, ℕ, zero, suc, ◌+◌, ◌<◌, ◌≤◌, List, [], ◌∷◌, length, get_or, cond, ap, ◌∙◌, arith, inl, inr, nat_lt}
+use Rattle.std.proofs.Common.{◌≡◌, ◌⊎◌, ◌^◌, Bool, true, false, refl, sym, ℕ, zero, suc, ◌+◌, ◌<◌, ◌≤◌, List, [], ◌∷◌, length, get_or, cond, ap, ◌∙◌, arith, inl, inr, nat_lt}
 use Rattle.std.specs.List.{Contains}
-use Rattle.std.proofs.lemmas.Bool.{cases_lt, lt-ltb, le-ltb}
-use Rattle.std.proofs.lemmas.List.Sums.{sum_by-cons}
+use Rattle.std.proofs.lemmas.Bool.{cases_lt, lt-ltb, le-ltb, ltb-false}
+use Rattle.std.proofs.lemmas.List.Sums.{sum_by-cons, length-filter, count_by-le-length}
+use Rattle.std.proofs.lemmas.List.Kept.{IsNonDecreasingBy-filter}
+use Rattle.std.specs.List.Sorted.{IsNonDecreasing}
+use Rattle.address_classes.specs.Cuts.{narrow_cuts}
 use Rattle.address_classes.specs.Classes.{class_of}
 
-one_more : (cut : ℕ) (cuts : List ℕ) (address : ℕ) → cut < address → class_of (cut ∷ cuts) address ≡ 1 + class_of cuts address
+pub one_more : (cut : ℕ) (cuts : List ℕ) (address : ℕ) → cut < address → class_of (cut ∷ cuts) address ≡ 1 + class_of cuts address
 one_more cut cuts address below = sum_by-cons (λ c. cond (nat_lt c address) 1 0) cut cuts ∙ ap (λ b. cond b 1 0 + class_of cuts address) (lt-ltb cut address below)
 
 none_more : (cut : ℕ) (cuts : List ℕ) (address : ℕ) → address ≤ cut → class_of (cut ∷ cuts) address ≡ class_of cuts address
@@ -60,3 +63,24 @@ below_too cuts v u at same there below (inr l) = absurd (omega (arith, more cuts
 -- each cut is below both addresses of a class, or below none
 pub below_both : (cuts : List ℕ) (v u at : ℕ) → class_of cuts v ≡ class_of cuts u → Contains cuts at → at < v → at < u
 below_both cuts v u at same there below = below_too cuts v u at same there below (cases_lt at u)
+
+-- ---- the cuts below 2^32 alone
+
+narrow_by : (cut : ℕ) (cuts : List ℕ) (address : ℕ) (b : Bool) → nat_lt cut (2 ^ 32) ≡ b → address < 2 ^ 32 → class_of (narrow_cuts cuts) address ≡ class_of cuts address
+    → class_of (cond b (cut ∷ narrow_cuts cuts) (narrow_cuts cuts)) address ≡ class_of (cut ∷ cuts) address
+narrow_by cut cuts address true is narrow rest =
+    sum_by-cons (λ c. cond (nat_lt c address) 1 0) cut (narrow_cuts cuts) ∙ ap (λ n. cond (nat_lt cut address) 1 0 + n) rest ∙ sym (sum_by-cons (λ c. cond (nat_lt c address) 1 0) cut cuts)
+narrow_by cut cuts address false is narrow rest =
+    let above : 2 ^ 32 ≤ cut = ltb-false cut (2 ^ 32) is in
+    rest ∙ sym (none_more cut cuts address (omega (arith, above, narrow)))
+
+-- an address of IPv4 has all cuts below it among these
+pub narrow_class : (cuts : List ℕ) (address : ℕ) → address < 2 ^ 32 → class_of (narrow_cuts cuts) address ≡ class_of cuts address
+narrow_class [] address narrow = refl
+narrow_class (cut ∷ cuts) address narrow = narrow_by cut cuts address (nat_lt cut (2 ^ 32)) refl narrow (narrow_class cuts address narrow)
+
+pub narrow_ascending : (cuts : List ℕ) → IsNonDecreasing cuts → IsNonDecreasing (narrow_cuts cuts)
+narrow_ascending cuts up = IsNonDecreasingBy-filter (λ n. n) (λ cut. nat_lt cut (2 ^ 32)) cuts up
+
+pub narrow_few : (cuts : List ℕ) → length (narrow_cuts cuts) ≤ length cuts
+narrow_few cuts = omega (arith, length-filter (λ cut. nat_lt cut (2 ^ 32)) cuts, count_by-le-length (λ cut. nat_lt cut (2 ^ 32)) cuts)

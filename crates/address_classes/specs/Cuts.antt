@@ -1,6 +1,6 @@
 -- Where prefixes begin and end among all addresses, which stand in one row: a cut is an address behind which a prefix
 -- begins, or ends.
-use Rattle.std.specs.Prelude.{ℕ, ◌+◌, ◌-◌, ◌^◌, ◌<◌, ◌≤◌, List, [], ◌∷◌, ◌++◌, length, min, Option, Some, None, IfSome, nat_lt, if◌then◌else◌}
+use Rattle.std.specs.Prelude.{◌≡◌, ℕ, ◌+◌, ◌-◌, ◌^◌, ◌<◌, ◌≤◌, List, [], ◌∷◌, ◌++◌, length, min, filter, Option, Some, None, IfSome, nat_lt, if◌then◌else◌}
 use Rattle.std.specs.List.{Contains, AllByRecursion}
 use Rattle.std.specs.List.Sorted.{IsNonDecreasing}
 use Rattle.flow_prefix.specs.declared.prefix.Prefix.{Prefix}
@@ -49,3 +49,12 @@ most_cuts = 16384
 pub record AreCuts (cuts : List ℕ) : Type 0 where
   pub ascending : IsNonDecreasing cuts
   pub few : length cuts ≤ most_cuts
+
+-- those below 2^32, where the addresses of IPv4 stand
+abbrev pub narrow_cuts : List ℕ → List ℕ
+narrow_cuts cuts = filter (λ cut. nat_lt cut (2 ^ 32)) cuts
+
+-- the cuts, and beside them those below 2^32
+pub record AreKeptCuts (cuts narrow : List ℕ) : Type 0 where
+  pub sound : AreCuts cuts
+  pub below : narrow ≡ narrow_cuts cuts

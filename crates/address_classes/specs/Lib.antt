@@ -7,4 +7,6 @@ pub use Rattle.policy_judge.specs.Match
 pub use Rattle.policy_judge.specs.Sides
 pub mod Cuts
 pub mod Classes
+pub mod Narrow
+pub mod Places
 pub mod Laws

@@ -1,13 +1,14 @@
 ghost use Rattle.std.specs.Prelude.{◌≡◌, ◌≤◌, length, Some, IfOk};
 ghost use Rattle.std.specs.List.{fold, zip};
 ghost use Rattle.std.specs.List.Sorted.{IsNonDecreasing};
+ghost use Rattle.sequences.specs.Octets.{be_value};
 ghost use Rattle.policy_judge.specs.Sides.{is_of};
 ghost use Rattle.policy_judge.specs.Occurrences.{values_of};
 ghost use Rattle.address_classes.specs.Cuts.{AreCuts, HaveCuts, most_cuts};
 ghost use Rattle.address_classes.specs.Classes.{class_of, digit_of, with_digit, with_field, key_of};
 
 use crate::cuts::sorted_cuts;
-use flow_prefix::number;
+use crate::narrow::NarrowCuts;
 use ipfix_template::Record;
 use policy_judge::Side;
 use policy_text::Rule;
@@ -19,7 +20,7 @@ const OCTETS4: usize = 4;
 const OCTETS6: usize = 16;
 
 /// The key of no value.
-const EMPTY_KEY: u64 = 1;
+pub(crate) const EMPTY_KEY: u64 = 1;
 
 /// One above the greatest digit of a key.
 const DIGITS: u64 = 0x1_0000;
@@ -32,17 +33,19 @@ const FULL_KEY: u64 = 0x1_0000_0000_0000;
 pub struct AddressClasses {
     /// Before and behind each prefix, ascending.
     cuts: Vec<u128>,
+    /// Those below 2^32, among which an address of IPv4 lies.
+    narrow: NarrowCuts,
 }
 
 impl Model for AddressClasses {
     ghost use Rattle.std.specs.Prelude.{ℕ, List};
-    ghost use Rattle.address_classes.specs.Cuts.{AreCuts};
+    ghost use Rattle.address_classes.specs.Cuts.{AreKeptCuts};
 
     ghost Value = { List ℕ };
 
     ghost view = { λ c. c.cuts.items };
 
-    ghost invariant = { λ c. AreCuts c.cuts.items };
+    ghost invariant = { λ c. AreKeptCuts c.cuts.items c.narrow };
 }
 
 impl AddressClasses {
@@ -55,7 +58,8 @@ impl AddressClasses {
         ensures { IfOk result (λ classes. HaveCuts classes rules.now) }
     {
         let cuts = sorted_cuts(alloc, rules)?;
-        Ok(AddressClasses { cuts })
+        let narrow = NarrowCuts::of(alloc, &cuts)?;
+        Ok(AddressClasses { cuts, narrow })
     }
 
     /// The cuts, ascending: addresses behind which a prefix begins, or ends.
@@ -78,14 +82,14 @@ impl AddressClasses {
 
     /// The class of a value, odd for 4 octets and even for 16; 0 for a value that is no address.
     #[tactic(auto, unfolding(crate::specs::Classes::digit_of))]
-    fn digit(&self, octets: &[u8]) -> u16
+    pub(crate) fn digit(&self, octets: &[u8]) -> u16
         ensures { result ≡ digit_of self.now octets.now }
     {
         if octets.len() == OCTETS4 {
-            return self.class(number(octets)) * 2 + 1;
+            return self.narrow_class(narrow_number(octets)) * 2 + 1;
         }
         if octets.len() == OCTETS6 {
-            return self.class(number(octets)) * 2 + 2;
+            return self.class(wide_number(octets)) * 2 + 2;
         }
         0
     }
@@ -97,6 +101,34 @@ impl AddressClasses {
     {
         count_below(&self.cuts, address) as u16
     }
+
+    /// How many cuts are below an address of IPv4.
+    fn narrow_class(&self, address: u32) -> u16
+        ensures class { result ≡ class_of self.now address }
+        ensures few { result ≤ most_cuts }
+    {
+        self.narrow.class(address)
+    }
+}
+
+/// The number that 4 octets write, the most significant first.
+fn narrow_number(octets: &[u8]) -> u32
+    requires { length octets.now ≡ 4 }
+    ensures { result ≡ be_value octets.now }
+{
+    u32::from_be_bytes([octets[0], octets[1], octets[2], octets[3]])
+}
+
+/// The number that 16 octets write, the most significant first.
+fn wide_number(octets: &[u8]) -> u128
+    requires { length octets.now ≡ 16 }
+    ensures { result ≡ be_value octets.now }
+{
+    u128::from_be_bytes([
+        octets[0], octets[1], octets[2], octets[3], octets[4], octets[5], octets[6], octets[7],
+        octets[8], octets[9], octets[10], octets[11], octets[12], octets[13], octets[14],
+        octets[15],
+    ])
 }
 
 /// How many of ascending numbers are below a bound.
@@ -123,7 +155,7 @@ fn key_of_fields(classes: &AddressClasses, side: Side, flow_record: &Record) -> 
 }
 
 /// A key with one digit more, if it has fewer than three.
-fn with_digit(key: Option<u64>, digit: u16) -> Option<u64>
+pub(crate) fn with_digit(key: Option<u64>, digit: u16) -> Option<u64>
     ensures { result ≡ with_digit key digit }
 {
     match key {

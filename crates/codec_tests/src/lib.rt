@@ -5,6 +5,7 @@
 //! - `elements`: of `ipfix_element`.
 //! - `templates`: of `ipfix_template`.
 //! - `messages`: of `ipfix_message`.
+//! - `runs`: of `record_runs`.
 //! - `sessions`: of `ipfix_session`.
 //! - `streams`: of `subscriber_stream`.
 //! - `devices`: of `octet_devices`.
@@ -24,6 +25,8 @@ mod messages;
 mod octets;
 #[cfg(test)]
 mod records;
+#[cfg(test)]
+mod runs;
 #[cfg(test)]
 mod sessions;
 #[cfg(test)]

@@ -5,7 +5,9 @@ ghost use Rattle.std.specs.Prelude.{◌≤◌, OnOk, length};
 use crate::records::{Layout, record_of, shared_template, template_of, values_of};
 use bytes::Bytes;
 use ipfix_element::ElementId;
-use ipfix_template::{FieldSpec, Record, Template};
+use ipfix_session::Session;
+use ipfix_template::{FieldSpec, Template};
+use record_runs::Records;
 use std::alloc::{AllocError, Global};
 use std::process::Abort;
 use std::sync::Arc;
@@ -364,17 +366,18 @@ aaaaaaaaaaaaaaaaaaaaaaaaaaaaaaaaaaaaaaaaaaaaaaaaaaaaaaaaaaaaaaa\
     },
 ];
 
-fn records_of(alloc: Global, given: &[Given]) -> Result<Vec<Record>, Fail> {
-    let mut records = Vec::new(alloc);
+fn records_of(alloc: Global, given: &[Given]) -> Result<Records, Fail> {
+    let mut records = Records::new(alloc);
     for next in given {
         let template = template_of(alloc, &next.layout)?;
-        records.push(record_of(alloc, template, values_of(alloc, next.values)?)?)?;
+        let values = values_of(alloc, next.values)?;
+        records.push(alloc, record_of(alloc, template, values)?)?;
     }
     Ok(records)
 }
 
 /// Makes room for records. Where memory is refused, the stream is as it was, and is asked again.
-fn reserve(stream: &mut Stream, records: &[Record]) -> Result<(), AllocError>
+fn reserve(stream: &mut Stream, records: &Records) -> Result<(), AllocError>
     ensures { OnOk result (length records.now ≤ stream.new.spare) }
 {
     match stream.reserve(records) {
@@ -384,7 +387,7 @@ fn reserve(stream: &mut Stream, records: &[Record]) -> Result<(), AllocError>
 }
 
 /// Gives the records to the stream, where there is room for them.
-fn give(stream: &mut Stream, records: Vec<Record>) -> Result<bool, AllocError> {
+fn give(stream: &mut Stream, records: Records) -> Result<bool, AllocError> {
     reserve(stream, &records)?;
     let total = stream
         .handed()
@@ -487,10 +490,11 @@ fn many_templates(alloc: Global) -> Result<Vec<Arc<Template>>, Fail> {
 }
 
 /// A record of each template.
-fn round_of(alloc: Global, templates: &[Arc<Template>]) -> Result<Vec<Record>, Fail> {
-    let mut records = Vec::new(alloc);
+fn round_of(alloc: Global, templates: &[Arc<Template>]) -> Result<Records, Fail> {
+    let mut records = Records::new(alloc);
     for template in templates {
-        records.push(record_of(alloc, template.clone()?, values_of(alloc, &[b"\x2a"])?)?)?;
+        let values = values_of(alloc, &[b"\x2a"])?;
+        records.push(alloc, record_of(alloc, template.clone()?, values)?)?;
     }
     Ok(records)
 }
@@ -525,5 +529,67 @@ fn many_records_of_many_shapes(rt: HostRuntime) -> Result<(), Fail> {
         octets,
         16usize.saturating_mul(messages).saturating_add(516_000)
     );
+    Ok(())
+}
+
+/// A template of octetDeltaCount, and three records of it in one Data Set.
+const THREE_RECORDS: &[u8] = b"\x00\x0a\x00\x2c\x65\x53\xf1\x00\x00\x00\x00\x00\x00\x00\x00\x07\
+\x00\x02\x00\x0c\x01\x2c\x00\x01\x00\x01\x00\x04\
+\x01\x2c\x00\x10\x00\x00\x05\xdc\x00\x00\x00\x28\x00\x00\x00\x07";
+
+/// Gives the records of a message, which are one run, to the stream.
+fn give_message(rt: &impl Abort, alloc: Global, stream: &mut Stream) -> Result<(), Fail> {
+    let read = Session::new(alloc).apply(THREE_RECORDS)?;
+    assert_eq!(rt; read.records.runs().len(), 1);
+    assert!(rt; give(stream, read.records)?);
+    Ok(())
+}
+
+fn expect_pull(
+    rt: &impl Abort,
+    stream: &mut Stream,
+    target: u16,
+    wanted: &[u8],
+) -> Result<(), Fail> {
+    let message = pulled(rt, stream, target)?.ok_or("nothing was queued")?;
+    assert_eq!(rt; message.as_slice(), wanted);
+    Ok(())
+}
+
+/// Two of the records and the announcement have 40 octets; the third comes in the next message, behind two.
+#[test]
+fn a_run_is_handed_out_in_parts(rt: HostRuntime) -> Result<(), Fail> {
+    let mut stream = stream_of(&rt, rt.alloc(), 3, 1);
+    give_message(&rt, rt.alloc(), &mut stream)?;
+    let first = b"\x00\x0a\x00\x28\x65\x53\xf1\x3c\x00\x00\x00\x00\x00\x00\x00\x00\
+\x00\x02\x00\x0c\x01\x00\x00\x01\x00\x01\x00\x04\
+\x01\x00\x00\x0c\x00\x00\x05\xdc\x00\x00\x00\x28";
+    let second = b"\x00\x0a\x00\x18\x65\x53\xf1\x3c\x00\x00\x00\x02\x00\x00\x00\x00\
+\x01\x00\x00\x08\x00\x00\x00\x07";
+    expect_pull(&rt, &mut stream, 43, first)?;
+    assert_eq!(rt; counts(&stream), (1, 1, 2));
+    expect_pull(&rt, &mut stream, 43, second)?;
+    assert_eq!(rt; counts(&stream), (0, 1, 3));
+    assert!(rt; pulled(&rt, &mut stream, 43)?.is_none());
+    Ok(())
+}
+
+/// What is left of a run, and the runs behind it, share a Data Set.
+#[test]
+fn runs_of_one_template_share_a_set(rt: HostRuntime) -> Result<(), Fail> {
+    let mut stream = stream_of(&rt, rt.alloc(), 6, 1);
+    give_message(&rt, rt.alloc(), &mut stream)?;
+    give_message(&rt, rt.alloc(), &mut stream)?;
+    let first = b"\x00\x0a\x00\x24\x65\x53\xf1\x3c\x00\x00\x00\x00\x00\x00\x00\x00\
+\x00\x02\x00\x0c\x01\x00\x00\x01\x00\x01\x00\x04\
+\x01\x00\x00\x08\x00\x00\x05\xdc";
+    let second = b"\x00\x0a\x00\x24\x65\x53\xf1\x3c\x00\x00\x00\x01\x00\x00\x00\x00\
+\x01\x00\x00\x14\x00\x00\x00\x28\x00\x00\x00\x07\x00\x00\x05\xdc\x00\x00\x00\x28";
+    let third = b"\x00\x0a\x00\x18\x65\x53\xf1\x3c\x00\x00\x00\x05\x00\x00\x00\x00\
+\x01\x00\x00\x08\x00\x00\x00\x07";
+    expect_pull(&rt, &mut stream, 36, first)?;
+    expect_pull(&rt, &mut stream, 39, second)?;
+    expect_pull(&rt, &mut stream, 39, third)?;
+    assert_eq!(rt; counts(&stream), (0, 1, 6));
     Ok(())
 }

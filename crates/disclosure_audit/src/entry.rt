@@ -1,7 +1,9 @@
-ghost use Rattle.std.specs.Prelude.{◌≡◌, ◌==◌, length};
+ghost use Rattle.std.specs.Prelude.{◌≡◌, ◌==◌, length, IfOk};
 
 use crate::reason::Reason;
+use std::alloc::{AllocError, Global};
 use std::marker::Model;
+use std::sync::Arc;
 
 /// A field that was left out of a record that was handed on.
 #[derive(Clone, Copy, Debug, PartialEq, Eq)]
@@ -12,10 +14,11 @@ pub struct RemovedField {
     pub rule: u32,
 }
 
-/// The fields that were left out of one record, by ascending place. Contracts see the list.
+/// The fields that were left out of one record, by ascending place. Contracts see the list, which records that lose the same
+/// fields share.
 #[derive(Debug, Drop)]
 pub struct RemovedFields {
-    fields: Vec<RemovedField>,
+    fields: Arc<Vec<RemovedField>>,
 }
 
 impl Model for RemovedFields {
@@ -24,20 +27,47 @@ impl Model for RemovedFields {
 
     ghost Value = { List RemovedField };
 
-    ghost view = { λ f. f.fields.items };
+    ghost use Rattle.std.specs.Arc.{arc_value};
+
+    ghost view = { λ f. (arc_value f.fields).items };
+}
+
+/// A clone shares the list.
+impl Clone for RemovedFields {
+    ghost use Rattle.std.specs.Prelude.{◌≡◌};
+
+    ghost is_clone = { λ f copy. copy ≡ f };
+
+    fn clone(&self) -> Result<RemovedFields, AllocError> {
+        Ok(RemovedFields {
+            fields: self.fields.clone()?,
+        })
+    }
 }
 
 impl RemovedFields {
-    pub fn from_vec(fields: Vec<RemovedField>) -> RemovedFields
-        ensures { result ≡ fields.items }
+    /// The fields of a list.
+    ///
+    /// # Errors
+    /// Want of memory.
+    pub fn from_vec(alloc: Global, fields: Vec<RemovedField>) -> Result<RemovedFields, AllocError>
+        ensures { IfOk result (λ removed. removed ≡ fields.items) }
     {
-        RemovedFields { fields }
+        Ok(RemovedFields {
+            fields: Arc::new(alloc, fields)?,
+        })
     }
 
     pub fn as_slice(&self) -> &[RemovedField]
         ensures { result.now ≡ self.now }
     {
         self.fields.as_slice()
+    }
+
+    pub fn is_empty(&self) -> bool
+        ensures { result ≡ (length self.now == 0) }
+    {
+        self.fields.is_empty()
     }
 }
 

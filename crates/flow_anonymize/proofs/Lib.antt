@@ -1,4 +1,3 @@
-pub mod Turns
 pub mod Bounds
 pub mod Sound
 pub mod Places
@@ -7,4 +6,7 @@ pub mod OtherLaws
 pub mod PermittedLaws
 pub mod Planning
 pub mod PlanLaws
+pub mod ShelfLaws
+pub mod OutputLaws
 pub mod TextLaws
+pub mod StepLaws

@@ -1,11 +1,12 @@
 -- A plan is that of each record which is alike in template and classes.
-use Rattle.std.proofs.Common.{◌≡◌, ℕ, suc, ◌+◌, ◌≤◌, ◌<◌, Bool, true, false, List, [], ◌∷◌, ◌++◌, length, get_or, Option, Some, None, IfSome, cond, not, refl, sym, ap, ◌∙◌, subst, arith, length-append, nat_lt, ◌==◌, ◌&&◌}
+use Rattle.std.proofs.Common.{◌≡◌, ℕ, zero, suc, ◌+◌, ◌≤◌, ◌<◌, Bool, true, false, List, [], ◌∷◌, ◌++◌, length, get_or, Option, Some, None, IfSome, cond, not, refl, sym, ap, ◌∙◌, subst, arith, length-append, slice_get, nat_lt, ◌==◌, ◌&&◌}
+use mathlib.Core.Logic.{inl, inr}
 use Rattle.std.specs.Arc.{arc_value}
 use Rattle.std.proofs.Math.ListN.{set}
 use Rattle.std.specs.List.{All, AllByRecursion, flat_map, position, position_or_len}
 use Rattle.std.proofs.lemmas.Bool.{and_parts, eqb-true, ltb-true}
 use Rattle.std.proofs.lemmas.List.Concat.{flat_map-cons}
-use Rattle.std.proofs.lemmas.List.Elements.{All-get_or, All-set}
+use Rattle.std.proofs.lemmas.List.Elements.{All-get_or, All-push, All-set}
 use Rattle.sequences.specs.Octets.{be_octets}
 use Rattle.sequences.proofs.OctetLaws.{length-be_octets}
 use Rattle.flow_prefix.specs.declared.prefix.Prefix.{Prefix}
@@ -37,6 +38,7 @@ use Rattle.flow_anonymize.specs.Secrecy.{AreInsideAlike, AreCoveredAlike}
 use Rattle.flow_anonymize.specs.Classes.{both, classes_of}
 use Rattle.flow_anonymize.specs.Planning.{planned, IsShowable, IsPlan}
 use Rattle.flow_anonymize.specs.Plans.{PlansFor, is_for, Discloses, IsSlot, AreKept}
+use Rattle.flow_anonymize.specs.Shelf.{IsPut}
 use Rattle.flow_anonymize.proofs.Bounds.{verdicts_are_judged}
 use Rattle.flow_anonymize.proofs.SecrecyLaws.{record_alike, verdicts_alike}
 use Rattle.flow_anonymize.proofs.Planning.{showable}
@@ -104,12 +106,15 @@ discloses for aggregates r s plan are is sound template alike =
     let judged = verdicts_are_judged for.name for.domain s aggregates for.rules (verdicts_of for.name for.domain s for.rules) sound are (few_fields s sound) refl in
     (is'.leaves s.values, showable s (record_verdict_of for.name for.domain s for.rules) (verdicts_of for.name for.domain s for.rules) plan judged is')
 
+some_is : {A : Type 0} (x y : A) → Some x ≡ Some y → x ≡ y
+some_is x y e = cc
+
 pub slot_is : (for : PlansFor) (aggregates : List Definition) (r : DataRecord) (slot : Slot) → HaveCuts for.cuts for.rules → length for.cuts ≤ most_cuts → AreRules aggregates for.rules
-    → arc_value slot.template ≡ r.template → Some slot.classes ≡ classes_of for.cuts r
+    → for.template ≡ Some r.template → Some slot.classes ≡ classes_of for.cuts r
     → IsPlan r.template (record_verdict_of for.name for.domain r for.rules) (verdicts_of for.name for.domain r for.rules) slot.plan → IsSlot for slot
 slot_is for aggregates r slot cut few are template classes is = λ s sound same keys.
     let alike = covered_alike for.cuts aggregates for.rules s r slot.classes few are cut (keys_of for.cuts s slot.classes keys) (keys_of for.cuts r slot.classes (sym classes)) in
-    let shown = discloses for aggregates r s slot.plan are is sound (same ∙ template) alike in
+    let shown = discloses for aggregates r s slot.plan are is sound (some_is s.template r.template (sym same ∙ template)) alike in
     record { exact = shown.0; showable = shown.1 }
 
 -- ---- the plan at a place
@@ -139,39 +144,60 @@ classes_are c d from to = ap (λ (n : ℕ). as_classes n c.destinations) from �
   as_classes : ℕ → ℕ → RecordClasses
   as_classes n m = record { sources = n; destinations = m }
 
-pub slot_at : (for : PlansFor) (slots : List Slot) (classes : RecordClasses) (t : Template) (r : DataRecord) (k : ℕ) (slot : Slot) → All (IsSlot for) slots → Some k ≡ position (is_for classes t) slots
-    → slot ≡ get_or slots k slot → t ≡ r.template → IsSound r → Some classes ≡ classes_of for.cuts r → Discloses for r slot
-slot_at for slots classes t r k slot all place at template sound keys =
-    let there = place_is (is_for classes t) slots k slot place in
-    let test : is_for classes t slot ≡ true = rw (sym at) at there.1 in
-    let from = and_parts (slot.classes.sources == classes.sources) (slot.classes.destinations == classes.destinations && same_template (arc_value slot.template) t) test in
-    let to = and_parts (slot.classes.destinations == classes.destinations) (same_template (arc_value slot.template) t) from.1 in
-    let same = same_template-is (arc_value slot.template) t to.1 in
-    let same_classes = classes_are slot.classes classes (eqb-true slot.classes.sources classes.sources from.0) (eqb-true slot.classes.destinations classes.destinations to.0) in
+got_is : {A : Type 0} (xs : List A) (k : ℕ) (a : A) → slice_get xs k ≡ Some a → k < length xs → get_or xs k a ≡ a
+got_is [] k a e l = absurd (omega arith)
+got_is (x ∷ xs) zero a e l = cc
+got_is (x ∷ xs) (suc k) a e l = got_is xs k a e (omega arith)
+
+pub slot_at : (for : PlansFor) (slots : List Slot) (classes : RecordClasses) (r : DataRecord) (k : ℕ) (slot : Slot) → All (IsSlot for) slots → Some k ≡ position (is_for classes) slots
+    → slice_get slots k ≡ Some slot → for.template ≡ Some r.template → IsSound r → Some classes ≡ classes_of for.cuts r → Discloses for r slot
+slot_at for slots classes r k slot all place at template sound keys =
+    let there = place_is (is_for classes) slots k slot place in
+    let here : slot ≡ get_or slots k slot = sym (got_is slots k slot at there.0) in
+    let test : is_for classes slot ≡ true = ap (is_for classes) here ∙ there.1 in
+    let parts = and_parts (slot.classes.sources == classes.sources) (slot.classes.destinations == classes.destinations) test in
+    let same_classes = classes_are slot.classes classes (eqb-true slot.classes.sources classes.sources parts.0) (eqb-true slot.classes.destinations classes.destinations parts.1) in
     let P : Slot → Type 0 = λ s. IsSlot for s in
-    let is : IsSlot for slot = subst P (sym at) (All-get_or P slots k slot there.0 all) in
-    is r sound (sym template ∙ sym same) (sym keys ∙ ap Some (sym same_classes))
+    let is : IsSlot for slot = subst P (sym here) (All-get_or P slots k slot there.0 all) in
+    is r sound template (sym keys ∙ ap Some (sym same_classes))
 
 -- ---- for the calls
 
-pub kept_set : (for value : PlansFor) (slots : List Slot) (k : ℕ) (slot : Slot) → for ≡ value → AreKept for slots → IsSlot value slot → AreKept for (set slots k slot)
-kept_set for value slots k slot same kept is =
-    let P : PlansFor → Type 0 = λ f. IsSlot f slot in
-    record { cut = kept.cut; few = kept.few; each = All-set (IsSlot for) slots k slot (subst P (sym same) is) kept.each }
+pub kept_push : (for : PlansFor) (slots : List Slot) (slot : Slot) → AreKept for slots → IsSlot for slot → AreKept for (slots ++ slot ∷ [])
+kept_push for slots slot kept is = record { cut = kept.cut; few = kept.few; each = All-push (IsSlot for) slots slot kept.each is }
 
-pub made_anew : (for value : PlansFor) (slots : List Slot) (r : DataRecord) (slot : Slot) → for ≡ value → AreKept for slots → AreOfPolicy for.rules
-    → arc_value slot.template ≡ r.template → Some slot.classes ≡ classes_of value.cuts r
+pub kept_set : (for : PlansFor) (slots : List Slot) (k : ℕ) (slot : Slot) → AreKept for slots → IsSlot for slot → AreKept for (set slots k slot)
+kept_set for slots k slot kept is = record { cut = kept.cut; few = kept.few; each = All-set (IsSlot for) slots k slot is kept.each }
+
+pub kept_put : (for : PlansFor) (old : List Slot) (slot : Slot) (k : ℕ) (new : List Slot) → AreKept for old → IsSlot for slot → IsPut old slot k new → AreKept for new
+kept_put for old slot k new kept is put = elim put.others [
+  | inl e ↦ subst (AreKept for) (sym e) (kept_push for old slot kept is)
+  | inr e ↦ subst (AreKept for) (sym e) (kept_set for old k slot kept is)
+]
+
+-- the plan that was found, or made anew
+pub found_shelf : (for value : PlansFor) (slots : List Slot) (classes : RecordClasses) (asked : Option RecordClasses) (r : DataRecord) (k : ℕ) (slot : Slot) → AreKept for slots → for ≡ value
+    → Some k ≡ position (is_for classes) slots → slice_get slots k ≡ Some slot → value.template ≡ Some r.template → IsSound r → asked ≡ Some classes → asked ≡ classes_of value.cuts r → Discloses value r slot
+found_shelf for value slots classes asked r k slot kept same place at template sound is keys =
+    let P : PlansFor → Type 0 = λ f. All (IsSlot f) slots in
+    slot_at value slots classes r k slot (subst P same kept.each) place at template sound (sym is ∙ keys)
+
+pub put_shelf : (for : PlansFor) (old new : List Slot) (r : DataRecord) (k : ℕ) (slot found : Slot) → IsPut old slot k new → IsSlot for slot → slice_get new k ≡ Some found
+    → for.template ≡ Some r.template → IsSound r → Some slot.classes ≡ classes_of for.cuts r → Discloses for r found
+put_shelf for old new r k slot found put is at template sound keys =
+    let same : slot ≡ found = some_is slot found (sym put.there ∙ at) in
+    subst (λ (s : Slot). Discloses for r s) same (is r sound template (sym keys))
+
+pub planned_slot : (for value : PlansFor) (slots : List Slot) (r : DataRecord) (slot : Slot) → for ≡ value → AreKept for slots → AreOfPolicy for.rules → value.template ≡ Some r.template → Some slot.classes ≡ classes_of value.cuts r
     → IsPlan r.template (record_verdict_of for.name for.domain r for.rules) (verdicts_of for.name for.domain r for.rules) slot.plan → IsSlot value slot
-made_anew for value slots r slot same kept are template classes is =
+planned_slot for value slots r slot same kept are template classes is =
     let P : PlansFor → Type 0 = λ f. IsSlot f slot in
     let keys : Some slot.classes ≡ classes_of for.cuts r = classes ∙ ap (λ (f : PlansFor). classes_of f.cuts r) (sym same) in
-    subst P same (slot_is for are.aggregates r slot kept.cut kept.few are.spelled template keys is)
+    let own : for.template ≡ Some r.template = ap (λ (f : PlansFor). f.template) same ∙ template in
+    subst P same (slot_is for are.aggregates r slot kept.cut kept.few are.spelled own keys is)
 
-pub found_kept : (for value : PlansFor) (slots read : List Slot) (classes : RecordClasses) (asked : Option RecordClasses) (t : Template) (r : DataRecord) (k : ℕ) (slot : Slot) → for ≡ value → AreKept for slots
-    → read ≡ slots → Some k ≡ position (is_for classes t) read → slot ≡ get_or slots k slot → t ≡ r.template → IsSound r → asked ≡ Some classes → asked ≡ classes_of value.cuts r
-    → Discloses value r slot
-found_kept for value slots read classes asked t r k slot same kept are place at template sound is keys =
-    let P : PlansFor → Type 0 = λ f. Discloses f r slot in
-    let here : Some k ≡ position (is_for classes t) slots = place ∙ ap (position (is_for classes t)) are in
-    let own : Some classes ≡ classes_of for.cuts r = sym is ∙ keys ∙ ap (λ (f : PlansFor). classes_of f.cuts r) (sym same) in
-    subst P same (slot_at for slots classes t r k slot kept.each here at template sound own)
+-- there is a plan at a place
+pub there_is : {T : Type 0} (slots : List Slot) (k : ℕ) → k < length slots → ((slot : Slot) → slice_get slots k ≡ Some slot → T) → T
+there_is [] k l so = absurd (omega arith)
+there_is (s ∷ slots) zero l so = so s refl
+there_is (s ∷ slots) (suc k) l so = there_is slots k (omega (arith, l)) so

@@ -24,3 +24,8 @@ pub mod Planning
 pub mod Classes
 pub mod Plans
 pub mod Texts
+pub mod Output
+pub mod Shelf
+pub use Rattle.record_runs.specs.Runs
+pub use Rattle.record_runs.specs.Pieces
+pub mod Steps

@@ -1,54 +1,65 @@
 -- What becomes of all records of one template for which the verdicts are the same, whatever their values.
-use Rattle.std.specs.Prelude.{◌≡◌, ℕ, List, length}
+use Rattle.std.specs.Prelude.{◌≡◌, ℕ, List, [], length, Option, Some, None}
 use Rattle.std.specs.Arc.{arc_value}
+use Rattle.ipfix_template.specs.declared.field.FieldSpec.{FieldSpec}
 use Rattle.ipfix_template.specs.declared.template.Template.{Template}
 use Rattle.ipfix_template.specs.DataRecord.{DataRecord, IsSound}
 use Rattle.policy_judge.specs.declared.verdict.RecordVerdict.{RecordVerdict}
 use Rattle.policy_judge.specs.declared.verdict.ElementVerdict.{ElementVerdict}
+use Rattle.flow_anonymize.specs.declared.steps.Step.{Step}
 use Rattle.flow_anonymize.specs.declared.plan.Plan.{Plan}
 use Rattle.flow_anonymize.specs.declared.plan.Plan.TheVariants.{Pass, Aggregate, Withhold}
 use Rattle.flow_anonymize.specs.Outcome.{Outcome, Passes, Aggregates, Withholds}
 use Rattle.flow_anonymize.specs.Remaining.{kept_fields, kept_values}
 use Rattle.flow_anonymize.specs.Within.{AreWithin}
+use Rattle.flow_anonymize.specs.Steps.{AreSteps}
 use Rattle.flow_anonymize.specs.Disclosed.{transformed, by_verdict}
 
 -- what a plan makes of a record with these values
 abbrev pub planned : Plan → List (List ℕ) → Outcome
-planned (Pass template removed verdicts) values = Passes (record { template = arc_value template; values = kept_values values verdicts.items }) removed.items
+planned (Pass template removed verdicts steps) values = Passes (record { template = arc_value template; values = kept_values values verdicts.items }) removed
 planned (Aggregate rule definition) values = Aggregates rule definition
 planned (Withhold rule reason) values = Withholds rule reason
 
--- what is shown of a record has these fields of its, and is a record; no more bits are kept than its values have
-pub record ShowsRecord (r : DataRecord) (t : Template) (verdicts : List ElementVerdict) : Type 0 where
+-- what is shown of a record has these fields of its, and is a record; no more bits are kept than its values have, and the
+-- steps show it of the record's text
+pub record ShowsRecord (r : DataRecord) (t : Template) (verdicts : List ElementVerdict) (steps : List Step) : Type 0 where
   pub each : length verdicts ≡ length r.template.fields
   pub within : AreWithin r.values verdicts
   pub fields : t.fields ≡ kept_fields r.template.fields verdicts
   pub sound : IsSound (record { template = t; values = kept_values r.values verdicts })
+  pub by_steps : AreSteps r.template.fields verdicts steps
 
 -- what a plan needs of a record, if something of it is shown
 abbrev pub IsShowable : Plan → DataRecord → Type 0
-IsShowable (Pass template removed verdicts) r = ShowsRecord r (arc_value template) verdicts.items
+IsShowable (Pass template removed verdicts steps) r = ShowsRecord r (arc_value template) verdicts.items steps.items
 IsShowable (Aggregate rule definition) r = Unit {0}
 IsShowable (Withhold rule reason) r = Unit {0}
 
 -- nothing is shown of the record itself
 abbrev pub ShowsNone : Plan → Type 0
-ShowsNone (Pass template removed verdicts) = ⊥
+ShowsNone (Pass template removed verdicts steps) = ⊥
 ShowsNone (Aggregate rule definition) = Unit {0}
 ShowsNone (Withhold rule reason) = Unit {0}
 
--- what is shown is shown by these verdicts
-abbrev pub ShowsBy : List ElementVerdict → Plan → Type 0
-ShowsBy verdicts (Pass template removed by) = by.items ≡ verdicts
-ShowsBy verdicts (Aggregate rule definition) = Unit {0}
-ShowsBy verdicts (Withhold rule reason) = Unit {0}
+-- what is shown of records with these fields is shown by these verdicts, and by steps for them
+abbrev pub ShowsBy : List FieldSpec → List ElementVerdict → Plan → Type 0
+ShowsBy fields verdicts (Pass template removed by steps) = (by.items ≡ verdicts) × AreSteps fields verdicts steps.items
+ShowsBy fields verdicts (Aggregate rule definition) = Unit {0}
+ShowsBy fields verdicts (Withhold rule reason) = Unit {0}
 
 -- the plan for records of a template, by the verdict on the record and those on its fields
 pub record IsPlan (t : Template) (on_record : RecordVerdict) (on_fields : List ElementVerdict) (plan : Plan) : Type 0 where
   pub leaves : (values : List (List ℕ)) → planned plan values ≡ by_verdict on_record (transformed (record { template = t; values = values }) on_fields)
-  pub by : ShowsBy on_fields plan
+  pub by : ShowsBy t.fields on_fields plan
 
 -- the same for records that pass
 pub record IsPassing (t : Template) (on_fields : List ElementVerdict) (plan : Plan) : Type 0 where
   pub leaves : (values : List (List ℕ)) → planned plan values ≡ transformed (record { template = t; values = values }) on_fields
-  pub by : ShowsBy on_fields plan
+  pub by : ShowsBy t.fields on_fields plan
+
+-- the template of what is shown of records
+abbrev pub shown_template : Plan → Option Template
+shown_template (Pass template removed verdicts steps) = Some (arc_value template)
+shown_template (Aggregate rule definition) = None
+shown_template (Withhold rule reason) = None

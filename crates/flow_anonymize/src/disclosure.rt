@@ -1,6 +1,6 @@
 //! What is disclosed of a record.
 
-use disclosure_audit::RemovedField;
+use disclosure_audit::RemovedFields;
 use ipfix_template::Record;
 
 /// Why nothing of a record is handed on.
@@ -20,7 +20,7 @@ pub enum Disclosure {
     /// This record, and which fields were removed from the one that came in, in the order of their places.
     Passed {
         kept: Record,
-        removed: Vec<RemovedField>,
+        removed: RemovedFields,
     },
     /// The record counts in the aggregate at this place of the policy's list, by the rule of this number.
     Aggregated {

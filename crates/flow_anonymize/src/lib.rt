@@ -2,36 +2,44 @@
 //! removes and with the addresses that it truncates, nothing of it, or its count in an aggregate
 //! (RFC 6235: truncation, in sections 4.1.1 and 4.2.1, and black-marker anonymization, which removes a field).
 //!
-//! - `disclosure`: [`Disclosure`], with [`RemovedField`] and [`Reason`].
-//! - `transform`: [`disclose`].
-//! - `fields`: the verdict on each field, and which fields stay.
-//! - `values`: what is shown of their values.
+//! - `disclosure`: [`Disclosure`], with [`RemovedFields`] and [`Reason`]; `decision`: [`Decision`], the same but for the record.
+//! - `transform`: [`disclose`]; `by_table`: [`disclose_by`], by a table of the rules.
+//! - `fields`: the verdict on each field, and which fields stay; `plan`: what becomes of all records for which the verdicts are the
+//!   same; `steps`, `values`: what is shown of a record's octets.
+//! - `plans`: [`Plans`], which keeps plans for records that come again, on a `shelf` of slots; `output`: the records that pass, as
+//!   runs; `record_classes`: [`RecordClasses`].
 //! - `laws`: [`only_permitted_passes`], [`passed_is_sound`], [`denied_is_secret`], [`others_never_matter`]
 //!   and [`later_rules_never_matter`], proved over the definitions.
 //!
 //! Proved: `disclose` answers exactly the disclosure that the rules define: the kept fields in their order with
 //! truncated values and the scope count, the places and rules of the removed ones, or why nothing passes, a lost
 //! scope field before an empty rest, with the rule that is named for it (`exact`). For a record whose verdict isn't
-//! pass it takes no memory (`at_once`). Laws: `only_permitted_passes` (no field stands in what passes that its first
+//! pass it takes no memory (`at_once`). `disclose_by` answers the same, and `Plans::disclose` gives the same records (`given`) and
+//! says the same of them (`decision`). Laws: `only_permitted_passes` (no field stands in what passes that its first
 //! rule removes, and no bit that it cuts off), `passed_is_sound`, `denied_is_secret` (two records that differ only in
 //! what is removed or cut off, with addresses inside the same prefixes, look alike in all that is disclosed),
 //! `others_never_matter`, `later_rules_never_matter`.
 #![tactic(auto)]
 
 mod by_table;
+mod decision;
 mod disclosure;
 mod fields;
 mod laws;
+mod output;
 mod plan;
 mod plans;
 mod record_classes;
+mod shelf;
 mod slot;
+mod steps;
 mod transform;
 mod values;
 
 pub use by_table::disclose_by;
+pub use decision::Decision;
 pub use disclosure::{Disclosure, Reason};
-pub use disclosure_audit::RemovedField;
+pub use disclosure_audit::{RemovedField, RemovedFields};
 pub use laws::{
     denied_is_secret, later_rules_never_matter, only_permitted_passes, others_never_matter,
     passed_is_sound,

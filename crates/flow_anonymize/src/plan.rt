@@ -1,15 +1,18 @@
 //! What becomes of all records of one template for which the verdicts are the same.
-ghost use Rattle.std.specs.Prelude.{◌≡◌, ◌≢◌, ◌<◌, ◌≤◌, ℕ, List, length, IsOk, IfOk, MatchOption};
+ghost use Rattle.std.specs.Prelude.{◌≡◌, ◌≢◌, ◌<◌, ◌≤◌, ◌++◌, ℕ, List, length, IsOk, IfOk, OnOk, OnErr, MatchOption};
+ghost use Rattle.std.specs.Option.{option_map};
 ghost use Rattle.std.specs.Arc.{arc_value};
-ghost use Rattle.flow_anonymize.specs.Outcome.{Outcome, shown};
+ghost use Rattle.flow_anonymize.specs.Outcome.{Outcome, shown, passed_text, IsKeptAsText};
 ghost use Rattle.flow_anonymize.specs.Remaining.{removed_fields};
 ghost use Rattle.flow_anonymize.specs.Within.{AreJudged};
 ghost use Rattle.flow_anonymize.specs.Disclosed.{remaining_template, first_lost, first_rule_of, by_verdict};
 
+use crate::decision::Decision;
 use crate::disclosure::{Disclosure, Reason};
 use crate::fields::{kept_fields, removed_fields};
+use crate::steps::{Step, put_by_steps, steps_of};
 use crate::values::kept_text;
-use disclosure_audit::RemovedField;
+use disclosure_audit::{RemovedField, RemovedFields};
 use ipfix_template::{Fields, Record, Template};
 use policy_judge::{ElementVerdict, RecordAction, RecordVerdict};
 use std::alloc::{AllocError, Global};
@@ -18,11 +21,13 @@ use std::sync::Arc;
 /// What becomes of records, but for their values.
 #[derive(Drop)]
 pub(crate) enum Plan {
-    /// They pass: with this template, without these fields, and each field by the verdict on it.
+    /// They pass: with this template, without these fields, and each field by the verdict on it, which these steps over a
+    /// record's octets do.
     Pass {
         template: Arc<Template>,
-        removed: Vec<RemovedField>,
+        removed: RemovedFields,
         verdicts: Vec<ElementVerdict>,
+        steps: Vec<Step>,
     },
     /// They count in the aggregate at this place of the policy's list, by the rule of this number.
     Aggregate {
@@ -37,7 +42,8 @@ pub(crate) enum Plan {
 }
 
 impl Plan {
-    ghost use Rattle.flow_anonymize.specs.Planning.{planned, IsShowable, ShowsNone, IsPassing};
+    ghost use Rattle.flow_anonymize.specs.Planning.{planned, shown_template, IsShowable, ShowsNone, IsPassing};
+    ghost use Rattle.flow_anonymize.specs.Outcome.{decision_of};
 
     /// The plan for records that don't pass.
     pub(crate) fn for_verdict(verdict: RecordVerdict) -> Option<Plan>
@@ -84,10 +90,12 @@ impl Plan {
                 reason: Reason::Empty,
             });
         }
+        let steps = steps_of(alloc, flow_record.template().fields.as_slice(), &verdicts)?;
         Ok(Plan::Pass {
             template,
-            removed,
+            removed: RemovedFields::from_vec(alloc, removed)?,
             verdicts,
+            steps,
         })
     }
 
@@ -110,7 +118,8 @@ impl Plan {
                 template,
                 removed,
                 verdicts,
-            } => pass(alloc, template, removed, verdicts, flow_record),
+                steps,
+            } => pass(alloc, template, removed, verdicts, steps, flow_record),
             Plan::Aggregate { rule, definition } => Ok(Disclosure::Aggregated {
                 rule: *rule,
                 definition: *definition,
@@ -120,6 +129,61 @@ impl Plan {
                 reason: *reason,
             }),
         }
+    }
+
+    /// Appends what is shown of a record that passes: the octets of the record that is kept, under the plan's template. Of others
+    /// nothing is appended.
+    ///
+    /// # Errors
+    /// Want of memory, and then nothing is appended.
+    pub(crate) fn put_shown(
+        &self,
+        flow_record: &Record,
+        text: &mut Vec<u8>,
+    ) -> Result<(), AllocError>
+        requires { IsShowable self.now flow_record.now }
+        ensures ok { OnOk result (text.new.items ≡ text.old.items ++ passed_text (planned self.now flow_record.now.values)) }
+        ensures err { OnErr result (text.new.items ≡ text.old.items) }
+        ensures kept { IsKeptAsText (planned self.now flow_record.now.values) }
+        ensures at_once { ShowsNone self.now → IsOk result }
+    {
+        match self {
+            Plan::Pass { steps, .. } => put_by_steps(steps, flow_record.as_octets(), text),
+            Plan::Aggregate { .. } => Ok(()),
+            Plan::Withhold { .. } => Ok(()),
+        }
+    }
+
+    /// The template of what is shown, if anything is.
+    pub(crate) fn template(&self) -> Option<&Arc<Template>>
+        ensures { option_map (λ t. arc_value t.now) result ≡ shown_template self.now }
+    {
+        match self {
+            Plan::Pass { template, .. } => Some(template),
+            Plan::Aggregate { .. } | Plan::Withhold { .. } => None,
+        }
+    }
+
+    /// What is said of a record by its plan.
+    ///
+    /// # Errors
+    /// Want of memory.
+    pub(crate) fn decision(&self) -> Result<Decision, AllocError>
+        ensures { (values : List (List ℕ)) → IfOk result (λ d. d ≡ decision_of (planned self.now values)) }
+    {
+        Ok(match self {
+            Plan::Pass { removed, .. } => Decision::Passed {
+                removed: removed.clone()?,
+            },
+            Plan::Aggregate { rule, definition } => Decision::Aggregated {
+                rule: *rule,
+                definition: *definition,
+            },
+            Plan::Withhold { rule, reason } => Decision::Withheld {
+                rule: *rule,
+                reason: *reason,
+            },
+        })
     }
 }
 
@@ -131,16 +195,17 @@ ghost use Rattle.flow_anonymize.specs.Planning.{ShowsRecord};
 fn pass(
     alloc: Global,
     template: &Arc<Template>,
-    removed: &[RemovedField],
+    removed: &RemovedFields,
     verdicts: &[ElementVerdict],
+    steps: &[Step],
     flow_record: &Record,
 ) -> Result<Disclosure, AllocError>
-    requires { ShowsRecord flow_record.now (arc_value template.now) verdicts.now }
+    requires { ShowsRecord flow_record.now (arc_value template.now) verdicts.now steps.now }
     ensures { IfOk result (λ d. shown d ≡ Passes (record { template = arc_value template.now; values = kept_values flow_record.now.values verdicts.now }) removed.now) }
 {
-    let text = kept_text(alloc, flow_record, verdicts)?;
+    let text = kept_text(alloc, flow_record, verdicts, steps)?;
     let kept = Record::from_octets(template.clone()?, text);
-    let removed = Vec::from_slice(alloc, removed)?;
+    let removed = removed.clone()?;
     Ok(Disclosure::Passed { kept, removed })
 }
 

@@ -1,48 +1,51 @@
 //! Plans that are kept for records that come again.
-ghost use Rattle.std.specs.Prelude.{◌≡◌, ◌<◌, Some, length, IfOk, IfSome, position};
+ghost use Rattle.std.specs.Prelude.{◌≡◌, ◌++◌, [], Some, None, true, IfOk, OnOk, OnErr};
+ghost use Rattle.std.specs.Arc.{arc_value};
 ghost use Rattle.address_classes.specs.Cuts.{HaveCuts};
-ghost use Rattle.flow_anonymize.specs.Outcome.{shown};
-ghost use Rattle.flow_anonymize.specs.Disclosed.{disclosure_of};
+ghost use Rattle.flow_anonymize.specs.Outcome.{passed, decision_of};
 ghost use Rattle.flow_anonymize.specs.Classes.{classes_of};
-ghost use Rattle.flow_anonymize.specs.Plans.{is_for};
+ghost use Rattle.flow_anonymize.specs.Plans.{outcome_for, IsSlot};
 
 use crate::by_table::{disclose_by, plan_by};
+use crate::decision::Decision;
 use crate::disclosure::Disclosure;
 use crate::record_classes::RecordClasses;
-use crate::slot::{Slot, is_for};
+use crate::shelf::Shelf;
+use crate::slot::Slot;
 use address_classes::AddressClasses;
 use ipfix_template::{Record, Template};
+use record_runs::Records;
 use rule_table::RuleTable;
 use std::alloc::{AllocError, Global};
 use std::marker::Model;
+use std::sync::Arc;
 
-/// How many plans are kept.
-const MOST_PLANS: usize = 16;
-
-/// What a policy discloses to one subscriber of the records of an observation domain: what becomes of a record is worked out once for
-/// its template and the classes of its addresses, and kept for records that are alike in both.
+/// What a policy discloses to one subscriber of the records of an observation domain, and what passed so far. What becomes of a record is
+/// worked out once for the classes of its addresses, and kept for records of the same template that are alike in them.
 #[derive(Drop)]
 pub struct Plans<'t, 'n> {
     table: &'t RuleTable,
     classes: &'t AddressClasses,
     name: &'n str,
     domain: u32,
-    slots: Vec<Slot>,
+    /// The template of the records that come.
+    template: Option<Arc<Template>>,
+    shelf: Shelf,
 }
 
 impl<'t, 'n> Model for Plans<'t, 'n> {
-    ghost use Rattle.flow_anonymize.specs.Plans.{PlansFor, AreKept};
+    ghost use Rattle.std.specs.Option.{option_map};
+    ghost use Rattle.std.specs.Arc.{arc_value};
+    ghost use Rattle.flow_anonymize.specs.Plans.{PlansOf, AreKept};
 
-    ghost Value = { PlansFor };
+    ghost Value = { PlansOf };
 
-    ghost view = { λ p. record { rules = p.table.now; cuts = p.classes.now; name = p.name.now; domain = p.domain } };
+    ghost view = { λ p. record { for = record { rules = p.table.now; cuts = p.classes.now; name = p.name.now; domain = p.domain; template = option_map arc_value p.template }; given = p.shelf.given } };
 
-    ghost invariant = { λ p. AreKept (record { rules = p.table.now; cuts = p.classes.now; name = p.name.now; domain = p.domain }) p.slots.items };
+    ghost invariant = { λ p. AreKept (record { rules = p.table.now; cuts = p.classes.now; name = p.name.now; domain = p.domain; template = option_map arc_value p.template }) p.shelf.slots };
 }
 
 impl<'t, 'n> Plans<'t, 'n> {
-    ghost use Rattle.flow_anonymize.specs.Plans.{IsSlot};
-
     /// Plans for the subscriber of this name, by the rules of this table and the classes that their prefixes make. None is made yet.
     pub fn new(
         alloc: Global,
@@ -52,7 +55,7 @@ impl<'t, 'n> Plans<'t, 'n> {
         domain: u32,
     ) -> Plans<'t, 'n>
         requires { HaveCuts classes.now table.now }
-        ensures { result ≡ record { rules = table.now; cuts = classes.now; name = name.now; domain = domain } }
+        ensures { result ≡ record { for = record { rules = table.now; cuts = classes.now; name = name.now; domain = domain; template = None }; given = [] } }
     {
         // There are no more cuts than a key has room for.
         let _cuts = classes.cuts();
@@ -61,11 +64,43 @@ impl<'t, 'n> Plans<'t, 'n> {
             classes,
             name,
             domain,
-            slots: Vec::new(alloc),
+            template: None,
+            shelf: Shelf::new(alloc),
         }
     }
 
-    /// What is disclosed of a record, of whose addresses these are the classes: what [`disclose_by`] answers.
+    /// Begins with records of this template.
+    ///
+    /// # Errors
+    /// Want of memory, and then nothing has changed.
+    pub fn begin(&mut self, template: &Arc<Template>) -> Result<(), AllocError>
+        ensures ok { OnOk result (self.new ≡ record { for = record self.old.for { template = Some (arc_value template.now) }; given = self.old.given }) }
+        ensures err { OnErr result (self.new ≡ self.old) }
+    {
+        if self.is_for(template) {
+            return Ok(());
+        }
+        let shared = template.clone()?;
+        self.shelf.clear();
+        self.template = Some(shared);
+        Ok(())
+    }
+
+    /// Whether records of this template come already.
+    fn is_for(&self, template: &Template) -> bool
+        ensures { result ≡ true → self.now.for.template ≡ Some template.now }
+    {
+        match &self.template {
+            Some(known) => {
+                let known: &Template = known;
+                known == template
+            }
+            None => false,
+        }
+    }
+
+    /// Judges a record, of whose addresses these are the classes: gives what [`disclose_by`] discloses of it, and says what became
+    /// of it.
     ///
     /// # Errors
     /// Want of memory.
@@ -74,16 +109,20 @@ impl<'t, 'n> Plans<'t, 'n> {
         alloc: Global,
         classes: Option<RecordClasses>,
         flow_record: &Record,
-    ) -> Result<Disclosure, AllocError>
-        requires { classes ≡ classes_of self.old.cuts flow_record.now }
-        ensures exact { IfOk result (λ d. shown d ≡ disclosure_of self.old.name self.old.domain flow_record.now self.old.rules) }
-        ensures same { self.new ≡ self.old }
+    ) -> Result<Decision, AllocError>
+        requires template { self.old.for.template ≡ Some flow_record.now.template }
+        requires classes { classes ≡ classes_of self.old.for.cuts flow_record.now }
+        ensures given { OnOk result (self.new.given ≡ self.old.given ++ passed (outcome_for self.old.for flow_record.now)) }
+        ensures decision { IfOk result (λ d. d ≡ decision_of (outcome_for self.old.for flow_record.now)) }
+        ensures same { self.new.for ≡ self.old.for }
     {
         let Some(classes) = classes else {
-            return disclose_by(alloc, self.table, self.name, self.domain, flow_record);
+            return self.disclose_singly(alloc, flow_record);
         };
-        match place_of(&self.slots, classes, flow_record.template()) {
-            Some(place) => self.slots[place].plan.disclose(alloc, flow_record),
+        // A record keeps that it is sound.
+        let _template = flow_record.template();
+        match self.shelf.place_of(classes) {
+            Some(place) => self.shelf.give(place, flow_record),
             None => self.disclose_anew(alloc, classes, flow_record),
         }
     }
@@ -94,45 +133,73 @@ impl<'t, 'n> Plans<'t, 'n> {
         alloc: Global,
         classes: RecordClasses,
         flow_record: &Record,
-    ) -> Result<Disclosure, AllocError>
-        requires { Some classes ≡ classes_of self.old.cuts flow_record.now }
-        ensures exact { IfOk result (λ d. shown d ≡ disclosure_of self.old.name self.old.domain flow_record.now self.old.rules) }
-        ensures same { self.new ≡ self.old }
+    ) -> Result<Decision, AllocError>
+        requires template { self.old.for.template ≡ Some flow_record.now.template }
+        requires classes { Some classes ≡ classes_of self.old.for.cuts flow_record.now }
+        ensures given { OnOk result (self.new.given ≡ self.old.given ++ passed (outcome_for self.old.for flow_record.now)) }
+        ensures decision { IfOk result (λ d. d ≡ decision_of (outcome_for self.old.for flow_record.now)) }
+        ensures same { self.new.for ≡ self.old.for }
+    {
+        // A record keeps that it is sound.
+        let _template = flow_record.template();
+        let slot = self.planned(alloc, classes, flow_record)?;
+        let place = self.shelf.keep(slot)?;
+        self.shelf.give(place, flow_record)
+    }
+
+    /// The plan for a record, to be kept.
+    ///
+    /// # Errors
+    /// Want of memory.
+    fn planned(
+        &self,
+        alloc: Global,
+        classes: RecordClasses,
+        flow_record: &Record,
+    ) -> Result<Slot, AllocError>
+        requires template { self.now.for.template ≡ Some flow_record.now.template }
+        requires classes { Some classes ≡ classes_of self.now.for.cuts flow_record.now }
+        ensures { IfOk result (λ slot. (slot.classes ≡ classes) × IsSlot self.now.for slot) }
     {
         // Each rule is one of the grammar, so its prefixes have no bits past their lengths.
         let _rules = self.table.rules();
         let plan = plan_by(alloc, self.table, self.name, self.domain, flow_record)?;
-        let found = plan.disclose(alloc, flow_record)?;
-        let template = flow_record.shared_template().clone()?;
-        self.keep(Slot {
-            template,
-            classes,
-            plan,
-        })?;
-        Ok(found)
+        Ok(Slot { classes, plan })
     }
 
-    /// Keeps a plan, in the place of another where there are as many as are kept.
-    fn keep(&mut self, slot: Slot) -> Result<(), AllocError>
-        requires { IsSlot self.old slot }
-        ensures { self.new ≡ self.old }
+    /// Judges a record for which no plan is kept.
+    ///
+    /// # Errors
+    /// Want of memory.
+    fn disclose_singly(
+        &mut self,
+        alloc: Global,
+        flow_record: &Record,
+    ) -> Result<Decision, AllocError>
+        ensures given { OnOk result (self.new.given ≡ self.old.given ++ passed (outcome_for self.old.for flow_record.now)) }
+        ensures decision { IfOk result (λ d. d ≡ decision_of (outcome_for self.old.for flow_record.now)) }
+        ensures same { self.new.for ≡ self.old.for }
     {
-        if self.slots.len() < MOST_PLANS {
-            self.slots.push(slot)?;
-            return Ok(());
+        match disclose_by(alloc, self.table, self.name, self.domain, flow_record)? {
+            Disclosure::Passed { kept, removed } => {
+                self.shelf.push(kept)?;
+                Ok(Decision::Passed { removed })
+            }
+            Disclosure::Aggregated { rule, definition } => {
+                Ok(Decision::Aggregated { rule, definition })
+            }
+            Disclosure::Withheld { rule, reason } => Ok(Decision::Withheld { rule, reason }),
         }
-        let place = (slot.classes.sources ^ slot.classes.destinations) as usize % MOST_PLANS;
-        self.slots[place] = slot;
-        Ok(())
     }
-}
 
-/// The place of the plan for records of this template whose addresses have these classes.
-fn place_of(slots: &[Slot], classes: RecordClasses, template: &Template) -> Option<usize>
-    ensures place { result ≡ position (is_for classes template.now) slots.now }
-    ensures within { IfSome result (λ place. place < length slots.now) }
-{
-    slots
-        .iter()
-        .position(|slot| is_for(slot, classes, template))
+    /// All records that passed, one after another.
+    ///
+    /// # Errors
+    /// Want of memory.
+    pub fn into_records(self) -> Result<Records, AllocError>
+        ensures { IfOk result (λ all. all ≡ self.entry.given) }
+    {
+        let Plans { shelf, .. } = self;
+        shelf.into_records()
+    }
 }

@@ -2,7 +2,7 @@
 ghost use Rattle.std.specs.Prelude.{◌≡◌};
 ghost use Rattle.flow_anonymize.specs.Classes.{classes_of};
 
-use address_classes::AddressClasses;
+use address_classes::{AddressClasses, AddressPlaces};
 use ipfix_template::Record;
 use policy_judge::Side;
 
@@ -21,6 +21,24 @@ impl RecordClasses {
         let sources = classes.key(Side::Source, flow_record);
         let destinations = classes.key(Side::Destination, flow_record);
         match (sources, destinations) {
+            (Some(sources), Some(destinations)) => Some(RecordClasses {
+                sources,
+                destinations,
+            }),
+            _ => None,
+        }
+    }
+
+    /// As [`RecordClasses::of`], by the places that the record's template gives its addresses.
+    pub fn at(
+        classes: &AddressClasses,
+        places: &AddressPlaces,
+        flow_record: &Record,
+    ) -> Option<RecordClasses>
+        requires same { flow_record.now.template ≡ places.now }
+        ensures { result ≡ classes_of classes.now flow_record.now }
+    {
+        match classes.keys(places, flow_record) {
             (Some(sources), Some(destinations)) => Some(RecordClasses {
                 sources,
                 destinations,

@@ -19,7 +19,7 @@ read_fault decode.TemplateOverrun = Malformed decode.TemplateOverrun
 
 -- the answer, with its records as a list
 abbrev pub shown : Read → Meaning
-shown r = record { header = r.header; records = r.records.items; skips = r.skips; gap = r.gap }
+shown r = record { header = r.header; records = r.records; skips = r.skips; gap = r.gap }
 
 -- only want of memory says nothing of the octets
 abbrev pub is_memory : ReadError → Bool

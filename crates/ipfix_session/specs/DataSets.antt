@@ -1,11 +1,13 @@
 -- What the functions that read a Data Set answer.
-use Rattle.std.specs.Prelude.{◌≡◌, ◌<◌, ℕ, List, [], ◌∷◌, ◌++◌, length, map, Option, Some, None, Result, Ok, Err}
-use Rattle.ipfix_template.specs.Sequence.{End, Fault, Next}
+use Rattle.std.specs.Prelude.{◌≡◌, ◌≤◌, ℕ, true, List, ◌++◌, length, map, Result, Ok, Err}
+use Rattle.std.specs.List.{AllByRecursion}
 use Rattle.ipfix_template.specs.declared.template.Template.{Template}
-use Rattle.ipfix_template.specs.Values.{record_front, records_in}
-use Rattle.ipfix_template.specs.DataRecord.{DataRecord}
+use Rattle.ipfix_template.specs.Values.{Splits, records_in, values_in}
+use Rattle.ipfix_template.specs.DataRecord.{DataRecord, IsSound, IsKept, kept_record}
+use Rattle.record_runs.specs.Pieces.{pieces, AreEnds}
 use Rattle.ipfix_session.specs.declared.read_error.ReadError.{ReadError}
 use Rattle.ipfix_session.specs.declared.read_error.ReadError.TheVariants.{Malformed, RecordOverrun, OutOfMemory}
+use Rattle.ipfix_session.specs.declared.data_set.RecordEnds.{RecordEnds}
 use Rattle.ipfix_session.specs.Contents.{record_of}
 
 -- a record that runs past the end is there, unless memory ran out
@@ -14,17 +16,22 @@ IsOverrun OutOfMemory read overrun = Unit {0}
 IsOverrun RecordOverrun read overrun = read ≡ overrun
 IsOverrun (Malformed why) read overrun = ⊥
 
--- the answer is the record that stood at the front, and the new octets are those after it
-abbrev pub ShowsRecord : Template → List ℕ → List ℕ → Result (Option DataRecord) ReadError → Type 0
-ShowsRecord t old new (Ok None) = record_front t old ≡ End
-ShowsRecord t old new (Ok (Some r)) = (r ≡ record_of t r.values) × (record_front t old ≡ Next (r.values ∷ []) new)
-ShowsRecord t old new (Err e) = IsOverrun e (record_front t old) (Fault tt)
+-- a text that is split by the template's fields, and is a record
+pub record IsRecordText (t : Template) (text : List ℕ) : Type 0 where
+  pub sound : IsSound (kept_record t text)
+  pub splits : Splits t.fields text (values_in t.fields text)
 
--- a record that was taken leaves fewer octets
-abbrev pub Shortens : List ℕ → List ℕ → Result (Option DataRecord) ReadError → Type 0
-Shortens old new (Ok None) = Unit {0}
-Shortens old new (Ok (Some r)) = length new < length old
-Shortens old new (Err e) = Unit {0}
+-- the ends of records that stand one after another in the content, and whether each stands as records are kept
+pub record AreFound (t : Template) (content : List ℕ) (found : RecordEnds) : Type 0 where
+  pub ends : AreEnds 0 found.ends.items found.used
+  pub within : found.used ≤ length content
+  pub texts : AllByRecursion (IsRecordText t) (pieces content 0 found.ends.items)
+  pub kept : found.is_shortest ≡ true → AllByRecursion (IsKept t) (pieces content 0 found.ends.items)
+
+-- the ends of all records of the content are found, unless one runs past its end
+abbrev pub FindsEnds : Template → List ℕ → Result RecordEnds ReadError → Type 0
+FindsEnds t content (Ok found) = AreFound t content found × (records_in t content ≡ Ok (map (values_in t.fields) (pieces content 0 found.ends.items)))
+FindsEnds t content (Err e) = IsOverrun e (records_in t content) (Err tt)
 
 -- the records of the content are added to those before
 abbrev pub AddsRecords : Template → List ℕ → List DataRecord → List DataRecord → Result (Unit {0}) ReadError → Type 0

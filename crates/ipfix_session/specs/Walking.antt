@@ -8,7 +8,7 @@ use Rattle.ipfix_session.specs.Answers.{Fails}
 
 -- what was read so far
 abbrev pub contents_in : Walk → Contents
-contents_in w = record { records = w.records.items; skips = w.skips }
+contents_in w = record { records = w.records; skips = w.skips }
 
 -- what is read is added to what was read before
 abbrev pub Adds : Contents → Contents → Result Contents ReadError → Result (Unit {0}) ReadError → Type 0

@@ -1,56 +1,126 @@
 //! The records of a Data Set.
-ghost use Rattle.std.specs.Prelude.{◌≡◌, ◌≤◌, ◌<◌, length, IfOk, IfSome};
+ghost use Rattle.std.specs.Prelude.{◌≡◌, true, map, IfOk};
 ghost use Rattle.std.specs.Arc.{arc_value};
-ghost use Rattle.ipfix_template.specs.DataRecord.{FitsOneMessage};
+ghost use Rattle.ipfix_template.specs.DataRecord.{FitsOneMessage, kept_record};
+ghost use Rattle.record_runs.specs.Pieces.{pieces};
+ghost use Rattle.record_runs.specs.Runs.{records_of};
 ghost use Rattle.ipfix_session.specs.Keeping.{IsKeepable};
-ghost use Rattle.ipfix_session.specs.DataSets.{ShowsRecord, AddsRecords, Shortens};
+ghost use Rattle.ipfix_session.specs.DataSets.{AddsRecords, AreFound, FindsEnds};
 
 use crate::read_error::ReadError;
 use bytes::Bytes;
-use ipfix_template::{Extent, Record, Template, measure};
+use ipfix_template::{Extent, Record, Template};
+use record_layout::Layout;
+use record_runs::{Records, Run};
 use std::alloc::{AllocError, Global};
 use std::sync::Arc;
 
-/// Adds the records of a Data Set's content, read by its template. Their octets are cut from the content, and not copied,
-/// where each value stands in its shortest text.
+/// Where the records of a Data Set's content end, one after another.
+#[derive(Drop)]
+struct RecordEnds {
+    ends: Vec<u32>,
+    /// The last of the ends; behind it stands padding.
+    used: usize,
+    /// Whether each value stands in its shortest text (RFC 7011, section 7).
+    is_shortest: bool,
+}
+
+/// Adds the records of a Data Set's content, read by its template, as one run. Its octets are cut from the content, and
+/// not copied, where each value stands in its shortest text.
 ///
 /// # Errors
 /// RecordOverrun where the last record goes past the content, or want of memory.
 pub(crate) fn read_set(
     alloc: Global,
     template: &Arc<Template>,
-    content: Bytes,
-    records: &mut Vec<Record>,
+    content: &Bytes,
+    records: &mut Records,
 ) -> Result<(), ReadError>
     requires keepable { IsKeepable (arc_value template.now) }
-    requires fits { FitsOneMessage content }
-    ensures { AddsRecords (arc_value template.now) content records.old.items records.new.items result }
+    requires fits { FitsOneMessage content.now }
+    ensures { AddsRecords (arc_value template.now) content.now records.old records.new result }
 {
-    let mut rest = content;
-    'records: while let Some(first) = first_record(alloc, template, &mut rest)? {
-        records.push(first)?;
+    let layout = Layout::of(alloc, template.clone()?)?;
+    let found = find_ends(alloc, &layout, content)?;
+    if found.ends.is_empty() {
+        return Ok(());
     }
+    let run = run_of(alloc, template, content, found)?;
+    records.push_run(run)?;
     Ok(())
 }
 
-/// Takes the record at the front, or finds that only padding is left.
-fn first_record(
-    alloc: Global,
-    template: &Arc<Template>,
-    rest: &mut Bytes,
-) -> Result<Option<Record>, ReadError>
-    requires keepable { IsKeepable (arc_value template.now) }
-    requires fits { FitsOneMessage rest.old }
-    ensures shown { ShowsRecord (arc_value template.now) rest.old rest.new result }
-    ensures shorter { Shortens rest.old rest.new result }
+/// Finds where the records of a content end: the longest record that stands at each place, until only padding is left.
+fn find_ends(alloc: Global, layout: &Layout, content: &[u8]) -> Result<RecordEnds, ReadError>
+    requires keepable { IsKeepable layout.now }
+    requires fits { FitsOneMessage content.now }
+    ensures { FindsEnds layout.now content.now result }
 {
-    match measure(template, rest) {
-        Extent::Padding => Ok(None),
-        Extent::Overrun => Err(ReadError::RecordOverrun),
-        Extent::Record { used, is_shortest } => {
-            let shared = template.clone()?;
-            let text = rest.split_to(used)?;
-            Ok(Some(Record::read(alloc, shared, text, is_shortest)?))
+    let most = content.len() / (layout.template().shortest() as usize).max(1);
+    let mut ends = Vec::with_capacity(alloc, most)?;
+    let mut used = 0;
+    let mut is_shortest = true;
+    'records: loop {
+        match layout.measure(&content[used..]) {
+            Extent::Padding => {
+                return Ok(RecordEnds {
+                    ends,
+                    used,
+                    is_shortest,
+                });
+            }
+            Extent::Overrun => return Err(ReadError::RecordOverrun),
+            Extent::Record {
+                used: size,
+                is_shortest: as_written,
+            } => {
+                used += size;
+                is_shortest = is_shortest && as_written;
+                ends.push(used as u32)?;
+            }
         }
     }
+}
+
+/// The records that were found: cut from the content, or written anew.
+fn run_of(
+    alloc: Global,
+    template: &Arc<Template>,
+    content: &Bytes,
+    found: RecordEnds,
+) -> Result<Run, AllocError>
+    requires fits { FitsOneMessage content.now }
+    requires found { AreFound (arc_value template.now) content.now found }
+    ensures { IfOk result (λ run. records_of run ≡ map (kept_record (arc_value template.now)) (pieces content.now 0 found.ends.items)) }
+{
+    if found.is_shortest {
+        let octets = content.slice(0..found.used)?;
+        return Ok(Run::new(template.clone()?, octets, found.ends));
+    }
+    written_anew(alloc, template, content, &found)
+}
+
+/// The records that were found, each value in its shortest text.
+fn written_anew(
+    alloc: Global,
+    template: &Arc<Template>,
+    content: &Bytes,
+    found: &RecordEnds,
+) -> Result<Run, AllocError>
+    requires fits { FitsOneMessage content.now }
+    requires found { AreFound (arc_value template.now) content.now found.now }
+    ensures { IfOk result (λ run. records_of run ≡ map (kept_record (arc_value template.now)) (pieces content.now 0 found.now.ends.items)) }
+{
+    let mut octets = Vec::with_capacity(alloc, content.len())?;
+    let mut written = Vec::with_capacity(alloc, found.ends.len())?;
+    let mut start = 0;
+    for end in &found.ends {
+        let end = *end as usize;
+        let text = content.slice(start..end)?;
+        let single = Record::read(alloc, template.clone()?, text, false)?;
+        octets.extend_from_slice(single.as_octets())?;
+        written.push(octets.len() as u32)?;
+        start = end;
+    }
+    Ok(Run::new(template.clone()?, Bytes::from_vec(octets)?, written))
 }

@@ -17,7 +17,7 @@
 //! records, skips and gap of the message after them, or its first fault (`meaning`), and then stands for that list
 //! with the message (`stands`). A refused message changes nothing (`err`), and a header that is refused is named by
 //! its fault alone (`header`). `template` is the template in force; a new session stands for no messages; a copy
-//! stands for the same. The records that are answered are sound, by `Record`'s type. The laws are those above.
+//! stands for the same. The records that are answered are sound, by `Run`'s type. The laws are those above.
 //!
 //! A message is read over what it decides itself and the templates before it, and what it decides is taken over only
 //! at its end, where it is accepted: so no message copies a domain's templates, and a refused one costs no more than

@@ -1,14 +1,14 @@
 //! What a message of a session brings.
 
 use ipfix_message::Header;
-use ipfix_template::Record;
+use record_runs::Records;
 
 /// What a session's message means after the messages before it.
 #[derive(Drop)]
 pub struct Read {
     pub header: Header,
     /// The Data Records, in the order of the message.
-    pub records: Vec<Record>,
+    pub records: Records,
     pub skips: Skips,
     /// Set where the sequence number is not the one that the last message of the domain left to expect.
     pub gap: Option<Gap>,

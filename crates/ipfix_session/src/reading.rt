@@ -4,7 +4,7 @@ ghost use Rattle.std.specs.Prelude.{◌≡◌};
 use crate::changes::Changes;
 use crate::read::{Gap, Read, Skips};
 use ipfix_message::Header;
-use ipfix_template::Record;
+use record_runs::Records;
 use std::marker::Model;
 
 /// What a session's message means after the messages before it, and what it changes of the session. Contracts say by
@@ -38,7 +38,7 @@ impl Reading {
     }
 
     /// Its Data Records, in its order.
-    pub fn records(&self) -> &[Record]
+    pub fn records(&self) -> &Records
         ensures { result.now ≡ self.now.meaning.records }
     {
         &self.read.records

@@ -15,7 +15,7 @@ use crate::read_error::ReadError;
 use crate::table::Table;
 use bytes::Bytes;
 use ipfix_message::Item;
-use ipfix_template::Record;
+use record_runs::Records;
 use std::alloc::{AllocError, Global};
 
 /// What was read of a message so far.
@@ -23,7 +23,7 @@ use std::alloc::{AllocError, Global};
 pub(crate) struct Walk {
     /// What the message changes of the domain's templates.
     pub(crate) changes: Changes,
-    pub(crate) records: Vec<Record>,
+    pub(crate) records: Records,
     pub(crate) skips: Skips,
 }
 
@@ -48,7 +48,7 @@ pub(crate) fn walk_items(
     let total = said.len();
     let mut state = Walk {
         changes: Changes::new(alloc),
-        records: Vec::new(alloc),
+        records: Records::new(alloc),
         skips: Skips {
             unknown: 0,
             reserved: 0,
@@ -131,7 +131,7 @@ fn read_data_set(
         return Ok(());
     };
     let content = content_of(message, start, len)?;
-    read_set(alloc, template, content, &mut state.records)
+    read_set(alloc, template, &content, &mut state.records)
 }
 
 /// So many octets at this place of the message, cut from it.

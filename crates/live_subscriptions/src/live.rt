@@ -128,7 +128,7 @@ impl Live {
 
     /// Hands a subscription its records.
     fn give_one(&mut self, share: Share)
-        requires ready { IfSome (at_key share.sub self.old.by_number.entries) (λ x. IsReady x.stream share.given.items) }
+        requires ready { IfSome (at_key share.sub self.old.by_number.entries) (λ x. IsReady x.stream share.given) }
         ensures each { (q : ℕ) → Related (TakesGiven (given_to q (shown share ∷ []))) (at_key q self.old.by_number.entries) (at_key q self.new.by_number.entries) }
         ensures others { (q : ℕ) → q ≢ share.sub → at_key q self.new.by_number.entries ≡ at_key q self.old.by_number.entries }
     {

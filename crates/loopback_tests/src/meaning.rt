@@ -25,7 +25,8 @@ pub(crate) fn meaning_of(
     for message in messages {
         let read = session.apply(message.as_slice()).expect(rt, "a message");
         assert!(rt; read.gap.is_none());
-        for one in &read.records {
+        let records = read.records.to_vec(alloc)?;
+        for one in &records {
             say(one, &mut said)?;
         }
     }

@@ -59,7 +59,7 @@ part_one t all cuts left x false is so = record {
 -- the share of what an advance closes for one of those that are served
 pub record IsShareOf (e : Engine) (t : ℕ) (who : Served) (s : Share) : Type 0 where
   pub sub : s.sub ≡ who.sub
-  pub closes : (counted : List Counted) → StandsForRecords (groups_at e.groups who.sub) counted → s.given.items ≡ closed_by t counted
+  pub closes : (counted : List Counted) → StandsForRecords (groups_at e.groups who.sub) counted → s.given ≡ closed_by t counted
 
 -- those before a place are parted
 abbrev pub IsParting : Engine → ℕ → List Served → List ℕ → List Share → ℕ → Type 0
@@ -71,7 +71,7 @@ one_more e h t all place who other s so within at is =
     ap (λ l. map (closing_share h t) (map told l)) (take_more all place other within ∙ ap (λ x. take place all ++ x ∷ []) (sym at))
     ∙ ap (map (closing_share h t)) (map-append told (take place all) (who ∷ []))
     ∙ map-append (closing_share h t) (map told (take place all)) (told who ∷ [])
-    ∙ ap (λ x. map (closing_share h t) (map told (take place all)) ++ x ∷ []) (ap (sharing who.sub) (sym (is.closes (running who.sub h) (so.groups who.sub))) ∙ ap (λ n. sharing n s.given.items) (sym is.sub))
+    ∙ ap (λ x. map (closing_share h t) (map told (take place all)) ++ x ∷ []) (ap (sharing who.sub) (sym (is.closes (running who.sub h) (so.groups who.sub))) ∙ ap (λ n. sharing n s.given) (sym is.sub))
 
 pub parting_cut : (e : Engine) (t : ℕ) (all : List Served) (cuts more : List ℕ) (shares : List Share) (place : ℕ) (who other : Served) (s : Share)
     → IsParting e t all cuts shares place → place < length all → who ≡ get_or all place other → IsShareOf e t who s → lacks_room_at e.subscriptions (shown s) ≡ true → more ≡ cuts ++ who.sub ∷ []

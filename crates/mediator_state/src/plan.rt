@@ -13,8 +13,8 @@ use crate::fault::Fault;
 use bytes::Bytes;
 use disclosure_audit::AuditEntry;
 use ipfix_session::Reading;
-use ipfix_template::Record;
 use open_sessions::OpenSession;
+use record_runs::Records;
 use record_sharing::{Note, Served, Share, Shares, Tally};
 use std::alloc::{AllocError, Global};
 use stream_meaning::see_records;
@@ -132,7 +132,7 @@ impl Engine {
     fn share_left(
         &self,
         domain: u32,
-        records: &[Record],
+        records: &Records,
         all: Shares,
         cuts: &[u64],
         left: &[Served<'_>],

@@ -144,7 +144,7 @@ fn entry_of(alloc: Global, row: &Row) -> Result<AuditEntry, AllocError> {
                 Ok(list) => list,
                 Err(_) => Vec::from_slice(alloc, fields)?,
             };
-            let fields = RemovedFields::from_vec(list);
+            let fields = RemovedFields::from_vec(alloc, list)?;
             What::Removed { fields }
         }
         Kept::Cut => What::Cut,

@@ -2,7 +2,7 @@
 use address_classes::AddressClasses;
 use bytes::Bytes;
 use flow_anonymize::{
-    Disclosure, Plans, Reason, RecordClasses, RemovedField, denied_is_secret, disclose,
+    Decision, Disclosure, Plans, Reason, RecordClasses, RemovedField, denied_is_secret, disclose,
     disclose_by, later_rules_never_matter, only_permitted_passes, others_never_matter,
     passed_is_sound,
 };
@@ -148,9 +148,32 @@ fn disclosed_again(
     let table = RuleTable::build(alloc, policy)?;
     let classes = AddressClasses::of_rules(alloc, policy.rules())?;
     let mut plans = Plans::new(alloc, &table, &classes, "acme", DOMAIN);
+    plans.begin(flow_record.shared_template())?;
     let keys = RecordClasses::of(&classes, flow_record);
     plans.disclose(alloc, keys, flow_record)?;
-    plans.disclose(alloc, keys, flow_record)
+    let decision = plans.disclose(alloc, keys, flow_record)?;
+    disclosure_of(alloc, plans, decision)
+}
+
+/// A decision with the record that passed last, of the two that did.
+fn disclosure_of(
+    alloc: Global,
+    plans: Plans<'_, '_>,
+    decision: Decision,
+) -> Result<Disclosure, AllocError> {
+    let mut passed = plans.into_records()?.to_vec(alloc)?;
+    match decision {
+        Decision::Passed { removed } if passed.len() == 2 => match passed.pop() {
+            Some(kept) => Ok(Disclosure::Passed { kept, removed }),
+            None => Err(AllocError),
+        },
+        Decision::Passed { .. } => Err(AllocError),
+        Decision::Aggregated { rule, definition } => Ok(Disclosure::Aggregated {
+            rule,
+            definition,
+        }),
+        Decision::Withheld { rule, reason } => Ok(Disclosure::Withheld { rule, reason }),
+    }
 }
 
 /// Whether a field has this element and this length.
@@ -648,7 +671,7 @@ fn is_aggregated(wanted: &Wanted, rule: u32, definition: usize) -> bool {
 fn expect_case<R: Abort + AllocGlobal>(rt: &R, way: Way, case: &Case) -> Result<(), Fail> {
     let flow_record = record_of(rt.alloc(), case.fields, case.scope)?;
     match disclosed(rt.alloc(), way, case.rules, &flow_record)? {
-        Disclosure::Passed { kept, removed } => expect_passed(rt, case, &kept, &removed),
+        Disclosure::Passed { kept, removed } => expect_passed(rt, case, &kept, removed.as_slice()),
         Disclosure::Withheld { rule, reason } => {
             let same = is_withheld(&case.wanted, rule, reason);
             assert!(rt; same, "{}: withheld by {rule}", case.name);

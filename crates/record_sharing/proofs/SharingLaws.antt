@@ -1,25 +1,27 @@
 -- Shares that grow, one subscription after another and one record after another.
-use Rattle.std.proofs.Common.{◌≡◌, ℕ, suc, ◌+◌, ◌<◌, List, [], ◌∷◌, ◌++◌, length, map, take, drop, sym, ap, ◌∙◌, subst, arith, append_assoc, append-nil, ◌≤◌}
+use Rattle.std.proofs.Common.{◌≡◌, ℕ, zero, suc, ◌+◌, ◌<◌, List, [], ◌∷◌, ◌++◌, length, map, take, drop, sym, ap, ◌∙◌, subst, arith, refl, length-append, append_assoc, append-nil, ◌≤◌}
 use Rattle.std.specs.Prelude.{get_or, set}
 use Rattle.std.specs.List.{flat_map, enumerate_from}
 use Rattle.std.proofs.lemmas.List.{map-set, map-append, length-map, take_more, take_all, length-take-le}
 use Rattle.std.proofs.Math.ListN.{get_or-map, drop_of_length-le}
+use Rattle.std.proofs.lemmas.List.Concat.{flat_map-append, flat_map-cons}
 use Rattle.std.proofs.Math.Seq.{set-append_seam, get_or-append_seam, drop-cons}
 use Rattle.mediator_history.proofs.HistoryLaws.{flat_map-push}
-use Rattle.ipfix_template.specs.DataRecord.{DataRecord}
+use Rattle.ipfix_template.specs.DataRecord.{DataRecord, kept_record}
+use Rattle.record_runs.specs.Runs.{RunOf, records_of, records_in}
 use Rattle.flow_aggregate.specs.Counts.{count_of}
-use Rattle.policy_text.specs.Policies.{Meaning as Policy}
-use Rattle.flow_anonymize.specs.Outcome.{Outcome}
-use Rattle.flow_anonymize.specs.Disclosed.{disclosure_of}
+use Rattle.flow_anonymize.specs.declared.decision.Decision.{Decision}
+use Rattle.policy_text.specs.Policies.{Aggregate}
+use Rattle.flow_anonymize.specs.Outcome as outcome
+use Rattle.flow_anonymize.specs.Outcome.{Outcome, Passes, Aggregates, Withholds}
 use Rattle.mediator_history.specs.Counting.{counts}
 use Rattle.mediator_history.specs.Disclosed.{passed}
 use Rattle.mediator_history.specs.Auditing.{kept_back}
 use Rattle.record_sharing.specs.InForce.{InForce}
 use Rattle.record_sharing.specs.declared.served.Served.{Served}
-use Rattle.record_sharing.specs.declared.shares.Share.{Share}
 use Rattle.record_sharing.specs.declared.shares.Tally.{Tally}
 use Rattle.record_sharing.specs.declared.shares.Note.{Note}
-use Rattle.record_sharing.specs.Sharing.{outcome_by, given_by, added_by, kept_by, shown, tallied, blank, share_by, shares_of, tallies_of, note_of, noted, noted_of_each, notes_of}
+use Rattle.record_sharing.specs.Sharing.{outcome_by, given_by, added_by, kept_by, kept_back_by, counts_by, tallied, blank, share_by, shares_of, tallies_of, note_of, noted, noted_of_each, notes_of}
 
 abbrev pub as_share : {X : Type 0} → ℕ → List X → ℕ × List X
 as_share sub items = (sub, items)
@@ -58,25 +60,25 @@ blank_step {S} {X} pick xs xs2 s served place other so within grow same =
 -- ---- one record for one subscription after another
 
 -- the shares of the subscriptions before a place have the record, and the others don't yet
-abbrev pub IsSharing : {S X : Type 0} → (List ℕ → DataRecord → List X) → (S → ℕ × List X) → List S → List S → DataRecord → List Served → ℕ → Type 0
-IsSharing gives pick old new r served place = (done : List DataRecord) → map pick old ≡ map (share_by gives done) served
-    → map pick new ≡ map (share_by gives (done ++ r ∷ [])) (take place served) ++ map (share_by gives done) (drop place served)
+abbrev pub IsSharing : {X : Type 0} → (List ℕ → DataRecord → List X) → List (ℕ × List X) → List (ℕ × List X) → DataRecord → List Served → ℕ → Type 0
+IsSharing gives old new r served place = (done : List DataRecord) → old ≡ map (share_by gives done) served
+    → new ≡ map (share_by gives (done ++ r ∷ [])) (take place served) ++ map (share_by gives done) (drop place served)
 
 -- a share grows at a place, wherever the shares are split there
-abbrev pub GrowsAt : {S X : Type 0} → (S → ℕ × List X) → List S → List S → ℕ → List X → Type 0
-GrowsAt {S} {X} pick xs xs2 place more = (before after : List (ℕ × List X)) (s : ℕ × List X) → map pick xs ≡ before ++ s ∷ after → length before ≡ place → map pick xs2 ≡ before ++ grown s more ∷ after
+abbrev pub GrowsAt : {X : Type 0} → List (ℕ × List X) → List (ℕ × List X) → ℕ → List X → Type 0
+GrowsAt {X} xs xs2 place more = (before after : List (ℕ × List X)) (s : ℕ × List X) → xs ≡ before ++ s ∷ after → length before ≡ place → xs2 ≡ before ++ grown s more ∷ after
 
 -- where nothing changes, it grows by nothing
-pub grows_nothing : {S X : Type 0} (pick : S → ℕ × List X) (xs xs2 : List S) (place : ℕ) → xs2 ≡ xs → GrowsAt pick xs xs2 place []
-grows_nothing pick xs xs2 place same before after s split at = ap (map pick) same ∙ split ∙ ap (λ l. before ++ as_share s.0 l ∷ after) (sym (append-nil s.1))
+pub grows_nothing : {X : Type 0} (xs xs2 : List (ℕ × List X)) (place : ℕ) → xs2 ≡ xs → GrowsAt xs xs2 place []
+grows_nothing xs xs2 place same before after s split at = same ∙ split ∙ ap (λ l. before ++ as_share s.0 l ∷ after) (sym (append-nil s.1))
 
 one-more : (n : ℕ) → suc n ≡ n + 1
 one-more n = omega arith
 
-sharing_end : {S X : Type 0} (gives : List ℕ → DataRecord → List X) (pick : S → ℕ × List X) (old new : List S) (r : DataRecord) (served : List Served) (place : ℕ)
-    → IsSharing gives pick old new r served place → length served ≤ place → (done : List DataRecord) → map pick old ≡ map (share_by gives done) served
-    → map pick new ≡ map (share_by gives (done ++ r ∷ [])) served
-sharing_end gives pick old new r served place so over done start =
+sharing_end : {X : Type 0} (gives : List ℕ → DataRecord → List X) (old new : List (ℕ × List X)) (r : DataRecord) (served : List Served) (place : ℕ)
+    → IsSharing gives old new r served place → length served ≤ place → (done : List DataRecord) → old ≡ map (share_by gives done) served
+    → new ≡ map (share_by gives (done ++ r ∷ [])) served
+sharing_end gives old new r served place so over done start =
     so done start
     ∙ ap (λ l. map (share_by gives (done ++ r ∷ [])) l ++ map (share_by gives done) (drop place served)) (take_all place served over)
     ∙ ap (λ l. map (share_by gives (done ++ r ∷ [])) served ++ map (share_by gives done) l) (drop_of_length-le served over)
@@ -89,13 +91,13 @@ rest_served : (served : List Served) (place : ℕ) (who other : Served) → plac
 rest_served served place who other within at =
     drop-cons served place other within ∙ ap (λ x. x ∷ drop (suc place) served) (sym at) ∙ ap (λ n. who ∷ drop n served) (one-more place)
 
-sharing_step : {S X : Type 0} (gives : List ℕ → DataRecord → List X) (pick : S → ℕ × List X) (old new new2 : List S) (r : DataRecord) (served : List Served) (place : ℕ) (who other : Served)
-    → IsSharing gives pick old new r served place → place < length served → who ≡ get_or served place other → GrowsAt pick new new2 place (gives who.name.now r)
-    → IsSharing gives pick old new2 r served (place + 1)
-sharing_step gives pick old new new2 r served place who other so within at adds done start =
+sharing_step : {X : Type 0} (gives : List ℕ → DataRecord → List X) (old new new2 : List (ℕ × List X)) (r : DataRecord) (served : List Served) (place : ℕ) (who other : Served)
+    → IsSharing gives old new r served place → place < length served → who ≡ get_or served place other → GrowsAt new new2 place (gives who.name.now r)
+    → IsSharing gives old new2 r served (place + 1)
+sharing_step gives old new new2 r served place who other so within at adds done start =
     let f1 = share_by gives (done ++ r ∷ []) in
     let f0 = share_by gives done in
-    let split : map pick new ≡ map f1 (take place served) ++ f0 who ∷ map f0 (drop (place + 1) served) =
+    let split : new ≡ map f1 (take place served) ++ f0 who ∷ map f0 (drop (place + 1) served) =
     so done start ∙ ap (λ l. map f1 (take place served) ++ map f0 l) (rest_served served place who other within at) in
     let counted : length (map f1 (take place served)) ≡ place = length-map (take place served) f1 ∙ length-take-le place served (omega arith) in
     adds (map f1 (take place served)) (map f0 (drop (place + 1) served)) (f0 who) split counted
@@ -104,14 +106,14 @@ sharing_step gives pick old new new2 r served place who other so within at adds 
     ∙ ap (λ l. l ++ map f0 (drop (place + 1) served)) (sym (map-append f1 (take place served) (who ∷ [])) ∙ ap (map f1) (sym (more_served served place who other within at)))
 
 -- the same of what is given and of what is added, and what was noted
-pub record IsAdding (old new : List Share) (told tnew : List Tally) (before notes : List Note) (domain : ℕ) (f : InForce) (index : ℕ) (r : DataRecord) (served : List Served) (place : ℕ) : Type 0 where
-  pub shares : IsSharing (given_by domain f) shown old new r served place
-  pub tallies : IsSharing (added_by domain f) tallied told tnew r served place
+pub record IsAdding (old new : List (ℕ × List DataRecord)) (told tnew : List Tally) (before notes : List Note) (domain : ℕ) (f : InForce) (index : ℕ) (r : DataRecord) (served : List Served) (place : ℕ) : Type 0 where
+  pub shares : IsSharing (given_by domain f) old new r served place
+  pub tallies : IsSharing (added_by domain f) (map tallied told) (map tallied tnew) r served place
   pub noting : notes ≡ before ++ flat_map (noted domain f (index, r)) (take place served)
   pub stay : length new ≡ length served
   pub stay_tallies : length tnew ≡ length served
 
-pub adding_start : (s : List Share) (t : List Tally) (n : List Note) (domain : ℕ) (f : InForce) (index : ℕ) (r : DataRecord) (served : List Served) → length s ≡ length served → length t ≡ length served
+pub adding_start : (s : List (ℕ × List DataRecord)) (t : List Tally) (n : List Note) (domain : ℕ) (f : InForce) (index : ℕ) (r : DataRecord) (served : List Served) → length s ≡ length served → length t ≡ length served
     → IsAdding s s t t n n domain f index r served 0
 adding_start s t n domain f index r served same same_too = record {
   shares = λ done start. start;
@@ -121,112 +123,190 @@ adding_start s t n domain f index r served same same_too = record {
   stay_tallies = same_too;
 }
 
-pub shares_added : (old new : List Share) (told tnew : List Tally) (before notes : List Note) (domain : ℕ) (f : InForce) (index : ℕ) (r : DataRecord) (served : List Served) (place : ℕ)
-    → IsAdding old new told tnew before notes domain f index r served place → length served ≤ place → (done : List DataRecord) → map shown old ≡ shares_of domain f done served
-    → map shown new ≡ shares_of domain f (done ++ r ∷ []) served
-shares_added old new told tnew before notes domain f index r served place so over done start = sharing_end (given_by domain f) shown old new r served place so.shares over done start
+-- all subscriptions have it
+pub record HasAdded (old new : List (ℕ × List DataRecord)) (told tnew : List Tally) (before notes : List Note) (domain : ℕ) (f : InForce) (index : ℕ) (r : DataRecord) (served : List Served) : Type 0 where
+  pub shares : (done : List DataRecord) → old ≡ shares_of domain f done served → new ≡ shares_of domain f (done ++ r ∷ []) served
+  pub tallies : (done : List DataRecord) → map tallied told ≡ tallies_of domain f done served → map tallied tnew ≡ tallies_of domain f (done ++ r ∷ []) served
+  pub noting : notes ≡ before ++ noted_of_each domain f served (index, r)
 
-pub tallies_added : (old new : List Share) (told tnew : List Tally) (before notes : List Note) (domain : ℕ) (f : InForce) (index : ℕ) (r : DataRecord) (served : List Served) (place : ℕ)
-    → IsAdding old new told tnew before notes domain f index r served place → length served ≤ place → (done : List DataRecord) → map tallied told ≡ tallies_of domain f done served
-    → map tallied tnew ≡ tallies_of domain f (done ++ r ∷ []) served
-tallies_added old new told tnew before notes domain f index r served place so over done start = sharing_end (added_by domain f) tallied told tnew r served place so.tallies over done start
+pub added : (old new : List (ℕ × List DataRecord)) (told tnew : List Tally) (before notes : List Note) (domain : ℕ) (f : InForce) (index : ℕ) (r : DataRecord) (served : List Served) (place : ℕ)
+    → IsAdding old new told tnew before notes domain f index r served place → length served ≤ place → HasAdded old new told tnew before notes domain f index r served
+added old new told tnew before notes domain f index r served place so over = record {
+  shares = sharing_end (given_by domain f) old new r served place so.shares over;
+  tallies = sharing_end (added_by domain f) (map tallied told) (map tallied tnew) r served place so.tallies over;
+  noting = so.noting ∙ ap (λ l. before ++ flat_map (noted domain f (index, r)) l) (take_all place served over);
+}
 
-pub notes_added : (old new : List Share) (told tnew : List Tally) (before notes : List Note) (domain : ℕ) (f : InForce) (index : ℕ) (r : DataRecord) (served : List Served) (place : ℕ)
-    → IsAdding old new told tnew before notes domain f index r served place → length served ≤ place → notes ≡ before ++ noted_of_each domain f served (index, r)
-notes_added old new told tnew before notes domain f index r served place so over = so.noting ∙ ap (λ l. before ++ flat_map (noted domain f (index, r)) l) (take_all place served over)
+-- what passes, by whichever definition
+passed_same : (o : Outcome) → outcome.passed o ≡ passed o
+passed_same (Passes kept removed) = refl
+passed_same (Aggregates rule definition) = refl
+passed_same (Withholds rule reason) = refl
 
--- one subscription more
-pub adding_step : (old new new2 : List Share) (told tnew tnew2 : List Tally) (before notes notes2 : List Note) (domain : ℕ) (f : InForce) (index : ℕ) (r : DataRecord) (served : List Served) (place : ℕ) (who other : Served)
-    → IsAdding old new told tnew before notes domain f index r served place → place < length served → who ≡ get_or served place other
-    → GrowsAt shown new new2 place (given_by domain f who.name.now r) → GrowsAt tallied tnew tnew2 place (added_by domain f who.name.now r)
-    → length new2 ≡ length new → length tnew2 ≡ length tnew → notes2 ≡ notes ++ map (note_of index who.sub) (kept_by domain f who.name.now r)
+counts_same : (aggregates : List Aggregate) (clock : ℕ) (r : DataRecord) (o : Outcome) → counts_by aggregates clock r (outcome.decision_of o) ≡ counts aggregates clock r o
+counts_same aggregates clock r (Passes kept removed) = refl
+counts_same aggregates clock r (Aggregates rule definition) = refl
+counts_same aggregates clock r (Withholds rule reason) = refl
+
+kept_back_same : (aggregates : List Aggregate) (clock : ℕ) (r : DataRecord) (o : Outcome) → kept_back_by aggregates clock r (outcome.decision_of o) ≡ kept_back aggregates clock r o
+kept_back_same aggregates clock r (Passes kept removed) = refl
+kept_back_same aggregates clock r (Aggregates rule definition) = refl
+kept_back_same aggregates clock r (Withholds rule reason) = refl
+
+-- one subscription more, for which this is decided of the record
+pub adding_step : (old new new2 : List (ℕ × List DataRecord)) (told tnew tnew2 : List Tally) (before notes notes2 : List Note) (domain : ℕ) (f : InForce) (index : ℕ) (r : DataRecord) (served : List Served) (place : ℕ) (who other : Served) (found : Decision)
+    → IsAdding old new told tnew before notes domain f index r served place → place < length served → who ≡ get_or served place other → found ≡ outcome.decision_of (outcome_by domain f who.name.now r)
+    → GrowsAt new new2 place (outcome.passed (outcome_by domain f who.name.now r)) → GrowsAt (map tallied tnew) (map tallied tnew2) place (map count_of (counts_by f.policy.aggregates f.clock r found))
+    → length new2 ≡ length new → length tnew2 ≡ length tnew → notes2 ≡ notes ++ map (note_of index who.sub) (kept_back_by f.policy.aggregates f.clock r found)
     → IsAdding old new2 told tnew2 before notes2 domain f index r served (place + 1)
-adding_step old new new2 told tnew tnew2 before notes notes2 domain f index r served place who other so within at gives tallies same same_too notes_grow = record {
-  shares = sharing_step (given_by domain f) shown old new new2 r served place who other so.shares within at gives;
-  tallies = sharing_step (added_by domain f) tallied told tnew tnew2 r served place who other so.tallies within at tallies;
-  noting = notes_grow ∙ ap (λ n. n ++ map (note_of index who.sub) (kept_by domain f who.name.now r)) so.noting
+adding_step old new new2 told tnew tnew2 before notes notes2 domain f index r served place who other found so within at is gives tallies same same_too notes_grow = record {
+  shares = sharing_step (given_by domain f) old new new2 r served place who other so.shares within at (λ b a s split l. gives b a s split l ∙ ap (λ g. b ++ grown s g ∷ a) (passed_same o));
+  tallies = sharing_step (added_by domain f) (map tallied told) (map tallied tnew) (map tallied tnew2) r served place who other so.tallies within at
+      (λ b a s split l. tallies b a s split l ∙ ap (λ (d : Decision). b ++ grown s (map count_of (counts_by f.policy.aggregates f.clock r d)) ∷ a) is ∙ ap (λ c. b ++ grown s (map count_of c) ∷ a) (counts_same f.policy.aggregates f.clock r o));
+  noting = notes_grow ∙ ap (λ (d : Decision). notes ++ map (note_of index who.sub) (kept_back_by f.policy.aggregates f.clock r d)) is ∙ ap (λ k. notes ++ map (note_of index who.sub) k) (kept_back_same f.policy.aggregates f.clock r o)
+      ∙ ap (λ n. n ++ map (note_of index who.sub) (kept_by domain f who.name.now r)) so.noting
       ∙ append_assoc before (flat_map (noted domain f (index, r)) (take place served)) (noted domain f (index, r) who)
       ∙ ap (λ l. before ++ l) (sym (flat_map-push (noted domain f (index, r)) (take place served) who) ∙ ap (flat_map (noted domain f (index, r))) (sym (more_served served place who other within at)));
   stay = same ∙ so.stay;
   stay_tallies = same_too ∙ so.stay_tallies;
 }
-
--- the same, where what becomes of the record is said by an outcome
-pub adding_found : (old new new2 : List Share) (told tnew tnew2 : List Tally) (before notes notes2 : List Note) (domain : ℕ) (f : InForce) (index : ℕ) (r : DataRecord) (served : List Served) (place : ℕ) (who other : Served) (policy : Policy) (found : Outcome)
-    → IsAdding old new told tnew before notes domain f index r served place → place < length served → who ≡ get_or served place other
-    → policy ≡ f.policy → found ≡ disclosure_of who.name.now domain r policy.rules
-    → GrowsAt shown new new2 place (passed found) → GrowsAt tallied tnew tnew2 place (map count_of (counts f.policy.aggregates f.clock r found))
-    → length new2 ≡ length new → length tnew2 ≡ length tnew → notes2 ≡ notes ++ map (note_of index who.sub) (kept_back f.policy.aggregates f.clock r found)
-    → IsAdding old new2 told tnew2 before notes2 domain f index r served (place + 1)
-adding_found old new new2 told tnew tnew2 before notes notes2 domain f index r served place who other policy found so within at same_policy is gives tallies same same_too notes_grow =
-    adding_step old new new2 told tnew tnew2 before notes notes2 domain f index r served place who other so within at
-    (subst (λ o. GrowsAt shown new new2 place (passed o)) judged gives) (subst (λ o. GrowsAt tallied tnew tnew2 place (map count_of (counts f.policy.aggregates f.clock r o))) judged tallies)
-    same same_too (subst (λ o. notes2 ≡ notes ++ map (note_of index who.sub) (kept_back f.policy.aggregates f.clock r o)) judged notes_grow)
   where
-    judged : found ≡ outcome_by domain f who.name.now r
-    judged = is ∙ ap (λ (p : Policy). disclosure_of who.name.now domain r p.rules) same_policy
+    o : Outcome
+    o = outcome_by domain f who.name.now r
 
--- ---- one record after another
+-- ---- the records of a run, one after another
 
 -- the numbers go on
-pub enumerate-push : {X : Type 0} (n : ℕ) (xs : List X) (x : X) → enumerate_from n (xs ++ x ∷ []) ≡ enumerate_from n xs ++ (n + length xs, x) ∷ []
-enumerate-push n [] x = ap (λ m. (m, x) ∷ []) (omega arith)
-enumerate-push n (y ∷ xs) x = ap (λ t. (n, y) ∷ t) (enumerate-push (n + 1) xs x ∙ ap (λ m. enumerate_from (n + 1) xs ++ (m, x) ∷ []) (omega arith))
+pub enumerate-append : {X : Type 0} (n : ℕ) (xs ys : List X) → enumerate_from n (xs ++ ys) ≡ enumerate_from n xs ++ enumerate_from (n + length xs) ys
+enumerate-append n [] ys = ap (λ m. enumerate_from m ys) none where
+  none : n ≡ n + 0
+  none = omega arith
+enumerate-append n (x ∷ xs) ys = ap (λ t. (n, x) ∷ t) (enumerate-append (n + 1) xs ys ∙ ap (λ m. enumerate_from (n + 1) xs ++ enumerate_from m ys) same) where
+  same : n + 1 + length xs ≡ n + suc (length xs)
+  same = omega arith
 
-pub enumerate-one-more : {X : Type 0} (xs : List X) (x : X) → enumerate_from 0 (xs ++ x ∷ []) ≡ enumerate_from 0 xs ++ (length xs, x) ∷ []
-enumerate-one-more xs x = enumerate-push 0 xs x ∙ ap (λ m. enumerate_from 0 xs ++ (m, x) ∷ []) zero
-  where
-    zero : 0 + length xs ≡ length xs
-    zero = omega arith
+-- the shares of the first so many records of a run, the first of which has this index
+pub record IsRunning (old new : List (ℕ × List DataRecord)) (told tnew : List Tally) (before notes : List Note) (domain : ℕ) (f : InForce) (first : ℕ) (rs : List DataRecord) (served : List Served) (place : ℕ) : Type 0 where
+  pub shares : (done : List DataRecord) → old ≡ shares_of domain f done served → new ≡ shares_of domain f (done ++ take place rs) served
+  pub tallies : (done : List DataRecord) → map tallied told ≡ tallies_of domain f done served → map tallied tnew ≡ tallies_of domain f (done ++ take place rs) served
+  pub noting : notes ≡ before ++ flat_map (noted_of_each domain f served) (enumerate_from first (take place rs))
+  pub stay : length new ≡ length served
+  pub stay_tallies : length tnew ≡ length served
 
--- the shares of the records before an index
-pub record AreShares (shares : List Share) (tallies : List Tally) (notes : List Note) (domain : ℕ) (f : InForce) (records : List DataRecord) (served : List Served) (index : ℕ) : Type 0 where
-  pub sharing : map shown shares ≡ shares_of domain f (take index records) served
-  pub tallying : map tallied tallies ≡ tallies_of domain f (take index records) served
-  pub noting : notes ≡ notes_of domain f (take index records) served
-  pub stay : length shares ≡ length served
-  pub stay_tallies : length tallies ≡ length served
+pub running_start : (old new : List (ℕ × List DataRecord)) (t : List Tally) (n : List Note) (domain : ℕ) (f : InForce) (first : ℕ) (rs : List DataRecord) (served : List Served) → new ≡ old → length old ≡ length served → length t ≡ length served
+    → IsRunning old new t t n n domain f first rs served 0
+running_start old new t n domain f first rs served is same same_too = record {
+  shares = λ done start. is ∙ start ∙ ap (λ l. shares_of domain f l served) (sym (append-nil done));
+  tallies = λ done start. start ∙ ap (λ l. tallies_of domain f l served) (sym (append-nil done));
+  noting = sym (append-nil n);
+  stay = ap length is ∙ same;
+  stay_tallies = same_too;
+}
 
--- one record more
-pub shares_step : (s s2 : List Share) (t t2 : List Tally) (n n2 : List Note) (domain : ℕ) (f : InForce) (records : List DataRecord) (served : List Served) (index : ℕ) (r : DataRecord)
-    → AreShares s t n domain f records served index → index < length records → r ≡ get_or records index r
-    → ((done : List DataRecord) → map shown s ≡ shares_of domain f done served → map shown s2 ≡ shares_of domain f (done ++ r ∷ []) served)
-    → ((done : List DataRecord) → map tallied t ≡ tallies_of domain f done served → map tallied t2 ≡ tallies_of domain f (done ++ r ∷ []) served)
-    → length s2 ≡ length served → length t2 ≡ length served → n2 ≡ n ++ noted_of_each domain f served (index, r)
-    → AreShares s2 t2 n2 domain f records served (index + 1)
-shares_step s s2 t t2 n n2 domain f records served index r so within at gives tallies same same_too grow = record {
-  sharing = gives (take index records) so.sharing ∙ ap (λ l. shares_of domain f l served) (sym more);
-  tallying = tallies (take index records) so.tallying ∙ ap (λ l. tallies_of domain f l served) (sym more);
-  noting = grow ∙ ap (λ l. l ++ noted_of_each domain f served (index, r)) so.noting
-      ∙ ap (λ i. notes_of domain f (take index records) served ++ noted_of_each domain f served (i, r)) (sym (length-take-le index records (omega arith)))
-      ∙ sym (flat_map-push (noted_of_each domain f served) (enumerate_from 0 (take index records)) (length (take index records), r))
-      ∙ ap (flat_map (noted_of_each domain f served)) (sym (enumerate-one-more (take index records) r))
-      ∙ ap (λ l. notes_of domain f l served) (sym more);
+pub running_step : (old new new2 : List (ℕ × List DataRecord)) (told tnew tnew2 : List Tally) (before notes notes2 : List Note) (domain : ℕ) (f : InForce) (first index : ℕ) (rs : List DataRecord) (served : List Served) (place : ℕ) (r other : DataRecord)
+    → IsRunning old new told tnew before notes domain f first rs served place → place < length rs → r ≡ get_or rs place other → index ≡ first + place
+    → HasAdded new new2 tnew tnew2 notes notes2 domain f index r served → length new2 ≡ length served → length tnew2 ≡ length served
+    → IsRunning old new2 told tnew2 before notes2 domain f first rs served (place + 1)
+running_step old new new2 told tnew tnew2 before notes notes2 domain f first index rs served place r other so within at numbered adds same same_too = record {
+  shares = λ done start. adds.shares (done ++ take place rs) (so.shares done start) ∙ ap (λ l. shares_of domain f l served) (longer done);
+  tallies = λ done start. adds.tallies (done ++ take place rs) (so.tallies done start) ∙ ap (λ l. tallies_of domain f l served) (longer done);
+  noting = adds.noting ∙ ap (λ l. l ++ noted_of_each domain f served (index, r)) so.noting
+      ∙ append_assoc before (flat_map (noted_of_each domain f served) (enumerate_from first (take place rs))) (noted_of_each domain f served (index, r))
+      ∙ ap (λ l. before ++ l) (
+      ap (λ i. flat_map (noted_of_each domain f served) (enumerate_from first (take place rs)) ++ noted_of_each domain f served (i, r)) here
+      ∙ sym (flat_map-push (noted_of_each domain f served) (enumerate_from first (take place rs)) (first + length (take place rs), r))
+      ∙ ap (flat_map (noted_of_each domain f served)) (sym (enumerate-append first (take place rs) (r ∷ [])) ∙ ap (enumerate_from first) (sym more))
+      );
   stay = same;
   stay_tallies = same_too;
 }
   where
-    more : take (index + 1) records ≡ take index records ++ r ∷ []
-    more = take_more records index r within ∙ ap (λ x. take index records ++ x ∷ []) (sym at)
+    more : take (place + 1) rs ≡ take place rs ++ r ∷ []
+    more = take_more rs place other within ∙ ap (λ x. take place rs ++ x ∷ []) (sym at)
 
-pub shares_start : (s : List Share) (t : List Tally) (n : List Note) (domain : ℕ) (f : InForce) (records : List DataRecord) (served : List Served)
-    → map shown s ≡ map blank served → map tallied t ≡ map blank served → n ≡ [] → AreShares s t n domain f records served 0
-shares_start s t n domain f records served blanks empty none = record {
+    longer : (done : List DataRecord) → (done ++ take place rs) ++ r ∷ [] ≡ done ++ take (place + 1) rs
+    longer done = append_assoc done (take place rs) (r ∷ []) ∙ ap (λ l. done ++ l) (sym more)
+
+    here : index ≡ first + length (take place rs)
+    here = omega (arith, numbered, length-take-le place rs (omega (arith, within)))
+
+-- the shares of all records of a run
+pub record HasRun (old new : List (ℕ × List DataRecord)) (told tnew : List Tally) (before notes : List Note) (domain : ℕ) (f : InForce) (first : ℕ) (rs : List DataRecord) (served : List Served) : Type 0 where
+  pub shares : (done : List DataRecord) → old ≡ shares_of domain f done served → new ≡ shares_of domain f (done ++ rs) served
+  pub tallies : (done : List DataRecord) → map tallied told ≡ tallies_of domain f done served → map tallied tnew ≡ tallies_of domain f (done ++ rs) served
+  pub noting : notes ≡ before ++ flat_map (noted_of_each domain f served) (enumerate_from first rs)
+
+pub has_run : (old new : List (ℕ × List DataRecord)) (told tnew : List Tally) (before notes : List Note) (domain : ℕ) (f : InForce) (first : ℕ) (rs : List DataRecord) (served : List Served) (place : ℕ)
+    → IsRunning old new told tnew before notes domain f first rs served place → length rs ≤ place → HasRun old new told tnew before notes domain f first rs served
+has_run old new told tnew before notes domain f first rs served place so over =
+    let P : List DataRecord → Type 0 = λ l. HasRun old new told tnew before notes domain f first l served in
+    subst P (take_all place rs over) (record { shares = so.shares; tallies = so.tallies; noting = so.noting })
+
+-- ---- one run after another
+
+-- the shares of the records of the first so many runs
+pub record AreShares (shares : List (ℕ × List DataRecord)) (tallies : List Tally) (notes : List Note) (domain : ℕ) (f : InForce) (runs : List RunOf) (served : List Served) (place before : ℕ) : Type 0 where
+  pub sharing : shares ≡ shares_of domain f (records_in (take place runs)) served
+  pub tallying : map tallied tallies ≡ tallies_of domain f (records_in (take place runs)) served
+  pub noting : notes ≡ notes_of domain f (records_in (take place runs)) served
+  pub counted : before ≡ length (records_in (take place runs))
+  pub stay : length shares ≡ length served
+  pub stay_tallies : length tallies ≡ length served
+
+pub shares_start : (s : List (ℕ × List DataRecord)) (t : List Tally) (n : List Note) (domain : ℕ) (f : InForce) (runs : List RunOf) (served : List Served)
+    → s ≡ map blank served → map tallied t ≡ map blank served → n ≡ [] → AreShares s t n domain f runs served 0 0
+shares_start s t n domain f runs served blanks empty none = record {
   sharing = blanks;
   tallying = empty;
   noting = none;
-  stay = sym (length-map s shown) ∙ ap length blanks ∙ length-map served blank;
+  counted = refl;
+  stay = ap length blanks ∙ length-map served blank;
   stay_tallies = sym (length-map t tallied) ∙ ap length empty ∙ length-map served blank;
 }
 
-pub shares_end : (s : List Share) (t : List Tally) (n : List Note) (domain : ℕ) (f : InForce) (records : List DataRecord) (served : List Served) (index : ℕ)
-    → AreShares s t n domain f records served index → length records ≤ index → map shown s ≡ shares_of domain f records served
-shares_end s t n domain f records served index so over = so.sharing ∙ ap (λ l. shares_of domain f l served) (take_all index records over)
+pub shares_step : (s s2 : List (ℕ × List DataRecord)) (t t2 : List Tally) (n n2 : List Note) (domain : ℕ) (f : InForce) (runs : List RunOf) (served : List Served) (place before more : ℕ) (run other : RunOf)
+    → AreShares s t n domain f runs served place before → place < length runs → run ≡ get_or runs place other → more ≡ length run.texts → HasRun s s2 t t2 n n2 domain f before (records_of run) served
+    → length s2 ≡ length served → length t2 ≡ length served → AreShares s2 t2 n2 domain f runs served (place + 1) (before + more)
+shares_step s s2 t t2 n n2 domain f runs served place before more run other so within at many adds same same_too = record {
+  sharing = adds.shares (records_in (take place runs)) so.sharing ∙ ap (λ l. shares_of domain f l served) (sym grows);
+  tallying = adds.tallies (records_in (take place runs)) so.tallying ∙ ap (λ l. tallies_of domain f l served) (sym grows);
+  noting = adds.noting ∙ ap (λ l. l ++ flat_map (noted_of_each domain f served) (enumerate_from before (records_of run))) so.noting
+      ∙ ap (λ i. notes_of domain f (records_in (take place runs)) served ++ flat_map (noted_of_each domain f served) (enumerate_from i (records_of run))) start
+      ∙ sym (flat_map-append (noted_of_each domain f served) (enumerate_from 0 (records_in (take place runs))) (enumerate_from (0 + length (records_in (take place runs))) (records_of run)))
+      ∙ ap (flat_map (noted_of_each domain f served)) (sym (enumerate-append 0 (records_in (take place runs)) (records_of run)))
+      ∙ ap (λ l. notes_of domain f l served) (sym grows);
+  counted = omega (arith, so.counted, many, ap length grows, length-append (records_in (take place runs)) (records_of run), length-map run.texts (kept_record run.template));
+  stay = same;
+  stay_tallies = same_too;
+}
+  where
+    grows : records_in (take (place + 1) runs) ≡ records_in (take place runs) ++ records_of run
+    grows = ap records_in (take_more runs place other within ∙ ap (λ x. take place runs ++ x ∷ []) (sym at)) ∙ flat_map-push records_of (take place runs) run
 
-pub tallies_end : (s : List Share) (t : List Tally) (n : List Note) (domain : ℕ) (f : InForce) (records : List DataRecord) (served : List Served) (index : ℕ)
-    → AreShares s t n domain f records served index → length records ≤ index → map tallied t ≡ tallies_of domain f records served
-tallies_end s t n domain f records served index so over = so.tallying ∙ ap (λ l. tallies_of domain f l served) (take_all index records over)
+    start : before ≡ 0 + length (records_in (take place runs))
+    start = omega (arith, so.counted)
 
-pub notes_end : (s : List Share) (t : List Tally) (n : List Note) (domain : ℕ) (f : InForce) (records : List DataRecord) (served : List Served) (index : ℕ)
-    → AreShares s t n domain f records served index → length records ≤ index → n ≡ notes_of domain f records served
-notes_end s t n domain f records served index so over = so.noting ∙ ap (λ l. notes_of domain f l served) (take_all index records over)
+-- there are not more records in some runs than in all
+pub fewer_records : (runs : List RunOf) (place : ℕ) (run other : RunOf) → place < length runs → run ≡ get_or runs place other → length (records_in (take place runs)) + length run.texts ≤ length (records_in runs)
+fewer_records [] place run other within at = absurd (omega arith)
+fewer_records (r ∷ runs) zero run other within at =
+    let one = length-append (records_of r) (records_in runs) in
+    let all = ap length (flat_map-cons records_of r runs) in
+    omega (arith, one, all, length-map r.texts (kept_record r.template), ap (λ (x : RunOf). length x.texts) at)
+fewer_records (r ∷ runs) (suc place) run other within at =
+    let rest = fewer_records runs place run other (omega (arith, within)) at in
+    let all = ap length (flat_map-cons records_of r runs) ∙ length-append (records_of r) (records_in runs) in
+    let some = ap length (flat_map-cons records_of r (take place runs)) ∙ length-append (records_of r) (records_in (take place runs)) in
+    omega (arith, rest, all, some)
+
+-- the shares of all records
+pub record HasShares (shares : List (ℕ × List DataRecord)) (tallies : List Tally) (notes : List Note) (domain : ℕ) (f : InForce) (records : List DataRecord) (served : List Served) : Type 0 where
+  pub shares_are : shares ≡ shares_of domain f records served
+  pub tallies_are : map tallied tallies ≡ tallies_of domain f records served
+  pub notes_are : notes ≡ notes_of domain f records served
+
+pub has_shares : (s : List (ℕ × List DataRecord)) (t : List Tally) (n : List Note) (domain : ℕ) (f : InForce) (runs : List RunOf) (served : List Served) (place before : ℕ)
+    → AreShares s t n domain f runs served place before → length runs ≤ place → HasShares s t n domain f (records_in runs) served
+has_shares s t n domain f runs served place before so over =
+    let P : List RunOf → Type 0 = λ l. HasShares s t n domain f (records_in l) served in
+    subst P (take_all place runs over) (record { shares_are = so.sharing; tallies_are = so.tallying; notes_are = so.noting })

@@ -1,32 +1,47 @@
--- The plans of a message's subscriptions.
-use Rattle.std.specs.Prelude.{◌≡◌, ℕ, List, map}
-use Rattle.std.specs.List.{All}
+-- What judges a message's records for its subscriptions, and what each was given so far.
+use Rattle.std.specs.Prelude.{◌≡◌, ℕ, List, map, Option, Some}
+use Rattle.ipfix_template.specs.declared.template.Template.{Template}
+use Rattle.ipfix_template.specs.DataRecord.{DataRecord}
 use Rattle.policy_text.specs.declared.rule.Rule.{Rule}
-use Rattle.address_classes.specs.Cuts.{HaveCuts}
 use Rattle.flow_anonymize.specs.Plans.{PlansFor}
 use Rattle.record_sharing.specs.InForce.{InForce}
+use Rattle.record_sharing.specs.declared.judges.Judge.{Judge}
 use Rattle.record_sharing.specs.declared.served.Served.{Served}
 
--- by these rules and the cuts of their prefixes, for an observation domain, and the subscribers of these names
+-- by these rules and the cuts of their prefixes, for an observation domain, and the records of a template, if one is named; for each subscription, what its plans are for, and its number with what
+-- it was given
 pub record Judges : Type 0 where
   pub rules : List Rule
   pub cuts : List ℕ
   pub domain : ℕ
-  pub names : List (List ℕ)
+  pub template : Option Template
+  pub fors : List PlansFor
+  pub shares : List (ℕ × List DataRecord)
 
-abbrev pub judges_of : List Rule → List ℕ → ℕ → List PlansFor → Judges
-judges_of rules cuts domain plans = record { rules = rules; cuts = cuts; domain = domain; names = map (λ p. p.name) plans }
+-- of one subscription
+abbrev pub for_of : Judge → PlansFor
+for_of j = j.plans.for
 
--- plans by these, for the subscriber of a name
-abbrev pub plans_for : List Rule → List ℕ → ℕ → List ℕ → PlansFor
-plans_for rules cuts domain name = record { rules = rules; cuts = cuts; name = name; domain = domain }
+abbrev pub given_to : Judge → ℕ × List DataRecord
+given_to j = (j.sub, j.plans.given)
 
-pub record AreJudges (rules : List Rule) (cuts : List ℕ) (domain : ℕ) (plans : List PlansFor) : Type 0 where
-  pub cut : HaveCuts cuts rules
-  pub each : All (λ p. p ≡ plans_for rules cuts domain p.name) plans
+abbrev pub judges_of : List Rule → List ℕ → ℕ → Option Template → List Judge → Judges
+judges_of rules cuts domain template judges = record { rules = rules; cuts = cuts; domain = domain; template = template; fors = map for_of judges; shares = map given_to judges }
 
--- they judge by what is in force, for these subscriptions
-pub record JudgeFor (j : Judges) (f : InForce) (domain : ℕ) (served : List Served) : Type 0 where
-  pub rules : j.rules ≡ f.policy.rules
-  pub domain_is : j.domain ≡ domain
-  pub names : j.names ≡ map (λ who. who.name.now) served
+-- plans by these, for the records of a template, if one is named, and the subscriber of a name
+abbrev pub plans_for : List Rule → List ℕ → ℕ → Option Template → List ℕ → PlansFor
+plans_for rules cuts domain template name = record { rules = rules; cuts = cuts; name = name; domain = domain; template = template }
+
+-- the same plans, for the records of this template
+abbrev pub of_template : Template → PlansFor → PlansFor
+of_template t p = record { rules = p.rules; cuts = p.cuts; name = p.name; domain = p.domain; template = Some t }
+
+-- they judge by what is in force, for these subscriptions, the records of this template
+pub record JudgeFor (j : Judges) (f : InForce) (domain : ℕ) (template : Option Template) (served : List Served) : Type 0 where
+  pub template_is : j.template ≡ template
+  pub fors : j.fors ≡ map (λ who. plans_for f.policy.rules j.cuts domain template who.name.now) served
+
+-- the records of some template, or of none yet
+pub record JudgesAny (j : Judges) (f : InForce) (domain : ℕ) (served : List Served) : Type 0 where
+  pub template : Option Template
+  pub judges : JudgeFor j f domain template served

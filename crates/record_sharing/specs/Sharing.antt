@@ -1,15 +1,20 @@
 -- What the records of one message give to each subscription that is served, what they add to its aggregates, and what is noted of
 -- each: the order of the notes is that of the audit, by record and then by subscription. All of this is this project's own rule.
-use Rattle.std.specs.Prelude.{ℕ, List, [], map}
+use Rattle.std.specs.Prelude.{ℕ, List, [], ◌∷◌, map, slice_get}
 use Rattle.std.specs.List.{flat_map, enumerate_from}
 use Rattle.ipfix_template.specs.DataRecord.{DataRecord}
 use Rattle.flow_anonymize.specs.Outcome.{Outcome}
 use Rattle.flow_anonymize.specs.Disclosed.{disclosure_of}
 use Rattle.flow_aggregate.specs.Counts.{Count, count_of}
 use Rattle.disclosure_audit.specs.declared.entry.What.{What}
-use Rattle.mediator_history.specs.Counting.{counts}
+use Rattle.disclosure_audit.specs.declared.entry.What.TheVariants as what
+use Rattle.policy_text.specs.Policies.{Aggregate}
+use Rattle.flow_anonymize.specs.declared.decision.Decision.{Decision}
+use Rattle.flow_anonymize.specs.declared.decision.Decision.TheVariants.{Passed, Aggregated, Withheld}
+use Rattle.flow_aggregate.specs.Groups.{Counted}
+use Rattle.mediator_history.specs.Counting.{counts, counted_in, timing_at}
 use Rattle.mediator_history.specs.Disclosed.{passed}
-use Rattle.mediator_history.specs.Auditing.{kept_back}
+use Rattle.mediator_history.specs.Auditing.{kept_back, removed_of, told_of, reason_named}
 use Rattle.record_sharing.specs.InForce.{InForce}
 use Rattle.record_sharing.specs.declared.served.Served.{Served}
 use Rattle.record_sharing.specs.declared.shares.Share.{Share}
@@ -36,7 +41,7 @@ added_by domain f name r = map count_of (counts f.policy.aggregates f.clock r (o
 
 -- a share and a tally as pairs: the subscription with what it is given, or with what is added to its aggregates
 abbrev pub shown : Share → ℕ × List DataRecord
-shown s = (s.sub, s.given.items)
+shown s = (s.sub, s.given)
 
 abbrev pub tallied : Tally → ℕ × List Count
 tallied t = (t.sub, t.counts.items)
@@ -58,6 +63,18 @@ shares_of domain f records served = map (share_of domain f records) served
 
 abbrev pub tallies_of : ℕ → InForce → List DataRecord → List Served → List (ℕ × List Count)
 tallies_of domain f records served = map (tally_of domain f records) served
+
+-- ---- by what was decided of a record, for which what is handed on doesn't matter
+
+abbrev pub kept_back_by : List Aggregate → ℕ → DataRecord → Decision → List What
+kept_back_by aggregates clock r (Passed removed) = removed_of removed
+kept_back_by aggregates clock r (Aggregated rule place) = told_of rule (timing_at aggregates place r clock) ∷ []
+kept_back_by aggregates clock r (Withheld rule reason) = what.Withheld rule (reason_named reason) ∷ []
+
+abbrev pub counts_by : List Aggregate → ℕ → DataRecord → Decision → List Counted
+counts_by aggregates clock r (Aggregated rule place) = counted_in (slice_get aggregates place) r (timing_at aggregates place r clock)
+counts_by aggregates clock r (Passed removed) = []
+counts_by aggregates clock r (Withheld rule reason) = []
 
 -- ---- what is noted
 

@@ -1,5 +1,5 @@
 //! What decides over the records of a message.
-ghost use Rattle.std.specs.Prelude.{◌≡◌, ◌++◌, ◌∷◌, true, IfOk};
+ghost use Rattle.std.specs.Prelude.{◌≡◌, ◌++◌, ◌∷◌, true, None, map, IfOk};
 ghost use Rattle.std.specs.List.{AllByRecursion};
 ghost use Rattle.ipfix_element.specs.Kinds.{kind_of};
 ghost use Rattle.policy_text.specs.Classes.{is_key_kind};
@@ -39,6 +39,7 @@ impl Model for InForce {
 impl InForce {
     ghost use Rattle.record_sharing.specs.InForce.{in_force_with, timing_by, count_by, as_list};
     ghost use Rattle.record_sharing.specs.Judges.{JudgeFor};
+    ghost use Rattle.record_sharing.specs.Sharing.{blank};
 
     /// Before the first edit and the first advance of the clock: a policy without rules.
     ///
@@ -74,7 +75,7 @@ impl InForce {
         })
     }
 
-    /// What decides over the records of a message of this observation domain, for these subscriptions.
+    /// What decides over the records of a message of this observation domain, for these subscriptions, which were given nothing yet.
     ///
     /// # Errors
     /// Want of memory.
@@ -84,11 +85,12 @@ impl InForce {
         domain: u32,
         served: &[Served<'n>],
     ) -> Result<Judges<'t, 'n>, AllocError>
-        ensures { IfOk result (λ judges. JudgeFor judges self.now domain served.now) }
+        ensures judges { IfOk result (λ judges. JudgeFor judges self.now domain None served.now) }
+        ensures shares { IfOk result (λ judges. judges.shares ≡ map blank served.now) }
     {
         let mut judges = Judges::new(alloc, &self.table, &self.classes, domain);
         'served: for who in served {
-            judges.add(alloc, who.name)?;
+            judges.add(alloc, who.sub, who.name)?;
         }
         Ok(judges)
     }

@@ -1,39 +1,57 @@
 //! What becomes of a message's records, for each subscription.
-ghost use Rattle.std.specs.Prelude.{◌≡◌, ◌<◌, ◌++◌, ◌∷◌, [], length, slice_index_or, IfOk, OnOk};
+ghost use Rattle.std.specs.Prelude.{◌≡◌, ◌<◌, ◌++◌, ◌∷◌, [], ℕ, List, Some, None, true, map, length, slice_get, IfOk, OnOk};
+ghost use Rattle.std.specs.Arc.{arc_value};
+ghost use Rattle.ipfix_template.specs.DataRecord.{DataRecord};
 ghost use Rattle.address_classes.specs.Cuts.{HaveCuts};
-ghost use Rattle.flow_anonymize.specs.Outcome.{shown};
-ghost use Rattle.flow_anonymize.specs.Disclosed.{disclosure_of};
+ghost use Rattle.flow_anonymize.specs.Outcome.{passed, decision_of};
 ghost use Rattle.flow_anonymize.specs.Classes.{classes_of};
+ghost use Rattle.flow_anonymize.specs.Plans.{PlansFor, outcome_for};
+ghost use Rattle.record_sharing.specs.Sharing.{shown};
 
-use address_classes::AddressClasses;
-use flow_anonymize::{Disclosure, Plans, RecordClasses};
-use ipfix_template::Record;
+use crate::shares::Share;
+use address_classes::{AddressClasses, AddressPlaces};
+use flow_anonymize::{Decision, Plans, RecordClasses};
+use ipfix_template::{Record, Template};
 use rule_table::RuleTable;
 use std::alloc::{AllocError, Global};
 use std::marker::Model;
+use std::sync::Arc;
 
-/// What a policy discloses of the records of an observation domain, for several subscribers. A subscriber is named by its place
-/// among them.
+/// What a policy discloses to a subscription, and what it was given so far.
+#[derive(Drop)]
+pub(crate) struct Judge<'t, 'n> {
+    /// The number of the subscription.
+    sub: u64,
+    plans: Plans<'t, 'n>,
+}
+
+/// What a policy discloses of the records of an observation domain, to several subscriptions, and what each was given so far. A
+/// subscription is named by its place among them.
 #[derive(Drop)]
 pub(crate) struct Judges<'t, 'n> {
     table: &'t RuleTable,
     classes: &'t AddressClasses,
     domain: u32,
-    plans: Vec<Plans<'t, 'n>>,
+    /// Where the addresses stand in the records that come.
+    places: Option<AddressPlaces>,
+    judges: Vec<Judge<'t, 'n>>,
 }
 
 impl<'t, 'n> Model for Judges<'t, 'n> {
-    ghost use Rattle.record_sharing.specs.Judges.{Judges, judges_of, AreJudges};
+    ghost use Rattle.address_classes.specs.Cuts.{HaveCuts};
+    ghost use Rattle.record_sharing.specs.Judges.{Judges, judges_of};
 
     ghost Value = { Judges };
 
-    ghost view = { λ j. judges_of j.table.now j.classes.now j.domain j.plans.items };
+    ghost view = { λ j. judges_of j.table.now j.classes.now j.domain j.places j.judges.items };
 
-    ghost invariant = { λ j. AreJudges j.table.now j.classes.now j.domain j.plans.items };
+    ghost invariant = { λ j. HaveCuts j.classes.now j.table.now };
 }
 
 impl<'t, 'n> Judges<'t, 'n> {
-    /// By the rules of this table, and the classes that their prefixes make; for no subscriber yet.
+    ghost use Rattle.record_sharing.specs.Judges.{plans_for, of_template};
+
+    /// By the rules of this table, and the classes that their prefixes make; for no subscription yet.
     pub(crate) fn new(
         alloc: Global,
         table: &'t RuleTable,
@@ -41,36 +59,69 @@ impl<'t, 'n> Judges<'t, 'n> {
         domain: u32,
     ) -> Judges<'t, 'n>
         requires { HaveCuts classes.now table.now }
-        ensures { result ≡ record { rules = table.now; cuts = classes.now; domain = domain; names = [] } }
+        ensures { result ≡ record { rules = table.now; cuts = classes.now; domain = domain; template = None; fors = []; shares = [] } }
     {
         Judges {
             table,
             classes,
             domain,
-            plans: Vec::new(alloc),
+            places: None,
+            judges: Vec::new(alloc),
         }
     }
 
-    /// One subscriber more, of this name.
+    /// One subscription more, with this number, of a subscriber of this name.
     ///
     /// # Errors
     /// Want of memory.
-    pub(crate) fn add(&mut self, alloc: Global, name: &'n str) -> Result<(), AllocError>
-        ensures { OnOk result (self.new ≡ record self.old { names = self.old.names ++ name.now ∷ [] }) }
+    pub(crate) fn add(&mut self, alloc: Global, sub: u64, name: &'n str) -> Result<(), AllocError>
+        ensures { OnOk result (self.new ≡ record self.old { fors = self.old.fors ++ plans_for self.old.rules self.old.cuts self.old.domain None name.now ∷ []; shares = self.old.shares ++ (sub, []) ∷ [] }) }
     {
         let plans = Plans::new(alloc, self.table, self.classes, name, self.domain);
-        self.plans.push(plans)?;
+        self.judges.push(Judge { sub, plans })?;
         Ok(())
+    }
+
+    /// Begins with records of this template.
+    ///
+    /// # Errors
+    /// Want of memory.
+    pub(crate) fn begin(
+        &mut self,
+        alloc: Global,
+        template: &Arc<Template>,
+    ) -> Result<(), AllocError>
+        ensures { OnOk result (self.new ≡ record self.old { template = Some (arc_value template.now); fors = map (of_template (arc_value template.now)) self.old.fors }) }
+    {
+        if !self.is_for(template) {
+            self.places = Some(AddressPlaces::of(alloc, template.clone()?)?);
+        }
+        begin_each(&mut self.judges, template)
+    }
+
+    /// Whether records of this template come already.
+    fn is_for(&self, template: &Template) -> bool
+        ensures { result ≡ true → self.now.template ≡ Some template.now }
+    {
+        match &self.places {
+            Some(places) => places.template() == template,
+            None => false,
+        }
     }
 
     /// The classes of a record's addresses.
     pub(crate) fn classes_of(&self, flow_record: &Record) -> Option<RecordClasses>
+        requires { self.now.template ≡ Some flow_record.now.template }
         ensures { result ≡ classes_of self.now.cuts flow_record.now }
     {
-        RecordClasses::of(self.classes, flow_record)
+        match &self.places {
+            Some(places) => RecordClasses::at(self.classes, places, flow_record),
+            None => unreachable!(),
+        }
     }
 
-    /// What is disclosed of a record, of whose addresses these are the classes, to the subscriber at a place.
+    /// Judges a record, of whose addresses these are the classes, for the subscription at a place: gives what passes, and says what
+    /// became of it.
     ///
     /// # Errors
     /// Want of memory.
@@ -80,12 +131,76 @@ impl<'t, 'n> Judges<'t, 'n> {
         place: usize,
         classes: Option<RecordClasses>,
         flow_record: &Record,
-    ) -> Result<Disclosure, AllocError>
-        requires there { place < length self.old.names }
+    ) -> Result<Decision, AllocError>
+        requires there { place < length self.old.fors }
+        requires template { (p : PlansFor) → slice_get self.old.fors place ≡ Some p → p.template ≡ Some flow_record.now.template }
+        requires cuts { (p : PlansFor) → slice_get self.old.fors place ≡ Some p → p.cuts ≡ self.old.cuts }
         requires classes { classes ≡ classes_of self.old.cuts flow_record.now }
-        ensures exact { IfOk result (λ d. shown d ≡ disclosure_of (slice_index_or self.old.names place []) self.old.domain flow_record.now self.old.rules) }
-        ensures same { self.new ≡ self.old }
+        ensures decision { (p : PlansFor) → slice_get self.old.fors place ≡ Some p → IfOk result (λ d. d ≡ decision_of (outcome_for p flow_record.now)) }
+        ensures given { (p : PlansFor) (before after : List (ℕ × List DataRecord)) (s : ℕ × List DataRecord) → slice_get self.old.fors place ≡ Some p → self.old.shares ≡ before ++ s ∷ after → length before ≡ place
+            → OnOk result (self.new.shares ≡ before ++ (s.0, s.1 ++ passed (outcome_for p flow_record.now)) ∷ after) }
+        ensures fors { self.new.fors ≡ self.old.fors }
+        ensures template { self.new.template ≡ self.old.template }
+        ensures cuts { self.new.cuts ≡ self.old.cuts }
+        ensures stay { length self.new.shares ≡ length self.old.shares }
     {
-        self.plans[place].disclose(alloc, classes, flow_record)
+        self.judges[place]
+            .plans
+            .disclose(alloc, classes, flow_record)
+    }
+
+    /// What each was given, in their order.
+    ///
+    /// # Errors
+    /// Want of memory.
+    pub(crate) fn into_shares(self, alloc: Global) -> Result<Vec<Share>, AllocError>
+        ensures { IfOk result (λ shares. map shown shares.items ≡ self.entry.shares) }
+    {
+        let Judges { judges, .. } = self;
+        shares_of(alloc, judges)
+    }
+}
+
+ghost use Rattle.record_sharing.specs.Judges.{for_of, given_to, of_template};
+
+/// Begins with records of this template, for each.
+///
+/// # Errors
+/// Want of memory.
+fn begin_each(judges: &mut Vec<Judge<'_, '_>>, template: &Arc<Template>) -> Result<(), AllocError>
+    ensures fors { OnOk result (map for_of judges.new.items ≡ map (of_template (arc_value template.now)) (map for_of judges.old.items)) }
+    ensures shares { OnOk result (map given_to judges.new.items ≡ map given_to judges.old.items) }
+{
+    'judges: for place in 0..judges.len() {
+        judges[place].plans.begin(template)?;
+    }
+    Ok(())
+}
+
+/// What each was given, in their order.
+///
+/// # Errors
+/// Want of memory.
+fn shares_of(alloc: Global, judges: Vec<Judge<'_, '_>>) -> Result<Vec<Share>, AllocError>
+    ensures { IfOk result (λ shares. map shown shares.items ≡ map given_to judges.entry.items) }
+{
+    let mut shares = Vec::new(alloc);
+    'judges: for judge in judges {
+        shares.push(judge.into_share()?)?;
+    }
+    Ok(shares)
+}
+
+impl<'t, 'n> Judge<'t, 'n> {
+    /// What it was given.
+    ///
+    /// # Errors
+    /// Want of memory.
+    fn into_share(self) -> Result<Share, AllocError>
+        ensures { IfOk result (λ share. shown share ≡ given_to self.entry) }
+    {
+        let Judge { sub, plans } = self;
+        let given = plans.into_records()?;
+        Ok(Share { sub, given })
     }
 }

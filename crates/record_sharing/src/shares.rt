@@ -1,22 +1,22 @@
 //! What each subscription is given of one message, and what is kept back from it.
-ghost use Rattle.std.specs.Prelude.{◌≡◌, ◌++◌, ◌∷◌, ◌≤◌, ◌<◌, ◌^◌, ℕ, List, [], length, map, IfOk, OnOk};
+ghost use Rattle.std.specs.Prelude.{◌≡◌, ◌++◌, ◌∷◌, ◌≤◌, ◌<◌, ◌+◌, ◌^◌, ℕ, List, [], Some, None, length, map, IfOk, OnOk};
+ghost use Rattle.std.specs.List.{flat_map, enumerate_from};
 ghost use Rattle.ipfix_template.specs.DataRecord.{DataRecord};
-ghost use Rattle.flow_anonymize.specs.Outcome as outcome;
+ghost use Rattle.record_runs.specs.Runs.{records_of, records_in};
 ghost use Rattle.flow_aggregate.specs.Counts.{Count as OneCount, count_of};
-ghost use Rattle.mediator_history.specs.Counting.{counts};
-ghost use Rattle.mediator_history.specs.Disclosed.{passed};
-ghost use Rattle.mediator_history.specs.Auditing.{kept_back, reason_named, removed_of, told_of};
+ghost use Rattle.mediator_history.specs.Auditing.{reason_named, removed_of, told_of};
 ghost use Rattle.record_sharing.specs.InForce.{count_by, timing_by, as_list};
-ghost use Rattle.record_sharing.specs.Judges.{JudgeFor};
-ghost use Rattle.record_sharing.specs.Sharing.{blank, shown, tallied, shares_of, tallies_of, notes_of, note_of, noted_of_each};
+ghost use Rattle.record_sharing.specs.Judges.{JudgeFor, JudgesAny};
+ghost use Rattle.record_sharing.specs.Sharing.{blank, counts_by, kept_back_by, shown, tallied, shares_of, tallies_of, notes_of, note_of, noted_of_each};
 
 use crate::in_force::InForce;
 use crate::judges::Judges;
 use crate::served::Served;
-use disclosure_audit::{RemovedField, RemovedFields, What};
+use disclosure_audit::{RemovedFields, What};
 use flow_aggregate::{Count, Timing};
-use flow_anonymize::Disclosure;
+use flow_anonymize::Decision;
 use ipfix_template::Record;
+use record_runs::{Records, Run};
 use std::alloc::{AllocError, Global};
 
 /// What a subscription is given.
@@ -25,7 +25,7 @@ pub struct Share {
     /// The number of the subscription.
     pub sub: u64,
     /// The records that pass, as they are disclosed.
-    pub given: Vec<Record>,
+    pub given: Records,
 }
 
 /// What is added to the aggregates of a subscription.
@@ -66,7 +66,7 @@ impl Shares {
         alloc: Global,
         in_force: &InForce,
         domain: u32,
-        records: &[Record],
+        records: &Records,
         served: &[Served<'_>],
     ) -> Result<Shares, AllocError>
         requires few { length records.now ≤ 2 ^ 32 }
@@ -74,45 +74,103 @@ impl Shares {
         ensures tallies { IfOk result (λ s. map tallied s.tallies.items ≡ tallies_of domain in_force.now records.now served.now) }
         ensures notes { IfOk result (λ s. s.notes.items ≡ notes_of domain in_force.now records.now served.now) }
     {
-        let mut found = Shares::of_none(alloc, served)?;
         let mut judges = in_force.judges(alloc, domain, served)?;
-        'records: for (index, flow_record) in records.iter().enumerate() {
-            found.add_record(
-                alloc,
-                in_force,
-                &mut judges,
-                domain,
-                index as u32,
-                flow_record,
-                served,
-            )?;
-        }
-        Ok(found)
+        let mut sums = Sums::of_none(alloc, served)?;
+        sums.add_runs(alloc, in_force, &mut judges, domain, records.runs(), served)?;
+        let shares = judges.into_shares(alloc)?;
+        let Sums { tallies, notes } = sums;
+        Ok(Shares {
+            shares,
+            tallies,
+            notes,
+        })
     }
+}
 
-    /// No record.
-    fn of_none(alloc: Global, served: &[Served<'_>]) -> Result<Shares, AllocError>
-        ensures shares { IfOk result (λ s. map shown s.shares.items ≡ map blank served.now) }
+/// What is added to the aggregates of each subscription, in their order, and what is kept back from them.
+#[derive(Drop)]
+pub(crate) struct Sums {
+    tallies: Vec<Tally>,
+    notes: Vec<Note>,
+}
+
+impl Sums {
+    /// Of no record.
+    fn of_none(alloc: Global, served: &[Served<'_>]) -> Result<Sums, AllocError>
         ensures tallies { IfOk result (λ s. map tallied s.tallies.items ≡ map blank served.now) }
         ensures notes { IfOk result (λ s. s.notes.items ≡ []) }
     {
-        let mut shares = Vec::new(alloc);
         let mut tallies = Vec::new(alloc);
         'served: for who in served {
-            shares.push(Share {
-                sub: who.sub,
-                given: Vec::new(alloc),
-            })?;
             tallies.push(Tally {
                 sub: who.sub,
                 counts: Vec::new(alloc),
             })?;
         }
-        Ok(Shares {
-            shares,
+        Ok(Sums {
             tallies,
             notes: Vec::new(alloc),
         })
+    }
+
+    /// Judges the records of runs, one run after another, for each subscription.
+    fn add_runs(
+        &mut self,
+        alloc: Global,
+        in_force: &InForce,
+        judges: &mut Judges<'_, '_>,
+        domain: u32,
+        runs: &[Run],
+        served: &[Served<'_>],
+    ) -> Result<(), AllocError>
+        requires few { length (records_in runs.now) ≤ 2 ^ 32 }
+        requires judges { JudgeFor judges.old in_force.now domain None served.now }
+        requires blank { judges.old.shares ≡ map blank served.now }
+        requires blank_tallies { map tallied self.old.tallies.items ≡ map blank served.now }
+        requires blank_notes { self.old.notes.items ≡ [] }
+        ensures shares { OnOk result (judges.new.shares ≡ shares_of domain in_force.now (records_in runs.now) served.now) }
+        ensures tallies { OnOk result (map tallied self.new.tallies.items ≡ tallies_of domain in_force.now (records_in runs.now) served.now) }
+        ensures notes { OnOk result (self.new.notes.items ≡ notes_of domain in_force.now (records_in runs.now) served.now) }
+    {
+        let mut before = 0;
+        'runs: for run in runs {
+            self.add_run(alloc, in_force, judges, domain, before, run, served)?;
+            before += run.len();
+        }
+        Ok(())
+    }
+
+    /// Judges the records of a run, before which there are so many, for each subscription.
+    fn add_run(
+        &mut self,
+        alloc: Global,
+        in_force: &InForce,
+        judges: &mut Judges<'_, '_>,
+        domain: u32,
+        before: usize,
+        run: &Run,
+        served: &[Served<'_>],
+    ) -> Result<(), AllocError>
+        requires few { before + length run.now.texts ≤ 2 ^ 32 }
+        requires judges { JudgesAny judges.old in_force.now domain served.now }
+        requires each { length judges.old.shares ≡ length served.now }
+        requires each_tally { length self.old.tallies.items ≡ length served.now }
+        ensures shares { (done : List DataRecord) → judges.old.shares ≡ shares_of domain in_force.now done served.now
+            → OnOk result (judges.new.shares ≡ shares_of domain in_force.now (done ++ records_of run.now) served.now) }
+        ensures tallies { (done : List DataRecord) → map tallied self.old.tallies.items ≡ tallies_of domain in_force.now done served.now
+            → OnOk result (map tallied self.new.tallies.items ≡ tallies_of domain in_force.now (done ++ records_of run.now) served.now) }
+        ensures notes { OnOk result (self.new.notes.items ≡ self.old.notes.items ++ flat_map (noted_of_each domain in_force.now served.now) (enumerate_from before (records_of run.now))) }
+        ensures judges { OnOk result (JudgesAny judges.new in_force.now domain served.now) }
+        ensures stay { OnOk result (length judges.new.shares ≡ length served.now) }
+        ensures stay_tallies { OnOk result (length self.new.tallies.items ≡ length served.now) }
+    {
+        judges.begin(alloc, run.shared_template())?;
+        'records: for place in 0..run.len() {
+            let flow_record = run.record(place)?;
+            let index = (before + place) as u32;
+            self.add_record(alloc, in_force, judges, domain, index, &flow_record, served)?;
+        }
+        Ok(())
     }
 
     /// Judges one record more, with this index, for each subscription.
@@ -126,15 +184,15 @@ impl Shares {
         flow_record: &Record,
         served: &[Served<'_>],
     ) -> Result<(), AllocError>
-        requires judges { JudgeFor judges.old in_force.now domain served.now }
-        requires each { length self.old.shares.items ≡ length served.now }
+        requires judges { JudgeFor judges.old in_force.now domain (Some flow_record.now.template) served.now }
+        requires each { length judges.old.shares ≡ length served.now }
         requires each_tally { length self.old.tallies.items ≡ length served.now }
-        ensures shares { (done : List DataRecord) → map shown self.old.shares.items ≡ shares_of domain in_force.now done served.now
-            → OnOk result (map shown self.new.shares.items ≡ shares_of domain in_force.now (done ++ flow_record.now ∷ []) served.now) }
+        ensures shares { (done : List DataRecord) → judges.old.shares ≡ shares_of domain in_force.now done served.now
+            → OnOk result (judges.new.shares ≡ shares_of domain in_force.now (done ++ flow_record.now ∷ []) served.now) }
         ensures tallies { (done : List DataRecord) → map tallied self.old.tallies.items ≡ tallies_of domain in_force.now done served.now
             → OnOk result (map tallied self.new.tallies.items ≡ tallies_of domain in_force.now (done ++ flow_record.now ∷ []) served.now) }
-        ensures judges { OnOk result (judges.new ≡ judges.old) }
-        ensures stay { OnOk result (length self.new.shares.items ≡ length served.now) }
+        ensures judges { OnOk result (JudgeFor judges.new in_force.now domain (Some flow_record.now.template) served.now) }
+        ensures stay { OnOk result (length judges.new.shares ≡ length served.now) }
         ensures stay_tallies { OnOk result (length self.new.tallies.items ≡ length served.now) }
         ensures notes { OnOk result (self.new.notes.items ≡ self.old.notes.items ++ noted_of_each domain in_force.now served.now (index, flow_record.now)) }
     {
@@ -146,7 +204,7 @@ impl Shares {
         Ok(())
     }
 
-    /// Adds what is disclosed of the record with this index to the subscription at a place.
+    /// Adds what became of the record with this index for the subscription at a place.
     fn add(
         &mut self,
         alloc: Global,
@@ -155,24 +213,17 @@ impl Shares {
         sub: u64,
         in_force: &InForce,
         flow_record: &Record,
-        found: Disclosure,
+        found: Decision,
     ) -> Result<(), AllocError>
-        requires within { place < length self.old.shares.items }
-        requires within_tallies { place < length self.old.tallies.items }
-        ensures shares { (before after : List (ℕ × List DataRecord)) (s : ℕ × List DataRecord) → map shown self.old.shares.items ≡ before ++ s ∷ after → length before ≡ place
-            → OnOk result (map shown self.new.shares.items ≡ before ++ (s.0, s.1 ++ passed (outcome.shown found)) ∷ after) }
+        requires within { place < length self.old.tallies.items }
         ensures tallies { (before after : List (ℕ × List OneCount)) (s : ℕ × List OneCount) → map tallied self.old.tallies.items ≡ before ++ s ∷ after → length before ≡ place
-            → OnOk result (map tallied self.new.tallies.items ≡ before ++ (s.0, s.1 ++ map count_of (counts in_force.now.policy.aggregates in_force.now.clock flow_record.now (outcome.shown found))) ∷ after) }
-        ensures stay { OnOk result (length self.new.shares.items ≡ length self.old.shares.items) }
-        ensures stay_tallies { OnOk result (length self.new.tallies.items ≡ length self.old.tallies.items) }
-        ensures notes { OnOk result (self.new.notes.items ≡ self.old.notes.items ++ map (note_of index sub) (kept_back in_force.now.policy.aggregates in_force.now.clock flow_record.now (outcome.shown found))) }
+            → OnOk result (map tallied self.new.tallies.items ≡ before ++ (s.0, s.1 ++ map count_of (counts_by in_force.now.policy.aggregates in_force.now.clock flow_record.now found)) ∷ after) }
+        ensures stay { OnOk result (length self.new.tallies.items ≡ length self.old.tallies.items) }
+        ensures notes { OnOk result (self.new.notes.items ≡ self.old.notes.items ++ map (note_of index sub) (kept_back_by in_force.now.policy.aggregates in_force.now.clock flow_record.now found)) }
     {
         match found {
-            Disclosure::Passed { kept, removed } => {
-                self.note_removed(index, sub, removed)?;
-                self.give(place, kept)
-            }
-            Disclosure::Aggregated { rule, definition } => {
+            Decision::Passed { removed } => self.note_removed(index, sub, removed),
+            Decision::Aggregated { rule, definition } => {
                 let what = told(rule, in_force.timing(definition, flow_record));
                 self.note(index, sub, what)?;
                 match in_force.count(alloc, definition, flow_record)? {
@@ -180,24 +231,11 @@ impl Shares {
                     None => Ok(()),
                 }
             }
-            Disclosure::Withheld { rule, reason } => {
+            Decision::Withheld { rule, reason } => {
                 let reason = named(reason);
                 self.note(index, sub, What::Withheld { rule, reason })
             }
         }
-    }
-
-    /// Gives a record to the subscription at a place.
-    fn give(&mut self, place: usize, kept: Record) -> Result<(), AllocError>
-        requires within { place < length self.old.shares.items }
-        ensures shares { (before after : List (ℕ × List DataRecord)) (s : ℕ × List DataRecord) → map shown self.old.shares.items ≡ before ++ s ∷ after → length before ≡ place
-            → OnOk result (map shown self.new.shares.items ≡ before ++ (s.0, s.1 ++ kept ∷ []) ∷ after) }
-        ensures stay { OnOk result (length self.new.shares.items ≡ length self.old.shares.items) }
-        ensures tallies { self.new.tallies ≡ self.old.tallies }
-        ensures notes { self.new.notes ≡ self.old.notes }
-    {
-        self.shares[place].given.push(kept)?;
-        Ok(())
     }
 
     /// Adds what counts to the aggregates of the subscription at a place.
@@ -206,7 +244,6 @@ impl Shares {
         ensures tallies { (before after : List (ℕ × List OneCount)) (s : ℕ × List OneCount) → map tallied self.old.tallies.items ≡ before ++ s ∷ after → length before ≡ place
             → OnOk result (map tallied self.new.tallies.items ≡ before ++ (s.0, s.1 ++ count ∷ []) ∷ after) }
         ensures stay { OnOk result (length self.new.tallies.items ≡ length self.old.tallies.items) }
-        ensures shares { self.new.shares ≡ self.old.shares }
         ensures notes { self.new.notes ≡ self.old.notes }
     {
         self.tallies[place].counts.push(count)?;
@@ -218,22 +255,19 @@ impl Shares {
         &mut self,
         index: u32,
         sub: u64,
-        removed: Vec<RemovedField>,
+        removed: RemovedFields,
     ) -> Result<(), AllocError>
-        ensures notes { OnOk result (self.new.notes.items ≡ self.old.notes.items ++ map (note_of index sub) (removed_of removed.items)) }
-        ensures shares { self.new.shares ≡ self.old.shares }
+        ensures notes { OnOk result (self.new.notes.items ≡ self.old.notes.items ++ map (note_of index sub) (removed_of removed)) }
         ensures tallies { self.new.tallies ≡ self.old.tallies }
     {
         if removed.is_empty() {
             return Ok(());
         }
-        let fields = RemovedFields::from_vec(removed);
-        self.note(index, sub, What::Removed { fields })
+        self.note(index, sub, What::Removed { fields: removed })
     }
 
     fn note(&mut self, index: u32, sub: u64, what: What) -> Result<(), AllocError>
         ensures notes { OnOk result (self.new.notes.items ≡ self.old.notes.items ++ note_of index sub what ∷ []) }
-        ensures shares { self.new.shares ≡ self.old.shares }
         ensures tallies { self.new.tallies ≡ self.old.tallies }
     {
         self.notes.push(Note { index, sub, what })?;

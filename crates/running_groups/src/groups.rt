@@ -7,7 +7,7 @@ ghost use Rattle.flow_aggregate.specs.Closing.{record_of, closed_by};
 ghost use Rattle.running_groups.specs.Table.{has_groups, groups_at};
 
 use flow_aggregate::{ClosedAggregate, Count, Running};
-use ipfix_template::Record;
+use record_runs::Records;
 use std::alloc::{AllocError, Global};
 use std::collections::BTreeMap;
 use std::marker::Model;
@@ -71,12 +71,12 @@ impl RunningGroups {
     ///
     /// # Errors
     /// Want of memory.
-    pub fn closing(&self, sub: u64, t: u64) -> Result<Vec<Record>, AllocError>
-        ensures { IfOk result (λ v. (counted : List Counted) → StandsFor (groups_at self.now sub) counted → v.items ≡ closed_by t counted) }
+    pub fn closing(&self, sub: u64, t: u64) -> Result<Records, AllocError>
+        ensures { IfOk result (λ records. (counted : List Counted) → StandsFor (groups_at self.now sub) counted → records ≡ closed_by t counted) }
     {
         match self.by_number.get(&sub) {
             Some(groups) => records_of(self.alloc, &groups.closing(t)?),
-            None => Ok(Vec::new(self.alloc)),
+            None => Ok(Records::new(self.alloc)),
         }
     }
 
@@ -116,12 +116,12 @@ impl RunningGroups {
 }
 
 /// The records of these groups.
-fn records_of(alloc: Global, closed: &[ClosedAggregate]) -> Result<Vec<Record>, AllocError>
-    ensures { IfOk result (λ v. v.items ≡ map record_of closed.now) }
+fn records_of(alloc: Global, closed: &[ClosedAggregate]) -> Result<Records, AllocError>
+    ensures { IfOk result (λ records. records ≡ map record_of closed.now) }
 {
-    let mut records = Vec::new(alloc);
+    let mut records = Records::new(alloc);
     for one in closed {
-        records.push(one.record(alloc)?)?;
+        records.push(alloc, one.record(alloc)?)?;
     }
     Ok(records)
 }

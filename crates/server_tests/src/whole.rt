@@ -121,9 +121,15 @@ fn collect<E: EntryLedger, H: RecordLedger, R: Wait + Abort>(
 }
 
 /// The values of the records that a message brings to a session, one after another.
-fn add_values(session: &mut Session, message: &[u8], values: &mut Vec<u8>) -> Result<(), Fail> {
+fn add_values(
+    alloc: Global,
+    session: &mut Session,
+    message: &[u8],
+    values: &mut Vec<u8>,
+) -> Result<(), Fail> {
     let read = session.apply(message).map_err(|_| "malformed")?;
-    for record in &read.records {
+    let records = read.records.to_vec(alloc)?;
+    for record in &records {
         for (_, value) in record.entries() {
             values.extend_from_slice(value)?;
         }
@@ -141,7 +147,7 @@ fn values_of_stream(alloc: Global, octets: &[u8]) -> Result<Vec<u8>, Fail> {
         match intake.next(&mut reader).map_err(|_| "no stream")? {
             Some(messages) => {
                 for message in &messages {
-                    add_values(&mut session, message.as_slice(), &mut values)?;
+                    add_values(alloc, &mut session, message.as_slice(), &mut values)?;
                 }
             }
             None => return Ok(values),

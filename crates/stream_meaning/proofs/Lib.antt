@@ -7,3 +7,4 @@ pub mod Listed
 pub mod Steps
 pub mod Runs
 pub mod Handing
+pub mod Seen

@@ -2,7 +2,7 @@
 //!
 //! Their premises are what the callers of a stream hold. Each record is one that a `Record` can be: it is
 //! sound, and the numbers of its template fit the octets that they are written in (`see_records` tells it
-//! of each slice of records). The distinct templates are at most the 65,280 that a stream's `Limits` allow.
+//! of any records that there are). The distinct templates are at most the 65,280 that a stream's `Limits` allow.
 //! An Export Time is a `u32`, and a target a `u16`.
 ghost use Rattle.std.specs.Prelude.{◌≡◌, ◌≤◌, ◌<◌, ◌^◌, ◌++◌, ◌∷◌, [], ℕ, List, length, take, Option, None};
 ghost use Rattle.std.specs.List.{AllByRecursion};

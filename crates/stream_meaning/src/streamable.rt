@@ -3,26 +3,29 @@ ghost use Rattle.std.specs.Prelude.{◌≡◌, ◌≤◌, length};
 ghost use Rattle.std.specs.List.{AllByRecursion};
 ghost use Rattle.ipfix_octets.specs.MessageFormat.{least_template_id};
 ghost use Rattle.ipfix_template.specs.Template.{is_options, IsAccepted, IsSpecifier, IsWritable};
-ghost use Rattle.ipfix_template.specs.DataRecord.{DataRecord};
+ghost use Rattle.record_runs.specs.Runs.{records_of};
 ghost use Rattle.stream_meaning.specs.Served.{IsStreamable};
 
-use ipfix_template::{FieldSpec, Record, Template};
+use ipfix_template::{FieldSpec, Template};
+use record_runs::{Records, Run};
 
 /// Each record may be streamed: always so, by its type. A caller who has records learns it here, and the
 /// call does nothing else.
-pub fn see_records(records: &[Record])
+pub fn see_records(records: &Records)
     ensures { AllByRecursion IsStreamable records.now }
 {
-    for next in records {
-        see_record(next);
+    for run in records.runs() {
+        see_run(run);
     }
 }
 
-/// A record is sound, and the numbers of its template fit their octets.
-pub fn see_record(next: &Record)
-    ensures { IsStreamable next.now }
+/// The records of a run are sound, and the numbers of its template fit their octets.
+pub fn see_run(run: &Run)
+    ensures { AllByRecursion IsStreamable (records_of run.now) }
 {
-    see_template(next.template());
+    if !run.is_empty() {
+        see_template(run.template());
+    }
 }
 
 fn see_template(template: &Template)

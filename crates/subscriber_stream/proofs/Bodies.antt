@@ -8,10 +8,8 @@ use Rattle.ipfix_template.specs.DataRecord.{DataRecord, kept_record}
 use Rattle.ipfix_template.specs.Template.{is_options, template_record}
 use Rattle.ipfix_template.specs.Values.{record_text}
 use Rattle.ipfix_template.proofs.Encoding.{length-template_record}
-use Rattle.subscriber_stream.specs.declared.waiting.Waiting.{Waiting}
-use Rattle.subscriber_stream.specs.declared.waiting.Waiting.TheVariants.{Announce, Bring}
 use Rattle.subscriber_stream.specs.Message.{Set, Announces, Brings, with_record, sets_of, template_set, set_head, set_text, body}
-use Rattle.subscriber_stream.specs.Waiting.{shape_at, parts_of, IsEntry, AreKept, joins, total, run, pieces}
+use Rattle.subscriber_stream.specs.Items.{Item, Announced, Brought, shape_at, parts_of, IsEntry, AreKept, joins, total, run, pieces}
 
 -- the octets of a record in a Data Set
 abbrev pub spelled : DataRecord → List ℕ
@@ -96,10 +94,10 @@ pub spelled-kept : (shapes : List Template) (id : ℕ) (octets : List ℕ) → I
 spelled-kept shapes id octets is = sym is.kept.shortest
 
 -- the records that join a set are its content
-pub run_content : (shapes : List Template) (id : ℕ) (ws : List Waiting) → AreKept shapes ws → run id ws ≡ content_after id (sets_of (parts_of shapes ws))
+pub run_content : (shapes : List Template) (id : ℕ) (ws : List Item) → AreKept shapes ws → run id ws ≡ content_after id (sets_of (parts_of shapes ws))
 run_content shapes id [] kept = refl
-run_content shapes id (Announce other octets ∷ ws) kept = refl
-run_content shapes id (Bring other octets ∷ ws) kept =
+run_content shapes id (Announced other octets ∷ ws) kept = refl
+run_content shapes id (Brought other octets ∷ ws) kept =
     by_test (nat_eq id other) refl (run_content shapes id ws kept.1) (ap length (spelled-kept shapes other octets kept.0)) ∙ sym (content_with id other (entry shapes other octets) (sets_of (parts_of shapes ws))) where
       by_test : (b : Bool) → nat_eq id other ≡ b → run id ws ≡ content_after id (sets_of (parts_of shapes ws)) → length (spelled (entry shapes other octets)) ≡ length octets → cond b (length octets + run id ws) 0 ≡ cond b (length (spelled (entry shapes other octets)) + content_after other (sets_of (parts_of shapes ws))) 0
       by_test true is others here =
@@ -121,17 +119,17 @@ joined_text (Some other) id r sets is =
     ap (λ (n : ℕ). text_after (Some n) (with_record id r sets)) (eqb-true other id is) ∙ with_open id r sets
 
 -- the sets of parts are what the parts write
-pub texts_pieces : (shapes : List Template) (last : Option ℕ) (ws : List Waiting) → AreKept shapes ws → text_after last (sets_of (parts_of shapes ws)) ≡ pieces shapes last ws
+pub texts_pieces : (shapes : List Template) (last : Option ℕ) (ws : List Item) → AreKept shapes ws → text_after last (sets_of (parts_of shapes ws)) ≡ pieces shapes last ws
 texts_pieces shapes None [] kept = refl
 texts_pieces shapes (Some id) [] kept = refl
-texts_pieces shapes last (Announce id octets ∷ ws) kept =
+texts_pieces shapes last (Announced id octets ∷ ws) kept =
     let shape = shape_at shapes id in
     let written = template_record id (is_options shape) shape in
     let len : length written ≡ octets = length-template_record id (is_options shape) shape ∙ sym kept.0.counted in
     announced_text last id shape (sets_of (parts_of shapes ws))
     ∙ ap (λ (t : List ℕ). (set_head (template_set shape) (length written) ++ written) ++ t) (texts_pieces shapes None ws kept.1)
     ∙ ap (λ (n : ℕ). (set_head (template_set shape) n ++ written) ++ pieces shapes None ws) len
-texts_pieces shapes last (Bring id octets ∷ ws) kept =
+texts_pieces shapes last (Brought id octets ∷ ws) kept =
     by_test (joins last id) refl (texts_pieces shapes (Some id) ws kept.1) (run_content shapes id ws kept.1) (ap length (spelled-kept shapes id octets kept.0))
     ∙ ap (λ (t : List ℕ). (cond (joins last id) [] (set_head id (length octets + run id ws)) ++ t) ++ pieces shapes (Some id) ws) (spelled-kept shapes id octets kept.0) where
       by_test : (b : Bool) → joins last id ≡ b → text_after (Some id) (sets_of (parts_of shapes ws)) ≡ pieces shapes (Some id) ws → run id ws ≡ content_after id (sets_of (parts_of shapes ws)) → length (spelled (entry shapes id octets)) ≡ length octets
@@ -152,16 +150,16 @@ unfolding set_head
 length-set_head id octets = refl
 
 -- and their octets are the costs
-pub length-pieces : (shapes : List Template) (last : Option ℕ) (ws : List Waiting) → AreKept shapes ws → length (pieces shapes last ws) ≡ total last ws
+pub length-pieces : (shapes : List Template) (last : Option ℕ) (ws : List Item) → AreKept shapes ws → length (pieces shapes last ws) ≡ total last ws
 length-pieces shapes last [] kept = refl
-length-pieces shapes last (Announce id octets ∷ ws) kept =
+length-pieces shapes last (Announced id octets ∷ ws) kept =
     let shape = shape_at shapes id in
     let written = template_record id (is_options shape) shape in
     let len : length written ≡ octets = length-template_record id (is_options shape) shape ∙ sym kept.0.counted in
     let head = length-set_head (template_set shape) octets in
     let others = length-pieces shapes None ws kept.1 in
     omega (arith, length-append (set_head (template_set shape) octets ++ written) (pieces shapes None ws), length-append (set_head (template_set shape) octets) written, len, head, others)
-length-pieces shapes last (Bring id octets ∷ ws) kept =
+length-pieces shapes last (Brought id octets ∷ ws) kept =
     by_test (joins last id) (length-pieces shapes (Some id) ws kept.1) where
       by_test : (b : Bool) → length (pieces shapes (Some id) ws) ≡ total (Some id) ws → length ((cond b [] (set_head id (length octets + run id ws)) ++ octets) ++ pieces shapes (Some id) ws) ≡ cond b (length octets) (4 + length octets) + total (Some id) ws
       by_test true others = omega (arith, length-append octets (pieces shapes (Some id) ws), others)
@@ -169,6 +167,6 @@ length-pieces shapes last (Bring id octets ∷ ws) kept =
           let head = length-set_head id (length octets + run id ws) in
           omega (arith, length-append (set_head id (length octets + run id ws) ++ octets) (pieces shapes (Some id) ws), length-append (set_head id (length octets + run id ws)) octets, others, head)
 
-pub body_pieces : (shapes : List Template) (ws : List Waiting) → AreKept shapes ws → body (parts_of shapes ws) ≡ pieces shapes None ws
+pub body_pieces : (shapes : List Template) (ws : List Item) → AreKept shapes ws → body (parts_of shapes ws) ≡ pieces shapes None ws
 unfolding body
 body_pieces shapes ws kept = texts_pieces shapes None ws kept

@@ -1,11 +1,16 @@
 pub mod ShapeLaws
 pub mod TableLaws
+pub mod TextLaws
+pub mod RunLaws
+pub mod Queues
 pub mod Costs
 pub mod Pieces
+pub mod Spans
 pub mod Bodies
 pub mod Messages
 pub mod Standings
 pub mod Pushing
+pub mod Handing
 pub mod Pulling
 pub mod Rooms
 pub mod CallLaws

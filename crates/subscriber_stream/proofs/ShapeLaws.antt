@@ -8,7 +8,7 @@ use Rattle.sequences.specs.Before.{each_after}
 use Rattle.ipfix_template.specs.declared.template.Template.{Template}
 use Rattle.ipfix_template.specs.DataRecord.{DataRecord}
 use Rattle.ipfix_template.specs.Equality.{same_template}
-use Rattle.ipfix_template.specs.SameTemplate.{same_template-is}
+use Rattle.ipfix_template.specs.SameTemplate.{same_template-is, same_template-itself}
 use Rattle.std.proofs.lemmas.List.Folds.{list_any-append}
 use Rattle.subscriber_stream.specs.Shapes.{is_among, with_shape, is_used, first_use, shapes_of, shapes_after}
 
@@ -16,7 +16,7 @@ or_assoc : (a b c : Bool) → ((a || b) || c) ≡ (a || (b || c))
 or_assoc true b c = refl
 or_assoc false b c = refl
 
-or_false : (a : Bool) → (a || false) ≡ a
+pub or_false : (a : Bool) → (a || false) ≡ a
 or_false true = refl
 or_false false = refl
 
@@ -31,6 +31,13 @@ is_among-with t u shapes = by_test (is_among u shapes) refl where
         rw found refl
     by_same false same = sym (or_false (is_among t shapes))
   by_test false is = list_any-append (same_template t) shapes (u ∷ []) ∙ ap (λ (c : Bool). is_among t shapes || c) (or_false (same_template t u))
+
+-- a shape is among those with it
+pub is_among-itself : (shapes : List Template) (t : Template) → is_among t (with_shape shapes t) ≡ true
+is_among-itself shapes t = is_among-with t t shapes ∙ ap (λ (b : Bool). is_among t shapes || b) (same_template-itself t) ∙ or_true (is_among t shapes) where
+  or_true : (b : Bool) → (b || true) ≡ true
+  or_true true = refl
+  or_true false = refl
 
 -- ---- the first record apart from the others
 

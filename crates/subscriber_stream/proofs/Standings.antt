@@ -1,5 +1,5 @@
 -- What a stream keeps, and how it stands in the parts of a list.
-use Rattle.std.proofs.Common.{◌≡◌, ℕ, zero, suc, ◌+◌, ◌-◌, ◌<◌, ◌≤◌, ◌^◌, Bool, true, false, cond, List, [], ◌∷◌, ◌++◌, length, take, drop, Some, None, refl, sym, ap, subst, ◌∙◌, arith, append_assoc, length-append}
+use Rattle.std.proofs.Common.{◌≡◌, ℕ, zero, suc, ◌+◌, ◌-◌, ◌<◌, ◌≤◌, ◌^◌, Bool, true, false, cond, List, [], ◌∷◌, ◌++◌, length, take, drop, max, Some, None, refl, sym, ap, subst, ◌∙◌, arith, append_assoc, length-append}
 use Rattle.std.specs.List.{position_or_len}
 use Rattle.std.proofs.lemmas.List.{append-nil, length-take, take-append-le, drop-append-le}
 use Rattle.sequences.proofs.BeforeLaws.{each_with_before-push}
@@ -7,21 +7,23 @@ use Rattle.ipfix_template.specs.Equality.{same_template}
 use Rattle.ipfix_template.specs.declared.template.Template.{Template}
 use Rattle.ipfix_template.specs.DataRecord.{DataRecord}
 use Rattle.subscriber_stream.specs.declared.limits.Limits.{Limits}
-use Rattle.subscriber_stream.specs.declared.waiting.Waiting.{Waiting}
-use Rattle.subscriber_stream.specs.declared.waiting.Waiting.TheVariants.{Announce, Bring}
 use Rattle.subscriber_stream.specs.Shapes.{is_among, with_shape, shapes_after, shapes_of}
 use Rattle.subscriber_stream.specs.Parts.{Part, Announcement, Entry, parts_for, parts_at, parts, record_in, records_in}
 use Rattle.subscriber_stream.specs.Message.{message, run_length, next_message, built, place_after}
-use Rattle.subscriber_stream.specs.Waiting.{parts_of, entries}
+use Rattle.subscriber_stream.specs.declared.waiting.Waiting.{Waiting}
+use Rattle.subscriber_stream.specs.declared.waiting.Waiting.TheVariants.{Announce, Bring}
+use Rattle.subscriber_stream.specs.Items.{Item, Announced, Brought, parts_of, entries}
+use Rattle.subscriber_stream.specs.Waiting.{items_in, rest_of}
 use Rattle.subscriber_stream.specs.Standing.{Standing, Kept, StandsAt, at_start, queued, HasRoom, FitsLimits}
 use Rattle.subscriber_stream.specs.Steps.{given_one, given, without_first, handed_one, handed_parts}
-use Rattle.subscriber_stream.proofs.ShapeLaws.{shapes_after-first, shapes_on, shapes_of-push, length-shapes_after}
+use Rattle.subscriber_stream.proofs.RunLaws.{brings}
+use Rattle.subscriber_stream.proofs.ShapeLaws.{shapes_after-first, shapes_after-append, shapes_on, shapes_of-push, length-shapes_after}
 
 -- the records among what waits
-pub queued_entries : (shapes : List Template) (ws : List Waiting) → length (records_in (parts_of shapes ws)) ≡ entries ws
+pub queued_entries : (shapes : List Template) (ws : List Item) → length (records_in (parts_of shapes ws)) ≡ entries ws
 queued_entries shapes [] = refl
-queued_entries shapes (Announce id octets ∷ ws) = queued_entries shapes ws
-queued_entries shapes (Bring id octets ∷ ws) = ap suc (queued_entries shapes ws)
+queued_entries shapes (Announced id octets ∷ ws) = queued_entries shapes ws
+queued_entries shapes (Brought id octets ∷ ws) = ap suc (queued_entries shapes ws)
 
 pub stands_at_start : StandsAt at_start [] 0
 unfolding parts shapes_of
@@ -68,6 +70,10 @@ pub waiting_after_one : (k : Kept) (part : Part) (ps : List Part) → k.standing
 unfolding handed_one
 waiting_after_one k part ps is =
     ap (λ (ws : List Part). (without_first k.standing ws).waiting) is ∙ waiting_first k.standing part ps
+
+none_after_one : (k : Kept) → k.standing.waiting ≡ [] → (handed_one k).standing.waiting ≡ []
+unfolding handed_one
+none_after_one k is = ap (λ (ws : List Part). (without_first k.standing ws).waiting) is ∙ is
 
 stands_after_parts : (n : ℕ) (k : Kept) (records : List DataRecord) (p : ℕ) (ws : List Part) → k.standing.waiting ≡ ws → n ≤ length ws → StandsAt k.standing records p → StandsAt (handed_parts n k).standing records (p + n)
 stands_after_parts zero k records p ws is le at =
@@ -149,10 +155,6 @@ pub record CanTake (k : Kept) (rs : List DataRecord) : Type 0 where
   pub reserved : length rs ≤ k.spare
   pub below : k.standing.handed + queued k.standing + length rs < 2 ^ 64
 
-pub shape_room : (k : Kept) (r : DataRecord) (rs : List DataRecord) → CanTake k (r ∷ rs) → length (with_shape k.standing.shapes r.template) ≤ k.limits.shapes
-shape_room k r rs can =
-    omega (arith, can.room.shapes, ap length (shapes_after-first k.standing.shapes r rs), length-shapes_after (with_shape k.standing.shapes r.template) rs)
-
 can_take_by : (k : Kept) (r : DataRecord) (rs : List DataRecord) → queued (given_one k r).standing ≡ queued k.standing + 1 → CanTake k (r ∷ rs) → CanTake (given_one k r) rs
 unfolding given_one
 can_take_by k r rs more can = record {
@@ -172,28 +174,70 @@ pub record IsHanding (left : ℕ) (k : Kept) (count : ℕ) (start : Kept) : Type
   pub enough : left ≤ length k.standing.waiting
   pub whole : handed_parts left k ≡ handed_parts count start
 
-pub IsHanding-next : (left count : ℕ) (k start : Kept) → 0 < left → IsHanding left k count start → IsHanding (left - 1) (handed_one k) count start
-IsHanding-next zero count k start some is = absurd (omega arith)
-IsHanding-next (suc left) count k start some is = from_waiting k.standing.waiting refl where
-  from_waiting : (ws : List Part) → k.standing.waiting ≡ ws → IsHanding (suc left - 1) (handed_one k) count start
-  from_waiting [] e = absurd (omega (arith, is.enough, ap length e))
-  from_waiting (part ∷ ps) e =
-      let n : suc left - 1 ≡ left = omega arith in
-      let P : ℕ → Type 0 = λ m. IsHanding m (handed_one k) count start in
-      subst P (sym n) (record { enough = omega (arith, is.enough, ap length e, ap length (waiting_after_one k part ps e)); whole = is.whole })
+handed_parts-add : (m n : ℕ) (k : Kept) → handed_parts (m + n) k ≡ handed_parts n (handed_parts m k)
+handed_parts-add zero n k =
+    let e : 0 + n ≡ n = omega arith in ap (λ (i : ℕ). handed_parts i k) e
+handed_parts-add (suc m) n k =
+    let e : suc m + n ≡ suc (m + n) = omega arith in
+    ap (λ (i : ℕ). handed_parts i k) e ∙ handed_parts-add m n (handed_one k)
+
+length_one : (k : Kept) → length (handed_one k).standing.waiting + 1 ≡ max 1 (length k.standing.waiting)
+length_one k = from_waiting k.standing.waiting refl where
+  from_waiting : (ws : List Part) → k.standing.waiting ≡ ws → length (handed_one k).standing.waiting + 1 ≡ max 1 (length k.standing.waiting)
+  from_waiting [] e = omega (arith, ap length e, ap length (none_after_one k e))
+  from_waiting (part ∷ ps) e = omega (arith, ap length e, ap length (waiting_after_one k part ps e))
+
+length_parts : (n : ℕ) (k : Kept) → n ≤ length k.standing.waiting → length (handed_parts n k).standing.waiting + n ≡ length k.standing.waiting
+length_parts zero k le = omega arith
+length_parts (suc n) k le =
+    let one = length_one k in
+    omega (arith, one, length_parts n (handed_one k) (omega (arith, one, le)))
+
+pub IsHanding-next : (left n count : ℕ) (k start : Kept) → n ≤ left → n ≤ length k.standing.waiting → IsHanding left k count start → IsHanding (left - n) (handed_parts n k) count start
+IsHanding-next left n count k start le few is =
+    let both : n + (left - n) ≡ left = omega arith in
+    record {
+      enough = omega (arith, is.enough, length_parts n k few);
+      whole = sym (handed_parts-add n (left - n) k) ∙ ap (λ (i : ℕ). handed_parts i k) both ∙ is.whole;
+    }
 
 -- ---- what the queue holds, handed out
 
-abbrev kept_of : List Template → Limits → ℕ → ℕ → ℕ → List Waiting → Kept
+abbrev kept_of : List Template → Limits → ℕ → ℕ → ℕ → List Item → Kept
 kept_of shapes limits spare handed announced ws = record { standing = record { shapes = shapes; handed = handed; announced = announced; waiting = parts_of shapes ws }; limits = limits; spare = spare }
 
-pub announce_out : (shapes : List Template) (limits : Limits) (spare handed announced : ℕ) (ws qs : List Waiting) (id octets : ℕ) → ws ≡ Announce id octets ∷ qs → kept_of shapes limits spare handed (announced + 1) qs ≡ handed_one (kept_of shapes limits spare handed announced ws)
+-- an announcement
+pub announce_out : (shapes : List Template) (limits : Limits) (spare handed announced : ℕ) (queue others : List Waiting) (id octets : ℕ) → queue ≡ Announce id octets ∷ others
+    → kept_of shapes limits spare handed (announced + 1) (items_in others) ≡ handed_parts 1 (kept_of shapes limits spare handed announced (items_in queue))
 unfolding handed_one
-announce_out shapes limits spare handed announced ws qs id octets is = rw is refl
+announce_out shapes limits spare handed announced queue others id octets is = rw is refl
 
-pub bring_out : (shapes : List Template) (limits : Limits) (spare handed announced : ℕ) (ws qs : List Waiting) (id : ℕ) (octets : List ℕ) → ws ≡ Bring id octets ∷ qs → kept_of shapes limits spare (handed + 1) announced qs ≡ handed_one (kept_of shapes limits spare handed announced ws)
+one_brought : (shapes : List Template) (limits : Limits) (spare handed announced id : ℕ) (text : List ℕ) (ws : List Item) → handed_one (kept_of shapes limits spare handed announced (Brought id text ∷ ws)) ≡ kept_of shapes limits spare (handed + 1) announced ws
 unfolding handed_one
-bring_out shapes limits spare handed announced ws qs id octets is = rw is refl
+one_brought shapes limits spare handed announced id text ws = refl
+
+-- the first records of a run
+brought_out : (n : ℕ) (shapes : List Template) (limits : Limits) (spare handed announced id : ℕ) (texts : List (List ℕ)) (ws : List Item) → n ≤ length texts
+    → kept_of shapes limits spare (handed + n) announced (brings id (drop n texts) ++ ws) ≡ handed_parts n (kept_of shapes limits spare handed announced (brings id texts ++ ws))
+brought_out zero shapes limits spare handed announced id texts ws le =
+    let e : handed + 0 ≡ handed = omega arith in ap (λ (h : ℕ). kept_of shapes limits spare h announced (brings id texts ++ ws)) e
+brought_out (suc n) shapes limits spare handed announced id [] ws le = absurd (omega arith)
+brought_out (suc n) shapes limits spare handed announced id (text ∷ texts) ws le =
+    let e : handed + suc n ≡ handed + 1 + n = omega arith in
+    ap (λ (h : ℕ). kept_of shapes limits spare h announced (brings id (drop n texts) ++ ws)) e
+    ∙ brought_out n shapes limits spare (handed + 1) announced id texts ws (omega arith)
+    ∙ ap (handed_parts n) (sym (one_brought shapes limits spare handed announced id text (brings id texts ++ ws)))
+
+pub items_rest : (id : ℕ) (texts : List (List ℕ)) (others : List Waiting) → items_in (rest_of id texts ++ others) ≡ brings id texts ++ items_in others
+items_rest id [] others = refl
+items_rest id (text ∷ texts) others = refl
+
+pub bring_out : (shapes : List Template) (limits : Limits) (spare handed announced : ℕ) (queue others after : List Waiting) (id n : ℕ) (texts : List (List ℕ)) → queue ≡ Bring id texts ∷ others → after ≡ rest_of id (drop n texts) ++ others → n ≤ length texts
+    → kept_of shapes limits spare (handed + n) announced (items_in after) ≡ handed_parts n (kept_of shapes limits spare handed announced (items_in queue))
+bring_out shapes limits spare handed announced queue others after id n texts is after_is le =
+    ap (kept_of shapes limits spare (handed + n) announced) (ap items_in after_is ∙ items_rest id (drop n texts) others)
+    ∙ brought_out n shapes limits spare handed announced id texts (items_in others) le
+    ∙ ap (λ (ws : List Waiting). handed_parts n (kept_of shapes limits spare handed announced (items_in ws))) (sym is)
 
 -- ---- many records, and a message
 
@@ -202,15 +246,35 @@ pub record IsGiving (k : Kept) (rest : List DataRecord) (start : Kept) (all : Li
   pub can : CanTake k rest
   pub whole : given k rest ≡ given start all
 
-pub IsGiving-next : (k : Kept) (r : DataRecord) (rest whole : List DataRecord) (start : Kept) (all : List DataRecord) → whole ≡ r ∷ rest → IsGiving k whole start all → IsGiving (given_one k r) rest start all
-IsGiving-next k r rest whole start all is giving =
-    let P : List DataRecord → Type 0 = λ rs. IsGiving k rs start all in
-    let here = subst P is giving in
-    record { can = CanTake-rest k r rest here.can; whole = here.whole }
+given-append : (k : Kept) (rs others : List DataRecord) → given k (rs ++ others) ≡ given (given k rs) others
+given-append k [] others = refl
+given-append k (r ∷ rs) others = given-append (given_one k r) rs others
 
-pub IsGiving-can : (k : Kept) (r : DataRecord) (rest whole : List DataRecord) (start : Kept) (all : List DataRecord) → whole ≡ r ∷ rest → IsGiving k whole start all → CanTake k (r ∷ rest)
-IsGiving-can k r rest whole start all is giving =
-    let P : List DataRecord → Type 0 = λ rs. CanTake k rs in subst P is giving.can
+CanTake-behind : (k : Kept) (rs others : List DataRecord) → CanTake k (rs ++ others) → CanTake (given k rs) others
+CanTake-behind k [] others can = can
+CanTake-behind k (r ∷ rs) others can = CanTake-behind (given_one k r) rs others (CanTake-rest k r (rs ++ others) can)
+
+CanTake-front : (k : Kept) (rs others : List DataRecord) → CanTake k (rs ++ others) → CanTake k rs
+CanTake-front k rs others can =
+    let all = length-append rs others in
+    record {
+      room = record {
+        queue = omega (arith, can.room.queue, all);
+        shapes = omega (arith, can.room.shapes, ap length (shapes_after-append k.standing.shapes rs others), length-shapes_after (shapes_after k.standing.shapes rs) others);
+      };
+      reserved = omega (arith, can.reserved, all);
+      below = omega (arith, can.below, all);
+    }
+
+pub IsGiving-next : (k : Kept) (rs others whole : List DataRecord) (start : Kept) (all : List DataRecord) → whole ≡ rs ++ others → IsGiving k whole start all → IsGiving (given k rs) others start all
+IsGiving-next k rs others whole start all is giving =
+    let P : List DataRecord → Type 0 = λ ws. IsGiving k ws start all in
+    let here = subst P is giving in
+    record { can = CanTake-behind k rs others here.can; whole = sym (given-append k rs others) ∙ here.whole }
+
+pub IsGiving-can : (k : Kept) (rs others whole : List DataRecord) (start : Kept) (all : List DataRecord) → whole ≡ rs ++ others → IsGiving k whole start all → CanTake k rs
+IsGiving-can k rs others whole start all is giving =
+    let P : List DataRecord → Type 0 = λ ws. CanTake k ws in CanTake-front k rs others (subst P is giving.can)
 
 spare_one : (k : Kept) (r : DataRecord) → (given_one k r).spare ≡ k.spare - 1
 unfolding given_one

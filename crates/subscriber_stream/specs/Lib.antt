@@ -9,11 +9,15 @@ pub use Rattle.ipfix_template.specs.Equality
 pub use Rattle.ipfix_template.specs.Values
 pub use Rattle.ipfix_template.specs.DataRecord
 pub use Rattle.sequences.specs.Before
+pub use Rattle.record_runs.specs.Pieces
+pub use Rattle.record_runs.specs.Runs
 pub mod Shapes
 pub mod Parts
 pub mod Message
 pub mod LongestSets
 pub mod Table
+pub mod Items
+pub mod Texts
 pub mod Waiting
 pub mod Standing
 pub mod Steps

@@ -2,11 +2,12 @@
 use Rattle.std.specs.Prelude.{◌≡◌, ◌≤◌, ◌<◌, ℕ, zero, suc, ◌+◌, ◌-◌, ◌*◌, ◌^◌, List, [], ◌∷◌, ◌++◌, length}
 use Rattle.ipfix_template.specs.DataRecord.{DataRecord}
 use Rattle.subscriber_stream.specs.declared.limits.Limits.{Limits}
-use Rattle.subscriber_stream.specs.declared.waiting.Waiting.{Waiting}
 use Rattle.subscriber_stream.specs.Shapes.{with_shape}
 use Rattle.subscriber_stream.specs.Parts.{Part, Announcement, Entry, parts_for}
 use Rattle.subscriber_stream.specs.Table.{Table}
-use Rattle.subscriber_stream.specs.Waiting.{AreKept, AreFollowed, announcements, entries}
+use Rattle.subscriber_stream.specs.declared.waiting.Waiting.{Waiting}
+use Rattle.subscriber_stream.specs.Items.{AreKept, AreFollowed, announcements, entries}
+use Rattle.subscriber_stream.specs.Waiting.{items_in, AreFilled}
 use Rattle.subscriber_stream.specs.Standing.{Standing, Kept}
 
 -- one record more
@@ -37,10 +38,11 @@ handed_parts (suc n) k = handed_parts n (handed_one k)
 
 -- what a stream keeps of itself, by its parts: the table, the queue and its capacity, the counts and the reserved room
 pub record IsConsistent (table : Table) (queue : List Waiting) (capacity : ℕ) (limits : Limits) (waiting handed announced spare : ℕ) : Type 0 where
-  pub kept : AreKept table.shapes queue
-  pub followed : AreFollowed queue
-  pub counted : waiting ≡ entries queue
-  pub announced_before : announced + announcements queue ≡ length table.shapes
+  pub filled : AreFilled queue
+  pub kept : AreKept table.shapes (items_in queue)
+  pub followed : AreFollowed (items_in queue)
+  pub counted : waiting ≡ entries (items_in queue)
+  pub announced_before : announced + announcements (items_in queue) ≡ length table.shapes
   pub few_shapes : length table.shapes ≤ limits.shapes
   pub few_ids : limits.shapes ≤ 65280
   pub few_waiting : waiting ≤ limits.queue

@@ -1,7 +1,7 @@
 //! A subscriber's own stream of IPFIX messages: what it is given are records, and what it hands out are
 //! messages that announce each template under an ID of this stream before the first record of it
-//! (RFC 7011, sections 3 and 8). Until it is handed out, a record waits as the ID of its template and its octets,
-//! each value in its shortest text, and its message copies them.
+//! (RFC 7011, sections 3 and 8). Until they are handed out, the records of a run wait as the ID of their template and
+//! their octets, each value in its shortest text, and a message copies those of consecutive records at once.
 //!
 //! - [`stream`]: `Stream`, which queues records and builds the messages.
 //! - [`limits`]: `Limits`, how many records may wait, and how many templates may be announced.
@@ -20,6 +20,7 @@
 //! `longest_run`.
 #![tactic(auto)]
 
+mod announcing;
 mod fitting;
 pub mod laws;
 pub mod limits;
@@ -27,6 +28,7 @@ pub mod pull_error;
 mod room;
 mod shape_table;
 pub mod stream;
+mod texts;
 mod waiting;
 mod writing;
 

@@ -16,7 +16,7 @@ use std::sync::Arc;
 #[derive(Drop)]
 pub(crate) struct ShapeTable {
     shapes: IndexSet<Arc<Template>>,
-    /// The place that was answered last: the next record most likely has the template that stands there.
+    /// The place that was answered last: the next run most likely has the template that stands there.
     last: usize,
 }
 

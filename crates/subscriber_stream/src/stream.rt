@@ -8,16 +8,18 @@ ghost use Rattle.subscriber_stream.specs.declared.limits.TheConstants.{MOST_SHAP
 #[cfg(test)]
 mod tests;
 
+use crate::announcing::announced_octets;
 use crate::fitting::fitting;
 use crate::limits::Limits;
 use crate::pull_error::PullError;
 use crate::room::has_shape_room;
 use crate::shape_table::ShapeTable;
-use crate::waiting::{Waiting, put_waiting};
+use crate::texts::Texts;
+use crate::waiting::{Waiting, keep_rest, put_waiting};
 use crate::writing::message_of;
 use bytes::Bytes;
 use ipfix_octets::message_format::LEAST_TEMPLATE_ID;
-use ipfix_template::Record;
+use record_runs::{Records, Run};
 use std::alloc::{AllocError, Global};
 use std::collections::VecDeque;
 use std::marker::Model;
@@ -42,12 +44,13 @@ pub struct Stream {
 impl Model for Stream {
     ghost use Rattle.std.specs.VecDeque.{deque_capacity};
     ghost use Rattle.subscriber_stream.specs.Standing.{Kept};
-    ghost use Rattle.subscriber_stream.specs.Waiting.{parts_of};
+    ghost use Rattle.subscriber_stream.specs.Items.{parts_of};
+    ghost use Rattle.subscriber_stream.specs.Waiting.{items_in};
     ghost use Rattle.subscriber_stream.specs.Steps.{IsConsistent};
 
     ghost Value = { Kept };
 
-    ghost view = { λ s. record { standing = record { shapes = s.shapes.shapes; handed = s.handed; announced = s.announced; waiting = parts_of s.shapes.shapes s.queue.items }; limits = s.limits; spare = s.spare } };
+    ghost view = { λ s. record { standing = record { shapes = s.shapes.shapes; handed = s.handed; announced = s.announced; waiting = parts_of s.shapes.shapes (items_in s.queue.items) }; limits = s.limits; spare = s.spare } };
 
     ghost invariant = { λ s. IsConsistent s.shapes s.queue.items (deque_capacity s.queue) s.limits s.waiting s.handed s.announced s.spare };
 }
@@ -55,8 +58,8 @@ impl Model for Stream {
 impl Stream {
     ghost use Rattle.subscriber_stream.specs.Standing.{at_start, StandsAt, HasRoom, FitsLimits, queued};
     ghost use Rattle.subscriber_stream.specs.Calls.{TakesRecords, Gives};
-    ghost use Rattle.subscriber_stream.specs.Steps.{given_one, given, handed_one, handed_parts};
-    ghost use Rattle.subscriber_stream.specs.Shapes.{with_shape};
+    ghost use Rattle.subscriber_stream.specs.Steps.{given, handed_parts};
+    ghost use Rattle.record_runs.specs.Runs.{records_of};
 
     /// A stream that was given no record. What it comes to keep is taken from `alloc`.
     pub fn new(alloc: Global, limits: Limits) -> Stream
@@ -101,7 +104,7 @@ impl Stream {
 
     /// Whether the limits leave room for these records: for all of them in the queue, and for their
     /// templates among those that the stream knows. It takes no memory.
-    pub fn room(&self, records: &[Record]) -> bool
+    pub fn room(&self, records: &Records) -> bool
         ensures room { IsTrue result ↔ HasRoom self.now records.now }
         // That is room behind the list of records that the stream was given.
         ensures exact { (given_before : List DataRecord) (p : ℕ) → StandsAt self.now.standing given_before p
@@ -110,18 +113,18 @@ impl Stream {
         self.has_room(records)
     }
 
-    fn has_room(&self, records: &[Record]) -> bool
+    fn has_room(&self, records: &Records) -> bool
         ensures { IsTrue result ↔ HasRoom self.now records.now }
     {
         records.len() <= (self.limits.queue - self.waiting) as usize
-            && has_shape_room(&self.shapes, records, self.limits.shapes)
+            && has_shape_room(&self.shapes, records.runs(), self.limits.shapes)
     }
 
     /// Makes room for these records.
     ///
     /// # Errors
     /// Want of memory. Room that was reserved before stays.
-    pub fn reserve(&mut self, records: &[Record]) -> Result<(), AllocError>
+    pub fn reserve(&mut self, records: &Records) -> Result<(), AllocError>
         ensures standing { self.new.standing ≡ self.old.standing }
         ensures limits { self.new.limits ≡ self.old.limits }
         ensures kept { self.old.spare ≤ self.new.spare }
@@ -134,66 +137,54 @@ impl Stream {
             return Ok(());
         }
         self.shapes.reserve(more)?;
+        // Each record may be a run of its own, with an announcement before it.
         self.queue.reserve(2 * more)?;
         self.spare = more;
         Ok(())
     }
 
     /// Takes records into the reserved room, behind those that were given before. It takes no memory.
-    pub fn push_reserved(&mut self, records: Vec<Record>)
-        requires room { HasRoom self.old records.items }
-        requires reserved { length records.items ≤ self.old.spare }
-        requires count { self.old.standing.handed + queued self.old.standing + length records.items < 2 ^ 64 }
+    pub fn push_reserved(&mut self, records: Records)
+        requires room { HasRoom self.old records }
+        requires reserved { length records ≤ self.old.spare }
+        requires count { self.old.standing.handed + queued self.old.standing + length records < 2 ^ 64 }
         // The list that was given goes on with the records, and the place stays.
-        ensures ok { TakesRecords self.old.standing records.items self.new.standing }
+        ensures ok { TakesRecords self.old.standing records self.new.standing }
         ensures limits { self.new.limits ≡ self.old.limits }
-        ensures spare { self.new.spare + length records.items ≡ self.old.spare }
+        ensures spare { self.new.spare + length records ≡ self.old.spare }
     {
         self.push_all(records);
     }
 
-    fn push_all(&mut self, records: Vec<Record>)
-        requires room { HasRoom self.old records.items }
-        requires reserved { length records.items ≤ self.old.spare }
-        requires count { self.old.standing.handed + queued self.old.standing + length records.items < 2 ^ 64 }
-        ensures { self.new ≡ given self.old records.items }
+    fn push_all(&mut self, records: Records)
+        requires room { HasRoom self.old records }
+        requires reserved { length records ≤ self.old.spare }
+        requires count { self.old.standing.handed + queued self.old.standing + length records < 2 ^ 64 }
+        ensures { self.new ≡ given self.old records }
     {
-        for next in records {
-            self.push_one(next);
+        for next in records.into_runs() {
+            self.push_run(next);
         }
     }
 
-    /// Takes one record into the reserved room.
-    fn push_one(&mut self, next: Record)
-        requires reserved { 0 < self.old.spare }
-        requires queue { queued self.old.standing + 1 ≤ self.old.limits.queue }
-        requires shapes { length (with_shape self.old.standing.shapes next.template) ≤ self.old.limits.shapes }
-        requires count { self.old.standing.handed + queued self.old.standing + 1 < 2 ^ 64 }
-        ensures { self.new ≡ given_one self.old next }
+    /// Takes the records of a run into the reserved room.
+    fn push_run(&mut self, next: Run)
+        requires room { HasRoom self.old (records_of next) }
+        requires reserved { length next.texts ≤ self.old.spare }
+        requires count { self.old.standing.handed + queued self.old.standing + length next.texts < 2 ^ 64 }
+        ensures { self.new ≡ given self.old (records_of next) }
     {
-        let template_octets = next.template_octets() as u16;
-        let (template, octets) = next.into_parts();
+        let count = next.len();
+        if count == 0 {
+            return;
+        }
+        let (template, octets, ends) = next.into_parts();
         let (place, is_new) = self.shapes.place_reserved(template);
         let id = LEAST_TEMPLATE_ID + place as u16;
-        let announced = is_new.then_some(template_octets);
-        put_waiting(&mut self.queue, id, announced, octets);
-        self.waiting += 1;
-        self.spare -= 1;
-    }
-
-    /// Hands out the first part.
-    fn hand_out_one(&mut self)
-        requires { 0 < length self.old.standing.waiting }
-        ensures { self.new ≡ handed_one self.old }
-    {
-        match self.queue.pop_front() {
-            Some(Waiting::Announce { .. }) => self.announced += 1,
-            Some(Waiting::Bring { .. }) => {
-                self.handed += 1;
-                self.waiting -= 1;
-            }
-            None => (),
-        }
+        let announced = announced_octets(self.shapes.shape(place), is_new);
+        put_waiting(&mut self.queue, id, announced, Texts::new(octets, ends));
+        self.waiting += count as u32;
+        self.spare -= count;
     }
 
     /// Hands out the first parts.
@@ -201,8 +192,35 @@ impl Stream {
         requires { count ≤ length self.old.standing.waiting }
         ensures { self.new ≡ handed_parts count self.old }
     {
-        for _ in 0..count {
-            self.hand_out_one();
+        let mut left = count;
+        while left > 0 {
+            left -= self.hand_out_front(left);
+        }
+    }
+
+    /// Hands out the announcement that is the first of the queue, or the first records of the run, at most `most` parts;
+    /// and answers how many.
+    fn hand_out_front(&mut self, most: usize) -> usize
+        requires waiting { 0 < length self.old.standing.waiting }
+        requires some { 0 < most }
+        ensures some { 0 < result }
+        ensures few { result ≤ most }
+        ensures within { result ≤ length self.old.standing.waiting }
+        ensures handed { self.new ≡ handed_parts result self.old }
+    {
+        match self.queue.pop_front() {
+            Some(Waiting::Announce { .. }) => {
+                self.announced += 1;
+                1
+            }
+            Some(Waiting::Bring { id, texts }) => {
+                let count = texts.len().min(most);
+                self.handed += count as u64;
+                self.waiting -= count as u32;
+                keep_rest(&mut self.queue, id, texts, count);
+                count
+            }
+            None => 0,
         }
     }
 

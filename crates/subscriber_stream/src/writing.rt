@@ -3,11 +3,11 @@ ghost use Rattle.std.specs.Prelude.{◌≡◌, ◌≤◌, ◌<◌, ◌+◌, ◌^
 ghost use Rattle.sequences.specs.Octets.{be_octets};
 ghost use Rattle.ipfix_octets.specs.MessageFormat.{ipfix_version, header_octets, least_template_id};
 ghost use Rattle.subscriber_stream.specs.Message.{message, set_head, template_set};
-ghost use Rattle.subscriber_stream.specs.Waiting.{AreKept, parts_of, data_set, total, run, piece, pieces};
+ghost use Rattle.subscriber_stream.specs.Items.{AreKept, parts_of, total, run, pieces};
+ghost use Rattle.subscriber_stream.specs.Waiting.{items_of, items_in, IsFilled, AreFilled, span};
 
-use crate::fitting::Run;
 use crate::shape_table::ShapeTable;
-use crate::waiting::{Waiting, joins};
+use crate::waiting::{Front, Waiting, joins};
 use bytes::Bytes;
 use ipfix_octets::message_format::{
     IPFIX_VERSION, LEAST_TEMPLATE_ID, OPTIONS_TEMPLATE_SET, SET_HEADER_OCTETS, TEMPLATE_SET,
@@ -24,15 +24,15 @@ pub(crate) fn message_of(
     alloc: Global,
     shapes: &ShapeTable,
     queue: &VecDeque<Waiting>,
-    whole: Run,
+    whole: Front,
     now: u32,
     handed: u64,
 ) -> Result<Bytes, AllocError>
-    requires kept { AreKept shapes.now.shapes queue.now.items }
-    requires within { whole.parts ≤ length queue.now.items }
-    requires octets { whole.octets ≡ header_octets + total None (take whole.parts queue.now.items) }
+    requires filled { AreFilled queue.now.items }
+    requires kept { AreKept shapes.now.shapes (items_in queue.now.items) }
+    requires octets { whole.octets ≡ header_octets + total None (take whole.parts (items_in queue.now.items)) }
     requires fits { whole.octets ≤ 65535 }
-    ensures { IfOk result (λ m. m ≡ message now handed (parts_of shapes.now.shapes (take whole.parts queue.now.items))) }
+    ensures { IfOk result (λ m. m ≡ message now handed (parts_of shapes.now.shapes (take whole.parts (items_in queue.now.items)))) }
 {
     let mut out = Vec::with_capacity(alloc, whole.octets)?;
     put_header(whole.octets, now, (handed % (1 << 32)) as u32, &mut out)?;
@@ -60,50 +60,59 @@ fn put_parts(
     count: usize,
     out: &mut Vec<u8>,
 ) -> Result<(), AllocError>
-    requires kept { AreKept shapes.now.shapes queue.now.items }
-    requires within { count ≤ length queue.now.items }
-    requires fits { total None (take count queue.now.items) ≤ 65519 }
-    ensures { OnOk result (out.new.items ≡ out.old.items ++ pieces shapes.now.shapes None (take count queue.now.items)) }
+    requires filled { AreFilled queue.now.items }
+    requires kept { AreKept shapes.now.shapes (items_in queue.now.items) }
+    requires fits { total None (take count (items_in queue.now.items)) ≤ 65519 }
+    ensures { OnOk result (out.new.items ≡ out.old.items ++ pieces shapes.now.shapes None (take count (items_in queue.now.items))) }
 {
+    let mut left = count;
     let mut last = None;
-    for place in 0..count {
-        put_part(shapes, queue, place, count, last, out)?;
-        last = queue[place].data_set();
+    for place in 0..queue.len() {
+        if left == 0 {
+            return Ok(());
+        }
+        let next = &queue[place];
+        put_span(shapes, next, queue, place + 1, left, last, out)?;
+        left = left.saturating_sub(next.len());
+        last = next.data_set();
     }
     Ok(())
 }
 
-/// Appends what the part at a place adds to the message of the first `count` parts.
-fn put_part(
+/// Appends what an announcement or a run adds to the message that ends with the `left` parts from it on. It
+/// stands right before the place.
+fn put_span(
     shapes: &ShapeTable,
+    next: &Waiting,
     queue: &VecDeque<Waiting>,
     place: usize,
-    count: usize,
+    left: usize,
     last: Option<u16>,
     out: &mut Vec<u8>,
 ) -> Result<(), AllocError>
-    requires kept { AreKept shapes.now.shapes queue.now.items }
-    requires within { count ≤ length queue.now.items }
-    requires place { place < count }
-    requires fits { total None (take count queue.now.items) ≤ 65519 }
-    ensures { (w : Waiting) → OnOk result (out.new.items ≡ out.old.items
-        ++ piece shapes.now.shapes last (Rattle.std.specs.Prelude.slice_index_or queue.now.items place w) (drop (place + 1) (take count queue.now.items))) }
+    requires filled { IsFilled next.now × AreFilled queue.now.items }
+    requires kept { AreKept shapes.now.shapes (items_of next.now) }
+    requires place { place ≤ length queue.now.items }
+    requires some { 0 < left }
+    requires fits { total last (take left (items_of next.now ++ items_in (drop place queue.now.items))) ≤ 65519 }
+    ensures { OnOk result (out.new.items ≡ out.old.items ++ span shapes.now.shapes last left next.now (drop place queue.now.items)) }
 {
-    match &queue[place] {
+    match next {
         Waiting::Announce { id, octets } => {
             put_announcement(*id, shape_of(shapes, *id), *octets, out)
         }
-        Waiting::Bring { id, octets } => {
+        Waiting::Bring { id, texts } => {
+            let count = texts.len().min(left);
             if !joins(last, *id) {
-                let others = run_octets(queue, place + 1, count, *id);
-                put_head(*id, octets.len() + others, out)?;
+                let others = run_octets(queue, place, left - count, *id);
+                put_head(*id, texts.octets(count) + others, out)?;
             }
-            out.extend_from_slice(octets)
+            out.extend_from_slice(texts.front(count))
         }
     }
 }
 
-ghost use Rattle.subscriber_stream.specs.Waiting.{shape_at};
+ghost use Rattle.subscriber_stream.specs.Items.{shape_at};
 ghost use Rattle.ipfix_template.specs.Template.{refusal_of, is_options, template_record};
 
 /// The template of an ID.
@@ -153,22 +162,30 @@ fn template_set(shape: &Template) -> u16
     }
 }
 
-/// The octets of the records of this ID that stand one after another from a place on, among the first
-/// `count` parts.
+/// The octets of the records of this ID that stand one after another from a place on, among the `count` parts
+/// from there on.
 fn run_octets(queue: &VecDeque<Waiting>, place: usize, count: usize, id: u16) -> usize
-    requires within { count ≤ length queue.now.items }
-    requires place { place ≤ count }
-    requires fits { run id (drop place (take count queue.now.items)) ≤ 65535 }
-    ensures { result ≡ run id (drop place (take count queue.now.items)) }
+    requires filled { AreFilled queue.now.items }
+    requires place { place ≤ length queue.now.items }
+    requires fits { run id (take count (items_in (drop place queue.now.items))) ≤ 65535 }
+    ensures { result ≡ run id (take count (items_in (drop place queue.now.items))) }
 {
     let mut octets = 0;
-    'records: for at in place..count {
+    let mut left = count;
+    'records: for at in place..queue.len() {
+        if left == 0 {
+            return octets;
+        }
         match &queue[at] {
-            Waiting::Bring {
-                id: other,
-                octets: more,
-            } if id == *other => octets += more.len(),
-            _ => return octets,
+            Waiting::Announce { .. } => return octets,
+            Waiting::Bring { id: other, texts } => {
+                if id != *other {
+                    return octets;
+                }
+                let part = texts.len().min(left);
+                octets += texts.octets(part);
+                left -= part;
+            }
         }
     }
     octets

@@ -1,11 +1,13 @@
-//! A record waits as the ID of its shape and its octets.
+//! A run of records waits as the ID of its shape and its octets, and is handed out record by record.
 use crate::limits::Limits;
 use crate::stream::Stream;
+use crate::texts::Texts;
 use crate::waiting::Waiting;
 use bytes::Bytes;
 use ipfix_element::ElementId;
 use ipfix_octets::message_format::LEAST_TEMPLATE_ID;
 use ipfix_template::{FieldSpec, Fields, Record, Template, Values};
+use record_runs::Records;
 use std::alloc::{AllocError, Global};
 use std::process::Abort;
 use std::sync::Arc;
@@ -24,19 +26,19 @@ fn template(alloc: Global) -> Result<Arc<Template>, Fail> {
 }
 
 /// A list of one record of that template.
-fn records(alloc: Global) -> Result<Vec<Record>, Fail> {
+fn records(alloc: Global) -> Result<Records, Fail> {
     let mut values = Vec::new(alloc);
     values.push(Bytes::from_static(TCP))?;
-    let mut records = Vec::new(alloc);
+    let mut records = Records::new(alloc);
     match Record::try_new(alloc, template(alloc)?, Values::from_vec(values)) {
-        Ok(record) => records.push(record)?,
+        Ok(record) => records.push(alloc, record)?,
         Err(_) => return Err(Fail::new("no record")),
     }
     Ok(records)
 }
 
 /// A stream that was given the records.
-fn stream_of(alloc: Global, records: Vec<Record>) -> Result<Stream, AllocError> {
+fn stream_of(alloc: Global, records: Records) -> Result<Stream, AllocError> {
     let mut stream = Stream::new(
         alloc,
         Limits {
@@ -51,23 +53,62 @@ fn stream_of(alloc: Global, records: Vec<Record>) -> Result<Stream, AllocError> 
     Ok(stream)
 }
 
-/// The ID and the octets of a part that brings a record.
-fn brought(part: Option<&Waiting>) -> Option<(u16, &Bytes)> {
+/// The ID and the octets of records that wait.
+fn brought(part: Option<&Waiting>) -> Option<(u16, &[u8])> {
     match part {
-        Some(Waiting::Bring { id, octets }) => Some((*id, octets)),
+        Some(Waiting::Bring { id, texts }) => Some((*id, texts.front(texts.len()))),
         Some(Waiting::Announce { .. }) | None => None,
     }
 }
 
 #[test]
 fn a_record_waits_as_its_octets(rt: HostRuntime) -> Result<(), Fail> {
-    let id: u16 = LEAST_TEMPLATE_ID;
-    let octets: Bytes = Bytes::from_static(TCP);
-    let part = Waiting::Bring { id, octets };
-    let same = Bytes::from_static(TCP);
-    assert!(rt; brought(Some(&part)) == Some((id, &same)));
     let stream = stream_of(rt.alloc(), records(rt.alloc())?)?;
     assert!(rt; brought(stream.queue.get(0)).is_none());
-    assert!(rt; brought(stream.queue.get(1)) == Some((id, &same)));
+    assert!(rt; brought(stream.queue.get(1)) == Some((LEAST_TEMPLATE_ID, TCP)));
+    Ok(())
+}
+
+/// Three texts of one octet and two, and of none.
+fn three_texts(alloc: Global) -> Result<Texts, AllocError> {
+    let mut ends = Vec::with_capacity(alloc, 3)?;
+    ends.push_reserved(1);
+    ends.push_reserved(3);
+    ends.push_reserved(3);
+    Ok(Texts::new(Bytes::from_static(b"abc"), ends))
+}
+
+/// The texts after the first `count` of them, one after another.
+fn left_after(mut texts: Texts, count: usize) -> Texts {
+    if count <= texts.len() {
+        texts.hand_out(count);
+    }
+    texts
+}
+
+/// Whether all of them, one after another, are these octets.
+fn is_text(texts: &Texts, octets: &[u8]) -> bool {
+    texts.front(texts.len()) == octets
+}
+
+#[test]
+fn texts_fit_up_to_a_room(rt: HostRuntime) -> Result<(), Fail> {
+    let texts = three_texts(rt.alloc())?;
+    assert!(rt; texts.fitting(0) == 0);
+    assert!(rt; texts.fitting(2) == 1);
+    assert!(rt; texts.fitting(3) == 3);
+    Ok(())
+}
+
+#[test]
+fn texts_are_handed_out_one_after_another(rt: HostRuntime) -> Result<(), Fail> {
+    let texts = three_texts(rt.alloc())?;
+    assert!(rt; is_text(&texts, b"abc"));
+    let texts = left_after(texts, 1);
+    assert!(rt; texts.fitting(1) == 0);
+    assert!(rt; is_text(&texts, b"bc"));
+    let texts = left_after(texts, 1);
+    assert!(rt; texts.len() == 1);
+    assert!(rt; is_text(&texts, b""));
     Ok(())
 }

@@ -1,4 +1,4 @@
-use Rattle.std.proofs.Common.{List, ℕ, sym, ap, ◌∙◌, subst}
+use Rattle.std.proofs.Common.{List, sym, ap, ◌∙◌, subst}
 use Rattle.std.specs.Arc.{arc_value}
 use Rattle.ipfix_template.specs.declared.field.FieldSpec.{FieldSpec}
 use Rattle.ipfix_template.specs.declared.template.Template.{Template}
@@ -21,4 +21,4 @@ returns c =
     let values = kept_values c.args.flow_record.now.values c.args.verdicts.now in
     let same = kept_is (arc_value c.args.template.now) values c.in_ok-text.text c.requires.sound.fit (c.in_ok-text.ensures ∙ ap (λ (fs : List FieldSpec). record_text fs values) (sym c.requires.fields)) in
     let kept = c.from_octets-kept.ensures ∙ ap (λ (t : Template). kept_record t c.in_ok-text.text) c.in_ok-clone.ensures.cases ∙ same in
-    ap (λ (r : DataRecord). Passes r c.in_ok-removed.removed.items) kept ∙ ap (λ (fields : List RemovedField). Passes (record { template = arc_value c.args.template.now; values = values }) fields) c.in_ok-removed.ensures.items
+    ap (λ (r : DataRecord). Passes r c.in_ok-removed.removed) kept ∙ ap (λ (fields : List RemovedField). Passes (record { template = arc_value c.args.template.now; values = values }) fields) c.in_ok-removed.ensures.cases

@@ -14,13 +14,13 @@ returns-in-DataSet-clause-keeps c =
     keeps_data c.read_data_set.result c.args.base.now.templates c.args.state.now.changes c.read_data_set.new.state.changes c.args.item c.in-DataSet.id c.in-DataSet.start c.in-DataSet.len c.in-DataSet.is c.read_data_set.ensures.changes
 
 pub returns-in-Skipped-clause-reads : goal.returns-in-Skipped-clause-reads
-returns-in-Skipped-clause-reads c = λ done keeps. added_reserved done c.args.message.now c.args.item c.in-Skipped.set c.args.state.now.records.items c.args.state.now.skips c.in-Skipped.is
+returns-in-Skipped-clause-reads c = λ done keeps. added_reserved done c.args.message.now c.args.item c.in-Skipped.set c.args.state.now.records c.args.state.now.skips c.in-Skipped.is
 
 pub returns-in-Skipped-clause-keeps : goal.returns-in-Skipped-clause-keeps
 returns-in-Skipped-clause-keeps c = keeps_skipped (after c.args.state.now.changes c.args.base.now.templates) c.args.item c.in-Skipped.set c.in-Skipped.is
 
 pub returns-in_ok-withdraw-in-Refused-clause-reads : goal.returns-in_ok-withdraw-in-Refused-clause-reads
-returns-in_ok-withdraw-in-Refused-clause-reads c = λ done keeps. added_refused done c.args.message.now c.args.item c.in-Refused.id c.in-Refused.why c.args.state.now.records.items c.args.state.now.skips c.in-Refused.is
+returns-in_ok-withdraw-in-Refused-clause-reads c = λ done keeps. added_refused done c.args.message.now c.args.item c.in-Refused.id c.in-Refused.why c.args.state.now.records c.args.state.now.skips c.in-Refused.is
 
 pub returns-in_ok-withdraw-in-Refused-clause-keeps : goal.returns-in_ok-withdraw-in-Refused-clause-keeps
 returns-in_ok-withdraw-in-Refused-clause-keeps c =

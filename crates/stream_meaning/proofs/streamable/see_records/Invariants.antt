@@ -1,7 +1,8 @@
 use Rattle.std.proofs.Common.{take}
 use Rattle.std.specs.List.{AllByRecursion}
+use Rattle.record_runs.specs.Runs.{records_in}
 use Rattle.stream_meaning.specs.Served.{IsStreamable}
 use Rattle.stream_meaning.proofs.streamable.see_records.Given as goal
 
-abbrev pub invariant-loop-next : goal.invariant-loop-next
-invariant-loop-next l = AllByRecursion IsStreamable (take l.next-index l.records)
+abbrev pub invariant-loop-run : goal.invariant-loop-run
+invariant-loop-run l = AllByRecursion IsStreamable (records_in (take l.run-index l.run-items))

@@ -4,4 +4,4 @@ use Rattle.subscriber_stream.proofs.room.has_shape_room.Goals as goal
 
 pub returns-then-saturating_add-most : goal.returns-then-saturating_add-most
 returns-then-saturating_add-most c =
-    (λ _. omega (arith, length-shapes_after_most c.args.shapes.now.shapes c.args.records.now), λ _. refl)
+    (λ _. omega (arith, length-shapes_after_most c.args.shapes.now.shapes c.args.runs.now), λ _. refl)

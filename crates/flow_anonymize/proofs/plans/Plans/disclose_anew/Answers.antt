@@ -1,8 +1,14 @@
-use Rattle.std.proofs.Common.{◌∙◌}
-use Rattle.flow_anonymize.proofs.PlanLaws.{made_anew}
+use Rattle.std.proofs.Common.{◌≡◌, ap, sym, subst, List}
+use Rattle.std.specs.Arc.{arc_value}
+use Rattle.std.specs.Option.{option_map}
+use Rattle.flow_anonymize.specs.declared.slot.Slot.{Slot}
+use Rattle.flow_anonymize.specs.Plans.{PlansOf, PlansFor, IsSlot, AreKept}
+use Rattle.flow_anonymize.proofs.PlanLaws.{kept_put}
 use Rattle.flow_anonymize.proofs.plans.Plans.disclose_anew.Goals as goal
 
-pub keep-requires : goal.keep-requires
-keep-requires c =
-    made_anew _ c.args.self.now c.self.inside.slots.items c.args.flow_record.now (record { template = c.in_ok-template.template; classes = c.args.classes; plan = c.in_ok-plan.plan })
-    c.self.view_is c.self.invariant c.rules-rules.ensures.sound (c.in_ok-template.ensures.cases ∙ c.shared_template.ensures.value) c.requires c.in_ok-plan.ensures.plan
+pub invariant_of-self-2 : goal.invariant_of-self-2
+invariant_of-self-2 c =
+    let for : PlansFor = record { rules = c.self.inside.table.now; cuts = c.self.inside.classes.now; name = c.self.inside.name.now; domain = c.self.inside.domain; template = option_map arc_value c.self.inside.template } in
+    let P : PlansFor → Type 0 = λ f. IsSlot f c.in_ok-slot.slot in
+    subst (λ (slots : List Slot). AreKept for slots) (sym c.give.ensures.slots)
+    (kept_put for c.self.inside.shelf.slots c.in_ok-slot.slot c.in_ok-place.place c.keep.new.self.slots c.self.invariant (subst P (sym (ap (λ (p : PlansOf). p.for) c.self.view_is)) c.in_ok-slot.ensures.1) c.in_ok-place.ensures.put)

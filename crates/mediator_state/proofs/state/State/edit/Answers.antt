@@ -3,9 +3,10 @@ use Rattle.policy_text.specs.Parsing.{policy_of}
 use Rattle.record_sharing.specs.InForce.{InForce}
 use Rattle.event_journal.specs.declared.entry.Entry.TheVariants.{Edit}
 use Rattle.mediator_state.specs.declared.fault.Fault.{Fault}
-use Rattle.mediator_state.specs.Standing.{Stands}
+use Rattle.mediator_state.specs.declared.engine.Engine.{Engine}
+use Rattle.mediator_state.specs.Standing.{Stands, StandsSomewhere}
 use Rattle.mediator_state.specs.Calls.{RefusesEdit}
-use Rattle.mediator_state.proofs.CallLaws.{accepts_one, err_gives, refused_edit}
+use Rattle.mediator_state.proofs.CallLaws.{accepts_one, err_gives, refused_edit, somewhere}
 use Rattle.mediator_state.proofs.state.State.edit.Goals as goal
 
 pub returns-in_err-make_room-clause-err : goal.returns-in_err-make_room-clause-err
@@ -28,3 +29,8 @@ returns-clause-ok g c =
           (ap (λ (n : List ℕ). Edit n) c.in_ok-text.ensures)
           c.make_room.ensures.tells c.push_reserved.ensures.tells c.make_room.ensures.engine (λ f st. c.put_in_force-edits.ensures.stands f c.args.text.now st spelled);
     }
+
+pub put_in_force-edits-requires-clause-somewhere : goal.put_in_force-edits-requires-clause-somewhere
+put_in_force-edits-requires-clause-somewhere g c =
+    subst (λ (e : Engine). StandsSomewhere e c.len-position.result) (sym c.make_room.ensures.engine)
+    (somewhere g.C.Chronicle.tells c.args.self.now (g.C.Chronicle.count c.args.self.now.chronicle) (g.C.Chronicle.octets c.args.self.now.chronicle) c.len-position.result (g.met.C.Chronicle.counted c.args.self.now.chronicle) c.len-position.ensures.value c.requires.stands)

@@ -1,0 +1,12 @@
+use Rattle.std.proofs.Common.{◌≡◌, Some, List, ℕ, refl, sym, ap, ◌∙◌, subst}
+use Rattle.flow_anonymize.specs.Classes.{classes_of}
+use Rattle.flow_anonymize.specs.Plans.{PlansOf, PlansFor, IsSlot}
+use Rattle.flow_anonymize.proofs.PlanLaws.{planned_slot}
+use Rattle.flow_anonymize.proofs.plans.Plans.planned.Goals as goal
+
+pub returns : goal.returns
+returns c = (
+  refl,
+  planned_slot _ c.args.self.now.for c.self.inside.shelf.slots c.args.flow_record.now (record { classes = c.args.classes; plan = c.in_ok-plan.plan })
+      (ap (λ (p : PlansOf). p.for) c.self.view_is) c.self.invariant c.rules-rules.ensures.sound c.requires.template c.requires.classes c.in_ok-plan.ensures.plan,
+)

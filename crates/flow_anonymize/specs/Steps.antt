@@ -1,0 +1,63 @@
+-- What is shown of a record, by steps over the octets of its values (RFC 7011, sections 3.4.3 and 7).
+use Rattle.std.specs.Prelude.{◌≡◌, ℕ, ◌+◌, true, List, [], ◌∷◌, ◌++◌, take, drop, unwrap_or, if◌then◌else◌}
+use Rattle.ipfix_octets.specs.Variable.{varlen_at}
+use Rattle.ipfix_template.specs.declared.field.FieldSpec.{FieldSpec}
+use Rattle.ipfix_template.specs.Template.{is_variable}
+use Rattle.ipfix_template.specs.Values.{fit_fields, record_text}
+use Rattle.policy_judge.specs.declared.verdict.ElementAction.{ElementAction}
+use Rattle.policy_judge.specs.declared.verdict.ElementAction.TheVariants as on_field
+use Rattle.policy_judge.specs.declared.verdict.ElementVerdict.{ElementVerdict}
+use Rattle.flow_prefix.specs.Bits.{kept_octets}
+use Rattle.flow_anonymize.specs.declared.steps.Step.{Step}
+use Rattle.flow_anonymize.specs.declared.steps.Step.TheVariants.{Show, Skip, ShowVariable, SkipVariable, Truncate, TruncateVariable}
+use Rattle.flow_anonymize.specs.Remaining.{kept_fields, kept_values}
+
+-- where the value of variable length at the front of octets starts, and its length; both are 0 where none stands there
+abbrev pub variable_span : List ℕ → ℕ × ℕ
+variable_span octets = unwrap_or (varlen_at octets) (0, 0)
+
+-- the octets that a value of variable length takes, with its length before it
+abbrev pub variable_octets : List ℕ → ℕ
+variable_octets octets = (variable_span octets).0 + (variable_span octets).1
+
+-- the first bits of a value of variable length, and the others 0, behind the length that stands before it
+abbrev pub truncated_text : ℕ → ℕ × ℕ → List ℕ → List ℕ
+truncated_text bits span octets = take span.0 octets ++ kept_octets bits (take span.1 (drop span.0 octets))
+
+-- what a step shows of octets; where they end before it, what is there
+abbrev pub shown_at : Step → List ℕ → List ℕ
+shown_at (Show count) octets = take count octets
+shown_at (Skip count) octets = []
+shown_at ShowVariable octets = take (variable_octets octets) octets
+shown_at SkipVariable octets = []
+shown_at (Truncate count bits) octets = kept_octets bits (take count octets)
+shown_at (TruncateVariable bits) octets = truncated_text bits (variable_span octets) octets
+
+-- the octets behind a step
+abbrev pub behind : Step → List ℕ → List ℕ
+behind (Show count) octets = drop count octets
+behind (Skip count) octets = drop count octets
+behind ShowVariable octets = drop (variable_octets octets) octets
+behind SkipVariable octets = drop (variable_octets octets) octets
+behind (Truncate count bits) octets = drop count octets
+behind (TruncateVariable bits) octets = drop (variable_octets octets) octets
+
+-- what steps show of octets, each of those that are behind the steps before it
+abbrev pub shown_by : List Step → List ℕ → List ℕ
+shown_by [] octets = []
+shown_by (step ∷ steps) octets = shown_at step octets ++ shown_by steps (behind step octets)
+
+-- steps that show the same of all octets
+abbrev pub AreAlike : List Step → List Step → Type 0
+AreAlike some others = (octets : List ℕ) → shown_by some octets ≡ shown_by others octets
+
+-- the step for a field, by what becomes of it
+abbrev pub step_of : FieldSpec → ElementAction → Step
+step_of field on_field.Keep = if is_variable field then ShowVariable else Show field.length
+step_of field on_field.Remove = if is_variable field then SkipVariable else Skip field.length
+step_of field (on_field.Truncate bits) = if is_variable field then TruncateVariable bits else Truncate field.length bits
+
+-- the steps are for records of these fields by these verdicts: of the text of values that fit, they show the text of what is left of them
+abbrev pub AreSteps : List FieldSpec → List ElementVerdict → List Step → Type 0
+AreSteps fields verdicts steps = (values : List (List ℕ)) → fit_fields fields values ≡ true
+    → shown_by steps (record_text fields values) ≡ record_text (kept_fields fields verdicts) (kept_values values verdicts)

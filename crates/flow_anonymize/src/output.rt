@@ -1,0 +1,172 @@
+//! The records that pass.
+ghost use Rattle.std.specs.Prelude.{◌≡◌, ◌≤◌, ◌++◌, ◌∷◌, [], length, Some, None, IsSome, IfOk, OnOk};
+ghost use Rattle.std.specs.Arc.{arc_value};
+ghost use Rattle.flow_anonymize.specs.Outcome.{passed};
+ghost use Rattle.flow_anonymize.specs.Planning.{planned, IsShowable};
+ghost use Rattle.flow_anonymize.specs.Planning.{shown_template};
+
+use crate::plan::Plan;
+use bytes::Bytes;
+use ipfix_template::{Record, Template};
+use record_runs::{Records, Run};
+use std::alloc::{AllocError, Global};
+use std::marker::Model;
+use std::mem;
+use std::sync::Arc;
+
+/// A run that has come to so many octets is closed, and another is begun.
+const LONG_RUN: usize = 65536;
+
+/// Records that pass, one after another, as they are written. Contracts see them, and the template of the run that is being written.
+#[derive(Drop)]
+pub(crate) struct Output {
+    alloc: Global,
+    /// The runs that are whole.
+    done: Records,
+    template: Option<Arc<Template>>,
+    text: Vec<u8>,
+    /// Where each record ends in the text.
+    ends: Vec<u32>,
+}
+
+impl Model for Output {
+    ghost use Rattle.std.specs.Prelude.{◌++◌};
+    ghost use Rattle.std.specs.Option.{option_map};
+    ghost use Rattle.std.specs.Arc.{arc_value};
+    ghost use Rattle.record_runs.specs.Pieces.{pieces};
+    ghost use Rattle.flow_anonymize.specs.Output.{OutputOf, open_records, IsOutput};
+
+    ghost Value = { OutputOf };
+
+    ghost view = { λ o. record { given = o.done ++ open_records (option_map arc_value o.template) (pieces o.text.items 0 o.ends.items); writing = option_map arc_value o.template } };
+
+    ghost invariant = { λ o. IsOutput (option_map arc_value o.template) o.text.items o.ends.items };
+}
+
+impl Output {
+    /// No record.
+    pub(crate) fn new(alloc: Global) -> Output
+        ensures { result ≡ record { given = []; writing = None } }
+    {
+        Output {
+            alloc,
+            done: Records::new(alloc),
+            template: None,
+            text: Vec::new(alloc),
+            ends: Vec::new(alloc),
+        }
+    }
+
+    /// Begins a run of records of this template.
+    ///
+    /// # Errors
+    /// Want of memory.
+    pub(crate) fn begin(&mut self, template: Arc<Template>) -> Result<(), AllocError>
+        ensures { OnOk result (self.new ≡ record { given = self.old.given; writing = Some (arc_value template) }) }
+    {
+        self.close()?;
+        self.template = Some(template);
+        Ok(())
+    }
+
+    /// Closes the run that is being written, if one is.
+    ///
+    /// # Errors
+    /// Want of memory.
+    pub(crate) fn close(&mut self) -> Result<(), AllocError>
+        ensures { OnOk result (self.new ≡ record { given = self.old.given; writing = None }) }
+    {
+        let text = mem::replace(&mut self.text, Vec::new(self.alloc));
+        let ends = mem::replace(&mut self.ends, Vec::new(self.alloc));
+        match self.template.take() {
+            Some(template) => {
+                let octets = Bytes::from_vec(text)?;
+                self.done.push_run(Run::new(template, octets, ends))
+            }
+            None => Ok(()),
+        }
+    }
+
+    /// Adds what passes of a record by a plan, whose records have the template of the run that is being written.
+    ///
+    /// # Errors
+    /// Want of memory.
+    pub(crate) fn add(&mut self, plan: &Plan, flow_record: &Record) -> Result<(), AllocError>
+        requires showable { IsShowable plan.now flow_record.now }
+        requires begun { IsSome self.old.writing }
+        requires same { self.old.writing ≡ shown_template plan.now }
+        ensures { OnOk result (self.new ≡ record { given = self.old.given ++ passed (planned plan.now flow_record.now.values); writing = self.old.writing }) }
+    {
+        self.renew_long_run()?;
+        self.ends.reserve(1)?;
+        match put_shown(plan, flow_record, &mut self.text) {
+            Ok(end) => {
+                self.ends.push_reserved(end);
+                Ok(())
+            }
+            Err(refused) => {
+                self.text.clear();
+                self.ends.clear();
+                Err(refused)
+            }
+        }
+    }
+
+    /// Begins another run of the same template where this one is long.
+    ///
+    /// # Errors
+    /// Want of memory.
+    fn renew_long_run(&mut self) -> Result<(), AllocError>
+        ensures same { OnOk result (self.new ≡ self.old) }
+    {
+        if self.text.len() < LONG_RUN {
+            return Ok(());
+        }
+        match &self.template {
+            Some(template) => {
+                let again = template.clone()?;
+                self.begin(again)
+            }
+            None => Ok(()),
+        }
+    }
+
+    /// Adds a record of any template.
+    ///
+    /// # Errors
+    /// Want of memory.
+    pub(crate) fn push(&mut self, single: Record) -> Result<(), AllocError>
+        ensures { OnOk result (self.new ≡ record { given = self.old.given ++ single ∷ []; writing = None }) }
+    {
+        self.close()?;
+        self.done.push(self.alloc, single)
+    }
+
+    /// All records.
+    ///
+    /// # Errors
+    /// Want of memory.
+    pub(crate) fn into_records(self) -> Result<Records, AllocError>
+        ensures { IfOk result (λ all. all ≡ self.given) }
+    {
+        let mut whole = self;
+        whole.close()?;
+        let Output { done, .. } = whole;
+        Ok(done)
+    }
+}
+
+ghost use Rattle.flow_anonymize.specs.Outcome.{passed_text};
+
+/// Appends what is shown of a record by a plan, and answers where it ends.
+///
+/// # Errors
+/// Want of memory, or of numbers for the end.
+fn put_shown(plan: &Plan, flow_record: &Record, text: &mut Vec<u8>) -> Result<u32, AllocError>
+    requires { IsShowable plan.now flow_record.now }
+    ensures text { OnOk result (text.new.items ≡ text.old.items ++ passed_text (planned plan.now flow_record.now.values)) }
+    ensures end { IfOk result (λ end. end ≡ length text.new.items) }
+{
+    plan.put_shown(flow_record, text)?;
+    u32::try_from(text.len()).map_err(|_| AllocError)
+}

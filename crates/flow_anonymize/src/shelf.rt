@@ -1,0 +1,166 @@
+//! Plans that are kept, and what passes by them.
+ghost use Rattle.std.specs.Prelude.{◌≡◌, ◌<◌, ◌++◌, ◌∷◌, [], Some, length, slice_get, position, IfOk, IfSome, OnOk, OnErr};
+ghost use Rattle.flow_anonymize.specs.Outcome.{passed, decision_of};
+ghost use Rattle.flow_anonymize.specs.Planning.{planned, IsShowable};
+ghost use Rattle.flow_anonymize.specs.Plans.{is_for};
+ghost use Rattle.flow_anonymize.specs.Shelf.{IsPut};
+
+use crate::decision::Decision;
+use crate::output::Output;
+use crate::plan::Plan;
+use crate::record_classes::RecordClasses;
+use crate::slot::{Slot, is_for};
+use ipfix_template::Record;
+use record_runs::Records;
+use std::alloc::{AllocError, Global};
+use std::marker::Model;
+
+/// How many plans are kept.
+const MOST_PLANS: usize = 16;
+
+/// Plans for the records of one template, and the records that passed by these and by others. Contracts see both lists.
+#[derive(Drop)]
+pub(crate) struct Shelf {
+    slots: Vec<Slot>,
+    output: Output,
+    /// The place of the plan by which the run is written that is open, if that plan is still kept.
+    open: Option<usize>,
+}
+
+impl Model for Shelf {
+    ghost use Rattle.flow_anonymize.specs.Shelf.{ShelfOf, IsOpen};
+
+    ghost Value = { ShelfOf };
+
+    ghost view = { λ s. record { slots = s.slots.items; given = s.output.given } };
+
+    ghost invariant = { λ s. IsOpen s.slots.items s.output.writing s.open };
+}
+
+impl Shelf {
+    ghost use Rattle.flow_anonymize.specs.declared.slot.Slot.{Slot};
+
+    /// No plan, and no record.
+    pub(crate) fn new(alloc: Global) -> Shelf
+        ensures { result ≡ record { slots = []; given = [] } }
+    {
+        Shelf {
+            slots: Vec::new(alloc),
+            output: Output::new(alloc),
+            open: None,
+        }
+    }
+
+    /// Drops the plans.
+    pub(crate) fn clear(&mut self)
+        ensures { self.new ≡ record { slots = []; given = self.old.given } }
+    {
+        self.slots.clear();
+        self.open = None;
+    }
+
+    /// The place of the plan for records whose addresses have these classes.
+    pub(crate) fn place_of(&self, classes: RecordClasses) -> Option<usize>
+        ensures place { result ≡ position (is_for classes) self.now.slots }
+        ensures within { IfSome result (λ place. place < length self.now.slots) }
+    {
+        self.slots.iter().position(|slot| is_for(slot, classes))
+    }
+
+    /// Keeps a plan, in the place of another where there are as many as are kept, and answers its place.
+    ///
+    /// # Errors
+    /// Want of memory, and then nothing has changed.
+    pub(crate) fn keep(&mut self, slot: Slot) -> Result<usize, AllocError>
+        ensures put { IfOk result (λ place. IsPut self.old.slots slot place self.new.slots) }
+        ensures given { self.new.given ≡ self.old.given }
+        ensures err { OnErr result (self.new ≡ self.old) }
+    {
+        let count = self.slots.len();
+        if count < MOST_PLANS {
+            self.slots.push(slot)?;
+            return Ok(count);
+        }
+        let place = (slot.classes.sources ^ slot.classes.destinations) as usize % MOST_PLANS;
+        self.open = None;
+        self.slots[place] = slot;
+        Ok(place)
+    }
+
+    /// Gives what passes of a record by the plan at a place, and says what became of it.
+    ///
+    /// # Errors
+    /// Want of memory.
+    pub(crate) fn give(
+        &mut self,
+        place: usize,
+        flow_record: &Record,
+    ) -> Result<Decision, AllocError>
+        requires there { place < length self.old.slots }
+        requires showable { (slot : Slot) → slice_get self.old.slots place ≡ Some slot → IsShowable slot.plan flow_record.now }
+        ensures slots { self.new.slots ≡ self.old.slots }
+        ensures given { (slot : Slot) → slice_get self.old.slots place ≡ Some slot → OnOk result (self.new.given ≡ self.old.given ++ passed (planned slot.plan flow_record.now.values)) }
+        ensures decision { (slot : Slot) → slice_get self.old.slots place ≡ Some slot → IfOk result (λ d. d ≡ decision_of (planned slot.plan flow_record.now.values)) }
+    {
+        let is_open = self.open == Some(place);
+        let open = self.open.take();
+        let plan = &self.slots[place].plan;
+        pass(plan, is_open, flow_record, &mut self.output)?;
+        self.open = match plan.template() {
+            Some(_) => Some(place),
+            None => open,
+        };
+        plan.decision()
+    }
+
+    /// Gives a record that passes by no plan that is kept.
+    ///
+    /// # Errors
+    /// Want of memory.
+    pub(crate) fn push(&mut self, kept: Record) -> Result<(), AllocError>
+        ensures given { OnOk result (self.new ≡ record { slots = self.old.slots; given = self.old.given ++ kept ∷ [] }) }
+        ensures slots { self.new.slots ≡ self.old.slots }
+    {
+        self.open = None;
+        self.output.push(kept)
+    }
+
+    /// All records that were given.
+    ///
+    /// # Errors
+    /// Want of memory.
+    pub(crate) fn into_records(self) -> Result<Records, AllocError>
+        ensures { IfOk result (λ all. all ≡ self.given) }
+    {
+        let Shelf { output, .. } = self;
+        output.into_records()
+    }
+}
+
+ghost use Rattle.std.specs.Prelude.{true};
+ghost use Rattle.flow_anonymize.specs.Planning.{shown_template};
+ghost use Rattle.flow_anonymize.specs.Shelf.{WritesOn};
+
+/// Adds what passes of a record by a plan, to the run that is written by this plan already or to a new one.
+///
+/// # Errors
+/// Want of memory.
+fn pass(
+    plan: &Plan,
+    is_open: bool,
+    flow_record: &Record,
+    output: &mut Output,
+) -> Result<(), AllocError>
+    requires showable { IsShowable plan.now flow_record.now }
+    requires same { is_open ≡ true → output.old.writing ≡ shown_template plan.now }
+    ensures given { OnOk result (output.new.given ≡ output.old.given ++ passed (planned plan.now flow_record.now.values)) }
+    ensures writing { OnOk result (WritesOn (shown_template plan.now) output.old.writing output.new.writing) }
+{
+    let Some(template) = plan.template() else {
+        return Ok(());
+    };
+    if !is_open {
+        output.begin(template.clone()?)?;
+    }
+    output.add(plan, flow_record)
+}

@@ -1,0 +1,241 @@
+//! What is shown of a record, by a few steps over its octets that are worked out once for a plan.
+ghost use Rattle.std.specs.Prelude.{◌≡◌, ◌+◌, ◌≤◌, ◌++◌, ◌∷◌, [], List, length, take, drop, IfOk, IfSome, OnOk, OnErr};
+ghost use Rattle.flow_prefix.specs.Bits.{truncated, kept_octets};
+ghost use Rattle.flow_anonymize.specs.declared.steps.Step.{Step};
+ghost use Rattle.flow_anonymize.specs.Steps.{variable_span, shown_at, behind, shown_by, step_of, AreAlike, AreSteps};
+
+use flow_prefix::keep_bits;
+use ipfix_octets::read_varlen;
+use ipfix_template::FieldSpec;
+use policy_judge::{ElementAction, ElementVerdict};
+use std::alloc::{AllocError, Global};
+
+/// A step over the octets of a record's values.
+#[derive(Clone, Copy)]
+pub(crate) enum Step {
+    /// So many octets are shown as they stand.
+    Show(usize),
+    /// So many octets are left out.
+    Skip(usize),
+    /// A value of variable length is shown as it stands, behind its length (RFC 7011, section 7).
+    ShowVariable,
+    /// A value of variable length is left out, and its length too.
+    SkipVariable,
+    /// Of a value of so many octets the first bits are shown, and the others 0.
+    Truncate { octets: usize, bits: usize },
+    /// Of a value of variable length the first bits are shown, and the others 0, behind its length.
+    TruncateVariable(usize),
+}
+
+/// The steps for records of these fields by these verdicts.
+///
+/// # Errors
+/// Want of memory.
+pub(crate) fn steps_of(
+    alloc: Global,
+    fields: &[FieldSpec],
+    verdicts: &[ElementVerdict],
+) -> Result<Vec<Step>, AllocError>
+    ensures { IfOk result (λ steps. AreSteps fields.now verdicts.now steps.items) }
+{
+    let mut steps = Vec::new(alloc);
+    let mut last = Step::Show(0);
+    'fields: for (field, verdict) in fields.iter().zip(verdicts) {
+        let next = step_of(field, verdict.action);
+        last = join(last, next, &mut steps)?;
+    }
+    end(last, &mut steps)?;
+    Ok(steps)
+}
+
+/// The step for a field.
+fn step_of(field: &FieldSpec, action: ElementAction) -> Step
+    ensures { result ≡ step_of field.now action }
+{
+    let variable = field.is_variable();
+    let octets = usize::from(field.length);
+    match action {
+        ElementAction::Keep if variable => Step::ShowVariable,
+        ElementAction::Keep => Step::Show(octets),
+        ElementAction::Remove if variable => Step::SkipVariable,
+        ElementAction::Remove => Step::Skip(octets),
+        ElementAction::Truncate(bits) if variable => Step::TruncateVariable(bits),
+        ElementAction::Truncate(bits) => Step::Truncate { octets, bits },
+    }
+}
+
+/// Joins the next step with the last one, or appends the last one; the step that comes last then.
+fn join(last: Step, next: Step, steps: &mut Vec<Step>) -> Result<Step, AllocError>
+    ensures { IfOk result (λ step. (after : List Step) → AreAlike (steps.new.items ++ step ∷ after) (steps.old.items ++ last ∷ next ∷ after)) }
+{
+    match joined(last, next) {
+        Some(both) => Ok(both),
+        None => {
+            steps.push(last)?;
+            Ok(next)
+        }
+    }
+}
+
+/// One step in place of two neighbours that both show octets as they stand, or both leave octets out.
+fn joined(last: Step, next: Step) -> Option<Step>
+    ensures { IfSome result (λ both. (after : List Step) → AreAlike (both ∷ after) (last ∷ next ∷ after)) }
+{
+    match (last, next) {
+        (Step::Show(0), next) => Some(next),
+        (Step::Show(front), Step::Show(back)) => Some(Step::Show(front.checked_add(back)?)),
+        (Step::Skip(front), Step::Skip(back)) => Some(Step::Skip(front.checked_add(back)?)),
+        _ => None,
+    }
+}
+
+/// Appends the last step, if it shows something.
+fn end(last: Step, steps: &mut Vec<Step>) -> Result<(), AllocError>
+    ensures { OnOk result (AreAlike steps.new.items (steps.old.items ++ last ∷ [])) }
+{
+    match last {
+        Step::Show(0) => {}
+        Step::Skip(_) => {}
+        Step::SkipVariable => {}
+        _ => steps.push(last)?,
+    }
+    Ok(())
+}
+
+/// Appends what the steps show of octets.
+///
+/// # Errors
+/// Want of memory, and then nothing is appended.
+pub(crate) fn put_by_steps(
+    steps: &[Step],
+    octets: &[u8],
+    text: &mut Vec<u8>,
+) -> Result<(), AllocError>
+    ensures ok { OnOk result (text.new.items ≡ text.old.items ++ shown_by steps.now octets.now) }
+    ensures err { OnErr result (text.new.items ≡ text.old.items) }
+{
+    let held = text.len();
+    let put = put_steps(steps, octets, text);
+    if put.is_err() {
+        text.truncate(held);
+    }
+    put
+}
+
+/// The same, and what stood there stays on an error.
+fn put_steps(steps: &[Step], octets: &[u8], text: &mut Vec<u8>) -> Result<(), AllocError>
+    ensures ok { OnOk result (text.new.items ≡ text.old.items ++ shown_by steps.now octets.now) }
+    ensures err { OnErr result (take (length text.old.items) text.new.items ≡ text.old.items) }
+{
+    let mut rest = octets;
+    'steps: for step in steps {
+        rest = put_step(*step, rest, text)?;
+    }
+    Ok(())
+}
+
+/// Appends what a step shows of octets, and answers those behind it.
+fn put_step<'o>(step: Step, octets: &'o [u8], text: &mut Vec<u8>) -> Result<&'o [u8], AllocError>
+    ensures shown { OnOk result (text.new.items ≡ text.old.items ++ shown_at step octets.now) }
+    ensures behind { IfOk result (λ rest. rest.now ≡ behind step octets.now) }
+    ensures err { OnErr result (take (length text.old.items) text.new.items ≡ text.old.items) }
+{
+    match step {
+        Step::Show(count) => {
+            let (here, rest) = split(octets, count);
+            text.extend_from_slice(here)?;
+            Ok(rest)
+        }
+        Step::Skip(count) => {
+            let (_, rest) = split(octets, count);
+            Ok(rest)
+        }
+        Step::ShowVariable => {
+            let (start, len) = variable_span(octets);
+            let (here, rest) = split(octets, start + len);
+            text.extend_from_slice(here)?;
+            Ok(rest)
+        }
+        Step::SkipVariable => {
+            let (start, len) = variable_span(octets);
+            let (_, rest) = split(octets, start + len);
+            Ok(rest)
+        }
+        Step::Truncate {
+            octets: count,
+            bits,
+        } => {
+            let (here, rest) = split(octets, count);
+            put_first_bits(here, bits, text)?;
+            Ok(rest)
+        }
+        Step::TruncateVariable(bits) => {
+            let (start, len) = variable_span(octets);
+            put_truncated(&octets[..start], &octets[start..start + len], bits, text)?;
+            Ok(&octets[start + len..])
+        }
+    }
+}
+
+/// The first octets, so many or all, and those behind them.
+fn split(octets: &[u8], count: usize) -> (&[u8], &[u8])
+    ensures front { result.0.now ≡ take count octets.now }
+    ensures back { result.1.now ≡ drop count octets.now }
+{
+    octets.split_at(count.min(octets.len()))
+}
+
+/// Where the value of variable length at the front of octets starts, and its length; both are 0 where none stands there.
+fn variable_span(octets: &[u8]) -> (usize, usize)
+    ensures exact { result ≡ variable_span octets.now }
+    ensures within { result.0 + result.1 ≤ length octets.now }
+{
+    match read_varlen(octets) {
+        Some(span) => span,
+        None => (0, 0),
+    }
+}
+
+/// Appends octets as they stand, and behind them others with their first bits and the others 0.
+fn put_truncated(
+    before: &[u8],
+    octets: &[u8],
+    bits: usize,
+    text: &mut Vec<u8>,
+) -> Result<(), AllocError>
+    ensures ok { OnOk result (text.new.items ≡ text.old.items ++ (before.now ++ kept_octets bits octets.now)) }
+    ensures err { OnErr result (take (length text.old.items) text.new.items ≡ text.old.items) }
+{
+    text.extend_from_slice(before)?;
+    put_first_bits(octets, bits, text)
+}
+
+/// Appends octets with their first bits and the others 0; all of them where they have no more bits.
+fn put_first_bits(octets: &[u8], bits: usize, text: &mut Vec<u8>) -> Result<(), AllocError>
+    ensures ok { OnOk result (text.new.items ≡ text.old.items ++ kept_octets bits octets.now) }
+    ensures err { OnErr result (text.new.items ≡ text.old.items) }
+{
+    if let [a, b, c, d] = octets {
+        return put_bits_of_four([*a, *b, *c, *d], bits, text);
+    }
+    let most = octets.len().saturating_mul(8);
+    keep_bits(octets, bits.min(most), text)
+}
+
+/// The same for four octets, as an IPv4 address has.
+fn put_bits_of_four(octets: [u8; 4], bits: usize, text: &mut Vec<u8>) -> Result<(), AllocError>
+    ensures ok { OnOk result (text.new.items ≡ text.old.items ++ kept_octets bits octets) }
+    ensures err { OnErr result (text.new.items ≡ text.old.items) }
+{
+    let kept = first_bits(u32::from_be_bytes(octets), bits.min(32));
+    text.extend_from_slice(&kept.to_be_bytes())
+}
+
+/// A number with its first bits and the others 0.
+fn first_bits(number: u32, bits: usize) -> u32
+    requires { bits ≤ 32 }
+    ensures { result ≡ truncated 32 bits number }
+{
+    let dropped = 32 - bits;
+    ((u64::from(number) >> dropped) << dropped) as u32
+}

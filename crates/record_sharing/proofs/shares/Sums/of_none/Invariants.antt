@@ -1,0 +1,6 @@
+use Rattle.std.proofs.Common.{◌≡◌, map, take}
+use Rattle.record_sharing.specs.Sharing.{tallied, blank}
+use Rattle.record_sharing.proofs.shares.Sums.of_none.Given as goal
+
+abbrev pub invariant-served : goal.invariant-served
+invariant-served l = map tallied l.tallies.items ≡ map blank (take l.who-index l.served)

@@ -1,0 +1,18 @@
+use Rattle.std.proofs.Common.{◌≤◌, drop, length, ap, arith, length-drop}
+use Rattle.subscriber_stream.proofs.TextLaws.{is_front, count_few}
+use Rattle.subscriber_stream.proofs.texts.Texts.octets.Goals as goal
+
+few : (c : goal.After-deref) → c.args.count ≤ length (drop c.self.inside.handed c.self.inside.ends.items)
+few c = count_few c.self.inside.octets c.self.inside.start _ c.args.count (rw (← c.self.view_is) at c.requires)
+
+pub end_of-requires : goal.end_of-requires
+end_of-requires c =
+    omega (arith, few c, length-drop c.self.inside.handed c.self.inside.ends.items, ap length c.deref.ensures.value, c.self.invariant.1)
+
+pub overflow_sub-result : goal.overflow_sub-result
+overflow_sub-result c = (is_front c.self.inside.octets c.self.inside.start (drop c.self.inside.handed c.self.inside.ends.items) c.args.count c.end_of.result (count_few c.self.inside.octets c.self.inside.start _ c.args.count (rw (← c.self.view_is) at c.requires)) c.self.invariant.0 (rw c.deref.ensures.value at c.end_of.ensures)).behind
+
+pub returns : goal.returns
+returns c =
+    let front = is_front c.self.inside.octets c.self.inside.start (drop c.self.inside.handed c.self.inside.ends.items) c.args.count c.end_of.result (count_few c.self.inside.octets c.self.inside.start _ c.args.count (rw (← c.self.view_is) at c.requires)) c.self.invariant.0 (rw c.deref.ensures.value at c.end_of.ensures) in
+    record { exact = rw (← c.self.view_is) front.counted; few = omega arith }
