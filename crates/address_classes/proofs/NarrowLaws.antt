@@ -1,5 +1,5 @@
--- How many of ascending cuts are below an address, by each 64th of them.
-use Rattle.std.proofs.Common.{◌≡◌, ◌⊎◌, ℕ, zero, suc, ◌+◌, ◌-◌, ◌*◌, ◌<◌, ◌≤◌, List, [], ◌∷◌, length, take, drop, get_or, ap, ◌∙◌, arith, inl, inr, nat_lt, min, length-drop}
+-- How many of ascending cuts are below an address, by each 16th of them.
+use Rattle.std.proofs.Common.{◌≡◌, ◌⊎◌, ℕ, zero, suc, ◌+◌, ◌-◌, ◌*◌, ◌<◌, ◌≤◌, List, [], ◌∷◌, length, take, drop, get_or, ap, ◌∙◌, arith, inl, inr, nat_lt, length-drop}
 use Rattle.std.specs.List.Sorted.{IsNonDecreasing}
 use Rattle.std.proofs.lemmas.Bool.{cases_lt}
 use Rattle.std.proofs.lemmas.List.{get_or-take, get_or-drop, length-take-le}
@@ -50,7 +50,7 @@ point_of (cut ∷ cuts) address up = point_by cut cuts address up (point_of cuts
 
 pub tops_ascend : (cuts tops : List ℕ) → IsNonDecreasing cuts → AreTops cuts tops → IsNonDecreasing tops
 tops_ascend cuts tops up are =
-    IsNonDecreasingBy-from_default (λ n. n) tops 0 (λ i j le lt. omega (arith, are.each i (omega (arith, le, lt)), are.each j lt, up (64 * i) (64 * j) 0 (omega (arith, le)) (omega (arith, lt, are.few))))
+    IsNonDecreasingBy-from_default (λ n. n) tops 0 (λ i j le lt. omega (arith, are.each i (omega (arith, le, lt)), are.each j lt, up (16 * i) (16 * j) 0 (omega (arith, le)) (omega (arith, lt, are.few))))
 
 -- ---- the class by tops
 
@@ -66,9 +66,9 @@ pub record IsBlock (cuts tops : List ℕ) (address from to : ℕ) : Type 0 where
   pub tops_are : AreTops cuts tops
   pub some : 0 < class_of tops address
   pub within : class_of tops address ≤ length tops
-  pub begins : from ≡ 64 * (class_of tops address - 1)
+  pub begins : from ≡ 16 * (class_of tops address - 1)
   pub ends : to ≤ length cuts
-  pub whole : (to ≡ length cuts) ⊎ (to ≡ from + 64)
+  pub whole : (to ≡ length cuts) ⊎ (to ≡ from + 16)
 
 in_block : (cuts : List ℕ) (from to j : ℕ) → j < to - from → get_or (take (to - from) (drop from cuts)) j 0 ≡ get_or cuts (from + j) 0
 in_block cuts from to j l = get_or-take (to - from) (drop from cuts) j 0 l ∙ get_or-drop from cuts j 0
@@ -79,24 +79,24 @@ begins_below cuts tops address from to b =
     let n = class_of tops address in
     let point = point_of tops address (tops_ascend cuts tops b.ascending b.tops_are) in
     let last : get_or tops (n - 1) 0 < address = point.below (n - 1) (omega (arith, b.some)) in
-    let top : get_or tops (n - 1) 0 ≡ get_or cuts (64 * (n - 1)) 0 = b.tops_are.each (n - 1) (omega (arith, b.some, b.within)) in
+    let top : get_or tops (n - 1) 0 ≡ get_or cuts (16 * (n - 1)) 0 = b.tops_are.each (n - 1) (omega (arith, b.some, b.within)) in
     let inside : from < length cuts = omega (arith, b.begins, b.some, b.within, b.tops_are.few) in
     let low : from ≤ to = low_by b.whole inside in
     (inside, low, omega (arith, last, top, ap (λ k. get_or cuts k 0) b.begins)) where
-      low_by : (to ≡ length cuts) ⊎ (to ≡ from + 64) → from < length cuts → from ≤ to
+      low_by : (to ≡ length cuts) ⊎ (to ≡ from + 16) → from < length cuts → from ≤ to
       low_by (inl e) inside = omega (arith, e, inside)
       low_by (inr e) inside = omega (arith, e)
 
 -- and the cuts behind it are not below the address
-behind_above : (cuts tops : List ℕ) (address from to k : ℕ) → IsBlock cuts tops address from to → to ≤ k → k < length cuts → (to ≡ length cuts) ⊎ (to ≡ from + 64) → address ≤ get_or cuts k 0
+behind_above : (cuts tops : List ℕ) (address from to k : ℕ) → IsBlock cuts tops address from to → to ≤ k → k < length cuts → (to ≡ length cuts) ⊎ (to ≡ from + 16) → address ≤ get_or cuts k 0
 behind_above cuts tops address from to k b le lt (inl e) = absurd (omega (arith, e, le, lt))
 behind_above cuts tops address from to k b le lt (inr e) =
     let n = class_of tops address in
     let point = point_of tops address (tops_ascend cuts tops b.ascending b.tops_are) in
-    let next : to ≡ 64 * n = omega (arith, e, b.begins, b.some) in
+    let next : to ≡ 16 * n = omega (arith, e, b.begins, b.some) in
     let there : n < length tops = omega (arith, next, le, lt, b.tops_are.all) in
     let above : address ≤ get_or tops n 0 = point.above n (omega arith) there in
-    let top : get_or tops n 0 ≡ get_or cuts (64 * n) 0 = b.tops_are.each n there in
+    let top : get_or tops n 0 ≡ get_or cuts (16 * n) 0 = b.tops_are.each n there in
     omega (arith, above, top, ap (λ i. get_or cuts i 0) next, b.ascending to k 0 le lt)
 
 -- so the class is that of the cuts before the block, which are all below the address, and of the block
@@ -131,9 +131,21 @@ class_in_block cuts tops address from to b =
           let le : address ≤ get_or (take (to - from) (drop from cuts)) j 0 = point.above j (omega (arith, l)) (omega (arith, wide, before, l)) in
           omega (arith, le, in_block cuts from to j (omega (arith, before, l)), ap (λ i. get_or cuts i 0) here)
 
--- a block ends with the cuts, or behind 64
-pub end_of_block : (cuts : List ℕ) (from to : ℕ) → to ≡ min (length cuts) (from + 64) → (to ≤ length cuts) × ((to ≡ length cuts) ⊎ (to ≡ from + 64))
-end_of_block cuts from to is = (omega (arith, is), end_by (cases_lt (length cuts) (from + 64))) where
-  end_by : (length cuts < from + 64) ⊎ (from + 64 ≤ length cuts) → (to ≡ length cuts) ⊎ (to ≡ from + 64)
-  end_by (inl short) = inl (omega (arith, is, short))
-  end_by (inr long) = inr (omega (arith, is, long))
+-- it ends with the cuts, where that top is the last of all, or else behind 16
+pub block_ends : (cuts tops : List ℕ) (address n to : ℕ) → IsNonDecreasing cuts → AreTops cuts tops → n ≡ class_of tops address → (n ≡ 0 → ⊥) → ((n < length tops) × (to ≡ (n - 1) * 16 + 16)) ⊎ ((length tops ≤ n) × (to ≡ length cuts)) → IsBlock cuts tops address ((n - 1) * 16) to
+block_ends cuts tops address n to up are is some end = record {
+  ascending = up;
+  tops_are = are;
+  some = omega (arith, is, some);
+  within = count_by-le-length (λ top. nat_lt top address) tops;
+  begins = omega (arith, is);
+  ends = ends_by end;
+  whole = whole_by end;
+} where
+  ends_by : ((n < length tops) × (to ≡ (n - 1) * 16 + 16)) ⊎ ((length tops ≤ n) × (to ≡ length cuts)) → to ≤ length cuts
+  ends_by (inl here) = omega (arith, here.0, here.1, are.few, some)
+  ends_by (inr last) = omega (arith, last.1)
+
+  whole_by : ((n < length tops) × (to ≡ (n - 1) * 16 + 16)) ⊎ ((length tops ≤ n) × (to ≡ length cuts)) → (to ≡ length cuts) ⊎ (to ≡ (n - 1) * 16 + 16)
+  whole_by (inl here) = inr here.1
+  whole_by (inr last) = inl last.1

@@ -13,14 +13,16 @@ const ABOVE4: u128 = 0x1_0000_0000;
 
 /// How many cuts stand from one top to the next. So many are counted faster than they are searched by halves, where a
 /// processor guesses at each step which half is next.
-const BLOCK: usize = 64;
+const BLOCK: usize = 16;
 
 /// Cuts below 2^32, ascending. Contracts see the list of them.
 #[derive(Drop)]
 pub(crate) struct NarrowCuts {
     cuts: Vec<u32>,
-    /// Each 64th of them, from the first on.
+    /// Each 16th of them, from the first on.
     tops: Vec<u32>,
+    /// Each 16th of those.
+    summits: Vec<u32>,
 }
 
 impl Model for NarrowCuts {
@@ -31,7 +33,7 @@ impl Model for NarrowCuts {
 
     ghost view = { λ c. c.cuts.items };
 
-    ghost invariant = { λ c. AreNarrow c.cuts.items c.tops.items };
+    ghost invariant = { λ c. AreNarrow c.cuts.items c.tops.items c.summits.items };
 }
 
 impl NarrowCuts {
@@ -43,7 +45,12 @@ impl NarrowCuts {
     {
         let cuts = narrow_cuts(alloc, cuts)?;
         let tops = tops_of(alloc, &cuts)?;
-        Ok(NarrowCuts { cuts, tops })
+        let summits = tops_of(alloc, &tops)?;
+        Ok(NarrowCuts {
+            cuts,
+            tops,
+            summits,
+        })
     }
 
     /// How many of the cuts are below an address.
@@ -51,7 +58,12 @@ impl NarrowCuts {
         ensures class { result ≡ class_of self.now address }
         ensures few { result ≤ most_cuts }
     {
-        class_by_tops(&self.cuts, &self.tops, address) as u16
+        if self.cuts.len() <= BLOCK {
+            return count_below(&self.cuts, address) as u16;
+        }
+        let summits_below = count_below(&self.summits, address);
+        let tops_below = class_by_tops(&self.tops, &self.summits, summits_below, address);
+        class_by_tops(&self.cuts, &self.tops, tops_below, address) as u16
     }
 }
 
@@ -68,7 +80,7 @@ fn narrow_cuts(alloc: Global, cuts: &[u128]) -> Result<Vec<u32>, AllocError>
     Ok(narrow)
 }
 
-/// Each 64th of the cuts, from the first on.
+/// Each 16th of the cuts, from the first on.
 fn tops_of(alloc: Global, cuts: &[u32]) -> Result<Vec<u32>, AllocError>
     requires { length cuts.now ≤ most_cuts }
     ensures { IfOk result (λ tops. AreTops cuts.now tops.items) }
@@ -80,23 +92,25 @@ fn tops_of(alloc: Global, cuts: &[u32]) -> Result<Vec<u32>, AllocError>
     Ok(tops)
 }
 
-/// How many of ascending cuts are below an address: those before the last top that is below it, and some of its block.
-fn class_by_tops(cuts: &[u32], tops: &[u32], address: u32) -> usize
+/// How many of ascending cuts are below an address, where so many of their tops are: the cuts before the last such top,
+/// and some of its block.
+fn class_by_tops(cuts: &[u32], tops: &[u32], tops_below: usize, address: u32) -> usize
     requires ascending { IsNonDecreasing cuts.now }
     requires few { length cuts.now ≤ most_cuts }
     requires tops { AreTops cuts.now tops.now }
+    requires below { tops_below ≡ class_of tops.now address }
     ensures class { result ≡ class_of cuts.now address }
     ensures within { result ≤ length cuts.now }
 {
-    if cuts.len() <= BLOCK {
-        return count_below(cuts, address);
-    }
-    let below = count_below(tops, address);
-    if below == 0 {
+    if tops_below == 0 {
         return 0;
     }
-    let from = (below - 1) * BLOCK;
-    let to = cuts.len().min(from + BLOCK);
+    let from = (tops_below - 1) * BLOCK;
+    let to = if tops_below < tops.len() {
+        from + BLOCK
+    } else {
+        cuts.len()
+    };
     from + count_below(&cuts[from..to], address)
 }
 

@@ -4,8 +4,8 @@ ghost use Rattle.std.specs.List.{join_with_byte};
 ghost use Rattle.disclosure_audit.specs.Lines.{line_of, what_words, fields_text, field_text};
 
 use crate::entry::{AuditEntry, RemovedField, What};
+use itoa::Buffer;
 use std::alloc::{AllocError, Global};
-use std::fmt::Write;
 
 /// The line of an entry, with its line feed: position, index and subscription, then what was kept back,
 /// words parted by one space.
@@ -85,5 +85,6 @@ fn put_field(text: &mut String, field: RemovedField) -> Result<(), AllocError>
 fn put_number(text: &mut String, number: u64) -> Result<(), AllocError>
     ensures { OnOk result (string_bytes text.new ≡ string_bytes text.old ++ decimal number) }
 {
-    write!(text, "{number}")
+    let mut digits = Buffer::new();
+    text.push_str(digits.format(number))
 }

@@ -37,9 +37,9 @@ use Rattle.offline_filter.specs.HandsOut.{HandsOut}
 use Rattle.offline_filter.proofs.Receiving.{within_end}
 use Rattle.offline_filter.specs.Offline.{end_of}
 use Rattle.offline_filter.specs.declared.job.OfflineFault.{OfflineFault}
-use Rattle.offline_filter.specs.declared.job.OfflineFault.TheVariants.{Core}
+use Rattle.offline_filter.specs.declared.job.OfflineFault.TheVariants.{Write, Core}
 use Rattle.mediator_state.specs.declared.fault.Fault.TheVariants as fault
-use Rattle.offline_filter.specs.Pulling.{IsDelivering, Pulls, StopsWriting, Delivers, StopsDelivery, FailsDelivery}
+use Rattle.offline_filter.specs.Pulling.{IsDelivering, Pulls, Delivers, StopsDelivery, FailsDelivery}
 
 -- ---- a message is pulled
 
@@ -303,35 +303,34 @@ turn_smaller old d e f held holds m start so p state =
       length-drop q (parts (disclosed 1 h)),
     )
 
--- the writer failed at a message
-pub turn_fails : (old d e : Run) (held holds writes : Option (List ℕ)) (m : List ℕ) (e' : OfflineFault) (failed : Bool) → IsDelivering old → IsPulling old d held holds → Pulled d e (Some m)
-    → StopsWriting e' e holds writes m failed → FailsDelivery e' old held writes failed
-turn_fails old d e held holds writes m e' failed start so p stops = record {
-  messages = so.messages ++ m ∷ [];
-  handed = λ h q begin small. next h q begin small (so.handed h q begin small);
-  stops = subst (λ x. StopsDelivery x old held writes failed (so.messages ++ m ∷ [])) (sym stops.is) (length (concat so.messages) + stops.sent, (omega (arith, p.sent, so.sent)), front);
+-- ---- what was gathered is written
+
+pub all_delivered : (old new : Run) (held holds : Option (List ℕ)) (text : List ℕ) → Delivers old new (Some []) (Some text) → Appends held holds text → Delivers old new held holds
+all_delivered old new held holds text d writing = record {
+  job = d.job;
+  audit = d.audit;
+  messages = d.messages;
+  handed = d.handed;
+  written = subst (Appends held holds) d.written writing;
+  sent = d.sent;
+  few = d.few;
 }
-  where
-    next : (h : List HistoryEntry) (q : ℕ) → Stands old h q → Small h → IsAt old d h q so.messages → (r : ℕ) × HandsOut (disclosed 1 h) old.job.now old.job.target q (so.messages ++ m ∷ []) r
-    next h q begin small at = (
-      place_after (disclosed 1 h) at.place old.job.target,
-      hands-snoc (disclosed 1 h) old.job.now old.job.target q at.place so.messages m at.hands
-          (ap (λ j. built (disclosed 1 h) at.place j.now j.target) (sym so.job) ∙ sym (p.pulls.message h at.place at.stands)),
-    )
 
-    front : WritesFront held writes (concat (so.messages ++ m ∷ [])) (length (concat so.messages) + stops.sent) failed
-    front = subst (λ l. WritesFront held writes l (length (concat so.messages) + stops.sent) failed) (sym (concat_push so.messages m)) (record {
-      short = omega (arith, stops.front.short, length-append (concat so.messages) m);
-      written = subst (Appends held writes) (sym (take-add-append (concat so.messages) m stops.sent)) (Appends-trans held holds writes (concat so.messages) (take stops.sent m) so.written stops.front.written);
-      failed = stops.front.failed;
-    })
+-- the writer failed after n octets
+pub write_fails : (old new : Run) (held holds : Option (List ℕ)) (text : List ℕ) (n : ℕ) (e : OfflineFault) (failed : Bool) → Delivers old new (Some []) (Some text) → e ≡ Write (old.sent + n) → WritesFront held holds text n failed
+    → FailsDelivery e old held holds failed
+write_fails old new held holds text n e failed d is front = rw is (record {
+  messages = d.messages;
+  handed = λ h p so small. (end_of h, (d.handed h p so small).0);
+  stops = (n, refl, subst (λ t. WritesFront held holds t n failed) d.written front);
+})
 
--- memory ran out at a pull
-pub memory_fails : (old d : Run) (held holds : Option (List ℕ)) (e : OfflineFault) (failed : Bool) → e ≡ Core fault.OutOfMemory → IsPulling old d held holds → FailsDelivery e old held holds failed
-memory_fails old d held holds e failed is so = rw is (record {
-  messages = so.messages;
-  handed = λ h q begin small. let at = so.handed h q begin small in (at.place, at.hands);
-  stops = so.written;
+-- memory ran out, and nothing was written
+pub memory_fails : (old : Run) (held : Option (List ℕ)) (e : OfflineFault) (failed : Bool) → e ≡ Core fault.OutOfMemory → FailsDelivery e old held held failed
+memory_fails old held e failed is = rw is (record {
+  messages = [];
+  handed = λ h p so small. (p, refl);
+  stops = Appends-nil held;
 })
 
 pub some_same : (o : Option (List ℕ)) (a b : List ℕ) → o ≡ Some a → b ≡ a → o ≡ Some b

@@ -27,12 +27,6 @@ pub record Pulls (old : Run) (answer : Option (List ℕ)) (new : Run) : Type 0 w
   pub message : (h : List Entry) (p : ℕ) → Stands old h p → answer ≡ built (disclosed 1 h) p old.job.now old.job.target
   pub stands : (h : List Entry) (p : ℕ) → Stands old h p → Stands new h (place_after (disclosed 1 h) p old.job.target)
 
--- the writer failed at a message, and this is what is answered
-pub record StopsWriting (e : OfflineFault) (d : Run) (held holds : Option (List ℕ)) (octets : List ℕ) (failed : Bool) : Type 0 where
-  pub sent : ℕ
-  pub is : e ≡ Write (d.sent + sent)
-  pub front : WritesFront held holds octets sent failed
-
 -- all that waited was written
 pub record Delivers (old new : Run) (held holds : Option (List ℕ)) : Type 0 where
   pub job : new.job ≡ old.job

@@ -1,22 +1,22 @@
 //! What waits is written.
-ghost use Rattle.std.specs.Prelude.{◌≡◌, ◌≤◌, ◌<◌, ◌+◌, ◌^◌, length, IfOk, IfErr, OnOk};
-ghost use Rattle.std.specs.Io.KnownBytes.{Appends};
+ghost use Rattle.std.specs.Prelude.{◌≡◌, ◌≤◌, ◌<◌, ◌+◌, ◌^◌, ◌++◌, [], Some, length, IfOk, IfErr, OnOk};
 ghost use Rattle.mediator_state.specs.declared.fault.Fault.TheVariants.{OutOfMemory};
 ghost use Rattle.offline_filter.specs.declared.job.OfflineFault.TheVariants.{Core};
 ghost use Rattle.offline_filter.specs.Failing.{writer_after};
 ghost use Rattle.offline_filter.specs.Runs.{IsServing, SameButState, KeepsAudit};
-ghost use Rattle.offline_filter.specs.Pulling.{IsDelivering, Pulls, StopsWriting, Delivers, FailsDelivery};
+ghost use Rattle.offline_filter.specs.Pulling.{IsDelivering, Pulls, Delivers, FailsDelivery};
 
 use crate::job::OfflineFault;
 use crate::run::{Run, SUBSCRIPTION};
 use bytes::Bytes;
+use mediator_state::Fault;
 use octet_devices::{Sink, write_all};
 
 impl<'a> Run<'a> {
-    /// Pulls and writes the messages of what waits for the subscriber, until nothing waits.
+    /// Pulls the messages of what waits for the subscriber, until nothing waits, and writes them in one piece.
     ///
     /// # Errors
-    /// The writer failed, after so many octets of the whole run; or memory ran out.
+    /// The writer failed, after so many octets of the whole run; or memory ran out, and then nothing was written.
     pub(crate) fn deliver<W: Sink>(&mut self, writer: &mut W) -> Result<(), OfflineFault>
         requires delivering { IsDelivering self.old }
         ensures ok { OnOk result (Delivers self.old self.new (W.contents writer.old) (W.contents writer.new)) }
@@ -26,11 +26,30 @@ impl<'a> Run<'a> {
         ensures fails { IfErr result (λ e. W.has_failed writer.new ≡ writer_after e (W.has_failed writer.old)) }
         ensures err { IfErr result (λ e. FailsDelivery e self.old (W.contents writer.old) (W.contents writer.new) (W.has_failed writer.new)) }
     {
+        let before = self.sent;
+        let text = self.pull_all()?;
+        match write_all(writer, &text) {
+            Ok(()) => Ok(()),
+            Err(stopped) => Err(OfflineFault::Write {
+                sent: before + stopped.sent as u64,
+            }),
+        }
+    }
+
+    /// The messages of what waits for the subscriber, one after another; their octets are counted.
+    fn pull_all(&mut self) -> Result<Vec<u8>, OfflineFault>
+        requires delivering { IsDelivering self.old }
+        ensures ok { IfOk result (λ text. Delivers self.old self.new (Some []) (Some text.items)) }
+        ensures below { self.old.job.target < 2 ^ 16 }
+        ensures now_below { self.old.job.now < 2 ^ 32 }
+        ensures err { IfErr result (λ e. e ≡ Core OutOfMemory) }
+    {
+        let mut text = Vec::new(self.alloc);
         'pulls: loop {
             let Some(message) = self.pull()? else {
-                return Ok(());
+                return Ok(text);
             };
-            self.write(writer, message.as_slice())?;
+            self.gather(message.as_slice(), &mut text)?;
         }
     }
 
@@ -51,25 +70,19 @@ impl<'a> Run<'a> {
         )
     }
 
-    /// Writes a message, and counts its octets.
-    fn write<W: Sink>(&mut self, writer: &mut W, message: &[u8]) -> Result<(), OfflineFault>
+    /// Appends a message, and counts its octets.
+    fn gather(&mut self, message: &[u8], text: &mut Vec<u8>) -> Result<(), OfflineFault>
         requires fits { self.old.sent + length message.now < 2 ^ 64 }
         ensures same { SameButState self.old self.new }
         ensures state { self.new.state ≡ self.old.state }
-        ensures ok { OnOk result (Appends (W.contents writer.old) (W.contents writer.new) message.now) }
+        ensures ok { OnOk result (text.new.items ≡ text.old.items ++ message.now) }
         ensures sent { OnOk result (self.new.sent ≡ self.old.sent + length message.now) }
-        ensures stays { OnOk result (W.has_failed writer.new ≡ W.has_failed writer.old) }
-        ensures fails { IfErr result (λ e. W.has_failed writer.new ≡ writer_after e (W.has_failed writer.old)) }
-        ensures err { IfErr result (λ e. StopsWriting e self.old (W.contents writer.old) (W.contents writer.new) message.now (W.has_failed writer.new)) }
+        ensures err { IfErr result (λ e. e ≡ Core OutOfMemory) }
     {
-        match write_all(writer, message) {
-            Ok(()) => {
-                self.sent += message.len() as u64;
-                Ok(())
-            }
-            Err(stopped) => Err(OfflineFault::Write {
-                sent: self.sent + stopped.sent as u64,
-            }),
+        if text.extend_from_slice(message).is_err() {
+            return Err(OfflineFault::Core(Fault::OutOfMemory));
         }
+        self.sent += message.len() as u64;
+        Ok(())
     }
 }
