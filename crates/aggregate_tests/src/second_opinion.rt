@@ -117,7 +117,8 @@ fn a_plain_list_added_up(rt: HostRuntime) -> Result<(), Fail> {
     let list = flows(rt.alloc())?;
     let groups = counted(rt.alloc(), &list)?;
     let mut got = Vec::new(rt.alloc());
-    for closed in &groups.closing(1, 185_000)? {
+    let records = groups.closing(1, 185_000)?.to_vec(rt.alloc())?;
+    for closed in &records {
         put_record(&mut got, closed)?;
     }
     let mut want = Vec::new(rt.alloc());
