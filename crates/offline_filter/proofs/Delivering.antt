@@ -316,6 +316,9 @@ all_delivered old new held holds text d writing = record {
   few = d.few;
 }
 
+pub all_fits : (old new : Run) (text : List ℕ) → IsDelivering old → Delivers old new (Some []) (Some text) → old.sent + length text < 2 ^ 64
+all_fits old new text start d = omega (arith, d.sent, ap length d.written, d.few start.place start.sent start.history start.stands start.small, parts_few (disclosed 1 start.history), start.small.listed, start.small.entries)
+
 -- the writer failed after n octets
 pub write_fails : (old new : Run) (held holds : Option (List ℕ)) (text : List ℕ) (n : ℕ) (e : OfflineFault) (failed : Bool) → Delivers old new (Some []) (Some text) → e ≡ Write (old.sent + n) → WritesFront held holds text n failed
     → FailsDelivery e old held holds failed
