@@ -170,7 +170,7 @@ fn values_of_session(alloc: Global, journal: &Journal, wanted: u64) -> Result<Ve
         ) = journal.get(position)
         {
             if *session == wanted {
-                add_values(&mut messages, octets.as_slice(), &mut values)?;
+                add_values(alloc, &mut messages, octets.as_slice(), &mut values)?;
             }
         }
     }
