@@ -142,7 +142,7 @@ impl<'t, 'n> Plans<'t, 'n> {
     {
         // A record keeps that it is sound.
         let _template = flow_record.template();
-        let slot = self.planned(alloc, classes, &flow_record.to_record()?)?;
+        let slot = self.planned(alloc, classes, flow_record)?;
         let place = self.shelf.keep(slot)?;
         self.shelf.give(place, flow_record)
     }
@@ -155,7 +155,7 @@ impl<'t, 'n> Plans<'t, 'n> {
         &self,
         alloc: Global,
         classes: RecordClasses,
-        flow_record: &Record,
+        flow_record: &RecordView<'_>,
     ) -> Result<Slot, AllocError>
         requires template { self.now.for.template ≡ Some flow_record.now.template }
         requires classes { Some classes ≡ classes_of self.now.for.cuts flow_record.now }
@@ -163,7 +163,8 @@ impl<'t, 'n> Plans<'t, 'n> {
     {
         // Each rule is one of the grammar, so its prefixes have no bits past their lengths.
         let _rules = self.table.rules();
-        let plan = plan_by(alloc, self.table, self.name, self.domain, flow_record)?;
+        let single = flow_record.to_record()?;
+        let plan = plan_by(alloc, self.table, self.name, self.domain, &single)?;
         Ok(Slot { classes, plan })
     }
 
