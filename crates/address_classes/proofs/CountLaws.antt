@@ -1,7 +1,7 @@
 -- How many cuts are below an address.
 use Rattle.std.proofs.Common.{◌≡◌, ◌⊎◌, ◌^◌, Bool, true, false, refl, sym, ℕ, zero, suc, ◌+◌, ◌<◌, ◌≤◌, List, [], ◌∷◌, length, get_or, cond, ap, ◌∙◌, arith, inl, inr, nat_lt}
 use Rattle.std.specs.List.{Contains}
-use Rattle.std.proofs.lemmas.Bool.{cases_lt, lt-ltb, le-ltb, ltb-false}
+use Rattle.std.proofs.lemmas.Bool.{cases_lt, lt-ltb, le-ltb, ltb-false, ltb-true}
 use Rattle.std.proofs.lemmas.List.Sums.{sum_by-cons, length-filter, count_by-le-length}
 use Rattle.std.proofs.lemmas.List.Kept.{IsNonDecreasingBy-filter}
 use Rattle.std.specs.List.Sorted.{IsNonDecreasing}
@@ -84,3 +84,14 @@ narrow_ascending cuts up = IsNonDecreasingBy-filter (λ n. n) (λ cut. nat_lt cu
 
 pub narrow_few : (cuts : List ℕ) → length (narrow_cuts cuts) ≤ length cuts
 narrow_few cuts = omega (arith, length-filter (λ cut. nat_lt cut (2 ^ 32)) cuts, count_by-le-length (λ cut. nat_lt cut (2 ^ 32)) cuts)
+
+low_by : (cut : ℕ) (cuts : List ℕ) (b : Bool) → nat_lt cut (2 ^ 32) ≡ b → ((k : ℕ) → k < length (narrow_cuts cuts) → get_or (narrow_cuts cuts) k 0 < 2 ^ 32)
+    → (k : ℕ) → k < length (cond b (cut ∷ narrow_cuts cuts) (narrow_cuts cuts)) → get_or (cond b (cut ∷ narrow_cuts cuts) (narrow_cuts cuts)) k 0 < 2 ^ 32
+low_by cut cuts true is rest zero l = ltb-true cut (2 ^ 32) is
+low_by cut cuts true is rest (suc k) l = rest k (omega (arith, l))
+low_by cut cuts false is rest k l = rest k l
+
+-- each is below 2^32
+pub narrow_low : (cuts : List ℕ) (k : ℕ) → k < length (narrow_cuts cuts) → get_or (narrow_cuts cuts) k 0 < 2 ^ 32
+narrow_low [] k l = absurd (omega (arith, l))
+narrow_low (cut ∷ cuts) k l = low_by cut cuts (nat_lt cut (2 ^ 32)) refl (narrow_low cuts) k l

@@ -1,12 +1,14 @@
 -- How many of ascending cuts are below an address, by each 16th of them.
-use Rattle.std.proofs.Common.{◌≡◌, ◌⊎◌, ℕ, zero, suc, ◌+◌, ◌-◌, ◌*◌, ◌<◌, ◌≤◌, List, [], ◌∷◌, length, take, drop, get_or, ap, ◌∙◌, arith, inl, inr, nat_lt, length-drop}
+use Rattle.std.proofs.Common.{◌≡◌, ◌⊎◌, ℕ, zero, suc, ◌+◌, ◌-◌, ◌*◌, ◌<◌, ◌≤◌, List, [], ◌∷◌, ◌++◌, cond, length, take, drop, get_or, ap, ◌∙◌, arith, inl, inr, nat_lt, length-drop}
 use Rattle.std.specs.List.Sorted.{IsNonDecreasing}
-use Rattle.std.proofs.lemmas.Bool.{cases_lt}
-use Rattle.std.proofs.lemmas.List.{get_or-take, get_or-drop, length-take-le}
-use Rattle.std.proofs.lemmas.List.Sorted.{IsNonDecreasingBy-take, IsNonDecreasingBy-drop, IsNonDecreasingBy-from_default}
-use Rattle.std.proofs.lemmas.List.Sums.{count_by-le-length}
+use Rattle.std.proofs.lemmas.Bool.{cases_lt, le-ltb}
+use Rattle.std.proofs.lemmas.List.{get_or-take, get_or-drop, get_or_append_left, length-take-le}
+use Rattle.std.proofs.Math.Seq.{get_or-append_seam}
+use Rattle.std.proofs.lemmas.List.Sorted.{IsNonDecreasingBy-take, IsNonDecreasingBy-drop, IsNonDecreasingBy-from_default, IsNonDecreasingBy-push}
+use Rattle.std.proofs.lemmas.List.Sums.{count_by-le-length, sum_by_push}
+use Rattle.std.proofs.lemmas.Grind.{get_or_default_zero}
 use Rattle.address_classes.specs.Classes.{class_of}
-use Rattle.address_classes.specs.Narrow.{AreTops}
+use Rattle.address_classes.specs.Narrow.{AreTops, AreBlocks, AreNarrow, IsBlock}
 use Rattle.address_classes.proofs.CountLaws.{class_at, one_more}
 
 -- so many are below the address, and those behind are not
@@ -50,73 +52,41 @@ point_of (cut ∷ cuts) address up = point_by cut cuts address up (point_of cuts
 
 pub tops_ascend : (cuts tops : List ℕ) → IsNonDecreasing cuts → AreTops cuts tops → IsNonDecreasing tops
 tops_ascend cuts tops up are =
-    IsNonDecreasingBy-from_default (λ n. n) tops 0 (λ i j le lt. omega (arith, are.each i (omega (arith, le, lt)), are.each j lt, up (16 * i) (16 * j) 0 (omega (arith, le)) (omega (arith, lt, are.few))))
+    IsNonDecreasingBy-from_default (λ n. n) tops 0 (λ i j le lt. omega (arith, are.each i (omega (arith, le, lt)), are.each j lt, up (16 * i) (16 * j) 0 (omega (arith, le)) (omega (arith, lt, are.all))))
 
--- ---- the class by tops
+-- ---- the block in which the cuts end that are below an address
 
--- no top is below the address
-pub none_below : (cuts tops : List ℕ) (address : ℕ) → IsNonDecreasing cuts → AreTops cuts tops → class_of tops address ≡ 0 → 0 ≡ class_of cuts address
-none_below cuts tops address up are none =
-    let point = point_of tops address (tops_ascend cuts tops up are) in
-    all_above cuts address (λ k m. omega (arith, up 0 k 0 (omega arith) m, are.each 0 (omega (arith, m, are.all)), point.above 0 (omega (arith, none)) (omega (arith, m, are.all))))
+-- it begins with the last top that is below the address, or with the first where none is
+pub block_at : (cuts tops : List ℕ) (address n : ℕ) → IsNonDecreasing cuts → AreTops cuts tops → 0 < length tops → length cuts ≡ 16 * length tops → n ≡ class_of tops address → IsBlock cuts address (16 * (n - 1))
+block_at cuts tops address n up are some whole is = record {
+  within = omega (arith, some, whole, few, is);
+  before = λ k l. omega (arith, point.below (n - 1) (omega (arith, l, is)), are.each (n - 1) (omega (arith, l, few, is)), up k (16 * (n - 1)) 0 (omega (arith, l)) (omega (arith, l, few, is, whole)));
+  behind = λ k le lt. let there : n < length tops = omega (arith, le, lt, whole) in omega (arith, point.above n (omega (arith, is)) there, are.each n there, up (16 * n) k 0 (omega (arith, le)) lt);
+} where
+  point : IsPoint tops address (class_of tops address)
+  point = point_of tops address (tops_ascend cuts tops up are)
 
--- the block that begins with the last top that is below the address
-pub record IsBlock (cuts tops : List ℕ) (address from to : ℕ) : Type 0 where
-  pub ascending : IsNonDecreasing cuts
-  pub tops_are : AreTops cuts tops
-  pub some : 0 < class_of tops address
-  pub within : class_of tops address ≤ length tops
-  pub begins : from ≡ 16 * (class_of tops address - 1)
-  pub ends : to ≤ length cuts
-  pub whole : (to ≡ length cuts) ⊎ (to ≡ from + 16)
+  few : class_of tops address ≤ length tops
+  few = count_by-le-length (λ top. nat_lt top address) tops
 
 in_block : (cuts : List ℕ) (from to j : ℕ) → j < to - from → get_or (take (to - from) (drop from cuts)) j 0 ≡ get_or cuts (from + j) 0
 in_block cuts from to j l = get_or-take (to - from) (drop from cuts) j 0 l ∙ get_or-drop from cuts j 0
 
--- it begins within the cuts, below the address
-begins_below : (cuts tops : List ℕ) (address from to : ℕ) → IsBlock cuts tops address from to → (from < length cuts) × (from ≤ to) × (get_or cuts from 0 < address)
-begins_below cuts tops address from to b =
-    let n = class_of tops address in
-    let point = point_of tops address (tops_ascend cuts tops b.ascending b.tops_are) in
-    let last : get_or tops (n - 1) 0 < address = point.below (n - 1) (omega (arith, b.some)) in
-    let top : get_or tops (n - 1) 0 ≡ get_or cuts (16 * (n - 1)) 0 = b.tops_are.each (n - 1) (omega (arith, b.some, b.within)) in
-    let inside : from < length cuts = omega (arith, b.begins, b.some, b.within, b.tops_are.few) in
-    let low : from ≤ to = low_by b.whole inside in
-    (inside, low, omega (arith, last, top, ap (λ k. get_or cuts k 0) b.begins)) where
-      low_by : (to ≡ length cuts) ⊎ (to ≡ from + 16) → from < length cuts → from ≤ to
-      low_by (inl e) inside = omega (arith, e, inside)
-      low_by (inr e) inside = omega (arith, e)
-
--- and the cuts behind it are not below the address
-behind_above : (cuts tops : List ℕ) (address from to k : ℕ) → IsBlock cuts tops address from to → to ≤ k → k < length cuts → (to ≡ length cuts) ⊎ (to ≡ from + 16) → address ≤ get_or cuts k 0
-behind_above cuts tops address from to k b le lt (inl e) = absurd (omega (arith, e, le, lt))
-behind_above cuts tops address from to k b le lt (inr e) =
-    let n = class_of tops address in
-    let point = point_of tops address (tops_ascend cuts tops b.ascending b.tops_are) in
-    let next : to ≡ 16 * n = omega (arith, e, b.begins, b.some) in
-    let there : n < length tops = omega (arith, next, le, lt, b.tops_are.all) in
-    let above : address ≤ get_or tops n 0 = point.above n (omega arith) there in
-    let top : get_or tops n 0 ≡ get_or cuts (16 * n) 0 = b.tops_are.each n there in
-    omega (arith, above, top, ap (λ i. get_or cuts i 0) next, b.ascending to k 0 le lt)
-
--- so the class is that of the cuts before the block, which are all below the address, and of the block
-pub class_in_block : (cuts tops : List ℕ) (address from to : ℕ) → IsBlock cuts tops address from to → from + class_of (take (to - from) (drop from cuts)) address ≡ class_of cuts address
-class_in_block cuts tops address from to b =
-    class_at cuts address (from + class_of (take (to - from) (drop from cuts)) address) (omega (arith, few, wide, inside.1, b.ends)) (λ k l. below_by k l (cases_lt k from)) (λ k l m. above_by k l m (cases_lt k to)) where
-      inside : (from < length cuts) × (from ≤ to) × (get_or cuts from 0 < address)
-      inside = begins_below cuts tops address from to b
-
+-- the class is that of the cuts before the block, which are all below the address, and of the block
+pub class_in_block : (cuts : List ℕ) (address from to : ℕ) → IsNonDecreasing cuts → IsBlock cuts address from → to ≡ from + 16 → from + class_of (take (to - from) (drop from cuts)) address ≡ class_of cuts address
+class_in_block cuts address from to up b ends =
+    class_at cuts address (from + class_of (take (to - from) (drop from cuts)) address) (omega (arith, few, wide, b.within, ends)) (λ k l. below_by k l (cases_lt k from)) (λ k l m. above_by k l m (cases_lt k to)) where
       wide : length (take (to - from) (drop from cuts)) ≡ to - from
-      wide = length-take-le (to - from) (drop from cuts) (omega (arith, length-drop from cuts, b.ends))
+      wide = length-take-le (to - from) (drop from cuts) (omega (arith, length-drop from cuts, b.within, ends))
 
       few : class_of (take (to - from) (drop from cuts)) address ≤ length (take (to - from) (drop from cuts))
       few = count_by-le-length (λ cut. nat_lt cut address) (take (to - from) (drop from cuts))
 
       point : IsPoint (take (to - from) (drop from cuts)) address (class_of (take (to - from) (drop from cuts)) address)
-      point = point_of (take (to - from) (drop from cuts)) address (IsNonDecreasingBy-take (λ n. n) (to - from) (drop from cuts) (IsNonDecreasingBy-drop (λ n. n) from cuts b.ascending))
+      point = point_of (take (to - from) (drop from cuts)) address (IsNonDecreasingBy-take (λ n. n) (to - from) (drop from cuts) (IsNonDecreasingBy-drop (λ n. n) from cuts up))
 
       below_by : (k : ℕ) → k < from + class_of (take (to - from) (drop from cuts)) address → (k < from) ⊎ (from ≤ k) → get_or cuts k 0 < address
-      below_by k l (inl before) = omega (arith, b.ascending k from 0 (omega (arith, before)) inside.0, inside.2)
+      below_by k l (inl before) = b.before k before
       below_by k l (inr behind) =
           let j = k - from in
           let here : from + j ≡ k = omega (arith, behind) in
@@ -124,28 +94,43 @@ class_in_block cuts tops address from to b =
           omega (arith, less, in_block cuts from to j (omega (arith, l, behind, few, wide)), ap (λ i. get_or cuts i 0) here)
 
       above_by : (k : ℕ) → from + class_of (take (to - from) (drop from cuts)) address ≤ k → k < length cuts → (k < to) ⊎ (to ≤ k) → address ≤ get_or cuts k 0
-      above_by k l m (inr behind) = behind_above cuts tops address from to k b behind m b.whole
+      above_by k l m (inr behind) = b.behind k (omega (arith, behind, ends)) m
       above_by k l m (inl before) =
           let j = k - from in
           let here : from + j ≡ k = omega (arith, l) in
           let le : address ≤ get_or (take (to - from) (drop from cuts)) j 0 = point.above j (omega (arith, l)) (omega (arith, wide, before, l)) in
           omega (arith, le, in_block cuts from to j (omega (arith, before, l)), ap (λ i. get_or cuts i 0) here)
 
--- it ends with the cuts, where that top is the last of all, or else behind 16
-pub block_ends : (cuts tops : List ℕ) (address n to : ℕ) → IsNonDecreasing cuts → AreTops cuts tops → n ≡ class_of tops address → (n ≡ 0 → ⊥) → ((n < length tops) × (to ≡ (n - 1) * 16 + 16)) ⊎ ((length tops ≤ n) × (to ≡ length cuts)) → IsBlock cuts tops address ((n - 1) * 16) to
-block_ends cuts tops address n to up are is some end = record {
-  ascending = up;
-  tops_are = are;
-  some = omega (arith, is, some);
-  within = count_by-le-length (λ top. nat_lt top address) tops;
-  begins = omega (arith, is);
-  ends = ends_by end;
-  whole = whole_by end;
-} where
-  ends_by : ((n < length tops) × (to ≡ (n - 1) * 16 + 16)) ⊎ ((length tops ≤ n) × (to ≡ length cuts)) → to ≤ length cuts
-  ends_by (inl here) = omega (arith, here.0, here.1, are.few, some)
-  ends_by (inr last) = omega (arith, last.1)
+-- ---- blocks of blocks
 
-  whole_by : ((n < length tops) × (to ≡ (n - 1) * 16 + 16)) ⊎ ((length tops ≤ n) × (to ≡ length cuts)) → (to ≡ length cuts) ⊎ (to ≡ (n - 1) * 16 + 16)
-  whole_by (inl here) = inr here.1
-  whole_by (inr last) = inl last.1
+-- where there is more than one block, the tops are whole blocks, and there is a summit
+pub record AreHigh (cuts tops summits : List ℕ) : Type 0 where
+  pub tops_whole : length cuts ≡ 16 * length tops
+  pub summits_whole : length tops ≡ 16 * length summits
+  pub some : 0 < length summits
+
+pub high_of : (cuts tops summits : List ℕ) → AreNarrow cuts tops summits → (length cuts ≡ 16 → ⊥) → AreHigh cuts tops summits
+high_of cuts tops summits are more = high_by are.whole where
+  high_by : AreBlocks (length cuts) → AreHigh cuts tops summits
+  high_by (inl one) = absurd (more one)
+  high_by (inr (n, some, is)) =
+      let tops_are : length tops ≡ 16 * n = omega (arith, is, are.each_top.all, are.each_top.few) in
+      let summits_are : length summits ≡ n = omega (arith, tops_are, are.each_summit.all, are.each_summit.few) in
+      record { tops_whole = omega (arith, is, tops_are); summits_whole = omega (arith, tops_are, summits_are); some = omega (arith, some, summits_are) }
+
+-- ---- the highest address behind the cuts
+
+pub filled : (cuts : List ℕ) (high address : ℕ) → address ≤ high → class_of (cuts ++ high ∷ []) address ≡ class_of cuts address
+filled cuts high address le =
+    sum_by_push (λ c. cond (nat_lt c address) 1 0) cuts high ∙ ap (λ b. class_of cuts address + cond b 1 0) (le-ltb high address le) ∙ omega arith
+
+pub filled_ascends : (cuts : List ℕ) (high : ℕ) → IsNonDecreasing cuts → ((k : ℕ) → k < length cuts → get_or cuts k 0 ≤ high) → IsNonDecreasing (cuts ++ high ∷ [])
+filled_ascends cuts high up le = IsNonDecreasingBy-push (λ n. n) cuts high up (λ d some. omega (arith, le (length cuts - 1) (omega (arith, some)), get_or_default_zero cuts (length cuts - 1) d (omega (arith, some))))
+
+pub filled_low : (cuts : List ℕ) (high above k : ℕ) → ((j : ℕ) → j < length cuts → get_or cuts j 0 < above) → high < above → k < length cuts + 1 → get_or (cuts ++ high ∷ []) k 0 < above
+filled_low cuts high above k low last l = by_place (cases_lt k (length cuts)) where
+  by_place : (k < length cuts) ⊎ (length cuts ≤ k) → get_or (cuts ++ high ∷ []) k 0 < above
+  by_place (inl inside) = omega (arith, get_or_append_left cuts (high ∷ []) 0 k inside, low k inside)
+  by_place (inr behind) =
+      let end : k ≡ length cuts = omega (arith, behind, l) in
+      omega (arith, ap (λ i. get_or (cuts ++ high ∷ []) i 0) end, get_or-append_seam cuts high [] 0, last)

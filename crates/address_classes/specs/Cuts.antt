@@ -53,8 +53,3 @@ pub record AreCuts (cuts : List ℕ) : Type 0 where
 -- those below 2^32, where the addresses of IPv4 stand
 abbrev pub narrow_cuts : List ℕ → List ℕ
 narrow_cuts cuts = filter (λ cut. nat_lt cut (2 ^ 32)) cuts
-
--- the cuts, and beside them those below 2^32
-pub record AreKeptCuts (cuts narrow : List ℕ) : Type 0 where
-  pub sound : AreCuts cuts
-  pub below : narrow ≡ narrow_cuts cuts

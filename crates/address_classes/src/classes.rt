@@ -33,13 +33,13 @@ const FULL_KEY: u64 = 0x1_0000_0000_0000;
 pub struct AddressClasses {
     /// Before and behind each prefix, ascending.
     cuts: Vec<u128>,
-    /// Those below 2^32, among which an address of IPv4 lies.
+    /// Those among which an address of IPv4 lies.
     narrow: NarrowCuts,
 }
 
 impl Model for AddressClasses {
     ghost use Rattle.std.specs.Prelude.{ℕ, List};
-    ghost use Rattle.address_classes.specs.Cuts.{AreKeptCuts};
+    ghost use Rattle.address_classes.specs.Narrow.{AreKeptCuts};
 
     ghost Value = { List ℕ };
 

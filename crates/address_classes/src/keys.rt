@@ -11,12 +11,12 @@ ghost use Rattle.address_classes.specs.Places.{HasPlace, value_at};
 use crate::classes::{AddressClasses, EMPTY_KEY, with_digit};
 use crate::place::{Place, value_at};
 use crate::places::AddressPlaces;
-use ipfix_template::Record;
+use ipfix_template::RecordView;
 
 impl AddressClasses {
     /// The keys of the classes of a record's sources and of its destinations, as [`AddressClasses::key`] answers them.
     /// Only the places of addresses are looked at.
-    pub fn keys(&self, places: &AddressPlaces, flow_record: &Record) -> (Option<u64>, Option<u64>)
+    pub fn keys(&self, places: &AddressPlaces, flow_record: &RecordView<'_>) -> (Option<u64>, Option<u64>)
         requires same { flow_record.now.template ≡ places.now }
         ensures few { length self.now ≤ most_cuts }
         ensures sources { result.0 ≡ key_of self.now (values_of (is_of Source) flow_record.now) }
@@ -32,7 +32,7 @@ impl AddressClasses {
 }
 
 /// The key of the values at these places.
-fn key_at(classes: &AddressClasses, places: &[Place], flow_record: &Record) -> Option<u64>
+fn key_at(classes: &AddressClasses, places: &[Place], flow_record: &RecordView<'_>) -> Option<u64>
     requires { All (HasPlace flow_record.now) places.now }
     ensures { result ≡ key_of classes.now (map (value_at flow_record.now) places.now) }
 {

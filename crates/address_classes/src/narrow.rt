@@ -1,9 +1,9 @@
 //! The cuts among the addresses of IPv4, and how many of them are below one: most addresses are of IPv4.
-ghost use Rattle.std.specs.Prelude.{◌≡◌, ◌≤◌, length, IfOk};
+ghost use Rattle.std.specs.Prelude.{◌≡◌, ◌≤◌, ◌<◌, ◌+◌, ◌*◌, ◌-◌, ◌^◌, ℕ, length, slice_index, IfOk, OnOk};
 ghost use Rattle.std.specs.List.Sorted.{IsNonDecreasing};
 ghost use Rattle.address_classes.specs.Cuts.{most_cuts, narrow_cuts};
 ghost use Rattle.address_classes.specs.Classes.{class_of};
-ghost use Rattle.address_classes.specs.Narrow.{AreTops};
+ghost use Rattle.address_classes.specs.Narrow.{AreTops, AreBlocks, IsBlock, AreNarrowed};
 
 use std::alloc::{AllocError, Global};
 use std::marker::Model;
@@ -15,9 +15,14 @@ const ABOVE4: u128 = 0x1_0000_0000;
 /// processor guesses at each step which half is next.
 const BLOCK: usize = 16;
 
-/// Cuts below 2^32, ascending. Contracts see the list of them.
+/// How many cuts stand from one summit to the next.
+const BLOCKS: usize = BLOCK * BLOCK;
+
+/// Cuts below 2^32, ascending, and behind them the highest address as often as fills the last block: it is below none, so that it
+/// counts nowhere. Contracts see the list of all.
 #[derive(Drop)]
 pub(crate) struct NarrowCuts {
+    /// One block, or whole [`BLOCKS`].
     cuts: Vec<u32>,
     /// Each 16th of them, from the first on.
     tops: Vec<u32>,
@@ -37,17 +42,22 @@ impl Model for NarrowCuts {
 }
 
 impl NarrowCuts {
-    /// Those of ascending cuts that are below 2^32.
+    /// Those of ascending cuts that are below 2^32: an address of IPv4 has as many of them below it as of all cuts.
+    ///
+    /// # Errors
+    /// Want of memory.
     pub(crate) fn of(alloc: Global, cuts: &[u128]) -> Result<NarrowCuts, AllocError>
         requires ascending { IsNonDecreasing cuts.now }
         requires few { length cuts.now ≤ most_cuts }
-        ensures { IfOk result (λ narrow. narrow ≡ narrow_cuts cuts.now) }
+        ensures { IfOk result (AreNarrowed cuts.now) }
     {
-        let cuts = narrow_cuts(alloc, cuts)?;
-        let tops = tops_of(alloc, &cuts)?;
+        let mut narrow = narrow_cuts(alloc, cuts)?;
+        let whole = whole_blocks(narrow.len());
+        fill(&mut narrow, whole)?;
+        let tops = tops_of(alloc, &narrow)?;
         let summits = tops_of(alloc, &tops)?;
         Ok(NarrowCuts {
-            cuts,
+            cuts: narrow,
             tops,
             summits,
         })
@@ -58,12 +68,12 @@ impl NarrowCuts {
         ensures class { result ≡ class_of self.now address }
         ensures few { result ≤ most_cuts }
     {
-        if self.cuts.len() <= BLOCK {
+        if self.cuts.len() == BLOCK {
             return count_below(&self.cuts, address) as u16;
         }
         let summits_below = count_below(&self.summits, address);
-        let tops_below = class_by_tops(&self.tops, &self.summits, summits_below, address);
-        class_by_tops(&self.cuts, &self.tops, tops_below, address) as u16
+        let tops_below = count_from(&self.tops, block_of(summits_below), address);
+        count_from(&self.cuts, block_of(tops_below), address) as u16
     }
 }
 
@@ -80,38 +90,64 @@ fn narrow_cuts(alloc: Global, cuts: &[u128]) -> Result<Vec<u32>, AllocError>
     Ok(narrow)
 }
 
+/// How many cuts there are with those that fill the last block.
+fn whole_blocks(count: usize) -> usize
+    requires { count ≤ most_cuts }
+    ensures least { count ≤ result }
+    ensures few { result ≤ most_cuts }
+    ensures whole { AreBlocks result }
+{
+    if count <= BLOCK {
+        BLOCK
+    } else {
+        (count + BLOCKS - 1) / BLOCKS * BLOCKS
+    }
+}
+
+/// Appends the highest address until there are so many.
+fn fill(cuts: &mut Vec<u32>, count: usize) -> Result<(), AllocError>
+    requires ascending { IsNonDecreasing cuts.old.items }
+    requires low { (k : ℕ) → k < length cuts.old.items → slice_index cuts.old.items k < 2 ^ 32 }
+    requires room { length cuts.old.items ≤ count }
+    ensures ascending { OnOk result (IsNonDecreasing cuts.new.items) }
+    ensures count { OnOk result (length cuts.new.items ≡ count) }
+    ensures same { (address : ℕ) → address < 2 ^ 32 → OnOk result (class_of cuts.new.items address ≡ class_of cuts.old.items address) }
+{
+    'cuts: while cuts.len() < count {
+        cuts.push(u32::MAX)?;
+    }
+    Ok(())
+}
+
 /// Each 16th of the cuts, from the first on.
 fn tops_of(alloc: Global, cuts: &[u32]) -> Result<Vec<u32>, AllocError>
     requires { length cuts.now ≤ most_cuts }
     ensures { IfOk result (λ tops. AreTops cuts.now tops.items) }
 {
     let mut tops = Vec::new(alloc);
-    for top in 0..(cuts.len() + BLOCK - 1) / BLOCK {
+    for top in 0..cuts.len() / BLOCK {
         tops.push(cuts[top * BLOCK])?;
     }
     Ok(tops)
 }
 
-/// How many of ascending cuts are below an address, where so many of their tops are: the cuts before the last such top,
-/// and some of its block.
-fn class_by_tops(cuts: &[u32], tops: &[u32], tops_below: usize, address: u32) -> usize
+/// Where the block begins whose first cut is the last of so many tops.
+fn block_of(tops: usize) -> usize
+    requires { tops ≤ most_cuts }
+    ensures { result ≡ 16 * (tops - 1) }
+{
+    tops.saturating_sub(1) * BLOCK
+}
+
+/// How many of ascending cuts are below an address, where they end in the block that begins here.
+fn count_from(cuts: &[u32], from: usize, address: u32) -> usize
     requires ascending { IsNonDecreasing cuts.now }
     requires few { length cuts.now ≤ most_cuts }
-    requires tops { AreTops cuts.now tops.now }
-    requires below { tops_below ≡ class_of tops.now address }
+    requires block { IsBlock cuts.now address from }
     ensures class { result ≡ class_of cuts.now address }
     ensures within { result ≤ length cuts.now }
 {
-    if tops_below == 0 {
-        return 0;
-    }
-    let from = (tops_below - 1) * BLOCK;
-    let to = if tops_below < tops.len() {
-        from + BLOCK
-    } else {
-        cuts.len()
-    };
-    from + count_below(&cuts[from..to], address)
+    from + count_below(&cuts[from..from + BLOCK], address)
 }
 
 /// How many of these cuts are below an address.

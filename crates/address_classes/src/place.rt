@@ -2,7 +2,7 @@
 ghost use Rattle.std.specs.Prelude.{◌≡◌, ◌≤◌, ◌+◌, ◌*◌, length, IfOk, IfSome};
 ghost use Rattle.address_classes.specs.Places.{ArePlaces, place_at, start_behind, HasPlace, value_at};
 
-use ipfix_template::{FieldSpec, Record};
+use ipfix_template::{FieldSpec, RecordView};
 use policy_judge::Side;
 use std::alloc::{AllocError, Global};
 
@@ -65,15 +65,12 @@ fn start_behind(start: Option<usize>, field: &FieldSpec) -> Option<usize>
 }
 
 /// What a record shows at a place.
-pub(crate) fn value_at<'r>(place: &Place, flow_record: &'r Record) -> &'r [u8]
+pub(crate) fn value_at<'r>(place: &Place, flow_record: &RecordView<'r>) -> &'r [u8]
     requires { HasPlace flow_record.now place.now }
     ensures { result.now ≡ value_at flow_record.now place.now }
 {
     match place {
-        Place::Octets { from, to } => {
-            let octets = flow_record.as_octets().as_slice();
-            &octets[*from..*to]
-        }
+        Place::Octets { from, to } => &flow_record.as_octets()[*from..*to],
         Place::Field(index) => flow_record.value(*index),
     }
 }

@@ -18,18 +18,25 @@ pub struct RemovedField {
 /// fields share.
 #[derive(Debug, Drop)]
 pub struct RemovedFields {
-    fields: Arc<Vec<RemovedField>>,
+    listed: Listed,
+}
+
+/// How a list is kept.
+#[derive(Debug, Drop)]
+enum Listed {
+    /// One field, as most records lose it that lose any, is copied.
+    One([RemovedField; 1]),
+    Shared(Arc<Vec<RemovedField>>),
 }
 
 impl Model for RemovedFields {
     ghost use Rattle.std.specs.Prelude.{List};
     ghost use Rattle.disclosure_audit.specs.declared.entry.RemovedField.{RemovedField};
+    ghost use Rattle.disclosure_audit.specs.Listed.{list_of};
 
     ghost Value = { List RemovedField };
 
-    ghost use Rattle.std.specs.Arc.{arc_value};
-
-    ghost view = { λ f. (arc_value f.fields).items };
+    ghost view = { λ f. list_of f.listed };
 }
 
 /// A clone shares the list.
@@ -39,9 +46,11 @@ impl Clone for RemovedFields {
     ghost is_clone = { λ f copy. copy ≡ f };
 
     fn clone(&self) -> Result<RemovedFields, AllocError> {
-        Ok(RemovedFields {
-            fields: self.fields.clone()?,
-        })
+        let listed = match &self.listed {
+            Listed::One(one) => Listed::One(*one),
+            Listed::Shared(fields) => Listed::Shared(fields.clone()?),
+        };
+        Ok(RemovedFields { listed })
     }
 }
 
@@ -53,21 +62,26 @@ impl RemovedFields {
     pub fn from_vec(alloc: Global, fields: Vec<RemovedField>) -> Result<RemovedFields, AllocError>
         ensures { IfOk result (λ removed. removed ≡ fields.items) }
     {
-        Ok(RemovedFields {
-            fields: Arc::new(alloc, fields)?,
-        })
+        let listed = match fields.as_slice() {
+            [one] => Listed::One([*one]),
+            _ => Listed::Shared(Arc::new(alloc, fields)?),
+        };
+        Ok(RemovedFields { listed })
     }
 
     pub fn as_slice(&self) -> &[RemovedField]
         ensures { result.now ≡ self.now }
     {
-        self.fields.as_slice()
+        match &self.listed {
+            Listed::One(one) => one.as_slice(),
+            Listed::Shared(fields) => fields.as_slice(),
+        }
     }
 
     pub fn is_empty(&self) -> bool
         ensures { result ≡ (length self.now == 0) }
     {
-        self.fields.is_empty()
+        self.as_slice().is_empty()
     }
 }
 

@@ -7,7 +7,7 @@ ghost use Rattle.flow_anonymize.specs.Planning.{shown_template};
 
 use crate::plan::Plan;
 use bytes::Bytes;
-use ipfix_template::{Record, Template};
+use ipfix_template::{Record, RecordView, Template};
 use record_runs::{Records, Run};
 use std::alloc::{AllocError, Global};
 use std::marker::Model;
@@ -91,7 +91,11 @@ impl Output {
     ///
     /// # Errors
     /// Want of memory.
-    pub(crate) fn add(&mut self, plan: &Plan, flow_record: &Record) -> Result<(), AllocError>
+    pub(crate) fn add(
+        &mut self,
+        plan: &Plan,
+        flow_record: &RecordView<'_>,
+    ) -> Result<(), AllocError>
         requires showable { IsShowable plan.now flow_record.now }
         requires begun { IsSome self.old.writing }
         requires same { self.old.writing ≡ shown_template plan.now }
@@ -162,7 +166,11 @@ ghost use Rattle.flow_anonymize.specs.Outcome.{passed_text};
 ///
 /// # Errors
 /// Want of memory, or of numbers for the end.
-fn put_shown(plan: &Plan, flow_record: &Record, text: &mut Vec<u8>) -> Result<u32, AllocError>
+fn put_shown(
+    plan: &Plan,
+    flow_record: &RecordView<'_>,
+    text: &mut Vec<u8>,
+) -> Result<u32, AllocError>
     requires { IsShowable plan.now flow_record.now }
     ensures text { OnOk result (text.new.items ≡ text.old.items ++ passed_text (planned plan.now flow_record.now.values)) }
     ensures end { IfOk result (λ end. end ≡ length text.new.items) }

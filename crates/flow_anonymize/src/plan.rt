@@ -13,7 +13,7 @@ use crate::fields::{kept_fields, removed_fields};
 use crate::steps::{Step, put_by_steps, steps_of};
 use crate::values::kept_text;
 use disclosure_audit::{RemovedField, RemovedFields};
-use ipfix_template::{Fields, Record, Template};
+use ipfix_template::{Fields, Record, RecordView, Template};
 use policy_judge::{ElementVerdict, RecordAction, RecordVerdict};
 use std::alloc::{AllocError, Global};
 use std::sync::Arc;
@@ -138,7 +138,7 @@ impl Plan {
     /// Want of memory, and then nothing is appended.
     pub(crate) fn put_shown(
         &self,
-        flow_record: &Record,
+        flow_record: &RecordView<'_>,
         text: &mut Vec<u8>,
     ) -> Result<(), AllocError>
         requires { IsShowable self.now flow_record.now }

@@ -13,7 +13,7 @@ use crate::record_classes::RecordClasses;
 use crate::shelf::Shelf;
 use crate::slot::Slot;
 use address_classes::AddressClasses;
-use ipfix_template::{Record, Template};
+use ipfix_template::{Record, RecordView, Template};
 use record_runs::Records;
 use rule_table::RuleTable;
 use std::alloc::{AllocError, Global};
@@ -108,7 +108,7 @@ impl<'t, 'n> Plans<'t, 'n> {
         &mut self,
         alloc: Global,
         classes: Option<RecordClasses>,
-        flow_record: &Record,
+        flow_record: &RecordView<'_>,
     ) -> Result<Decision, AllocError>
         requires template { self.old.for.template ≡ Some flow_record.now.template }
         requires classes { classes ≡ classes_of self.old.for.cuts flow_record.now }
@@ -117,7 +117,7 @@ impl<'t, 'n> Plans<'t, 'n> {
         ensures same { self.new.for ≡ self.old.for }
     {
         let Some(classes) = classes else {
-            return self.disclose_singly(alloc, flow_record);
+            return self.disclose_singly(alloc, &flow_record.to_record()?);
         };
         // A record keeps that it is sound.
         let _template = flow_record.template();
@@ -132,7 +132,7 @@ impl<'t, 'n> Plans<'t, 'n> {
         &mut self,
         alloc: Global,
         classes: RecordClasses,
-        flow_record: &Record,
+        flow_record: &RecordView<'_>,
     ) -> Result<Decision, AllocError>
         requires template { self.old.for.template ≡ Some flow_record.now.template }
         requires classes { Some classes ≡ classes_of self.old.for.cuts flow_record.now }
@@ -155,7 +155,7 @@ impl<'t, 'n> Plans<'t, 'n> {
         &self,
         alloc: Global,
         classes: RecordClasses,
-        flow_record: &Record,
+        flow_record: &RecordView<'_>,
     ) -> Result<Slot, AllocError>
         requires template { self.now.for.template ≡ Some flow_record.now.template }
         requires classes { Some classes ≡ classes_of self.now.for.cuts flow_record.now }
@@ -163,7 +163,8 @@ impl<'t, 'n> Plans<'t, 'n> {
     {
         // Each rule is one of the grammar, so its prefixes have no bits past their lengths.
         let _rules = self.table.rules();
-        let plan = plan_by(alloc, self.table, self.name, self.domain, flow_record)?;
+        let single = flow_record.to_record()?;
+        let plan = plan_by(alloc, self.table, self.name, self.domain, &single)?;
         Ok(Slot { classes, plan })
     }
 

@@ -3,7 +3,7 @@ ghost use Rattle.std.specs.Prelude.{◌≡◌};
 ghost use Rattle.flow_anonymize.specs.Classes.{classes_of};
 
 use address_classes::{AddressClasses, AddressPlaces};
-use ipfix_template::Record;
+use ipfix_template::{Record, RecordView};
 use policy_judge::Side;
 
 /// The classes of a record's addresses, as one key for its sources and one for its destinations.
@@ -33,7 +33,7 @@ impl RecordClasses {
     pub fn at(
         classes: &AddressClasses,
         places: &AddressPlaces,
-        flow_record: &Record,
+        flow_record: &RecordView<'_>,
     ) -> Option<RecordClasses>
         requires same { flow_record.now.template ≡ places.now }
         ensures { result ≡ classes_of classes.now flow_record.now }

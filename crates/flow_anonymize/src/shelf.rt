@@ -10,7 +10,7 @@ use crate::output::Output;
 use crate::plan::Plan;
 use crate::record_classes::RecordClasses;
 use crate::slot::{Slot, is_for};
-use ipfix_template::Record;
+use ipfix_template::{Record, RecordView};
 use record_runs::Records;
 use std::alloc::{AllocError, Global};
 use std::marker::Model;
@@ -94,7 +94,7 @@ impl Shelf {
     pub(crate) fn give(
         &mut self,
         place: usize,
-        flow_record: &Record,
+        flow_record: &RecordView<'_>,
     ) -> Result<Decision, AllocError>
         requires there { place < length self.old.slots }
         requires showable { (slot : Slot) → slice_get self.old.slots place ≡ Some slot → IsShowable slot.plan flow_record.now }
@@ -148,7 +148,7 @@ ghost use Rattle.flow_anonymize.specs.Shelf.{WritesOn};
 fn pass(
     plan: &Plan,
     is_open: bool,
-    flow_record: &Record,
+    flow_record: &RecordView<'_>,
     output: &mut Output,
 ) -> Result<(), AllocError>
     requires showable { IsShowable plan.now flow_record.now }

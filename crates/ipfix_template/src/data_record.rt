@@ -6,6 +6,7 @@ mod entries;
 mod parts;
 mod places;
 mod reading;
+mod view;
 
 use crate::encode::encode_values;
 use crate::field::FieldSpec;
@@ -20,6 +21,7 @@ use ipfix_octets::variable::LONGEST_VALUE;
 use std::alloc::{AllocError, Global};
 use std::marker::Model;
 use std::sync::Arc;
+pub use view::RecordView;
 
 /// The octets that one message has for a template record or a data record: 65,535 without the headers
 /// of the message and of a set (RFC 7011, sections 3.1 and 3.3.2).

@@ -150,8 +150,8 @@ fn disclosed_again(
     let mut plans = Plans::new(alloc, &table, &classes, "acme", DOMAIN);
     plans.begin(flow_record.shared_template())?;
     let keys = RecordClasses::of(&classes, flow_record);
-    plans.disclose(alloc, keys, flow_record)?;
-    let decision = plans.disclose(alloc, keys, flow_record)?;
+    plans.disclose(alloc, keys, &flow_record.view())?;
+    let decision = plans.disclose(alloc, keys, &flow_record.view())?;
     disclosure_of(alloc, plans, decision)
 }
 

@@ -5,7 +5,7 @@ ghost use Rattle.std.specs.List.{AllByRecursion, concat};
 ghost use Rattle.record_runs.specs.Pieces.{pieces, AreEnds};
 
 use bytes::Bytes;
-use ipfix_template::{Record, Template};
+use ipfix_template::{Record, RecordView, Template};
 use std::alloc::{AllocError, Global};
 use std::marker::Model;
 use std::sync::Arc;
@@ -137,10 +137,16 @@ impl Run {
         requires { index < length self.now.texts }
         ensures { IfOk result (λ r. r ≡ kept_record self.now.template (slice_index_or self.now.texts index [])) }
     {
+        self.view(index).to_record()
+    }
+
+    /// The record at this index, where it stands.
+    pub fn view(&self, index: usize) -> RecordView<'_>
+        requires { index < length self.now.texts }
+        ensures { result ≡ kept_record self.now.template (slice_index_or self.now.texts index []) }
+    {
         let (start, end) = place_of(&self.octets, &self.ends, index);
-        let text = self.octets.slice(start..end)?;
-        let template = self.template.clone()?;
-        Ok(Record::from_octets(template, text))
+        RecordView::new(&self.template, &self.octets, start, end)
     }
 
     /// Puts the records behind a list of records, each cut out and not copied.

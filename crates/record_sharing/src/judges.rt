@@ -11,7 +11,7 @@ ghost use Rattle.record_sharing.specs.Sharing.{shown};
 use crate::shares::Share;
 use address_classes::{AddressClasses, AddressPlaces};
 use flow_anonymize::{Decision, Plans, RecordClasses};
-use ipfix_template::{Record, Template};
+use ipfix_template::{RecordView, Template};
 use rule_table::RuleTable;
 use std::alloc::{AllocError, Global};
 use std::marker::Model;
@@ -110,7 +110,7 @@ impl<'t, 'n> Judges<'t, 'n> {
     }
 
     /// The classes of a record's addresses.
-    pub(crate) fn classes_of(&self, flow_record: &Record) -> Option<RecordClasses>
+    pub(crate) fn classes_of(&self, flow_record: &RecordView<'_>) -> Option<RecordClasses>
         requires { self.now.template ≡ Some flow_record.now.template }
         ensures { result ≡ classes_of self.now.cuts flow_record.now }
     {
@@ -130,7 +130,7 @@ impl<'t, 'n> Judges<'t, 'n> {
         alloc: Global,
         place: usize,
         classes: Option<RecordClasses>,
-        flow_record: &Record,
+        flow_record: &RecordView<'_>,
     ) -> Result<Decision, AllocError>
         requires there { place < length self.old.fors }
         requires template { (p : PlansFor) → slice_get self.old.fors place ≡ Some p → p.template ≡ Some flow_record.now.template }

@@ -15,7 +15,7 @@ use crate::served::Served;
 use disclosure_audit::{RemovedFields, What};
 use flow_aggregate::{Count, Timing};
 use flow_anonymize::Decision;
-use ipfix_template::Record;
+use ipfix_template::RecordView;
 use record_runs::{Records, Run};
 use std::alloc::{AllocError, Global};
 
@@ -166,7 +166,7 @@ impl Sums {
     {
         judges.begin(alloc, run.shared_template())?;
         'records: for place in 0..run.len() {
-            let flow_record = run.record(place)?;
+            let flow_record = run.view(place);
             let index = (before + place) as u32;
             self.add_record(alloc, in_force, judges, domain, index, &flow_record, served)?;
         }
@@ -181,7 +181,7 @@ impl Sums {
         judges: &mut Judges<'_, '_>,
         domain: u32,
         index: u32,
-        flow_record: &Record,
+        flow_record: &RecordView<'_>,
         served: &[Served<'_>],
     ) -> Result<(), AllocError>
         requires judges { JudgeFor judges.old in_force.now domain (Some flow_record.now.template) served.now }
@@ -212,7 +212,7 @@ impl Sums {
         index: u32,
         sub: u64,
         in_force: &InForce,
-        flow_record: &Record,
+        flow_record: &RecordView<'_>,
         found: Decision,
     ) -> Result<(), AllocError>
         requires within { place < length self.old.tallies.items }
@@ -224,9 +224,10 @@ impl Sums {
         match found {
             Decision::Passed { removed } => self.note_removed(index, sub, removed),
             Decision::Aggregated { rule, definition } => {
-                let what = told(rule, in_force.timing(definition, flow_record));
+                let flow_record = flow_record.to_record()?;
+                let what = told(rule, in_force.timing(definition, &flow_record));
                 self.note(index, sub, what)?;
-                match in_force.count(alloc, definition, flow_record)? {
+                match in_force.count(alloc, definition, &flow_record)? {
                     Some(count) => self.tally(place, count),
                     None => Ok(()),
                 }

@@ -38,7 +38,7 @@ impl Record {
 }
 
 /// Where the value of the field at this place starts in a record's octets, and where it ends.
-fn place_of(fields: &[FieldSpec], octets: &[u8], place: usize) -> (usize, usize)
+pub(crate) fn place_of(fields: &[FieldSpec], octets: &[u8], place: usize) -> (usize, usize)
     requires kept { AreKept fields.now octets.now }
     requires place { place < length fields.now }
     ensures within { (result.0 ≤ result.1) × (result.1 ≤ length octets.now) }

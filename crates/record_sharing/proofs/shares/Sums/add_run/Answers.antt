@@ -21,12 +21,12 @@ records-init c =
 
 pub records-preserved : goal.records-preserved
 records-preserved c =
-    let r = c.in_ok-flow_record.flow_record in
+    let r = c.view-flow_record.result in
     let t = c.args.run.now.template in
     let l : c.records.place < length c.args.run.now.texts = omega (arith, c.records-test.true, c.len-place-end.ensures.value, c.records.auto.place-end) in
     let added = c.in_ok-add_record.ensures in (
       running_step c.args.judges.now.shares c.records.judges.shares c.add_record.new.judges.shares c.args.self.now.tallies.items c.records.self.tallies.items c.add_record.new.self.tallies.items c.args.self.now.notes.items c.records.self.notes.items c.add_record.new.self.notes.items
           c.args.domain c.args.in_force.now c.args.before _ (records_of c.args.run.now) c.args.served.now c.records.place r r c.records.invariant.0
-          (omega (arith, l, length-map c.args.run.now.texts (kept_record t))) (c.in_ok-flow_record.ensures ∙ sym (get_or-map (kept_record t) c.args.run.now.texts c.records.place [] r l)) refl (record { shares = added.shares; tallies = added.tallies; noting = added.notes }) added.stay added.stay_tallies,
-      subst (λ (t : Template). JudgeFor c.add_record.new.judges c.args.in_force.now c.args.domain (Some t) c.args.served.now) (ap (λ (x : DataRecord). x.template) c.in_ok-flow_record.ensures) added.judges,
+          (omega (arith, l, length-map c.args.run.now.texts (kept_record t))) (c.view-flow_record.ensures ∙ sym (get_or-map (kept_record t) c.args.run.now.texts c.records.place [] r l)) refl (record { shares = added.shares; tallies = added.tallies; noting = added.notes }) added.stay added.stay_tallies,
+      subst (λ (t : Template). JudgeFor c.add_record.new.judges c.args.in_force.now c.args.domain (Some t) c.args.served.now) (ap (λ (x : DataRecord). x.template) c.view-flow_record.ensures) added.judges,
     )

@@ -1,7 +1,7 @@
 use Rattle.std.proofs.Common.{ap, arith}
 use Rattle.record_runs.specs.Runs.{RunOf}
 use Rattle.record_runs.proofs.PieceLaws.{ends_there}
-use Rattle.record_runs.proofs.run.Run.record.Goals as goal
+use Rattle.record_runs.proofs.run.Run.view.Goals as goal
 
 pub place_of-start-requires-clause-index : goal.place_of-start-requires-clause-index
 place_of-start-requires-clause-index c =
