@@ -16,7 +16,11 @@ use ipfix_template::RecordView;
 impl AddressClasses {
     /// The keys of the classes of a record's sources and of its destinations, as [`AddressClasses::key`] answers them.
     /// Only the places of addresses are looked at.
-    pub fn keys(&self, places: &AddressPlaces, flow_record: &RecordView<'_>) -> (Option<u64>, Option<u64>)
+    pub fn keys(
+        &self,
+        places: &AddressPlaces,
+        flow_record: &RecordView<'_>,
+    ) -> (Option<u64>, Option<u64>)
         requires same { flow_record.now.template ≡ places.now }
         ensures few { length self.now ≤ most_cuts }
         ensures sources { result.0 ≡ key_of self.now (values_of (is_of Source) flow_record.now) }

@@ -17,11 +17,11 @@ count_from-tops_below-requires-clause-block c =
     let inside = c.self.inside in
     let high = high_of inside.cuts.items inside.tops.items inside.summits.items c.self.invariant (λ one. c.if-len-eq-BLOCK.false (omega (arith, c.len.ensures, one, inside.cuts.ok.0))) in
     subst (λ xs. IsBlock xs c.args.address c.block_of.result) (sym c.deref-3.ensures.value)
-        (block_of_tops inside.cuts.items inside.tops.items inside.summits.items c.args.address c.count_below-summits_below.result c.block_of.result c.self.invariant high (c.count_below-summits_below.ensures.class ∙ ap (λ xs. class_of xs c.args.address) c.deref-2.ensures.value) c.block_of.ensures)
+    (block_of_tops inside.cuts.items inside.tops.items inside.summits.items c.args.address c.count_below-summits_below.result c.block_of.result c.self.invariant high (c.count_below-summits_below.ensures.class ∙ ap (λ xs. class_of xs c.args.address) c.deref-2.ensures.value) c.block_of.ensures)
 
 pub count_from-requires-clause-block : goal.count_from-requires-clause-block
 count_from-requires-clause-block c =
     let inside = c.self.inside in
     let high = high_of inside.cuts.items inside.tops.items inside.summits.items c.self.invariant (λ one. c.if-len-eq-BLOCK.false (omega (arith, c.len.ensures, one, inside.cuts.ok.0))) in
     subst (λ xs. IsBlock xs c.args.address c.block_of-2.result) (sym c.deref-4.ensures.value)
-        (block_of_cuts inside.cuts.items inside.tops.items inside.summits.items c.args.address c.count_from-tops_below.result c.block_of-2.result c.self.invariant high (c.count_from-tops_below.ensures.class ∙ ap (λ xs. class_of xs c.args.address) c.deref-3.ensures.value) c.block_of-2.ensures)
+    (block_of_cuts inside.cuts.items inside.tops.items inside.summits.items c.args.address c.count_from-tops_below.result c.block_of-2.result c.self.invariant high (c.count_from-tops_below.ensures.class ∙ ap (λ xs. class_of xs c.args.address) c.deref-3.ensures.value) c.block_of-2.ensures)
