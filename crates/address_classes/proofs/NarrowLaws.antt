@@ -1,5 +1,5 @@
 -- How many of ascending cuts are below an address, by each 16th of them.
-use Rattle.std.proofs.Common.{◌≡◌, ◌⊎◌, ℕ, zero, suc, ◌+◌, ◌-◌, ◌*◌, ◌<◌, ◌≤◌, List, [], ◌∷◌, ◌++◌, cond, length, take, drop, get_or, ap, ◌∙◌, arith, inl, inr, nat_lt, length-drop}
+use Rattle.std.proofs.Common.{◌≡◌, ◌⊎◌, ℕ, zero, suc, ◌+◌, ◌-◌, ◌*◌, ◌<◌, ◌≤◌, List, [], ◌∷◌, ◌++◌, cond, length, take, drop, get_or, ap, sym, ◌∙◌, arith, inl, inr, nat_lt, length-drop}
 use Rattle.std.specs.List.Sorted.{IsNonDecreasing}
 use Rattle.std.proofs.lemmas.Bool.{cases_lt, le-ltb}
 use Rattle.std.proofs.lemmas.List.{get_or-take, get_or-drop, get_or_append_left, length-take-le}
@@ -134,3 +134,17 @@ filled_low cuts high above k low last l = by_place (cases_lt k (length cuts)) wh
   by_place (inr behind) =
       let end : k ≡ length cuts = omega (arith, behind, l) in
       omega (arith, ap (λ i. get_or (cuts ++ high ∷ []) i 0) end, get_or-append_seam cuts high [] 0, last)
+
+-- ---- the addresses between two cuts
+
+-- a cut below which there are fewer than below the address is below the address
+pub cut_below : (cuts : List ℕ) (address class k : ℕ) → IsNonDecreasing cuts → class ≡ class_of cuts address → k < class → get_or cuts k 0 < address
+cut_below cuts address class k up is l = (point_of cuts address up).below k (omega (arith, l, is))
+
+pub cut_above : (cuts : List ℕ) (address class k : ℕ) → IsNonDecreasing cuts → class ≡ class_of cuts address → class ≤ k → k < length cuts → address ≤ get_or cuts k 0
+cut_above cuts address class k up is l m = (point_of cuts address up).above k (omega (arith, l, is)) m
+
+-- addresses that lie between the same cuts have the same class
+pub same_class : (cuts : List ℕ) (address other class : ℕ) → class ≡ class_of cuts address → ((k : ℕ) → k < class → get_or cuts k 0 < other)
+    → ((k : ℕ) → class ≤ k → k < length cuts → other ≤ get_or cuts k 0) → class_of cuts other ≡ class
+same_class cuts address other class is below above = sym (class_at cuts other class (omega (arith, is, count_by-le-length (λ cut. nat_lt cut address) cuts)) below above)

@@ -1,6 +1,6 @@
 -- Where prefixes begin and end among all addresses, which stand in one row: a cut is an address behind which a prefix
 -- begins, or ends.
-use Rattle.std.specs.Prelude.{◌≡◌, ℕ, ◌+◌, ◌-◌, ◌^◌, ◌<◌, ◌≤◌, List, [], ◌∷◌, ◌++◌, length, min, filter, Option, Some, None, IfSome, nat_lt, if◌then◌else◌}
+use Rattle.std.specs.Prelude.{ℕ, ◌+◌, ◌-◌, ◌^◌, ◌<◌, ◌≤◌, List, [], ◌∷◌, ◌++◌, length, min, filter, Option, Some, None, IfSome, nat_lt, if◌then◌else◌}
 use Rattle.std.specs.List.{Contains, AllByRecursion}
 use Rattle.std.specs.List.Sorted.{IsNonDecreasing}
 use Rattle.flow_prefix.specs.declared.prefix.Prefix.{Prefix}

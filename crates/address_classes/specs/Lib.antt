@@ -8,5 +8,6 @@ pub use Rattle.policy_judge.specs.Sides
 pub mod Cuts
 pub mod Classes
 pub mod Narrow
+pub mod Spans
 pub mod Places
 pub mod Laws

@@ -6,16 +6,18 @@ ghost use Rattle.policy_judge.specs.Sides.{is_of};
 ghost use Rattle.policy_judge.specs.Occurrences.{values_of};
 ghost use Rattle.address_classes.specs.Cuts.{AreCuts, HaveCuts, most_cuts};
 ghost use Rattle.address_classes.specs.Classes.{class_of, digit_of, with_digit, with_field, key_of};
+ghost use Rattle.address_classes.specs.Spans.{IsSpan, IsAmong};
 
 use crate::cuts::sorted_cuts;
 use crate::narrow::NarrowCuts;
+use crate::span::Span;
 use ipfix_template::Record;
 use policy_judge::Side;
 use policy_text::Rule;
 use std::alloc::{AllocError, Global};
 use std::marker::Model;
 
-const OCTETS4: usize = 4;
+pub(crate) const OCTETS4: usize = 4;
 
 const OCTETS6: usize = 16;
 
@@ -102,6 +104,14 @@ impl AddressClasses {
         count_below(&self.cuts, address) as u16
     }
 
+    /// The addresses of IPv4 about one that have its class: those between the cuts beside it.
+    pub(crate) fn span_of(&self, address: u32) -> Span
+        ensures span { IsSpan self.now result }
+        ensures among { IsAmong address result }
+    {
+        self.narrow.span_of(address)
+    }
+
     /// How many cuts are below an address of IPv4.
     fn narrow_class(&self, address: u32) -> u16
         ensures class { result ≡ class_of self.now address }
@@ -112,7 +122,7 @@ impl AddressClasses {
 }
 
 /// The number that 4 octets write, the most significant first.
-fn narrow_number(octets: &[u8]) -> u32
+pub(crate) fn narrow_number(octets: &[u8]) -> u32
     requires { length octets.now ≡ 4 }
     ensures { result ≡ be_value octets.now }
 {

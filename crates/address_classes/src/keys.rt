@@ -5,44 +5,133 @@ ghost use Rattle.policy_judge.specs.declared.occurrences.Side.TheVariants.{Sourc
 ghost use Rattle.policy_judge.specs.Sides.{is_of};
 ghost use Rattle.policy_judge.specs.Occurrences.{values_of};
 ghost use Rattle.address_classes.specs.Cuts.{most_cuts};
-ghost use Rattle.address_classes.specs.Classes.{key_of};
+ghost use Rattle.address_classes.specs.Classes.{class_of, digit_of, key_of};
 ghost use Rattle.address_classes.specs.Places.{HasPlace, value_at};
+ghost use Rattle.address_classes.specs.Spans.{IsSpan};
 
-use crate::classes::{AddressClasses, EMPTY_KEY, with_digit};
+use crate::classes::{AddressClasses, EMPTY_KEY, OCTETS4, narrow_number, with_digit};
 use crate::place::{Place, value_at};
 use crate::places::AddressPlaces;
+use crate::span::Span;
 use ipfix_template::RecordView;
+use std::marker::Model;
 
-impl AddressClasses {
+/// The classes of addresses, for records one after another: where no cut is between an address of IPv4 and the last one of its side, its
+/// class is that one's. Contracts see the cuts.
+#[derive(Drop)]
+pub struct RecentClasses<'c> {
+    classes: &'c AddressClasses,
+    /// In which the last source lies that was looked up.
+    sources: Span,
+    /// In which the last destination lies that was looked up.
+    destinations: Span,
+}
+
+impl<'c> Model for RecentClasses<'c> {
+    ghost use Rattle.std.specs.Prelude.{ℕ, List};
+    ghost use Rattle.address_classes.specs.Spans.{AreSpans};
+
+    ghost Value = { List ℕ };
+
+    ghost view = { λ r. r.classes.now };
+
+    ghost invariant = { λ r. AreSpans r.classes.now r.sources r.destinations };
+}
+
+impl<'c> RecentClasses<'c> {
+    /// Before the first record.
+    pub fn new(classes: &'c AddressClasses) -> RecentClasses<'c>
+        ensures { result ≡ classes.now }
+    {
+        RecentClasses {
+            classes,
+            sources: Span::empty(),
+            destinations: Span::empty(),
+        }
+    }
+
+    /// The classes, as they were worked out of rules.
+    pub fn classes(&self) -> &'c AddressClasses
+        ensures { result.now ≡ self.now }
+    {
+        self.classes
+    }
+
     /// The keys of the classes of a record's sources and of its destinations, as [`AddressClasses::key`] answers them.
     /// Only the places of addresses are looked at.
     pub fn keys(
-        &self,
+        &mut self,
         places: &AddressPlaces,
         flow_record: &RecordView<'_>,
     ) -> (Option<u64>, Option<u64>)
         requires same { flow_record.now.template ≡ places.now }
-        ensures few { length self.now ≤ most_cuts }
-        ensures sources { result.0 ≡ key_of self.now (values_of (is_of Source) flow_record.now) }
-        ensures destinations { result.1 ≡ key_of self.now (values_of (is_of Destination) flow_record.now) }
+        ensures few { length self.old ≤ most_cuts }
+        ensures sources { result.0 ≡ key_of self.old (values_of (is_of Source) flow_record.now) }
+        ensures destinations { result.1 ≡ key_of self.old (values_of (is_of Destination) flow_record.now) }
+        ensures stay { self.new ≡ self.old }
     {
         // What is read of the cuts has what their type keeps of them, as `few` says.
-        let _count = self.cuts().len();
+        let _count = self.classes.cuts().len();
         let _template = flow_record.template();
-        let sources = key_at(self, places.sources(), flow_record);
-        let destinations = key_at(self, places.destinations(), flow_record);
+        let sources = key_at(
+            self.classes,
+            &mut self.sources,
+            places.sources(),
+            flow_record,
+        );
+        let destinations = key_at(
+            self.classes,
+            &mut self.destinations,
+            places.destinations(),
+            flow_record,
+        );
         (sources, destinations)
     }
 }
 
-/// The key of the values at these places.
-fn key_at(classes: &AddressClasses, places: &[Place], flow_record: &RecordView<'_>) -> Option<u64>
-    requires { All (HasPlace flow_record.now) places.now }
-    ensures { result ≡ key_of classes.now (map (value_at flow_record.now) places.now) }
+/// The key of the values at these places, of which the last one that was looked up lies in the span.
+fn key_at(
+    classes: &AddressClasses,
+    span: &mut Span,
+    places: &[Place],
+    flow_record: &RecordView<'_>,
+) -> Option<u64>
+    requires there { All (HasPlace flow_record.now) places.now }
+    requires span { IsSpan classes.now span.old }
+    ensures key { result ≡ key_of classes.now (map (value_at flow_record.now) places.now) }
+    ensures span { IsSpan classes.now span.new }
 {
     let mut key = Some(EMPTY_KEY);
     for place in places {
-        key = with_digit(key, classes.digit(value_at(place, flow_record)));
+        let octets = value_at(place, flow_record);
+        key = with_digit(key, digit_by(classes, span, octets));
     }
     key
+}
+
+/// The digit of a value, as [`AddressClasses::digit`] answers it.
+#[tactic(auto, unfolding(crate::specs::Classes::digit_of))]
+fn digit_by(classes: &AddressClasses, span: &mut Span, octets: &[u8]) -> u16
+    requires { IsSpan classes.now span.old }
+    ensures digit { result ≡ digit_of classes.now octets.now }
+    ensures span { IsSpan classes.now span.new }
+{
+    if octets.len() == OCTETS4 {
+        return class_by(classes, span, narrow_number(octets)) * 2 + 1;
+    }
+    classes.digit(octets)
+}
+
+/// The class of an address of IPv4: that of the span where the address is in it, and else the span is that of the address from now on.
+fn class_by(classes: &AddressClasses, span: &mut Span, address: u32) -> u16
+    requires { IsSpan classes.now span.old }
+    ensures class { result ≡ class_of classes.now address }
+    ensures few { result ≤ most_cuts }
+    ensures span { IsSpan classes.now span.new }
+{
+    if span.has(address) {
+        return span.class;
+    }
+    *span = classes.span_of(address);
+    span.class
 }

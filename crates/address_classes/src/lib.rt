@@ -23,8 +23,10 @@ mod laws;
 mod narrow;
 mod place;
 mod places;
+mod span;
 
 pub use classes::AddressClasses;
+pub use keys::RecentClasses;
 pub use laws::{key_of_three, same_keys};
 pub use places::AddressPlaces;
 

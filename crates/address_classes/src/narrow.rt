@@ -4,7 +4,9 @@ ghost use Rattle.std.specs.List.Sorted.{IsNonDecreasing};
 ghost use Rattle.address_classes.specs.Cuts.{most_cuts, narrow_cuts};
 ghost use Rattle.address_classes.specs.Classes.{class_of};
 ghost use Rattle.address_classes.specs.Narrow.{AreTops, AreBlocks, IsBlock, AreNarrowed};
+ghost use Rattle.address_classes.specs.Spans.{IsSpan, IsAmong};
 
+use crate::span::Span;
 use std::alloc::{AllocError, Global};
 use std::marker::Model;
 
@@ -74,6 +76,56 @@ impl NarrowCuts {
         let summits_below = count_below(&self.summits, address);
         let tops_below = count_from(&self.tops, block_of(summits_below), address);
         count_from(&self.cuts, block_of(tops_below), address) as u16
+    }
+
+    /// The addresses about one that have its class: those between the cuts beside it.
+    pub(crate) fn span_of(&self, address: u32) -> Span
+        ensures span { IsSpan self.now result }
+        ensures among { IsAmong address result }
+    {
+        let class = self.class(address);
+        span_at(&self.cuts, class, address)
+    }
+}
+
+/// The addresses between the cuts beside an address, below which there are so many.
+fn span_at(cuts: &[u32], class: u16, address: u32) -> Span
+    requires ascending { IsNonDecreasing cuts.now }
+    requires few { length cuts.now ≤ most_cuts }
+    requires class { class ≡ class_of cuts.now address }
+    ensures span { IsSpan cuts.now result }
+    ensures among { IsAmong address result }
+{
+    Span {
+        first: first_of_class(cuts, class, address),
+        last: last_of_class(cuts, class, address),
+        class,
+    }
+}
+
+/// The first address of the class of an address.
+fn first_of_class(cuts: &[u32], class: u16, address: u32) -> u32
+    requires ascending { IsNonDecreasing cuts.now }
+    requires class { class ≡ class_of cuts.now address }
+    ensures above { result ≤ address }
+    ensures each { (k other : ℕ) → k < class → result ≤ other → slice_index cuts.now k < other }
+{
+    let place = usize::from(class);
+    if place > 0 { cuts[place - 1] + 1 } else { 0 }
+}
+
+/// The last address of the class of an address.
+fn last_of_class(cuts: &[u32], class: u16, address: u32) -> u32
+    requires ascending { IsNonDecreasing cuts.now }
+    requires class { class ≡ class_of cuts.now address }
+    ensures below { address ≤ result }
+    ensures each { (k other : ℕ) → class ≤ k → k < length cuts.now → other ≤ result → other ≤ slice_index cuts.now k }
+{
+    let place = usize::from(class);
+    if place < cuts.len() {
+        cuts[place]
+    } else {
+        u32::MAX
     }
 }
 

@@ -1,4 +1,4 @@
-ghost use Rattle.std.specs.Prelude.{◌≡◌, ◌++◌, ◌∷◌, [], OnOk, IfOk, string_bytes};
+ghost use Rattle.std.specs.Prelude.{◌≡◌, ◌++◌, ◌∷◌, [], ◌<◌, OnOk, IfOk, string_bytes};
 ghost use Rattle.std.specs.Fmt.{decimal};
 ghost use Rattle.std.specs.List.{join_with_byte};
 ghost use Rattle.disclosure_audit.specs.Lines.{line_of, what_words, fields_text, field_text};
@@ -28,13 +28,13 @@ pub fn put_line(text: &mut String, entry: &AuditEntry) -> Result<(), AllocError>
     ensures { OnOk result (string_bytes text.new ≡ string_bytes text.old ++ line_of entry.now) }
 {
     put_number(text, entry.position)?;
-    text.push_str(" ")?;
+    put_mark(text, ' ')?;
     put_number(text, u64::from(entry.index))?;
-    text.push_str(" ")?;
+    put_mark(text, ' ')?;
     put_number(text, entry.sub)?;
-    text.push_str(" ")?;
+    put_mark(text, ' ')?;
     put_what(text, &entry.what)?;
-    text.push_str("\n")
+    put_mark(text, '\n')
 }
 
 fn put_what(text: &mut String, what: &What) -> Result<(), AllocError>
@@ -45,7 +45,7 @@ fn put_what(text: &mut String, what: &What) -> Result<(), AllocError>
         What::Withheld { rule, reason } => {
             text.push_str("withheld ")?;
             put_number(text, u64::from(*rule))?;
-            text.push_str(" ")?;
+            put_mark(text, ' ')?;
             text.push_str(reason.word())
         }
         What::Aggregated { rule } => {
@@ -66,7 +66,7 @@ fn put_fields(text: &mut String, fields: &[RemovedField]) -> Result<(), AllocErr
 {
     for (at, field) in fields.iter().enumerate() {
         if at > 0 {
-            text.push_str(",")?;
+            put_mark(text, ',')?;
         }
         put_field(text, *field)?;
     }
@@ -78,13 +78,24 @@ fn put_field(text: &mut String, field: RemovedField) -> Result<(), AllocError>
     ensures { OnOk result (string_bytes text.new ≡ string_bytes text.old ++ field_text field) }
 {
     put_number(text, u64::from(field.place))?;
-    text.push_str(":")?;
+    put_mark(text, ':')?;
     put_number(text, u64::from(field.rule))
 }
 
 fn put_number(text: &mut String, number: u64) -> Result<(), AllocError>
     ensures { OnOk result (string_bytes text.new ≡ string_bytes text.old ++ decimal number) }
 {
+    if number < 10 {
+        return put_mark(text, char::from(b'0' + number as u8));
+    }
     let mut digits = Buffer::new();
     text.push_str(digits.format(number))
+}
+
+/// Adds one character of ASCII.
+fn put_mark(text: &mut String, mark: char) -> Result<(), AllocError>
+    requires { mark < 128 }
+    ensures { OnOk result (string_bytes text.new ≡ string_bytes text.old ++ mark ∷ []) }
+{
+    text.push(mark)
 }

@@ -2,7 +2,7 @@
 ghost use Rattle.std.specs.Prelude.{◌≡◌};
 ghost use Rattle.flow_anonymize.specs.Classes.{classes_of};
 
-use address_classes::{AddressClasses, AddressPlaces};
+use address_classes::{AddressClasses, AddressPlaces, RecentClasses};
 use ipfix_template::{Record, RecordView};
 use policy_judge::Side;
 
@@ -31,7 +31,7 @@ impl RecordClasses {
 
     /// As [`RecordClasses::of`], by the places that the record's template gives its addresses.
     pub fn at(
-        classes: &AddressClasses,
+        classes: &mut RecentClasses<'_>,
         places: &AddressPlaces,
         flow_record: &RecordView<'_>,
     ) -> Option<RecordClasses>

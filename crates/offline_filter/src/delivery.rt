@@ -12,6 +12,9 @@ use bytes::Bytes;
 use mediator_state::Fault;
 use octet_devices::{Sink, write_all};
 
+/// For so many octets room is made before messages are gathered: as many as one message may have that is received.
+const MANY_OCTETS: usize = 65_535;
+
 impl<'a> Run<'a> {
     /// Pulls the messages of what waits for the subscriber, until nothing waits, and writes them in one piece.
     ///
@@ -44,7 +47,9 @@ impl<'a> Run<'a> {
         ensures now_below { self.old.job.now < 2 ^ 32 }
         ensures err { IfErr result (λ e. e ≡ Core OutOfMemory) }
     {
-        let mut text = Vec::new(self.alloc);
+        let Ok(mut text) = Vec::with_capacity(self.alloc, MANY_OCTETS) else {
+            return Err(OfflineFault::Core(Fault::OutOfMemory));
+        };
         'pulls: loop {
             let Some(message) = self.pull()? else {
                 return Ok(text);

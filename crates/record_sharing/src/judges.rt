@@ -9,7 +9,7 @@ ghost use Rattle.flow_anonymize.specs.Plans.{PlansFor, outcome_for};
 ghost use Rattle.record_sharing.specs.Sharing.{shown};
 
 use crate::shares::Share;
-use address_classes::{AddressClasses, AddressPlaces};
+use address_classes::{AddressClasses, AddressPlaces, RecentClasses};
 use flow_anonymize::{Decision, Plans, RecordClasses};
 use ipfix_template::{RecordView, Template};
 use rule_table::RuleTable;
@@ -31,6 +31,7 @@ pub(crate) struct Judge<'t, 'n> {
 pub(crate) struct Judges<'t, 'n> {
     table: &'t RuleTable,
     classes: &'t AddressClasses,
+    recent: RecentClasses<'t>,
     domain: u32,
     /// Where the addresses stand in the records that come.
     places: Option<AddressPlaces>,
@@ -64,6 +65,7 @@ impl<'t, 'n> Judges<'t, 'n> {
         Judges {
             table,
             classes,
+            recent: RecentClasses::new(classes),
             domain,
             places: None,
             judges: Vec::new(alloc),
@@ -110,12 +112,12 @@ impl<'t, 'n> Judges<'t, 'n> {
     }
 
     /// The classes of a record's addresses.
-    pub(crate) fn classes_of(&self, flow_record: &RecordView<'_>) -> Option<RecordClasses>
+    pub(crate) fn classes_of(&mut self, flow_record: &RecordView<'_>) -> Option<RecordClasses>
         requires { self.now.template ≡ Some flow_record.now.template }
         ensures { result ≡ classes_of self.now.cuts flow_record.now }
     {
         match &self.places {
-            Some(places) => RecordClasses::at(self.classes, places, flow_record),
+            Some(places) => RecordClasses::at(&mut self.recent, places, flow_record),
             None => unreachable!(),
         }
     }

@@ -165,6 +165,7 @@ impl Sums {
         ensures stay_tallies { OnOk result (length self.new.tallies.items ≡ length served.now) }
     {
         judges.begin(alloc, run.shared_template())?;
+        self.notes.reserve(run.len())?;
         'records: for place in 0..run.len() {
             let flow_record = run.view(place);
             let index = (before + place) as u32;

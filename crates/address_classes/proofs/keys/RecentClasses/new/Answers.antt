@@ -1,0 +1,4 @@
+use Rattle.address_classes.proofs.keys.RecentClasses.new.Goals as goal
+
+pub invariant_of-result : goal.invariant_of-result
+invariant_of-result c = record { of_sources = c.empty.ensures c.args.classes.now; of_destinations = c.empty-2.ensures c.args.classes.now }
