@@ -36,7 +36,8 @@ impl RecordClasses {
         flow_record: &RecordView<'_>,
     ) -> Option<RecordClasses>
         requires same { flow_record.now.template ≡ places.now }
-        ensures { result ≡ classes_of classes.now flow_record.now }
+        ensures value { result ≡ classes_of classes.old flow_record.now }
+        ensures stay { classes.new ≡ classes.old }
     {
         match classes.keys(places, flow_record) {
             (Some(sources), Some(destinations)) => Some(RecordClasses {

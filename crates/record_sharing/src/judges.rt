@@ -30,8 +30,8 @@ pub(crate) struct Judge<'t, 'n> {
 #[derive(Drop)]
 pub(crate) struct Judges<'t, 'n> {
     table: &'t RuleTable,
-    classes: &'t AddressClasses,
-    recent: RecentClasses<'t>,
+    /// The classes that the table's prefixes make, and those of the addresses that came last.
+    classes: RecentClasses<'t>,
     domain: u32,
     /// Where the addresses stand in the records that come.
     places: Option<AddressPlaces>,
@@ -44,9 +44,9 @@ impl<'t, 'n> Model for Judges<'t, 'n> {
 
     ghost Value = { Judges };
 
-    ghost view = { λ j. judges_of j.table.now j.classes.now j.domain j.places j.judges.items };
+    ghost view = { λ j. judges_of j.table.now j.classes j.domain j.places j.judges.items };
 
-    ghost invariant = { λ j. HaveCuts j.classes.now j.table.now };
+    ghost invariant = { λ j. HaveCuts j.classes j.table.now };
 }
 
 impl<'t, 'n> Judges<'t, 'n> {
@@ -64,8 +64,7 @@ impl<'t, 'n> Judges<'t, 'n> {
     {
         Judges {
             table,
-            classes,
-            recent: RecentClasses::new(classes),
+            classes: RecentClasses::new(classes),
             domain,
             places: None,
             judges: Vec::new(alloc),
@@ -79,7 +78,7 @@ impl<'t, 'n> Judges<'t, 'n> {
     pub(crate) fn add(&mut self, alloc: Global, sub: u64, name: &'n str) -> Result<(), AllocError>
         ensures { OnOk result (self.new ≡ record self.old { fors = self.old.fors ++ plans_for self.old.rules self.old.cuts self.old.domain None name.now ∷ []; shares = self.old.shares ++ (sub, []) ∷ [] }) }
     {
-        let plans = Plans::new(alloc, self.table, self.classes, name, self.domain);
+        let plans = Plans::new(alloc, self.table, self.classes.classes(), name, self.domain);
         self.judges.push(Judge { sub, plans })?;
         Ok(())
     }
@@ -113,11 +112,12 @@ impl<'t, 'n> Judges<'t, 'n> {
 
     /// The classes of a record's addresses.
     pub(crate) fn classes_of(&mut self, flow_record: &RecordView<'_>) -> Option<RecordClasses>
-        requires { self.now.template ≡ Some flow_record.now.template }
-        ensures { result ≡ classes_of self.now.cuts flow_record.now }
+        requires { self.old.template ≡ Some flow_record.now.template }
+        ensures value { result ≡ classes_of self.old.cuts flow_record.now }
+        ensures stay { self.new ≡ self.old }
     {
         match &self.places {
-            Some(places) => RecordClasses::at(&mut self.recent, places, flow_record),
+            Some(places) => RecordClasses::at(&mut self.classes, places, flow_record),
             None => unreachable!(),
         }
     }

@@ -1,17 +1,19 @@
-use Rattle.std.proofs.Common.{◌≡◌, Some, refl, sym, ap, ◌∙◌, arith}
+use Rattle.std.proofs.Common.{◌≡◌, Some, refl, sym, ap, subst, ◌∙◌, arith}
 use Rattle.flow_anonymize.specs.Classes.{classes_of}
 use Rattle.record_sharing.specs.Judges.{Judges, JudgeFor, plans_for}
 use Rattle.record_sharing.specs.Sharing.{outcome_by}
 use Rattle.record_sharing.proofs.JudgeLaws.{judge_at, judge_same, template_at, cuts_at, there_for}
-use Rattle.record_sharing.proofs.SharingLaws.{HasAdded, adding_start, adding_step, added}
+use Rattle.record_sharing.proofs.SharingLaws.{IsAdding, HasAdded, adding_start, adding_step, added}
 use Rattle.record_sharing.proofs.shares.Sums.add_record.Goals as goal
 
 pub served-init : goal.served-init
-served-init c = (
-  adding_start c.args.judges.now.shares c.args.self.now.tallies.items c.args.self.now.notes.items c.args.domain c.args.in_force.now c.args.index c.args.flow_record.now c.args.served.now c.requires.each c.requires.each_tally,
-  c.requires.judges,
-  refl,
-)
+served-init c =
+    let stay = c.classes_of-classes.ensures.stay in (
+      subst (λ (j : Judges). IsAdding c.args.judges.now.shares j.shares c.args.self.now.tallies.items c.args.self.now.tallies.items c.args.self.now.notes.items c.args.self.now.notes.items c.args.domain c.args.in_force.now c.args.index c.args.flow_record.now c.args.served.now 0) (sym stay)
+          (adding_start c.args.judges.now.shares c.args.self.now.tallies.items c.args.self.now.notes.items c.args.domain c.args.in_force.now c.args.index c.args.flow_record.now c.args.served.now c.requires.each c.requires.each_tally),
+      subst (λ (j : Judges). JudgeFor j c.args.in_force.now c.args.domain (Some c.args.flow_record.now.template) c.args.served.now) (sym stay) c.requires.judges,
+      ap (λ (j : Judges). j.cuts) stay,
+    )
 
 pub disclose-requires-clause-there : goal.disclose-requires-clause-there
 disclose-requires-clause-there c = there_for c.served.judges c.args.in_force.now c.args.domain _ c.args.served.now c.served.place c.served.invariant.1 (omega (arith, c.served-test.true))
@@ -23,7 +25,7 @@ pub disclose-requires-clause-cuts : goal.disclose-requires-clause-cuts
 disclose-requires-clause-cuts c = λ p at. cuts_at c.served.judges c.args.in_force.now c.args.domain _ c.args.served.now c.served.place p c.served.invariant.1 at
 
 pub disclose-requires-clause-classes : goal.disclose-requires-clause-classes
-disclose-requires-clause-classes c = c.classes_of-classes.ensures ∙ ap (λ cuts. classes_of cuts c.args.flow_record.now) (sym c.served.invariant.2)
+disclose-requires-clause-classes c = c.classes_of-classes.ensures.value ∙ ap (λ cuts. classes_of cuts c.args.flow_record.now) (sym c.served.invariant.2)
 
 pub add-requires : goal.add-requires
 add-requires c = omega (arith, c.served-test.true, c.served.invariant.0.stay_tallies)

@@ -6,15 +6,16 @@ use Rattle.ipfix_template.specs.DataRecord.{DataRecord, kept_record}
 use Rattle.record_runs.specs.Runs.{records_of}
 use Rattle.record_sharing.specs.Judges.{Judges, JudgeFor, of_template}
 use Rattle.record_sharing.proofs.JudgeLaws.{judge_begun}
-use Rattle.record_sharing.proofs.SharingLaws.{running_start, running_step, has_run}
+use Rattle.record_sharing.proofs.SharingLaws.{IsRunning, running_start, running_step, has_run}
 use Rattle.record_sharing.proofs.shares.Sums.add_run.Goals as goal
 
 pub records-init : goal.records-init
 records-init c =
     let begun = c.in_ok-begin.ensures in
     let shared = c.shared_template.ensures.value in (
-      running_start c.args.judges.now.shares c.begin.new.self.shares c.args.self.now.tallies.items c.args.self.now.notes.items c.args.domain c.args.in_force.now c.args.before (records_of c.args.run.now) c.args.served.now
-          (ap (λ (j : Judges). j.shares) begun) c.requires.each c.requires.each_tally,
+      subst (λ notes. IsRunning c.args.judges.now.shares c.begin.new.self.shares c.args.self.now.tallies.items c.args.self.now.tallies.items c.args.self.now.notes.items notes c.args.domain c.args.in_force.now c.args.before (records_of c.args.run.now) c.args.served.now 0) (sym c.in_ok-reserve.ensures.items)
+          (running_start c.args.judges.now.shares c.begin.new.self.shares c.args.self.now.tallies.items c.args.self.now.notes.items c.args.domain c.args.in_force.now c.args.before (records_of c.args.run.now) c.args.served.now
+          (ap (λ (j : Judges). j.shares) begun) c.requires.each c.requires.each_tally),
       judge_begun c.args.judges.now c.begin.new.self c.args.in_force.now c.args.domain _ c.args.run.now.template c.args.served.now c.requires.judges.judges
           (ap (λ (j : Judges). j.template) begun ∙ ap (λ (t : Template). Some t) shared) (ap (λ (j : Judges). j.fors) begun ∙ ap (λ (t : Template). map (of_template t) c.args.judges.now.fors) shared) (ap (λ (j : Judges). j.cuts) begun),
     )
