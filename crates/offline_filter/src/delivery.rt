@@ -11,9 +11,7 @@ use crate::run::{Run, SUBSCRIPTION};
 use bytes::Bytes;
 use mediator_state::Fault;
 use octet_devices::{Sink, write_all};
-
-/// For so many octets room is made before messages are gathered: as many as one message may have that is received.
-const MANY_OCTETS: usize = 65_535;
+use std::alloc::AllocError;
 
 impl<'a> Run<'a> {
     /// Pulls the messages of what waits for the subscriber, until nothing waits, and writes them in one piece.
@@ -47,9 +45,7 @@ impl<'a> Run<'a> {
         ensures now_below { self.old.job.now < 2 ^ 32 }
         ensures err { IfErr result (λ e. e ≡ Core OutOfMemory) }
     {
-        let Ok(mut text) = Vec::with_capacity(self.alloc, MANY_OCTETS) else {
-            return Err(OfflineFault::Core(Fault::OutOfMemory));
-        };
+        let mut text = Vec::new(self.alloc);
         'pulls: loop {
             let Some(message) = self.pull()? else {
                 return Ok(text);
@@ -84,10 +80,27 @@ impl<'a> Run<'a> {
         ensures sent { OnOk result (self.new.sent ≡ self.old.sent + length message.now) }
         ensures err { IfErr result (λ e. e ≡ Core OutOfMemory) }
     {
-        if text.extend_from_slice(message).is_err() {
+        if append(text, message).is_err() {
             return Err(OfflineFault::Core(Fault::OutOfMemory));
         }
         self.sent += message.len() as u64;
         Ok(())
     }
+}
+
+/// How many octets a text has room for from its first message on: as many as a message may have that is received, and few messages
+/// give more.
+const ROOM: usize = 65_536;
+
+/// Appends octets to a text.
+///
+/// # Errors
+/// Want of memory.
+fn append(text: &mut Vec<u8>, octets: &[u8]) -> Result<(), AllocError>
+    ensures { OnOk result (text.new.items ≡ text.old.items ++ octets.now) }
+{
+    if text.is_empty() {
+        text.reserve(ROOM)?;
+    }
+    text.extend_from_slice(octets)
 }
