@@ -1,6 +1,7 @@
 //! The keys of a record's addresses, by the places that its template gives them.
 ghost use Rattle.std.specs.Prelude.{◌≡◌, ◌≤◌, length, map};
 ghost use Rattle.std.specs.List.{All};
+ghost use Rattle.std.specs.Arc.{arc_value};
 ghost use Rattle.policy_judge.specs.declared.occurrences.Side.TheVariants.{Source, Destination};
 ghost use Rattle.policy_judge.specs.Sides.{is_of};
 ghost use Rattle.policy_judge.specs.Occurrences.{values_of};
@@ -15,33 +16,35 @@ use crate::places::AddressPlaces;
 use crate::span::Span;
 use ipfix_template::RecordView;
 use std::marker::Model;
+use std::sync::Arc;
 
 /// The classes of addresses, for records one after another: where no cut is between an address of IPv4 and the last one of its side, its
 /// class is that one's. Contracts see the cuts.
 #[derive(Drop)]
-pub struct RecentClasses<'c> {
-    classes: &'c AddressClasses,
+pub struct RecentClasses {
+    classes: Arc<AddressClasses>,
     /// In which the last source lies that was looked up.
     sources: Span,
     /// In which the last destination lies that was looked up.
     destinations: Span,
 }
 
-impl<'c> Model for RecentClasses<'c> {
+impl Model for RecentClasses {
     ghost use Rattle.std.specs.Prelude.{ℕ, List};
+    ghost use Rattle.std.specs.Arc.{arc_value};
     ghost use Rattle.address_classes.specs.Spans.{AreSpans};
 
     ghost Value = { List ℕ };
 
-    ghost view = { λ r. r.classes.now };
+    ghost view = { λ r. arc_value r.classes };
 
-    ghost invariant = { λ r. AreSpans r.classes.now r.sources r.destinations };
+    ghost invariant = { λ r. AreSpans (arc_value r.classes) r.sources r.destinations };
 }
 
-impl<'c> RecentClasses<'c> {
+impl RecentClasses {
     /// Before the first record.
-    pub fn new(classes: &'c AddressClasses) -> RecentClasses<'c>
-        ensures { result ≡ classes.now }
+    pub fn new(classes: Arc<AddressClasses>) -> RecentClasses
+        ensures { result ≡ arc_value classes }
     {
         RecentClasses {
             classes,
@@ -51,10 +54,10 @@ impl<'c> RecentClasses<'c> {
     }
 
     /// The classes, as they were worked out of rules.
-    pub fn classes(&self) -> &'c AddressClasses
-        ensures { result.now ≡ self.now }
+    pub fn classes(&self) -> &Arc<AddressClasses>
+        ensures { arc_value result.now ≡ self.now }
     {
-        self.classes
+        &self.classes
     }
 
     /// The keys of the classes of a record's sources and of its destinations, as [`AddressClasses::key`] answers them.
@@ -74,13 +77,13 @@ impl<'c> RecentClasses<'c> {
         let _count = self.classes.cuts().len();
         let _template = flow_record.template();
         let sources = key_at(
-            self.classes,
+            &self.classes,
             &mut self.sources,
             places.sources(),
             flow_record,
         );
         let destinations = key_at(
-            self.classes,
+            &self.classes,
             &mut self.destinations,
             places.destinations(),
             flow_record,

@@ -95,7 +95,7 @@ fn add(groups: &mut RunningGroups, tally: Tally) -> Result<(), AllocError> {
 
 /// The groups of the flows.
 fn counted(alloc: Global, list: &[Flow]) -> Result<RunningGroups, Fail> {
-    let in_force = InForce::since(alloc, Policy::parse(alloc, POLICY)?, 0)?;
+    let mut in_force = InForce::since(alloc, Policy::parse(alloc, POLICY)?, 0)?;
     let read = Session::new(alloc).apply(&message(alloc, list)?)?;
     if read.records.len() > 200 {
         return Err(Fail::new("too many records"));
@@ -104,7 +104,7 @@ fn counted(alloc: Global, list: &[Flow]) -> Result<RunningGroups, Fail> {
         sub: 1,
         name: "acme",
     }];
-    let found = Shares::of_records(alloc, &in_force, 7, &read.records, &served)?;
+    let found = Shares::of_records(alloc, &mut in_force, 7, &read.records, &served)?;
     let mut groups = RunningGroups::new(alloc);
     for tally in found.tallies {
         add(&mut groups, tally)?;

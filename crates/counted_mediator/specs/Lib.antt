@@ -24,3 +24,5 @@ pub use Rattle.mediator_core.specs.Sound
 pub use Rattle.mediator_core.specs.Calls as MediatorCalls
 pub mod Counted
 pub mod Handing
+pub use Rattle.mediator_state.specs.FaultTexts as StateFaultTexts
+pub mod FaultTexts

@@ -16,6 +16,11 @@ pub enum PullFault {
 impl Error for PullFault {}
 
 impl Display for PullFault {
+    ghost use Rattle.std.specs.Prelude.{Option, Some};
+    ghost use Rattle.counted_mediator.specs.FaultTexts.{text_of_pull_fault};
+
+    ghost output = { λ fault. Some (text_of_pull_fault fault) };
+
     fn fmt<W: Write>(&self, f: &mut Formatter<W>) -> fmt::Result {
         match self {
             PullFault::HandedFull => f.write_str("HandedFull"),

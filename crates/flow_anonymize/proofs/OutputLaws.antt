@@ -6,7 +6,6 @@ use Rattle.std.specs.List.{AllByRecursion}
 use Rattle.std.proofs.SliceLists.{all_by_recursion_push}
 use Rattle.ipfix_template.specs.declared.template.Template.{Template}
 use Rattle.ipfix_template.specs.DataRecord.{DataRecord, IsKept, kept_record}
-use Rattle.ipfix_template.specs.declared.field.FieldSpec.{FieldSpec}
 use Rattle.ipfix_template.specs.Values.{record_text}
 use Rattle.ipfix_template.proofs.TextLaws.{kept_from, kept_is}
 use Rattle.record_runs.specs.Pieces.{pieces, AreEnds}
@@ -16,7 +15,7 @@ use Rattle.flow_anonymize.specs.declared.plan.Plan.TheVariants.{Pass, Aggregate,
 use Rattle.flow_anonymize.specs.Outcome.{passed, passed_text}
 use Rattle.flow_anonymize.specs.Remaining.{kept_values}
 use Rattle.flow_anonymize.specs.Planning.{planned, IsShowable, shown_template}
-use Rattle.flow_anonymize.specs.Output.{OutputOf, open_records, IsWriting, IsOutput}
+use Rattle.flow_anonymize.specs.Output.{OutputOf, open_records, IsOutput}
 
 some_is : (t s : Template) → Some t ≡ Some s → t ≡ s
 some_is t s e = cc

@@ -1,7 +1,6 @@
 -- A plan is that of each record which is alike in template and classes.
-use Rattle.std.proofs.Common.{◌≡◌, ℕ, zero, suc, ◌+◌, ◌≤◌, ◌<◌, Bool, true, false, List, [], ◌∷◌, ◌++◌, length, get_or, Option, Some, None, IfSome, cond, not, refl, sym, ap, ◌∙◌, subst, arith, length-append, slice_get, nat_lt, ◌==◌, ◌&&◌}
+use Rattle.std.proofs.Common.{◌≡◌, ℕ, zero, suc, ◌+◌, ◌≤◌, ◌<◌, Bool, true, false, List, [], ◌∷◌, ◌++◌, length, get_or, Option, Some, None, IfSome, cond, not, refl, sym, ap, ◌∙◌, subst, arith, length-append, slice_get, nat_lt, ◌==◌}
 use mathlib.Core.Logic.{inl, inr}
-use Rattle.std.specs.Arc.{arc_value}
 use Rattle.std.proofs.Math.ListN.{set}
 use Rattle.std.specs.List.{All, AllByRecursion, flat_map, position, position_or_len}
 use Rattle.std.proofs.lemmas.Bool.{and_parts, eqb-true, ltb-true}
@@ -14,8 +13,6 @@ use Rattle.flow_prefix.specs.Prefixes.{IsPrefix}
 use Rattle.ipfix_template.specs.declared.field.FieldSpec.{FieldSpec}
 use Rattle.ipfix_template.specs.declared.template.Template.{Template}
 use Rattle.ipfix_template.specs.Template.{specifier, specifier_of}
-use Rattle.ipfix_template.specs.Equality.{same_template}
-use Rattle.ipfix_template.specs.SameTemplate.{same_template-is}
 use Rattle.ipfix_template.specs.DataRecord.{DataRecord, IsSound}
 use Rattle.ipfix_template.proofs.Encoding.{octets_of_record}
 use Rattle.policy_text.specs.declared.rule.Rule.{Rule}

@@ -1,5 +1,5 @@
 -- Plans that are put on a shelf.
-use Rattle.std.proofs.Common.{◌≡◌, ℕ, zero, suc, ◌+◌, ◌<◌, List, [], ◌∷◌, ◌++◌, length, set, slice_get, Option, Some, None, IsSomeAnd, refl, arith}
+use Rattle.std.proofs.Common.{◌≡◌, ℕ, zero, suc, ◌<◌, List, [], ◌∷◌, ◌++◌, length, set, slice_get, Option, Some, None, IsSomeAnd, refl, arith}
 use mathlib.Core.Logic.{inl, inr}
 use Rattle.ipfix_template.specs.declared.template.Template.{Template}
 use Rattle.flow_anonymize.specs.declared.slot.Slot.{Slot}

@@ -27,6 +27,15 @@ pub(crate) struct Output {
     text: Vec<u8>,
     /// Where each record ends in the text.
     ends: Vec<u32>,
+    /// How many octets and how many records the run had that was closed last, for which room is made in the next.
+    last: Room,
+}
+
+/// How much a run holds.
+#[derive(Clone, Copy, Debug)]
+struct Room {
+    octets: usize,
+    records: usize,
 }
 
 impl Model for Output {
@@ -54,6 +63,10 @@ impl Output {
             template: None,
             text: Vec::new(alloc),
             ends: Vec::new(alloc),
+            last: Room {
+                octets: 0,
+                records: 0,
+            },
         }
     }
 
@@ -65,6 +78,8 @@ impl Output {
         ensures { OnOk result (self.new ≡ record { given = self.old.given; writing = Some (arc_value template) }) }
     {
         self.close()?;
+        self.text.reserve(self.last.octets)?;
+        self.ends.reserve(self.last.records)?;
         self.template = Some(template);
         Ok(())
     }
@@ -76,10 +91,19 @@ impl Output {
     pub(crate) fn close(&mut self) -> Result<(), AllocError>
         ensures { OnOk result (self.new ≡ record { given = self.old.given; writing = None }) }
     {
-        let text = mem::replace(&mut self.text, Vec::new(self.alloc));
-        let ends = mem::replace(&mut self.ends, Vec::new(self.alloc));
+        let mut text = mem::replace(&mut self.text, Vec::new(self.alloc));
+        let mut ends = mem::replace(&mut self.ends, Vec::new(self.alloc));
+        // The run may wait for long, so room that was made for a longer one is given back.
+        if text.len() < text.capacity() / 2 {
+            text.shrink_to_fit();
+            ends.shrink_to_fit();
+        }
         match self.template.take() {
             Some(template) => {
+                self.last = Room {
+                    octets: text.len(),
+                    records: ends.len(),
+                };
                 let octets = Bytes::from_vec(text)?;
                 self.done.push_run(Run::new(template, octets, ends))
             }
@@ -146,17 +170,16 @@ impl Output {
         self.done.push(self.alloc, single)
     }
 
-    /// All records.
+    /// Takes all records.
     ///
     /// # Errors
     /// Want of memory.
-    pub(crate) fn into_records(self) -> Result<Records, AllocError>
-        ensures { IfOk result (λ all. all ≡ self.given) }
+    pub(crate) fn take_records(&mut self) -> Result<Records, AllocError>
+        ensures given { IfOk result (λ all. all ≡ self.old.given) }
+        ensures taken { OnOk result (self.new ≡ record { given = []; writing = None }) }
     {
-        let mut whole = self;
-        whole.close()?;
-        let Output { done, .. } = whole;
-        Ok(done)
+        self.close()?;
+        Ok(mem::replace(&mut self.done, Records::new(self.alloc)))
     }
 }
 

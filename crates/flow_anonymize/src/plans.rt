@@ -20,53 +20,72 @@ use std::alloc::{AllocError, Global};
 use std::marker::Model;
 use std::sync::Arc;
 
-/// What a policy discloses to one subscriber of the records of an observation domain, and what passed so far. What becomes of a record is
-/// worked out once for the classes of its addresses, and kept for records of the same template that are alike in them.
+/// What a policy discloses to one subscriber of the records of an observation domain, and what passed since they were taken. What becomes of
+/// a record is worked out once for the classes of its addresses, and kept for records of the same template that are alike in them.
 #[derive(Drop)]
-pub struct Plans<'t, 'n> {
-    table: &'t RuleTable,
-    classes: &'t AddressClasses,
-    name: &'n str,
+pub struct Plans {
+    table: Arc<RuleTable>,
+    classes: Arc<AddressClasses>,
+    name: String,
     domain: u32,
     /// The template of the records that come.
     template: Option<Arc<Template>>,
     shelf: Shelf,
 }
 
-impl<'t, 'n> Model for Plans<'t, 'n> {
+impl Model for Plans {
+    ghost use Rattle.std.specs.Prelude.{string_bytes};
     ghost use Rattle.std.specs.Option.{option_map};
     ghost use Rattle.std.specs.Arc.{arc_value};
     ghost use Rattle.flow_anonymize.specs.Plans.{PlansOf, AreKept};
 
     ghost Value = { PlansOf };
 
-    ghost view = { λ p. record { for = record { rules = p.table.now; cuts = p.classes.now; name = p.name.now; domain = p.domain; template = option_map arc_value p.template }; given = p.shelf.given } };
+    ghost view = { λ p. record { for = record { rules = arc_value p.table; cuts = arc_value p.classes; name = string_bytes p.name; domain = p.domain; template = option_map arc_value p.template }; given = p.shelf.given } };
 
-    ghost invariant = { λ p. AreKept (record { rules = p.table.now; cuts = p.classes.now; name = p.name.now; domain = p.domain; template = option_map arc_value p.template }) p.shelf.slots };
+    ghost invariant = { λ p. AreKept (record { rules = arc_value p.table; cuts = arc_value p.classes; name = string_bytes p.name; domain = p.domain; template = option_map arc_value p.template }) p.shelf.slots };
 }
 
-impl<'t, 'n> Plans<'t, 'n> {
+impl Plans {
     /// Plans for the subscriber of this name, by the rules of this table and the classes that their prefixes make. None is made yet.
+    ///
+    /// # Errors
+    /// Want of memory.
     pub fn new(
         alloc: Global,
-        table: &'t RuleTable,
-        classes: &'t AddressClasses,
-        name: &'n str,
+        table: Arc<RuleTable>,
+        classes: Arc<AddressClasses>,
+        name: &str,
         domain: u32,
-    ) -> Plans<'t, 'n>
-        requires { HaveCuts classes.now table.now }
-        ensures { result ≡ record { for = record { rules = table.now; cuts = classes.now; name = name.now; domain = domain; template = None }; given = [] } }
+    ) -> Result<Plans, AllocError>
+        requires { HaveCuts (arc_value classes) (arc_value table) }
+        ensures { IfOk result (λ plans. plans ≡ record { for = record { rules = arc_value table; cuts = arc_value classes; name = name.now; domain = domain; template = None }; given = [] }) }
     {
         // There are no more cuts than a key has room for.
         let _cuts = classes.cuts();
-        Plans {
+        let name = String::from_str(alloc, name)?;
+        Ok(Plans {
             table,
             classes,
             name,
             domain,
             template: None,
             shelf: Shelf::new(alloc),
-        }
+        })
+    }
+
+    /// The subscriber's name.
+    pub fn name(&self) -> &str
+        ensures { result.now ≡ self.now.for.name }
+    {
+        self.name.as_str()
+    }
+
+    /// The observation domain.
+    pub fn domain(&self) -> u32
+        ensures { result ≡ self.now.for.domain }
+    {
+        self.domain
     }
 
     /// Begins with records of this template.
@@ -164,7 +183,7 @@ impl<'t, 'n> Plans<'t, 'n> {
         // Each rule is one of the grammar, so its prefixes have no bits past their lengths.
         let _rules = self.table.rules();
         let single = flow_record.to_record()?;
-        let plan = plan_by(alloc, self.table, self.name, self.domain, &single)?;
+        let plan = plan_by(alloc, &self.table, self.name.as_str(), self.domain, &single)?;
         Ok(Slot { classes, plan })
     }
 
@@ -181,7 +200,13 @@ impl<'t, 'n> Plans<'t, 'n> {
         ensures decision { IfOk result (λ d. d ≡ decision_of (outcome_for self.old.for flow_record.now)) }
         ensures same { self.new.for ≡ self.old.for }
     {
-        match disclose_by(alloc, self.table, self.name, self.domain, flow_record)? {
+        match disclose_by(
+            alloc,
+            &self.table,
+            self.name.as_str(),
+            self.domain,
+            flow_record,
+        )? {
             Disclosure::Passed { kept, removed } => {
                 self.shelf.push(kept)?;
                 Ok(Decision::Passed { removed })
@@ -193,14 +218,14 @@ impl<'t, 'n> Plans<'t, 'n> {
         }
     }
 
-    /// All records that passed, one after another.
+    /// Takes all records that passed, one after another. The plans stay.
     ///
     /// # Errors
     /// Want of memory.
-    pub fn into_records(self) -> Result<Records, AllocError>
-        ensures { IfOk result (λ all. all ≡ self.entry.given) }
+    pub fn take_records(&mut self) -> Result<Records, AllocError>
+        ensures given { IfOk result (λ all. all ≡ self.old.given) }
+        ensures taken { OnOk result (self.new ≡ record { for = self.old.for; given = [] }) }
     {
-        let Plans { shelf, .. } = self;
-        shelf.into_records()
+        self.shelf.take_records()
     }
 }

@@ -31,7 +31,7 @@ impl RecordClasses {
 
     /// As [`RecordClasses::of`], by the places that the record's template gives its addresses.
     pub fn at(
-        classes: &mut RecentClasses<'_>,
+        classes: &mut RecentClasses,
         places: &AddressPlaces,
         flow_record: &RecordView<'_>,
     ) -> Option<RecordClasses>

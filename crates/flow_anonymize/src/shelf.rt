@@ -125,15 +125,17 @@ impl Shelf {
         self.output.push(kept)
     }
 
-    /// All records that were given.
+    /// Takes all records that were given. The plans stay.
     ///
     /// # Errors
     /// Want of memory.
-    pub(crate) fn into_records(self) -> Result<Records, AllocError>
-        ensures { IfOk result (λ all. all ≡ self.given) }
+    pub(crate) fn take_records(&mut self) -> Result<Records, AllocError>
+        ensures given { IfOk result (λ all. all ≡ self.old.given) }
+        ensures taken { OnOk result (self.new ≡ record { slots = self.old.slots; given = [] }) }
+        ensures slots { self.new.slots ≡ self.old.slots }
     {
-        let Shelf { output, .. } = self;
-        output.into_records()
+        self.open = None;
+        self.output.take_records()
     }
 }
 

@@ -1,7 +1,7 @@
 //! What a message would do, found out before anything is changed.
 ghost use Rattle.std.specs.Prelude.{◌≡◌, ◌≤◌, ◌<◌, ◌+◌, ◌^◌, ◌++◌, ◌∷◌, [], ℕ, List, length, map, not, true, filter, IfOk, IfErr, OnOk};
 ghost use Rattle.sequences.specs.Octets.{AreOctets};
-ghost use Rattle.record_sharing.specs.InForce.{InForce};
+ghost use Rattle.record_sharing.specs.InForce.{InForce as Force};
 ghost use Rattle.ipfix_template.specs.DataRecord.{DataRecord};
 ghost use Rattle.event_journal.specs.declared.entry.Entry.{Entry};
 ghost use Rattle.record_sharing.specs.Sharing.{shown, tallied, shares_of, tallies_of, notes_of};
@@ -13,9 +13,10 @@ use crate::fault::Fault;
 use bytes::Bytes;
 use disclosure_audit::AuditEntry;
 use ipfix_session::Reading;
+use live_subscriptions::Subscriptions;
 use open_sessions::OpenSession;
 use record_runs::Records;
-use record_sharing::{Note, Served, Share, Shares, Tally};
+use record_sharing::{InForce, Note, Served, Share, Shares, Tally};
 use std::alloc::{AllocError, Global};
 use stream_meaning::see_records;
 
@@ -44,17 +45,18 @@ impl Engine {
     /// # Errors
     /// The session isn't open; or the message has another number than its next, or is malformed; or memory ran out.
     pub(crate) fn plan(
-        &self,
+        &mut self,
         position: u64,
         session: u64,
         number: u64,
         message: &Bytes,
     ) -> Result<Plan, Fault>
-        requires somewhere { StandsSomewhere self.now position }
+        requires somewhere { StandsSomewhere self.old position }
         requires short { position ≤ 100000000 }
-        ensures ok { IfOk result (λ p. (h : List Entry) → Stands self.now h → length h ≡ position → IsPlan self.now h number message.now p) }
+        ensures ok { IfOk result (λ p. (h : List Entry) → Stands self.old h → length h ≡ position → IsPlan self.old h number message.now p) }
         ensures session { IfOk result (λ p. p.session ≡ session) }
-        ensures err { IfErr result (λ e. (h : List Entry) → Stands self.now h → RefusesMessage e h session number message.now) }
+        ensures err { IfErr result (λ e. (h : List Entry) → Stands self.old h → RefusesMessage e h session number message.now) }
+        ensures same { self.new ≡ self.old }
     {
         let open = self.in_turn(session, number)?;
         let reading = open.session.read(message)?;
@@ -90,18 +92,21 @@ impl Engine {
     ///
     /// # Errors
     /// Want of memory.
-    fn judge(&self, position: u64, reading: &Reading) -> Result<Judged, AllocError>
+    fn judge(&mut self, position: u64, reading: &Reading) -> Result<Judged, AllocError>
         requires few { length reading.now.meaning.records ≤ 2 ^ 32 }
         requires short { position ≤ 100000000 }
-        ensures { IfOk result (λ j. (h : List Entry) → Stands self.now h → length h ≡ position → IsJudgedFor self.now h reading.now.meaning j) }
+        ensures judged { IfOk result (λ j. (h : List Entry) → Stands self.old h → length h ≡ position → IsJudgedFor self.old h reading.now.meaning j) }
+        ensures same { self.new ≡ self.old }
     {
         let domain = reading.header().domain;
         let records = reading.records();
         let served = self.subscriptions.served()?;
-        let all = Shares::of_records(self.alloc, &self.in_force, domain, records, &served)?;
-        let split = self.split(&served, &all.shares)?;
-        let left = self.share_left(domain, records, all, &split.cuts, &split.left)?;
-        self.judged(position, split.cuts, left)
+        let in_force = &mut self.in_force;
+        let all = Shares::of_records(self.alloc, in_force, domain, records, &served)?;
+        let split = split_by_room(self.alloc, &self.subscriptions, &served, &all.shares)?;
+        let (cuts, left) = (&split.cuts, &split.left);
+        let left = share_left(self.alloc, in_force, domain, records, all, cuts, left)?;
+        judged_at(self.alloc, position, split.cuts, left)
     }
 }
 
@@ -121,81 +126,91 @@ struct Split<'a> {
     left: Vec<Served<'a>>,
 }
 
-impl Engine {
-    ghost use Rattle.live_subscriptions.specs.Table.{told, lacks_room_at};
-    ghost use Rattle.mediator_state.specs.Planning.{lacks, has};
+ghost use Rattle.live_subscriptions.specs.Table.{told, lacks_room_at};
+ghost use Rattle.mediator_state.specs.Planning.{lacks, has};
 
-    /// What the records give to those that are left: the shares of all, where none is cut.
-    ///
-    /// # Errors
-    /// Want of memory.
-    fn share_left(
-        &self,
-        domain: u32,
-        records: &Records,
-        all: Shares,
-        cuts: &[u64],
-        left: &[Served<'_>],
-    ) -> Result<Shares, AllocError>
-        requires few { length records.now ≤ 2 ^ 32 }
-        requires shares { cuts.now ≡ [] → map shown all.shares.items ≡ shares_of domain self.now.in_force records.now left.now }
-        requires tallies { cuts.now ≡ [] → map tallied all.tallies.items ≡ tallies_of domain self.now.in_force records.now left.now }
-        requires notes { cuts.now ≡ [] → all.notes.items ≡ notes_of domain self.now.in_force records.now left.now }
-        ensures shares { IfOk result (λ s. map shown s.shares.items ≡ shares_of domain self.now.in_force records.now left.now) }
-        ensures tallies { IfOk result (λ s. map tallied s.tallies.items ≡ tallies_of domain self.now.in_force records.now left.now) }
-        ensures notes { IfOk result (λ s. s.notes.items ≡ notes_of domain self.now.in_force records.now left.now) }
-    {
-        if cuts.is_empty() {
-            return Ok(all);
+/// What is judged, with the audit's entries of the message behind its cuts, the first of which is at a position.
+///
+/// # Errors
+/// Want of memory.
+fn judged_at(
+    alloc: Global,
+    position: u64,
+    cuts: Vec<u64>,
+    left: Shares,
+) -> Result<Judged, AllocError>
+    requires short { position ≤ 100000000 }
+    ensures cuts { IfOk result (λ j. j.cuts.items ≡ cuts.items) }
+    ensures shares { IfOk result (λ j. j.shares.items ≡ left.shares.items) }
+    ensures tallies { IfOk result (λ j. j.tallies.items ≡ left.tallies.items) }
+    ensures entries { IfOk result (λ j. j.entries.items ≡ map (stamp (position + length cuts.items)) left.notes.items) }
+    ensures streamable { IfOk result (λ j. AllByRecursion AreStreamed (map shown j.shares.items)) }
+{
+    see_shares(&left.shares);
+    let behind = position + cuts.len() as u64;
+    let entries = stamped(alloc, left.notes, behind)?;
+    Ok(Judged {
+        cuts,
+        shares: left.shares,
+        tallies: left.tallies,
+        entries,
+    })
+}
+
+/// Cuts those whose limits leave no room for their share.
+///
+/// # Errors
+/// Want of memory.
+fn split_by_room<'a>(
+    alloc: Global,
+    subscriptions: &Subscriptions,
+    served: &[Served<'a>],
+    shares: &[Share],
+) -> Result<Split<'a>, AllocError>
+    requires each { length shares.now ≡ length served.now }
+    ensures cuts { (domain : ℕ) (f : Force) (records : List DataRecord) → map shown shares.now ≡ shares_of domain f records served.now
+        → IfOk result (λ s. s.cuts.items ≡ map (λ w. w.sub) (filter (lacks subscriptions.now domain f records) served.now)) }
+    ensures left { (domain : ℕ) (f : Force) (records : List DataRecord) → map shown shares.now ≡ shares_of domain f records served.now
+        → IfOk result (λ s. s.left.items ≡ filter (has subscriptions.now domain f records) served.now) }
+{
+    let mut cuts = Vec::new(alloc);
+    let mut left = Vec::new(alloc);
+    'served: for (place, who) in served.iter().enumerate() {
+        if subscriptions.lacks_room(&shares[place]) {
+            cuts.push(who.sub)?;
+        } else {
+            left.push(*who)?;
         }
-        Shares::of_records(self.alloc, &self.in_force, domain, records, left)
     }
+    Ok(Split { cuts, left })
+}
 
-    /// What is judged, with the audit's entries of the message behind its cuts, the first of which is at a position.
-    ///
-    /// # Errors
-    /// Want of memory.
-    fn judged(&self, position: u64, cuts: Vec<u64>, left: Shares) -> Result<Judged, AllocError>
-        requires short { position ≤ 100000000 }
-        ensures cuts { IfOk result (λ j. j.cuts.items ≡ cuts.items) }
-        ensures shares { IfOk result (λ j. j.shares.items ≡ left.shares.items) }
-        ensures tallies { IfOk result (λ j. j.tallies.items ≡ left.tallies.items) }
-        ensures entries { IfOk result (λ j. j.entries.items ≡ map (stamp (position + length cuts.items)) left.notes.items) }
-        ensures streamable { IfOk result (λ j. AllByRecursion AreStreamed (map shown j.shares.items)) }
-    {
-        see_shares(&left.shares);
-        let behind = position + cuts.len() as u64;
-        let entries = stamped(self.alloc, left.notes, behind)?;
-        Ok(Judged {
-            cuts,
-            shares: left.shares,
-            tallies: left.tallies,
-            entries,
-        })
+/// What the records give to those that are left: the shares of all, where none is cut.
+///
+/// # Errors
+/// Want of memory.
+fn share_left(
+    alloc: Global,
+    in_force: &mut InForce,
+    domain: u32,
+    records: &Records,
+    all: Shares,
+    cuts: &[u64],
+    left: &[Served<'_>],
+) -> Result<Shares, AllocError>
+    requires few { length records.now ≤ 2 ^ 32 }
+    requires shares { cuts.now ≡ [] → map shown all.shares.items ≡ shares_of domain in_force.old records.now left.now }
+    requires tallies { cuts.now ≡ [] → map tallied all.tallies.items ≡ tallies_of domain in_force.old records.now left.now }
+    requires notes { cuts.now ≡ [] → all.notes.items ≡ notes_of domain in_force.old records.now left.now }
+    ensures shares { IfOk result (λ s. map shown s.shares.items ≡ shares_of domain in_force.old records.now left.now) }
+    ensures tallies { IfOk result (λ s. map tallied s.tallies.items ≡ tallies_of domain in_force.old records.now left.now) }
+    ensures notes { IfOk result (λ s. s.notes.items ≡ notes_of domain in_force.old records.now left.now) }
+    ensures stay { in_force.new ≡ in_force.old }
+{
+    if cuts.is_empty() {
+        return Ok(all);
     }
-
-    /// Cuts those whose limits leave no room for their share.
-    ///
-    /// # Errors
-    /// Want of memory.
-    fn split<'a>(&self, served: &[Served<'a>], shares: &[Share]) -> Result<Split<'a>, AllocError>
-        requires each { length shares.now ≡ length served.now }
-        ensures cuts { (domain : ℕ) (f : InForce) (records : List DataRecord) → map shown shares.now ≡ shares_of domain f records served.now
-            → IfOk result (λ s. s.cuts.items ≡ map (λ w. w.sub) (filter (lacks self.now.subscriptions domain f records) served.now)) }
-        ensures left { (domain : ℕ) (f : InForce) (records : List DataRecord) → map shown shares.now ≡ shares_of domain f records served.now
-            → IfOk result (λ s. s.left.items ≡ filter (has self.now.subscriptions domain f records) served.now) }
-    {
-        let mut cuts = Vec::new(self.alloc);
-        let mut left = Vec::new(self.alloc);
-        'served: for (place, who) in served.iter().enumerate() {
-            if self.subscriptions.lacks_room(&shares[place]) {
-                cuts.push(who.sub)?;
-            } else {
-                left.push(*who)?;
-            }
-        }
-        Ok(Split { cuts, left })
-    }
+    Shares::of_records(alloc, in_force, domain, records, left)
 }
 
 /// Octets are less than 256, by their type.

@@ -88,7 +88,7 @@ impl<'a> Run<'a> {
     }
 }
 
-/// How many octets a text has room for from its first message on: as many as a message may have that is received, and few messages
+/// How many octets a text has room for from its second message on: as many as a message may have that is received, and few messages
 /// give more.
 const ROOM: usize = 65_536;
 
@@ -99,7 +99,8 @@ const ROOM: usize = 65_536;
 fn append(text: &mut Vec<u8>, octets: &[u8]) -> Result<(), AllocError>
     ensures { OnOk result (text.new.items ≡ text.old.items ++ octets.now) }
 {
-    if text.is_empty() {
+    // A short message that is received gives one, for which no more is needed.
+    if !text.is_empty() && text.capacity() < ROOM {
         text.reserve(ROOM)?;
     }
     text.extend_from_slice(octets)

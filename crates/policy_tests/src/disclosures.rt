@@ -145,9 +145,9 @@ fn disclosed_again(
     policy: &Policy,
     flow_record: &Record,
 ) -> Result<Disclosure, AllocError> {
-    let table = RuleTable::build(alloc, policy)?;
-    let classes = AddressClasses::of_rules(alloc, policy.rules())?;
-    let mut plans = Plans::new(alloc, &table, &classes, "acme", DOMAIN);
+    let table = Arc::new(alloc, RuleTable::build(alloc, policy)?)?;
+    let classes = Arc::new(alloc, AddressClasses::of_rules(alloc, policy.rules())?)?;
+    let mut plans = Plans::new(alloc, table, classes.clone()?, "acme", DOMAIN)?;
     plans.begin(flow_record.shared_template())?;
     let keys = RecordClasses::of(&classes, flow_record);
     plans.disclose(alloc, keys, &flow_record.view())?;
@@ -158,10 +158,10 @@ fn disclosed_again(
 /// A decision with the record that passed last, of the two that did.
 fn disclosure_of(
     alloc: Global,
-    plans: Plans<'_, '_>,
+    mut plans: Plans,
     decision: Decision,
 ) -> Result<Disclosure, AllocError> {
-    let mut passed = plans.into_records()?.to_vec(alloc)?;
+    let mut passed = plans.take_records()?.to_vec(alloc)?;
     match decision {
         Decision::Passed { removed } if passed.len() == 2 => match passed.pop() {
             Some(kept) => Ok(Disclosure::Passed { kept, removed }),

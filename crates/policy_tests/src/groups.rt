@@ -29,7 +29,7 @@ fn message(alloc: Global, minute: u8) -> Result<Vec<u8>, AllocError> {
 }
 
 /// What the records of such a message add to the aggregates of one subscription.
-fn shared(alloc: Global, in_force: &InForce, minute: u8) -> Result<Shares, Fail> {
+fn shared(alloc: Global, in_force: &mut InForce, minute: u8) -> Result<Shares, Fail> {
     let read = Session::new(alloc).apply(&message(alloc, minute)?)?;
     if read.records.len() > 6250 {
         return Err(Fail::new("too many records"));
@@ -57,10 +57,10 @@ fn add_all(groups: &mut RunningGroups, found: Shares) -> Result<(), AllocError> 
 
 #[test]
 fn one_advance_closes_a_hundred_thousand_groups(rt: HostRuntime) -> Result<(), Fail> {
-    let in_force = InForce::since(rt.alloc(), Policy::parse(rt.alloc(), POLICY)?, 0)?;
+    let mut in_force = InForce::since(rt.alloc(), Policy::parse(rt.alloc(), POLICY)?, 0)?;
     let mut groups = RunningGroups::new(rt.alloc());
     for minute in 0..16_u8 {
-        add_all(&mut groups, shared(rt.alloc(), &in_force, minute)?)?;
+        add_all(&mut groups, shared(rt.alloc(), &mut in_force, minute)?)?;
     }
     assert_eq!(rt; groups.closing(1, 64_999)?.len(), 0);
     assert_eq!(rt; groups.closing(1, 965_000)?.len(), 100_000);

@@ -34,8 +34,8 @@ fn shared(alloc: Global) -> Result<Shares, Fail> {
     if read.records.len() > 1 {
         return Err(Fail::new("more than one record"));
     }
-    let in_force = InForce::since(alloc, policy, 0)?;
-    Ok(Shares::of_records(alloc, &in_force, 7, &read.records, &served)?)
+    let mut in_force = InForce::since(alloc, policy, 0)?;
+    Ok(Shares::of_records(alloc, &mut in_force, 7, &read.records, &served)?)
 }
 
 /// The subscriptions with the number of records that each is given.

@@ -1,20 +1,32 @@
 -- What judges a message's records: the judge at a place, and those that begin with other records.
-use Rattle.std.proofs.Common.{◌≡◌, ℕ, zero, suc, ◌+◌, ◌<◌, ◌≤◌, List, [], ◌∷◌, ◌++◌, length, map, take, drop, get_or, set, slice_get, Option, Some, None, refl, sym, ap, ◌∙◌, subst, arith}
-use Rattle.std.proofs.lemmas.List.{get_or-map, length-map, map-append, map-set, take_more, take_all}
-use Rattle.std.proofs.lemmas.Option.{slice_get-map, slice_get-get_or}
+use Rattle.std.proofs.Common.{◌≡◌, ◌==◌, true, ℕ, zero, suc, ◌+◌, ◌<◌, ◌≤◌, List, [], ◌∷◌, ◌++◌, length, map, take, drop, get_or, set, slice_get, Option, Some, None, refl, sym, ap, ◌∙◌, subst, arith}
+use Rattle.std.proofs.lemmas.List.{length-map, map-append, take_more, take_all}
+use Rattle.std.proofs.lemmas.Slice.Eq.{bytes_eq-Decides}
+use Rattle.std.proofs.lemmas.Bool.{and_parts}
+use Rattle.std.proofs.lemmas.Bool.Decides.{Decides-eqb}
 use Rattle.ipfix_template.specs.declared.template.Template.{Template}
 use Rattle.ipfix_template.specs.DataRecord.{DataRecord}
+use Rattle.policy_text.specs.declared.rule.Rule.{Rule}
 use Rattle.flow_anonymize.specs.Plans.{PlansFor}
 use Rattle.record_sharing.specs.declared.judges.Judge.{Judge}
 use Rattle.record_sharing.specs.declared.served.Served.{Served}
 use Rattle.record_sharing.specs.InForce.{InForce}
-use Rattle.record_sharing.specs.Sharing.{blank}
-use Rattle.record_sharing.specs.Judges.{Judges, judges_of, for_of, given_to, plans_for, of_template, JudgeFor}
+use Rattle.record_sharing.specs.declared.shares.Share.{Share}
+use Rattle.record_sharing.specs.Sharing.{blank, shown}
+use Rattle.record_sharing.specs.Judges.{Judges, for_of, given_to, plans_for, of_template, JudgeFor, JudgesAny, AreReady, AreFor, whose, emptied, is_of}
 
 got_map : {A B : Type 0} (f : A → B) (xs : List A) (n : ℕ) (x other : A) → n < length xs → x ≡ get_or xs n other → slice_get (map f xs) n ≡ Some (f x)
 got_map f [] n x other l at = absurd (omega arith)
 got_map f (y ∷ ys) zero x other l at = ap (λ z. Some (f z)) (sym at)
 got_map f (y ∷ ys) (suc n) x other l at = got_map f ys n x other (omega (arith, l)) at
+
+map_twice : {A B C : Type 0} (f : A → B) (g : B → C) (xs : List A) → map g (map f xs) ≡ map (λ x. g (f x)) xs
+map_twice f g [] = refl
+map_twice f g (x ∷ xs) = ap (λ ys. g (f x) ∷ ys) (map_twice f g xs)
+
+-- the same with other shares
+abbrev pub with_shares : Judges → List (ℕ × List DataRecord) → Judges
+with_shares j shares = record { rules = j.rules; cuts = j.cuts; domain = j.domain; template = j.template; fors = j.fors; shares = shares }
 
 -- ---- a judge at its place
 
@@ -43,28 +55,28 @@ pub record HaveBegun (t : Template) (old now : List Judge) (place : ℕ) : Type 
 pub begun_start : (t : Template) (js : List Judge) → HaveBegun t js js 0
 begun_start t js = record { fors = refl; shares = refl; many = refl }
 
-begin_at : (t : Template) (old now : List Judge) (place : ℕ) (was j : Judge) → place < length now → map for_of now ≡ map (of_template t) (map for_of (take place old)) ++ map for_of (drop place old)
-    → was ≡ get_or now place was → for_of j ≡ of_template t (for_of was) → place < length old
-    → map for_of (set now place j) ≡ map (of_template t) (map for_of (take (suc place) old)) ++ map for_of (drop (suc place) old)
-begin_at t [] now place was j l fors at is l2 = absurd (omega arith)
-begin_at t (o ∷ old) [] place was j l fors at is l2 = absurd (omega arith)
-begin_at t (o ∷ old) (n ∷ now) zero was j l fors at is l2 =
-    let here : for_of n ≡ for_of o = head_is fors in
-    ap (λ p. p ∷ map for_of now) (is ∙ ap (of_template t) (ap for_of at ∙ here)) ∙ ap (λ ps. of_template t (for_of o) ∷ ps) (tail_is fors)
+changed_at : {B : Type 0} (f : Judge → B) (g : B → B) (old now : List Judge) (place : ℕ) (was j : Judge) → place < length now → map f now ≡ map g (map f (take place old)) ++ map f (drop place old)
+    → was ≡ get_or now place was → f j ≡ g (f was) → place < length old
+    → map f (set now place j) ≡ map g (map f (take (suc place) old)) ++ map f (drop (suc place) old)
+changed_at f g [] now place was j l all at is l2 = absurd (omega arith)
+changed_at f g (o ∷ old) [] place was j l all at is l2 = absurd (omega arith)
+changed_at {B} f g (o ∷ old) (n ∷ now) zero was j l all at is l2 =
+    let here : f n ≡ f o = head_is all in
+    ap (λ p. p ∷ map f now) (is ∙ ap g (ap f at ∙ here)) ∙ ap (λ ps. g (f o) ∷ ps) (tail_is all)
   where
-    head_is : {p q : PlansFor} {ps qs : List PlansFor} → p ∷ ps ≡ q ∷ qs → p ≡ q
+    head_is : {p q : B} {ps qs : List B} → p ∷ ps ≡ q ∷ qs → p ≡ q
     head_is e = cc
 
-    tail_is : {p q : PlansFor} {ps qs : List PlansFor} → p ∷ ps ≡ q ∷ qs → ps ≡ qs
+    tail_is : {p q : B} {ps qs : List B} → p ∷ ps ≡ q ∷ qs → ps ≡ qs
     tail_is e = cc
-begin_at t (o ∷ old) (n ∷ now) (suc place) was j l fors at is l2 =
-    ap (λ p. p ∷ map for_of (set now place j)) (head_is fors)
-    ∙ ap (λ ps. of_template t (for_of o) ∷ ps) (begin_at t old now place was j (omega (arith, l)) (tail_is fors) at is (omega (arith, l2)))
+changed_at {B} f g (o ∷ old) (n ∷ now) (suc place) was j l all at is l2 =
+    ap (λ p. p ∷ map f (set now place j)) (head_is all)
+    ∙ ap (λ ps. g (f o) ∷ ps) (changed_at f g old now place was j (omega (arith, l)) (tail_is all) at is (omega (arith, l2)))
   where
-    head_is : {p q : PlansFor} {ps qs : List PlansFor} → p ∷ ps ≡ q ∷ qs → p ≡ q
+    head_is : {p q : B} {ps qs : List B} → p ∷ ps ≡ q ∷ qs → p ≡ q
     head_is e = cc
 
-    tail_is : {p q : PlansFor} {ps qs : List PlansFor} → p ∷ ps ≡ q ∷ qs → ps ≡ qs
+    tail_is : {p q : B} {ps qs : List B} → p ∷ ps ≡ q ∷ qs → ps ≡ qs
     tail_is e = cc
 
 one_more : (n : ℕ) → suc n ≡ n + 1
@@ -78,26 +90,150 @@ length-set-same (y ∷ ys) (suc k) x = ap (λ n. suc n) (length-set-same ys k x)
 pub begun_step : (t : Template) (old now : List Judge) (place : ℕ) (was j : Judge) → HaveBegun t old now place → place < length now → was ≡ get_or now place was → for_of j ≡ of_template t (for_of was) → given_to j ≡ given_to was
     → HaveBegun t old (set now place j) (place + 1)
 begun_step t old now place was j so l at is given = record {
-  fors = begin_at t old now place was j l so.fors at is (omega (arith, l, so.many)) ∙ ap (λ n. map (of_template t) (map for_of (take n old)) ++ map for_of (drop n old)) (one_more place);
+  fors = changed_at for_of (of_template t) old now place was j l so.fors at is (omega (arith, l, so.many)) ∙ ap (λ n. map (of_template t) (map for_of (take n old)) ++ map for_of (drop n old)) (one_more place);
   shares = set_same given_to now place was j l at given ∙ so.shares;
   many = length-set-same now place j ∙ so.many;
 }
 
-pub begun_all : (t : Template) (old now : List Judge) (place : ℕ) → HaveBegun t old now place → length now ≤ place → map for_of now ≡ map (of_template t) (map for_of old)
-begun_all t old now place so over =
-    let all : length old ≤ place = omega (arith, over, so.many) in
-    so.fors ∙ ap (λ js. map (of_template t) (map for_of js) ++ map for_of (drop place old)) (take_all place old all)
-    ∙ ap (λ js. map (of_template t) (map for_of old) ++ map for_of js) (drop_all-le old place all) ∙ append-nil' (map (of_template t) (map for_of old))
-  where
-    drop_all-le : {A : Type 0} (xs : List A) (n : ℕ) → length xs ≤ n → drop n xs ≡ []
-    drop_all-le [] zero l = refl
-    drop_all-le [] (suc n) l = refl
-    drop_all-le (x ∷ xs) zero l = absurd (omega arith)
-    drop_all-le (x ∷ xs) (suc n) l = drop_all-le xs n (omega (arith, l))
+drop_all-le : {A : Type 0} (xs : List A) (n : ℕ) → length xs ≤ n → drop n xs ≡ []
+drop_all-le [] zero l = refl
+drop_all-le [] (suc n) l = refl
+drop_all-le (x ∷ xs) zero l = absurd (omega arith)
+drop_all-le (x ∷ xs) (suc n) l = drop_all-le xs n (omega (arith, l))
 
-    append-nil' : {A : Type 0} (xs : List A) → xs ++ [] ≡ xs
-    append-nil' [] = refl
-    append-nil' (x ∷ xs) = ap (λ ys. x ∷ ys) (append-nil' xs)
+append-nil' : {A : Type 0} (xs : List A) → xs ++ [] ≡ xs
+append-nil' [] = refl
+append-nil' (x ∷ xs) = ap (λ ys. x ∷ ys) (append-nil' xs)
+
+changed_all : {B : Type 0} (f : Judge → B) (g : B → B) (old now : List Judge) (place : ℕ) → map f now ≡ map g (map f (take place old)) ++ map f (drop place old) → length old ≤ place → map f now ≡ map g (map f old)
+changed_all f g old now place all over =
+    all ∙ ap (λ js. map g (map f js) ++ map f (drop place old)) (take_all place old over)
+    ∙ ap (λ js. map g (map f old) ++ map f js) (drop_all-le old place over) ∙ append-nil' (map g (map f old))
+
+pub begun_all : (t : Template) (old now : List Judge) (place : ℕ) → HaveBegun t old now place → length now ≤ place → map for_of now ≡ map (of_template t) (map for_of old)
+begun_all t old now place so over = changed_all for_of (of_template t) old now place so.fors (omega (arith, over, so.many))
+
+-- ---- all is taken of one after another
+
+pub record HaveGiven (old now : List Judge) (taken : List Share) (place : ℕ) : Type 0 where
+  pub fors : map for_of now ≡ map for_of old
+  pub given : map given_to now ≡ map emptied (map given_to (take place old)) ++ map given_to (drop place old)
+  pub shares : map shown taken ≡ map given_to (take place old)
+  pub many : length now ≡ length old
+
+pub given_start : (js : List Judge) → HaveGiven js js [] 0
+given_start js = record { fors = refl; given = refl; shares = refl; many = refl }
+
+-- the one at a place was not changed yet
+got_back : {B : Type 0} (f : Judge → B) (g : B → B) (old now : List Judge) (place : ℕ) (was other : Judge) → map f now ≡ map g (map f (take place old)) ++ map f (drop place old) → place < length now → place < length old
+    → was ≡ get_or now place was → f was ≡ f (get_or old place other)
+got_back f g [] now place was other all l l2 at = absurd (omega arith)
+got_back f g (o ∷ old) [] place was other all l l2 at = absurd (omega arith)
+got_back {B} f g (o ∷ old) (n ∷ now) zero was other all l l2 at = ap f at ∙ head_is all where
+  head_is : {p q : B} {ps qs : List B} → p ∷ ps ≡ q ∷ qs → p ≡ q
+  head_is e = cc
+got_back {B} f g (o ∷ old) (n ∷ now) (suc place) was other all l l2 at = got_back f g old now place was other (tail_is all) (omega (arith, l)) (omega (arith, l2)) at where
+  tail_is : {p q : B} {ps qs : List B} → p ∷ ps ≡ q ∷ qs → ps ≡ qs
+  tail_is e = cc
+
+pub given_step : (old now : List Judge) (shares shares2 : List Share) (place : ℕ) (was j : Judge) (share : Share) → HaveGiven old now shares place → place < length now → was ≡ get_or now place was
+    → for_of j ≡ for_of was → given_to j ≡ emptied (given_to was) → shown share ≡ given_to was → shares2 ≡ shares ++ share ∷ [] → HaveGiven old (set now place j) shares2 (place + 1)
+given_step old now shares shares2 place was j share so l at for given shows more =
+    let l2 : place < length old = omega (arith, l, so.many) in
+    record {
+      fors = set_same for_of now place was j l at for ∙ so.fors;
+      given = changed_at given_to emptied old now place was j l so.given at given l2 ∙ ap (λ n. map emptied (map given_to (take n old)) ++ map given_to (drop n old)) (one_more place);
+      shares = ap (map shown) more ∙ map-append shown shares (share ∷ []) ∙ ap (λ s. s ++ shown share ∷ []) so.shares
+          ∙ ap (λ s. map given_to (take place old) ++ s ∷ []) (shows ∙ got_back given_to emptied old now place was was so.given l l2 at)
+          ∙ sym (map-append given_to (take place old) (get_or old place was ∷ [])) ∙ ap (map given_to) (sym (take_more old place was l2));
+      many = length-set-same now place j ∙ so.many;
+    }
+
+pub given_taken : (old now : List Judge) (shares : List Share) (place : ℕ) → HaveGiven old now shares place → length now ≤ place → map given_to now ≡ map emptied (map given_to old)
+given_taken old now shares place so over = changed_all given_to emptied old now place so.given (omega (arith, over, so.many))
+
+pub given_shares : (old now : List Judge) (shares : List Share) (place : ℕ) → HaveGiven old now shares place → length now ≤ place → map shown shares ≡ map given_to old
+given_shares old now shares place so over = so.shares ∙ ap (map given_to) (take_all place old (omega (arith, over, so.many)))
+
+-- ---- those that are for the subscriptions that are served
+
+-- the first so many are
+pub record AreAlike (judges : List Judge) (domain : ℕ) (served : List Served) (place : ℕ) : Type 0 where
+  pub whose_they_are : map whose (map for_of (take place judges)) ≡ map (λ who. (domain, who.name.now)) (take place served)
+  pub subs : map (λ s. s.0) (map given_to (take place judges)) ≡ map (λ who. who.sub) (take place served)
+
+pub alike_start : (judges : List Judge) (domain : ℕ) (served : List Served) → AreAlike judges domain served 0
+alike_start judges domain served = record { whose_they_are = refl; subs = refl }
+
+pub alike_step : (judges : List Judge) (domain : ℕ) (served : List Served) (place : ℕ) (judge : Judge) (who other : Served) → AreAlike judges domain served place → place < length judges → place < length served
+    → judge ≡ get_or judges place judge → who ≡ get_or served place other → is_of who.sub domain who.name.now judge ≡ true → AreAlike judges domain served (place + 1)
+alike_step judges domain served place judge who other so l l2 at at2 is =
+    let first = and_parts (judge.sub == who.sub) _ is in
+    let second = and_parts (judge.plans.for.domain == domain) _ first.1 in
+    let sub : judge.sub ≡ who.sub = (Decides-eqb judge.sub who.sub).0 first.0 in
+    let in_domain : judge.plans.for.domain ≡ domain = (Decides-eqb judge.plans.for.domain domain).0 second.0 in
+    let name : judge.plans.for.name ≡ who.name.now = (bytes_eq-Decides judge.plans.for.name who.name.now).0 second.1 in
+    let W : Served → ℕ × List ℕ = λ who. (domain, who.name.now) in
+    let J : Judge → ℕ × List ℕ = λ j. whose (for_of j) in
+    let S : Judge → ℕ = λ j. (given_to j).0 in
+    let T : Served → ℕ = λ who. who.sub in
+    record {
+      whose_they_are = map_twice for_of whose (take (place + 1) judges)
+          ∙ grown_alike J W judges served place judge who other l l2 at at2 (sym (map_twice for_of whose (take place judges)) ∙ so.whose_they_are) (pair_is in_domain name);
+      subs = map_twice given_to (λ (s : ℕ × List DataRecord). s.0) (take (place + 1) judges)
+          ∙ grown_alike S T judges served place judge who other l l2 at at2 (sym (map_twice given_to (λ (s : ℕ × List DataRecord). s.0) (take place judges)) ∙ so.subs) sub;
+    }
+  where
+    pair_is : {a b : ℕ} {n m : List ℕ} → a ≡ b → n ≡ m → ◌≡◌ {A = ℕ × List ℕ} (a, n) (b, m)
+    pair_is e f = cc
+
+    grown_alike : {A B C : Type 0} (f : A → C) (g : B → C) (xs : List A) (ys : List B) (n : ℕ) (x : A) (y other : B) → n < length xs → n < length ys → x ≡ get_or xs n x → y ≡ get_or ys n other → map f (take n xs) ≡ map g (take n ys) → f x ≡ g y
+        → map f (take (n + 1) xs) ≡ map g (take (n + 1) ys)
+    grown_alike f g xs ys n x y other l l2 at at2 so same =
+        ap (map f) (take_more xs n x l) ∙ map-append f (take n xs) (get_or xs n x ∷ []) ∙ ap (λ z. map f (take n xs) ++ f z ∷ []) (sym at)
+        ∙ ap (λ zs. zs ++ f x ∷ []) so ∙ ap (λ z. map g (take n ys) ++ z ∷ []) same
+        ∙ ap (λ z. map g (take n ys) ++ g z ∷ []) at2 ∙ sym (map-append g (take n ys) (get_or ys n other ∷ [])) ∙ ap (map g) (sym (take_more ys n other l2))
+
+pub alike_whose : (judges : List Judge) (domain : ℕ) (served : List Served) (place : ℕ) → AreAlike judges domain served place → length judges ≤ place → length judges ≡ length served
+    → map whose (map for_of judges) ≡ map (λ who. (domain, who.name.now)) served
+alike_whose judges domain served place so over many =
+    ap (λ js. map whose (map for_of js)) (sym (take_all place judges over)) ∙ so.whose_they_are ∙ ap (map (λ (who : Served). (domain, who.name.now))) (take_all place served (omega (arith, over, many)))
+
+pub alike_subs : (judges : List Judge) (domain : ℕ) (served : List Served) (place : ℕ) → AreAlike judges domain served place → length judges ≤ place → length judges ≡ length served
+    → map (λ s. s.0) (map given_to judges) ≡ map (λ who. who.sub) served
+alike_subs judges domain served place so over many =
+    ap (λ js. map (λ (s : ℕ × List DataRecord). s.0) (map given_to js)) (sym (take_all place judges over)) ∙ so.subs ∙ ap (map (λ (who : Served). who.sub)) (take_all place served (omega (arith, over, many)))
+
+-- those that are kept, where they are for these
+pub ready_judges : (j : Judges) (f : InForce) (domain : ℕ) (served : List Served) → AreReady f.policy.rules j → AreFor j domain served → JudgesAny j f domain served
+ready_judges j f domain served ready for =
+    let plan : ℕ × List ℕ → PlansFor = λ w. plans_for f.policy.rules j.cuts w.0 j.template w.1 in
+    record {
+      template = j.template;
+      judges = record {
+        template_is = refl;
+        fors = ready.fors ∙ sym (map_twice whose plan j.fors) ∙ ap (map plan) for.whose_they_are ∙ map_twice (λ (who : Served). (domain, who.name.now)) plan served;
+      };
+    }
+
+pub ready_blank : (j : Judges) (rules : List Rule) (domain : ℕ) (served : List Served) → AreReady rules j → AreFor j domain served → j.shares ≡ map blank served
+ready_blank j rules domain served ready for =
+    let none : ℕ → ℕ × List DataRecord = λ sub. (sub, []) in
+    ready.shares ∙ sym (map_twice (λ (s : ℕ × List DataRecord). s.0) none j.shares) ∙ ap (map none) for.subs ∙ map_twice (λ (who : Served). who.sub) none served
+
+-- those that have judged for some are ready for more, once all is taken
+pub judges_ready : (before new : Judges) (f : InForce) (domain : ℕ) (served : List Served) → JudgesAny before f domain served → new ≡ with_shares before (map emptied before.shares) → AreReady f.policy.rules new
+judges_ready before new f domain served so is =
+    subst (AreReady f.policy.rules) (sym is) (record {
+      fors = again before f domain so.template served so.judges;
+      shares = sym (map_twice emptied emptied before.shares);
+    })
+  where
+    again : (j : Judges) (f : InForce) (domain : ℕ) (template : Option Template) (served : List Served) → JudgeFor j f domain template served → j.fors ≡ map (λ p. plans_for f.policy.rules j.cuts p.domain j.template p.name) j.fors
+    again j f domain template served so =
+        let pf : Served → PlansFor = λ who. plans_for f.policy.rules j.cuts domain template who.name.now in
+        let k : Option Template → PlansFor → PlansFor = λ t p. plans_for f.policy.rules j.cuts p.domain t p.name in
+        so.fors ∙ sym (map_twice pf (k template) served) ∙ ap (map (k template)) (sym so.fors) ∙ ap (λ t. map (k t) j.fors) (sym so.template_is)
 
 -- ---- those of what is in force
 
@@ -132,10 +268,6 @@ more_judges before new f domain served n who other so rules domain_is shares l a
 
 pub judge_all : (j : Judges) (f : InForce) (domain : ℕ) (served : List Served) (n : ℕ) → JudgeFor j f domain None (take n served) → length served ≤ n → JudgeFor j f domain None served
 judge_all j f domain served n so over = subst (λ l. JudgeFor j f domain None l) (take_all n served over) so
-
-map_twice : {A B C : Type 0} (f : A → B) (g : B → C) (xs : List A) → map g (map f xs) ≡ map (λ x. g (f x)) xs
-map_twice f g [] = refl
-map_twice f g (x ∷ xs) = ap (λ ys. g (f x) ∷ ys) (map_twice f g xs)
 
 -- those that begin with records of a template
 pub judge_begun : (before new : Judges) (f : InForce) (domain : ℕ) (template : Option Template) (t : Template) (served : List Served) → JudgeFor before f domain template served

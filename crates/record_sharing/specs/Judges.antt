@@ -1,5 +1,6 @@
 -- What judges a message's records for its subscriptions, and what each was given so far.
-use Rattle.std.specs.Prelude.{◌≡◌, ℕ, List, map, Option, Some}
+use Rattle.std.specs.Prelude.{◌≡◌, ℕ, List, [], map, Option, Some, Bool, ◌==◌, ◌&&◌}
+use Rattle.std.specs.Str.{bytes_eq}
 use Rattle.ipfix_template.specs.declared.template.Template.{Template}
 use Rattle.ipfix_template.specs.DataRecord.{DataRecord}
 use Rattle.policy_text.specs.declared.rule.Rule.{Rule}
@@ -45,3 +46,27 @@ pub record JudgeFor (j : Judges) (f : InForce) (domain : ℕ) (template : Option
 pub record JudgesAny (j : Judges) (f : InForce) (domain : ℕ) (served : List Served) : Type 0 where
   pub template : Option Template
   pub judges : JudgeFor j f domain template served
+
+-- a share from which all was taken
+abbrev pub emptied : ℕ × List DataRecord → ℕ × List DataRecord
+emptied s = (s.0, [])
+
+-- ---- those that are kept from one message to the next
+
+-- each is by these rules for records of one template, or of none yet, and was given nothing
+pub record AreReady (rules : List Rule) (j : Judges) : Type 0 where
+  pub fors : j.fors ≡ map (λ p. plans_for rules j.cuts p.domain j.template p.name) j.fors
+  pub shares : j.shares ≡ map emptied j.shares
+
+-- for which observation domain and whom plans are
+abbrev pub whose : PlansFor → ℕ × List ℕ
+whose p = (p.domain, p.name)
+
+-- they are for the records of this domain, and these subscriptions
+pub record AreFor (j : Judges) (domain : ℕ) (served : List Served) : Type 0 where
+  pub whose_they_are : map whose j.fors ≡ map (λ who. (domain, who.name.now)) served
+  pub subs : map (λ s. s.0) j.shares ≡ map (λ who. who.sub) served
+
+-- one of them is
+abbrev pub is_of : ℕ → ℕ → List ℕ → Judge → Bool
+is_of sub domain name j = j.sub == sub && (j.plans.for.domain == domain && bytes_eq j.plans.for.name name)

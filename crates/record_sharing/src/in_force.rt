@@ -1,5 +1,5 @@
 //! What decides over the records of a message.
-ghost use Rattle.std.specs.Prelude.{◌≡◌, ◌++◌, ◌∷◌, true, None, map, IfOk};
+ghost use Rattle.std.specs.Prelude.{◌≡◌, ◌++◌, ◌∷◌, true, None, map, IfOk, IfSome};
 ghost use Rattle.std.specs.List.{AllByRecursion};
 ghost use Rattle.ipfix_element.specs.Kinds.{kind_of};
 ghost use Rattle.policy_text.specs.Classes.{is_key_kind};
@@ -14,31 +14,37 @@ use policy_text::{AggregateDef, Policy};
 use rule_table::RuleTable;
 use std::alloc::{AllocError, Global};
 use std::marker::Model;
+use std::sync::Arc;
 
 /// The policy in force, and the time to which the clock was advanced. The policy's rules are kept in a table too, with the classes
-/// that their prefixes make, and its aggregates as groups share them.
+/// that their prefixes make, its aggregates as groups share them, and what was worked out for the records that came last.
 #[derive(Drop)]
 pub struct InForce {
     policy: Policy,
-    table: RuleTable,
-    classes: AddressClasses,
+    table: Arc<RuleTable>,
+    classes: Arc<AddressClasses>,
     definitions: Vec<Definition>,
     clock: u64,
+    /// What judged the last message, for the next one.
+    judges: Option<Judges>,
 }
 
 impl Model for InForce {
+    ghost use Rattle.std.specs.Prelude.{IfSome};
+    ghost use Rattle.std.specs.Arc.{arc_value};
     ghost use Rattle.record_sharing.specs.InForce.{InForce, in_force_with, IsKept};
+    ghost use Rattle.record_sharing.specs.Judges.{AreReady};
 
     ghost Value = { InForce };
 
     ghost view = { λ f. in_force_with f.policy f.clock };
 
-    ghost invariant = { λ f. IsKept f.policy f.table f.classes f.definitions.items };
+    ghost invariant = { λ f. IsKept f.policy (arc_value f.table) (arc_value f.classes) f.definitions.items × IfSome f.judges (AreReady f.policy.rules) };
 }
 
 impl InForce {
     ghost use Rattle.record_sharing.specs.InForce.{in_force_with, timing_by, count_by, as_list};
-    ghost use Rattle.record_sharing.specs.Judges.{JudgeFor};
+    ghost use Rattle.record_sharing.specs.Judges.{JudgeFor, JudgesAny, AreReady};
     ghost use Rattle.record_sharing.specs.Sharing.{blank};
 
     /// Before the first edit and the first advance of the clock: a policy without rules.
@@ -68,27 +74,71 @@ impl InForce {
         let classes = AddressClasses::of_rules(alloc, policy.rules())?;
         Ok(InForce {
             policy,
-            table,
-            classes,
+            table: Arc::new(alloc, table)?,
+            classes: Arc::new(alloc, classes)?,
             definitions,
             clock,
+            judges: None,
         })
     }
 
-    /// What decides over the records of a message of this observation domain, for these subscriptions, which were given nothing yet.
+    /// What decides over the records of a message of this observation domain, for these subscriptions, which were given nothing yet:
+    /// what decided over the last message, where that was of this domain too and for the same ones.
     ///
     /// # Errors
     /// Want of memory.
-    pub(crate) fn judges<'t, 'n>(
-        &'t self,
+    pub(crate) fn judges(
+        &mut self,
         alloc: Global,
         domain: u32,
-        served: &[Served<'n>],
-    ) -> Result<Judges<'t, 'n>, AllocError>
+        served: &[Served<'_>],
+    ) -> Result<Judges, AllocError>
+        ensures judges { IfOk result (λ judges. JudgesAny judges self.old domain served.now) }
+        ensures shares { IfOk result (λ judges. judges.shares ≡ map blank served.now) }
+        ensures stay { self.new ≡ self.old }
+    {
+        match self.judges_again(domain, served) {
+            Some(judges) => Ok(judges),
+            None => self.judges_anew(alloc, domain, served),
+        }
+    }
+
+    /// What decided over the last message, where it is for these.
+    fn judges_again(&mut self, domain: u32, served: &[Served<'_>]) -> Option<Judges>
+        ensures judges { IfSome result (λ judges. JudgesAny judges self.old domain served.now) }
+        ensures shares { IfSome result (λ judges. judges.shares ≡ map blank served.now) }
+        ensures stay { self.new ≡ self.old }
+    {
+        let judges = self.judges.take()?;
+        if !judges.are_for(domain, served) {
+            return None;
+        }
+        Some(judges)
+    }
+
+    /// Keeps what decided over a message, for the next one.
+    pub(crate) fn keep(&mut self, judges: Judges)
+        requires { AreReady self.old.policy.rules judges }
+        ensures { self.new ≡ self.old }
+    {
+        self.judges = Some(judges);
+    }
+
+    /// What decides over records of this domain, for these subscriptions, made anew.
+    ///
+    /// # Errors
+    /// Want of memory.
+    fn judges_anew(
+        &self,
+        alloc: Global,
+        domain: u32,
+        served: &[Served<'_>],
+    ) -> Result<Judges, AllocError>
         ensures judges { IfOk result (λ judges. JudgeFor judges self.now domain None served.now) }
         ensures shares { IfOk result (λ judges. judges.shares ≡ map blank served.now) }
     {
-        let mut judges = Judges::new(alloc, &self.table, &self.classes, domain);
+        let (table, classes) = (self.table.clone()?, self.classes.clone()?);
+        let mut judges = Judges::new(alloc, table, classes, domain);
         'served: for who in served {
             judges.add(alloc, who.sub, who.name)?;
         }

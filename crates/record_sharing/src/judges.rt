@@ -8,6 +8,7 @@ ghost use Rattle.flow_anonymize.specs.Classes.{classes_of};
 ghost use Rattle.flow_anonymize.specs.Plans.{PlansFor, outcome_for};
 ghost use Rattle.record_sharing.specs.Sharing.{shown};
 
+use crate::served::Served;
 use crate::shares::Share;
 use address_classes::{AddressClasses, AddressPlaces, RecentClasses};
 use flow_anonymize::{Decision, Plans, RecordClasses};
@@ -19,48 +20,49 @@ use std::sync::Arc;
 
 /// What a policy discloses to a subscription, and what it was given so far.
 #[derive(Drop)]
-pub(crate) struct Judge<'t, 'n> {
+pub(crate) struct Judge {
     /// The number of the subscription.
     sub: u64,
-    plans: Plans<'t, 'n>,
+    plans: Plans,
 }
 
-/// What a policy discloses of the records of an observation domain, to several subscriptions, and what each was given so far. A
-/// subscription is named by its place among them.
+/// What a policy discloses of the records of an observation domain, to several subscriptions, and what each was given since that was
+/// taken. A subscription is named by its place among them.
 #[derive(Drop)]
-pub(crate) struct Judges<'t, 'n> {
-    table: &'t RuleTable,
+pub(crate) struct Judges {
+    table: Arc<RuleTable>,
     /// The classes that the table's prefixes make, and those of the addresses that came last.
-    classes: RecentClasses<'t>,
+    classes: RecentClasses,
     domain: u32,
     /// Where the addresses stand in the records that come.
     places: Option<AddressPlaces>,
-    judges: Vec<Judge<'t, 'n>>,
+    judges: Vec<Judge>,
 }
 
-impl<'t, 'n> Model for Judges<'t, 'n> {
+impl Model for Judges {
+    ghost use Rattle.std.specs.Arc.{arc_value};
     ghost use Rattle.address_classes.specs.Cuts.{HaveCuts};
     ghost use Rattle.record_sharing.specs.Judges.{Judges, judges_of};
 
     ghost Value = { Judges };
 
-    ghost view = { λ j. judges_of j.table.now j.classes j.domain j.places j.judges.items };
+    ghost view = { λ j. judges_of (arc_value j.table) j.classes j.domain j.places j.judges.items };
 
-    ghost invariant = { λ j. HaveCuts j.classes j.table.now };
+    ghost invariant = { λ j. HaveCuts j.classes (arc_value j.table) };
 }
 
-impl<'t, 'n> Judges<'t, 'n> {
-    ghost use Rattle.record_sharing.specs.Judges.{plans_for, of_template};
+impl Judges {
+    ghost use Rattle.record_sharing.specs.Judges.{plans_for, of_template, AreFor, emptied};
 
     /// By the rules of this table, and the classes that their prefixes make; for no subscription yet.
     pub(crate) fn new(
         alloc: Global,
-        table: &'t RuleTable,
-        classes: &'t AddressClasses,
+        table: Arc<RuleTable>,
+        classes: Arc<AddressClasses>,
         domain: u32,
-    ) -> Judges<'t, 'n>
-        requires { HaveCuts classes.now table.now }
-        ensures { result ≡ record { rules = table.now; cuts = classes.now; domain = domain; template = None; fors = []; shares = [] } }
+    ) -> Judges
+        requires { HaveCuts (arc_value classes) (arc_value table) }
+        ensures { result ≡ record { rules = arc_value table; cuts = arc_value classes; domain = domain; template = None; fors = []; shares = [] } }
     {
         Judges {
             table,
@@ -75,10 +77,11 @@ impl<'t, 'n> Judges<'t, 'n> {
     ///
     /// # Errors
     /// Want of memory.
-    pub(crate) fn add(&mut self, alloc: Global, sub: u64, name: &'n str) -> Result<(), AllocError>
+    pub(crate) fn add(&mut self, alloc: Global, sub: u64, name: &str) -> Result<(), AllocError>
         ensures { OnOk result (self.new ≡ record self.old { fors = self.old.fors ++ plans_for self.old.rules self.old.cuts self.old.domain None name.now ∷ []; shares = self.old.shares ++ (sub, []) ∷ [] }) }
     {
-        let plans = Plans::new(alloc, self.table, self.classes.classes(), name, self.domain);
+        let (table, classes) = (self.table.clone()?, self.classes.classes().clone()?);
+        let plans = Plans::new(alloc, table, classes, name, self.domain)?;
         self.judges.push(Judge { sub, plans })?;
         Ok(())
     }
@@ -151,25 +154,32 @@ impl<'t, 'n> Judges<'t, 'n> {
             .disclose(alloc, classes, flow_record)
     }
 
-    /// What each was given, in their order.
+    /// Whether they judge the records of this domain, for these subscriptions.
+    pub(crate) fn are_for(&self, domain: u32, served: &[Served<'_>]) -> bool
+        ensures { result ≡ true → AreFor self.now domain served.now }
+    {
+        are_for(&self.judges, domain, served)
+    }
+
+    /// Takes what each was given, in their order.
     ///
     /// # Errors
     /// Want of memory.
-    pub(crate) fn into_shares(self, alloc: Global) -> Result<Vec<Share>, AllocError>
-        ensures { IfOk result (λ shares. map shown shares.items ≡ self.entry.shares) }
+    pub(crate) fn take_shares(&mut self, alloc: Global) -> Result<Vec<Share>, AllocError>
+        ensures shares { IfOk result (λ shares. map shown shares.items ≡ self.old.shares) }
+        ensures taken { OnOk result (self.new ≡ record self.old { shares = map emptied self.old.shares }) }
     {
-        let Judges { judges, .. } = self;
-        shares_of(alloc, judges)
+        take_shares(alloc, &mut self.judges)
     }
 }
 
-ghost use Rattle.record_sharing.specs.Judges.{for_of, given_to, of_template};
+ghost use Rattle.record_sharing.specs.Judges.{for_of, given_to, of_template, is_of, whose, emptied};
 
 /// Begins with records of this template, for each.
 ///
 /// # Errors
 /// Want of memory.
-fn begin_each(judges: &mut Vec<Judge<'_, '_>>, template: &Arc<Template>) -> Result<(), AllocError>
+fn begin_each(judges: &mut Vec<Judge>, template: &Arc<Template>) -> Result<(), AllocError>
     ensures fors { OnOk result (map for_of judges.new.items ≡ map (of_template (arc_value template.now)) (map for_of judges.old.items)) }
     ensures shares { OnOk result (map given_to judges.new.items ≡ map given_to judges.old.items) }
 {
@@ -179,30 +189,63 @@ fn begin_each(judges: &mut Vec<Judge<'_, '_>>, template: &Arc<Template>) -> Resu
     Ok(())
 }
 
-/// What each was given, in their order.
+/// Takes what each was given, in their order.
 ///
 /// # Errors
 /// Want of memory.
-fn shares_of(alloc: Global, judges: Vec<Judge<'_, '_>>) -> Result<Vec<Share>, AllocError>
-    ensures { IfOk result (λ shares. map shown shares.items ≡ map given_to judges.entry.items) }
+fn take_shares(alloc: Global, judges: &mut Vec<Judge>) -> Result<Vec<Share>, AllocError>
+    ensures shares { IfOk result (λ shares. map shown shares.items ≡ map given_to judges.old.items) }
+    ensures fors { OnOk result (map for_of judges.new.items ≡ map for_of judges.old.items) }
+    ensures taken { OnOk result (map given_to judges.new.items ≡ map emptied (map given_to judges.old.items)) }
 {
     let mut shares = Vec::new(alloc);
-    'judges: for judge in judges {
-        shares.push(judge.into_share()?)?;
+    'judges: for place in 0..judges.len() {
+        let share = judges[place].take_share()?;
+        shares.push(share)?;
     }
     Ok(shares)
 }
 
-impl<'t, 'n> Judge<'t, 'n> {
-    /// What it was given.
+/// Whether these judge the records of a domain, for these subscriptions.
+fn are_for(judges: &[Judge], domain: u32, served: &[Served<'_>]) -> bool
+    ensures whose { result ≡ true → map whose (map for_of judges.now) ≡ map (λ who. (domain, who.name.now)) served.now }
+    ensures subs { result ≡ true → map (λ s. s.0) (map given_to judges.now) ≡ map (λ who. who.sub) served.now }
+{
+    if judges.len() != served.len() {
+        return false;
+    }
+    'judges: for place in 0..judges.len() {
+        let who = served[place];
+        if !judges[place].is_of(who.sub, domain, who.name) {
+            return false;
+        }
+    }
+    true
+}
+
+impl Judge {
+    /// Whether it judges the records of a domain, for a subscription with this number and this subscriber.
+    fn is_of(&self, sub: u64, domain: u32, name: &str) -> bool
+        ensures { result ≡ is_of sub domain name.now self.now }
+    {
+        self.sub == sub
+            && self.plans.domain() == domain
+            && self.plans.name().as_bytes() == name.as_bytes()
+    }
+
+    /// Takes what it was given.
     ///
     /// # Errors
     /// Want of memory.
-    fn into_share(self) -> Result<Share, AllocError>
-        ensures { IfOk result (λ share. shown share ≡ given_to self.entry) }
+    fn take_share(&mut self) -> Result<Share, AllocError>
+        ensures share { IfOk result (λ share. shown share ≡ given_to self.old) }
+        ensures plans { OnOk result (for_of self.new ≡ for_of self.old) }
+        ensures taken { OnOk result (given_to self.new ≡ emptied (given_to self.old)) }
     {
-        let Judge { sub, plans } = self;
-        let given = plans.into_records()?;
-        Ok(Share { sub, given })
+        let given = self.plans.take_records()?;
+        Ok(Share {
+            sub: self.sub,
+            given,
+        })
     }
 }

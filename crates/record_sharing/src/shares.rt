@@ -64,20 +64,22 @@ impl Shares {
     /// Want of memory.
     pub fn of_records(
         alloc: Global,
-        in_force: &InForce,
+        in_force: &mut InForce,
         domain: u32,
         records: &Records,
         served: &[Served<'_>],
     ) -> Result<Shares, AllocError>
         requires few { length records.now ≤ 2 ^ 32 }
-        ensures shares { IfOk result (λ s. map shown s.shares.items ≡ shares_of domain in_force.now records.now served.now) }
-        ensures tallies { IfOk result (λ s. map tallied s.tallies.items ≡ tallies_of domain in_force.now records.now served.now) }
-        ensures notes { IfOk result (λ s. s.notes.items ≡ notes_of domain in_force.now records.now served.now) }
+        ensures shares { IfOk result (λ s. map shown s.shares.items ≡ shares_of domain in_force.old records.now served.now) }
+        ensures tallies { IfOk result (λ s. map tallied s.tallies.items ≡ tallies_of domain in_force.old records.now served.now) }
+        ensures notes { IfOk result (λ s. s.notes.items ≡ notes_of domain in_force.old records.now served.now) }
+        ensures stay { in_force.new ≡ in_force.old }
     {
         let mut judges = in_force.judges(alloc, domain, served)?;
         let mut sums = Sums::of_none(alloc, served)?;
         sums.add_runs(alloc, in_force, &mut judges, domain, records.runs(), served)?;
-        let shares = judges.into_shares(alloc)?;
+        let shares = judges.take_shares(alloc)?;
+        in_force.keep(judges);
         let Sums { tallies, notes } = sums;
         Ok(Shares {
             shares,
@@ -118,19 +120,20 @@ impl Sums {
         &mut self,
         alloc: Global,
         in_force: &InForce,
-        judges: &mut Judges<'_, '_>,
+        judges: &mut Judges,
         domain: u32,
         runs: &[Run],
         served: &[Served<'_>],
     ) -> Result<(), AllocError>
         requires few { length (records_in runs.now) ≤ 2 ^ 32 }
-        requires judges { JudgeFor judges.old in_force.now domain None served.now }
+        requires judges { JudgesAny judges.old in_force.now domain served.now }
         requires blank { judges.old.shares ≡ map blank served.now }
         requires blank_tallies { map tallied self.old.tallies.items ≡ map blank served.now }
         requires blank_notes { self.old.notes.items ≡ [] }
         ensures shares { OnOk result (judges.new.shares ≡ shares_of domain in_force.now (records_in runs.now) served.now) }
         ensures tallies { OnOk result (map tallied self.new.tallies.items ≡ tallies_of domain in_force.now (records_in runs.now) served.now) }
         ensures notes { OnOk result (self.new.notes.items ≡ notes_of domain in_force.now (records_in runs.now) served.now) }
+        ensures judges { OnOk result (JudgesAny judges.new in_force.now domain served.now) }
     {
         let mut before = 0;
         'runs: for run in runs {
@@ -145,7 +148,7 @@ impl Sums {
         &mut self,
         alloc: Global,
         in_force: &InForce,
-        judges: &mut Judges<'_, '_>,
+        judges: &mut Judges,
         domain: u32,
         before: usize,
         run: &Run,
@@ -179,7 +182,7 @@ impl Sums {
         &mut self,
         alloc: Global,
         in_force: &InForce,
-        judges: &mut Judges<'_, '_>,
+        judges: &mut Judges,
         domain: u32,
         index: u32,
         flow_record: &RecordView<'_>,

@@ -1,4 +1,4 @@
-use Rattle.std.proofs.Common.{◌≡◌, ap, arith}
+use Rattle.std.proofs.Common.{ap, arith}
 use Rattle.std.specs.Arc.{arc_value}
 use Rattle.flow_anonymize.specs.Plans.{PlansOf}
 use Rattle.record_sharing.proofs.JudgeLaws.{begun_step}

@@ -1,4 +1,3 @@
-use Rattle.std.proofs.Common.{◌≡◌}
 use Rattle.std.specs.Arc.{arc_value}
 use Rattle.record_sharing.proofs.JudgeLaws.{HaveBegun}
 use Rattle.record_sharing.proofs.judges.begin_each.Given as goal

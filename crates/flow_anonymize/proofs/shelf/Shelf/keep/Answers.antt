@@ -1,4 +1,4 @@
-use Rattle.std.proofs.Common.{◌≡◌, ℕ, ◌<◌, ◌≤◌, length, arith, subst, sym, ap, ◌∙◌, ◌++◌, ◌∷◌, [], List, set, bit_xor, ◌%◌}
+use Rattle.std.proofs.Common.{◌≡◌, ◌<◌, length, arith, subst, sym, ap, ◌∙◌, ◌++◌, ◌∷◌, [], List, set, bit_xor, ◌%◌}
 use Rattle.flow_anonymize.specs.declared.slot.Slot.{Slot}
 use Rattle.flow_anonymize.specs.Shelf.{IsOpen, IsPut, ShelfOf}
 use Rattle.flow_anonymize.proofs.ShelfLaws.{open_push, put_push, put_set}

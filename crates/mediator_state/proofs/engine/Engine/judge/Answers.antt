@@ -1,4 +1,5 @@
-use Rattle.std.proofs.Common.{ap, ◌∙◌}
+use Rattle.std.proofs.Common.{ap, sym, ◌∙◌}
+use Rattle.record_sharing.specs.InForce.{InForce}
 use Rattle.record_sharing.specs.Sharing.{shares_of, tallies_of, notes_of}
 use Rattle.mediator_state.proofs.Judging.{split_of, none_cut, judges}
 use Rattle.mediator_state.proofs.engine.Engine.judge.Goals as goal
@@ -11,6 +12,7 @@ share_left-requires-clause-shares c none =
     (split_of c.args.self.now.subscriptions c.header-domain.result.domain c.args.self.now.in_force c.records-records.result.now c.in_ok-served.served.items c.deref.result.now c.deref-2.result.now c.in_ok-all.all.shares.items c.deref-3.result.now c.in_ok-split.split.cuts.items c.in_ok-split.split.left.items
     c.deref.ensures.value c.deref-2.ensures.value c.deref-3.ensures.value c.in_ok-all.ensures.shares c.in_ok-split.ensures.cuts c.in_ok-split.ensures.left)
     c.deref.ensures.value c.deref-4.ensures.value c.deref-5.ensures.value none)
+    ∙ ap (λ (f : InForce). shares_of c.header-domain.result.domain f c.records-records.result.now c.deref-5.result.now) (sym c.of_records.ensures.stay)
 
 pub share_left-requires-clause-tallies : goal.share_left-requires-clause-tallies
 share_left-requires-clause-tallies c none =
@@ -20,6 +22,7 @@ share_left-requires-clause-tallies c none =
     (split_of c.args.self.now.subscriptions c.header-domain.result.domain c.args.self.now.in_force c.records-records.result.now c.in_ok-served.served.items c.deref.result.now c.deref-2.result.now c.in_ok-all.all.shares.items c.deref-3.result.now c.in_ok-split.split.cuts.items c.in_ok-split.split.left.items
     c.deref.ensures.value c.deref-2.ensures.value c.deref-3.ensures.value c.in_ok-all.ensures.shares c.in_ok-split.ensures.cuts c.in_ok-split.ensures.left)
     c.deref.ensures.value c.deref-4.ensures.value c.deref-5.ensures.value none)
+    ∙ ap (λ (f : InForce). tallies_of c.header-domain.result.domain f c.records-records.result.now c.deref-5.result.now) (sym c.of_records.ensures.stay)
 
 pub share_left-requires-clause-notes : goal.share_left-requires-clause-notes
 share_left-requires-clause-notes c none =
@@ -29,11 +32,12 @@ share_left-requires-clause-notes c none =
     (split_of c.args.self.now.subscriptions c.header-domain.result.domain c.args.self.now.in_force c.records-records.result.now c.in_ok-served.served.items c.deref.result.now c.deref-2.result.now c.in_ok-all.all.shares.items c.deref-3.result.now c.in_ok-split.split.cuts.items c.in_ok-split.split.left.items
     c.deref.ensures.value c.deref-2.ensures.value c.deref-3.ensures.value c.in_ok-all.ensures.shares c.in_ok-split.ensures.cuts c.in_ok-split.ensures.left)
     c.deref.ensures.value c.deref-4.ensures.value c.deref-5.ensures.value none)
+    ∙ ap (λ (f : InForce). notes_of c.header-domain.result.domain f c.records-records.result.now c.deref-5.result.now) (sym c.of_records.ensures.stay)
 
-pub returns : goal.returns
-returns c =
-    judges c.args.self.now c.args.position c.args.reading.now.meaning c.header-domain.result.domain c.records-records.result.now c.in_ok-served.served.items c.in_ok-split.split.cuts.items c.in_ok-split.split.left.items c.deref-5.result.now c.in_ok-left.left.shares.items c.in_ok-left.left.tallies.items c.in_ok-left.left.notes.items c.judged.result
+pub returns-clause-judged : goal.returns-clause-judged
+returns-clause-judged c =
+    judges c.args.self.now c.args.position c.args.reading.now.meaning c.header-domain.result.domain c.records-records.result.now c.in_ok-served.served.items c.in_ok-split.split.cuts.items c.in_ok-split.split.left.items c.deref-5.result.now c.in_ok-left.left.shares.items c.in_ok-left.left.tallies.items c.in_ok-left.left.notes.items c.judged_at.result
     (ap (λ x. x.domain) c.header-domain.ensures) c.records-records.ensures c.in_ok-served.ensures
     (split_of c.args.self.now.subscriptions c.header-domain.result.domain c.args.self.now.in_force c.records-records.result.now c.in_ok-served.served.items c.deref.result.now c.deref-2.result.now c.in_ok-all.all.shares.items c.deref-3.result.now c.in_ok-split.split.cuts.items c.in_ok-split.split.left.items
     c.deref.ensures.value c.deref-2.ensures.value c.deref-3.ensures.value c.in_ok-all.ensures.shares c.in_ok-split.ensures.cuts c.in_ok-split.ensures.left)
-    c.deref-5.ensures.value c.in_ok-left.ensures.shares c.in_ok-left.ensures.tallies c.in_ok-left.ensures.notes c.judged.ensures.cuts c.judged.ensures.shares c.judged.ensures.tallies c.judged.ensures.entries c.judged.ensures.streamable
+    c.deref-5.ensures.value (c.in_ok-left.ensures.shares ∙ ap (λ (f : InForce). shares_of c.header-domain.result.domain f c.records-records.result.now c.deref-5.result.now) c.of_records.ensures.stay) (c.in_ok-left.ensures.tallies ∙ ap (λ (f : InForce). tallies_of c.header-domain.result.domain f c.records-records.result.now c.deref-5.result.now) c.of_records.ensures.stay) (c.in_ok-left.ensures.notes ∙ ap (λ (f : InForce). notes_of c.header-domain.result.domain f c.records-records.result.now c.deref-5.result.now) c.of_records.ensures.stay) c.judged_at.ensures.cuts c.judged_at.ensures.shares c.judged_at.ensures.tallies c.judged_at.ensures.entries c.judged_at.ensures.streamable

@@ -15,4 +15,4 @@ judge-requires-clause-few c =
 
 pub returns-clause-ok : goal.returns-clause-ok
 returns-clause-ok c h so counted =
-    planned c.args.self.now h c.args.number c.args.message.now _ c.in_ok-open.open.now c.in_ok-judged.judged so c.in_ok-open.ensures.ok c.in_ok-reading.ensures.reading (c.in_ok-judged.ensures h so counted) refl refl refl refl
+    planned c.args.self.now h c.args.number c.args.message.now _ c.in_ok-open.open.now c.in_ok-judged.judged so c.in_ok-open.ensures.ok c.in_ok-reading.ensures.reading (c.in_ok-judged.ensures.judged h so counted) refl refl refl refl

@@ -1,9 +1,9 @@
-use Rattle.std.proofs.Common.{List, sym, ◌∙◌, subst, arith}
+use Rattle.std.proofs.Common.{List, length, ◌+◌, sym, ◌∙◌, subst, arith}
 use Rattle.event_journal.specs.declared.entry.Entry.{Entry}
 use Rattle.mediator_state.specs.declared.engine.Engine.{Engine}
 use Rattle.mediator_state.specs.declared.fault.Fault.{Fault}
 use Rattle.mediator_state.specs.Seen.{IsSameEngine}
-use Rattle.mediator_state.specs.Accepting.{IsPlannedFor}
+use Rattle.mediator_state.specs.Accepting.{IsPlannedFor, LacksAudit}
 use Rattle.mediator_state.specs.Calls.{RefusesReceive}
 use Rattle.mediator_state.proofs.SameLaws.{stands_same}
 use Rattle.mediator_state.proofs.CallLaws.{found, refused_full, refused_audit, full_where, room_where, planned_for, received, err_gives, on_err}
@@ -17,7 +17,7 @@ returns-then-not-room-clause-err g c = λ h s.
     (full_where c.room.result (g.C.Chronicle.limits c.args.self.now.chronicle) (g.C.Chronicle.count c.args.self.now.chronicle) (g.C.Chronicle.octets c.args.self.now.chronicle) c.deref-2.result.now c.in_ok-entries.entries.items c.room.ensures c.deref-2.ensures.value c.if-not-room.true)
 
 pub returns-in_err-make_room-clause-same : goal.returns-in_err-make_room-clause-same
-returns-in_err-make_room-clause-same g c = on_err c.from_residual-in_err-make_room.result (λ h s. record { told = s.told; stands = stands_same c.args.self.now.engine c.make_room.new.self h c.make_room.ensures.same s.stands })
+returns-in_err-make_room-clause-same g c = on_err c.from_residual-in_err-make_room.result (λ h s. record { told = s.told; stands = stands_same c.args.self.now.engine c.make_room.new.self h (subst (λ (e : Engine). IsSameEngine e c.make_room.new.self) c.plan.ensures.same c.make_room.ensures.same) s.stands })
 
 pub returns-in_err-make_room-clause-err : goal.returns-in_err-make_room-clause-err
 returns-in_err-make_room-clause-err g c =
@@ -28,10 +28,10 @@ returns-in_err-make_room-clause-err g c =
     (refused_audit c.in_err-make_room.field-0.0 (g.C.Chronicle.limits c.args.self.now.chronicle) (g.C.Chronicle.count c.args.self.now.chronicle) (g.C.Chronicle.octets c.args.self.now.chronicle) c.args.self.now.engine h c.args.session c.args.number c.args.message c.in_ok-plan.plan c.in_ok-entries.entries.items counts
     (found c.args.self.now.engine h c.args.session c.args.number c.args.message c.in_ok-plan.plan c.in_ok-entries.entries.items c.deref.result.now (c.in_ok-plan.ensures.ok h s.stands (sym (c.len-position.ensures.value ∙ counts.entries))) c.in_ok-plan.ensures.session c.in_ok-entries.ensures c.deref.ensures.value)
     (room_where c.room.result (g.C.Chronicle.limits c.args.self.now.chronicle) (g.C.Chronicle.count c.args.self.now.chronicle) (g.C.Chronicle.octets c.args.self.now.chronicle) c.deref-2.result.now c.in_ok-entries.entries.items c.room.ensures c.deref-2.ensures.value c.if-not-room.false)
-    c.in_err-make_room.ensures.err))
+    (subst (λ (e : Engine). LacksAudit c.in_err-make_room.field-0.0 e.audit (length c.in_ok-plan.plan.cuts.items + length c.in_ok-plan.plan.entries.items)) c.plan.ensures.same c.in_err-make_room.ensures.err)))
 
 pub returns-in_err-reserve-clause-same : goal.returns-in_err-reserve-clause-same
-returns-in_err-reserve-clause-same g c = on_err c.from_residual-in_err-reserve.result (λ h s. record { told = c.reserve.ensures.tells h s.told; stands = stands_same c.args.self.now.engine c.make_room.new.self h c.make_room.ensures.same s.stands })
+returns-in_err-reserve-clause-same g c = on_err c.from_residual-in_err-reserve.result (λ h s. record { told = c.reserve.ensures.tells h s.told; stands = stands_same c.args.self.now.engine c.make_room.new.self h (subst (λ (e : Engine). IsSameEngine e c.make_room.new.self) c.plan.ensures.same c.make_room.ensures.same) s.stands })
 
 pub accept-requires-clause-planned : goal.accept-requires-clause-planned
 accept-requires-clause-planned g c =
@@ -40,7 +40,7 @@ accept-requires-clause-planned g c =
     let counts = g.met.C.Chronicle.counted c.args.self.now.chronicle h s.told in
     let counted = sym (c.len-position.ensures.value ∙ counts.entries) in
     subst (λ (e : Engine). IsPlannedFor e c.len-position.result c.in_ok-plan.plan) (sym c.append.ensures.engine)
-    (planned_for c.args.self.now.engine c.make_room.new.self h c.args.number c.args.message c.len-position.result c.in_ok-plan.plan c.make_room.ensures.same s.stands counted
+    (planned_for c.args.self.now.engine c.make_room.new.self h c.args.number c.args.message c.len-position.result c.in_ok-plan.plan (subst (λ (e : Engine). IsSameEngine e c.make_room.new.self) c.plan.ensures.same c.make_room.ensures.same) s.stands counted
     (omega (arith, c.len-position.ensures.within, c.len-position.ensures.limits.most_entries)) (c.in_ok-plan.ensures.ok h s.stands counted))
 
 pub returns-clause-ok : goal.returns-clause-ok
@@ -50,5 +50,5 @@ returns-clause-ok g c = λ h s.
     s counts c.len-position.ensures.value
     (found c.args.self.now.engine h c.args.session c.args.number c.args.message c.in_ok-plan.plan c.in_ok-entries.entries.items c.deref.result.now (c.in_ok-plan.ensures.ok h s.stands (sym (c.len-position.ensures.value ∙ counts.entries))) c.in_ok-plan.ensures.session c.in_ok-entries.ensures c.deref.ensures.value)
     (room_where c.room.result (g.C.Chronicle.limits c.args.self.now.chronicle) (g.C.Chronicle.count c.args.self.now.chronicle) (g.C.Chronicle.octets c.args.self.now.chronicle) c.deref-2.result.now c.in_ok-entries.entries.items c.room.ensures c.deref-2.ensures.value c.if-not-room.false)
-    (subst (λ (e : Engine). IsSameEngine c.args.self.now.engine e) (sym c.append.ensures.engine) c.make_room.ensures.same)
+    (subst (λ (e : Engine). IsSameEngine c.args.self.now.engine e) (sym c.append.ensures.engine) (subst (λ (e : Engine). IsSameEngine e c.make_room.new.self) c.plan.ensures.same c.make_room.ensures.same))
     (c.append.ensures.tells h (c.reserve.ensures.tells h s.told)) c.accept.ensures.stands c.accept.ensures.receipt

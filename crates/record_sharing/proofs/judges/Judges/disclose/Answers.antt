@@ -1,7 +1,6 @@
-use Rattle.std.proofs.Common.{◌≡◌, ◌++◌, ◌∷◌, List, ℕ, Some, IfOk, map, slice_get, length, sym, ap, ◌∙◌, subst, arith}
+use Rattle.std.proofs.Common.{◌≡◌, ◌++◌, ◌∷◌, List, ℕ, Some, IfOk, slice_get, length, sym, ap, ◌∙◌, subst, arith}
 use Rattle.std.proofs.lemmas.Result.{IfOk-weaker}
 use Rattle.std.proofs.lemmas.List.{length-map}
-use Rattle.ipfix_template.specs.DataRecord.{DataRecord}
 use Rattle.flow_anonymize.specs.declared.decision.Decision.{Decision}
 use Rattle.flow_anonymize.specs.Classes.{classes_of}
 use Rattle.flow_anonymize.specs.Outcome.{passed, decision_of}

@@ -1,4 +1,4 @@
-use Rattle.std.proofs.Common.{◌≡◌, Option, Some, sym, ap, ◌∙◌}
+use Rattle.std.proofs.Common.{Some, sym, ap, ◌∙◌}
 use Rattle.ipfix_template.specs.declared.template.Template.{Template}
 use Rattle.ipfix_template.specs.SameTemplate.{same_template-is}
 use Rattle.record_sharing.specs.Judges.{Judges}

@@ -1,7 +1,6 @@
-use Rattle.std.proofs.Common.{◌≡◌, Some, refl, sym, ap, subst, ◌∙◌, arith}
+use Rattle.std.proofs.Common.{Some, refl, sym, ap, subst, ◌∙◌, arith}
 use Rattle.flow_anonymize.specs.Classes.{classes_of}
-use Rattle.record_sharing.specs.Judges.{Judges, JudgeFor, plans_for}
-use Rattle.record_sharing.specs.Sharing.{outcome_by}
+use Rattle.record_sharing.specs.Judges.{Judges, JudgeFor}
 use Rattle.record_sharing.proofs.JudgeLaws.{judge_at, judge_same, template_at, cuts_at, there_for}
 use Rattle.record_sharing.proofs.SharingLaws.{IsAdding, HasAdded, adding_start, adding_step, added}
 use Rattle.record_sharing.proofs.shares.Sums.add_record.Goals as goal

@@ -1,12 +1,11 @@
-use Rattle.std.proofs.Common.{◌≡◌, ◌<◌, ◌++◌, ◌∷◌, [], length, List, ℕ, Some, map, refl, sym, ap, ◌∙◌, subst, arith}
+use Rattle.std.proofs.Common.{◌<◌, [], length, Some, map, refl, sym, ap, ◌∙◌, subst, arith}
 use Rattle.std.proofs.lemmas.List.{get_or-map, length-map}
-use Rattle.std.specs.Arc.{arc_value}
 use Rattle.ipfix_template.specs.declared.template.Template.{Template}
 use Rattle.ipfix_template.specs.DataRecord.{DataRecord, kept_record}
 use Rattle.record_runs.specs.Runs.{records_of}
 use Rattle.record_sharing.specs.Judges.{Judges, JudgeFor, of_template}
 use Rattle.record_sharing.proofs.JudgeLaws.{judge_begun}
-use Rattle.record_sharing.proofs.SharingLaws.{IsRunning, running_start, running_step, has_run}
+use Rattle.record_sharing.proofs.SharingLaws.{IsRunning, running_start, running_step}
 use Rattle.record_sharing.proofs.shares.Sums.add_run.Goals as goal
 
 pub records-init : goal.records-init

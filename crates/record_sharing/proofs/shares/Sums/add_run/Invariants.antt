@@ -1,4 +1,4 @@
-use Rattle.std.proofs.Common.{◌≡◌, Some}
+use Rattle.std.proofs.Common.{Some}
 use Rattle.record_runs.specs.Runs.{records_of}
 use Rattle.record_sharing.specs.Judges.{JudgeFor}
 use Rattle.record_sharing.proofs.SharingLaws.{IsRunning}

@@ -1,5 +1,4 @@
-use Rattle.std.proofs.Common.{◌≡◌, ℕ, ◌+◌, ◌≤◌, length, ap, arith}
-use Rattle.record_runs.specs.Runs.{RunOf, records_of, records_in}
+use Rattle.std.proofs.Common.{◌+◌, ◌≤◌, arith}
 use Rattle.record_sharing.proofs.SharingLaws.{fewer_records, shares_step}
 use Rattle.record_sharing.proofs.shares.Sums.add_runs.Goals as goal
 
@@ -22,3 +21,6 @@ runs-preserved c = (
       (record { shares = c.in_ok-add_run.ensures.shares; tallies = c.in_ok-add_run.ensures.tallies; noting = c.in_ok-add_run.ensures.notes }) c.in_ok-add_run.ensures.stay c.in_ok-add_run.ensures.stay_tallies,
   c.in_ok-add_run.ensures.judges,
 )
+
+pub returns-clause-judges : goal.returns-clause-judges
+returns-clause-judges c = c.runs.invariant.1

@@ -1,4 +1,3 @@
-use Rattle.std.proofs.Common.{◌≡◌}
 use Rattle.record_sharing.specs.Judges.{JudgesAny}
 use Rattle.record_sharing.proofs.SharingLaws.{AreShares}
 use Rattle.record_sharing.proofs.shares.Sums.add_runs.Given as goal

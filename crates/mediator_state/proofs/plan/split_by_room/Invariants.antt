@@ -1,7 +1,7 @@
 use Rattle.std.proofs.Common.{map}
 use Rattle.record_sharing.specs.Sharing.{shown}
 use Rattle.mediator_state.proofs.Judging.{IsSplit}
-use Rattle.mediator_state.proofs.engine.Engine.split.Given as goal
+use Rattle.mediator_state.proofs.plan.split_by_room.Given as goal
 
 abbrev pub invariant-served : goal.invariant-served
-invariant-served l = IsSplit l.self.subscriptions l.served (map shown l.shares) l.cuts.items l.left.items l.place
+invariant-served l = IsSplit l.subscriptions l.served (map shown l.shares) l.cuts.items l.left.items l.place

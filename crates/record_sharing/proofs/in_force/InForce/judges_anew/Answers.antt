@@ -1,6 +1,6 @@
 use Rattle.std.proofs.Common.{refl, arith}
 use Rattle.record_sharing.proofs.JudgeLaws.{more_judges}
-use Rattle.record_sharing.proofs.in_force.InForce.judges.Goals as goal
+use Rattle.record_sharing.proofs.in_force.InForce.judges_anew.Goals as goal
 
 pub served-preserved : goal.served-preserved
 served-preserved c =
