@@ -6,8 +6,8 @@
 //! - `transform`: [`disclose`]; `by_table`: [`disclose_by`], by a table of the rules.
 //! - `fields`: the verdict on each field, and which fields stay; `plan`: what becomes of all records for which the verdicts are the
 //!   same; `steps`, `values`: what is shown of a record's octets.
-//! - `plans`: [`Plans`], which keeps plans for records that come again, on a `shelf` of slots; `output`: the records that pass, as
-//!   runs; `record_classes`: [`RecordClasses`].
+//! - `plans`: [`Plans`], which keeps plans for records that come again, on a `shelf` of slots, for as long as it lives; `output`: the
+//!   records that pass, as runs; `record_classes`: [`RecordClasses`].
 //! - `laws`: [`only_permitted_passes`], [`passed_is_sound`], [`denied_is_secret`], [`others_never_matter`]
 //!   and [`later_rules_never_matter`], proved over the definitions.
 //!
