@@ -1,5 +1,6 @@
 -- What judges a message's records: the judge at a place, and those that begin with other records.
 use Rattle.std.proofs.Common.{◌≡◌, ◌==◌, true, ℕ, zero, suc, ◌+◌, ◌<◌, ◌≤◌, List, [], ◌∷◌, ◌++◌, length, map, take, drop, get_or, set, slice_get, Option, Some, None, refl, sym, ap, ◌∙◌, subst, arith}
+use Rattle.std.specs.List.{All}
 use Rattle.std.proofs.lemmas.List.{length-map, map-append, take_more, take_all}
 use Rattle.std.proofs.lemmas.Slice.Eq.{bytes_eq-Decides}
 use Rattle.std.proofs.lemmas.Bool.{and_parts}
@@ -27,6 +28,21 @@ map_twice f g (x ∷ xs) = ap (λ ys. g (f x) ∷ ys) (map_twice f g xs)
 -- the same with other shares
 abbrev pub with_shares : Judges → List (ℕ × List DataRecord) → Judges
 with_shares j shares = record { rules = j.rules; cuts = j.cuts; domain = j.domain; template = j.template; fors = j.fors; shares = shares }
+
+pub got : {A : Type 0} (xs : List A) (n : ℕ) (x : A) → n < length xs → x ≡ get_or xs n x → slice_get xs n ≡ Some x
+got [] n x l at = absurd (omega arith)
+got (y ∷ ys) zero x l at = ap (λ z. Some z) (sym at)
+got (y ∷ ys) (suc n) x l at = got ys n x (omega (arith, l)) at
+
+pub all_one : {A : Type 0} (P : A → Type 0) (x : A) → P x → All P (x ∷ [])
+all_one P x p zero d l = p
+all_one P x p (suc k) d l = absurd (omega (arith, l))
+
+-- what holds of the one at a place holds of whichever is named there
+pub the_one : {A : Type 0} (P : A → Type 0) (xs : List A) (n : ℕ) (x y : A) → n < length xs → x ≡ get_or xs n x → P x → slice_get xs n ≡ Some y → P y
+the_one P xs n x y l at p there = subst P (some_is (sym (got xs n x l at) ∙ there)) p where
+  some_is : Some x ≡ Some y → x ≡ y
+  some_is e = cc
 
 -- ---- a judge at its place
 

@@ -1,23 +1,27 @@
 //! What decides over the records of a message.
 ghost use Rattle.std.specs.Prelude.{◌≡◌, ◌++◌, ◌∷◌, true, None, map, IfOk, IfSome};
-ghost use Rattle.std.specs.List.{AllByRecursion};
+ghost use Rattle.std.specs.Prelude.{List};
+ghost use Rattle.std.specs.List.{All, AllByRecursion};
+ghost use Rattle.policy_text.specs.declared.rule.Rule.{Rule};
+ghost use Rattle.record_sharing.specs.Judges.{AreReady};
 ghost use Rattle.ipfix_element.specs.Kinds.{kind_of};
 ghost use Rattle.policy_text.specs.Classes.{is_key_kind};
 ghost use Rattle.policy_text.specs.Policies.{nothing};
 
-use crate::judges::Judges;
+use crate::judges::{Judges, place_for};
 use crate::served::Served;
 use address_classes::AddressClasses;
 use flow_aggregate::{Count, Definition, Timing, judge_time};
 use ipfix_template::Record;
 use policy_text::{AggregateDef, Policy};
+use record_runs::Run;
 use rule_table::RuleTable;
 use std::alloc::{AllocError, Global};
 use std::marker::Model;
 use std::sync::Arc;
 
 /// The policy in force, and the time to which the clock was advanced. The policy's rules are kept in a table too, with the classes
-/// that their prefixes make, its aggregates as groups share them, and what was worked out for the records that came last.
+/// that their prefixes make, its aggregates as groups share them, and what was worked out for the messages that came last.
 #[derive(Drop)]
 pub struct InForce {
     policy: Policy,
@@ -25,12 +29,18 @@ pub struct InForce {
     classes: Arc<AddressClasses>,
     definitions: Vec<Definition>,
     clock: u64,
-    /// What judged the last message, for the next one.
-    judges: Option<Judges>,
+    /// What judged the last messages, for those to come.
+    judges: Vec<Judges>,
 }
 
+/// For how many observation domains and templates is kept what judged their messages.
+const MOST_KEPT: usize = 8;
+
+/// For more subscriptions than these it is kept for one domain alone, since each has plans of its own.
+const MANY_SUBSCRIPTIONS: usize = 1000;
+
 impl Model for InForce {
-    ghost use Rattle.std.specs.Prelude.{IfSome};
+    ghost use Rattle.std.specs.List.{All};
     ghost use Rattle.std.specs.Arc.{arc_value};
     ghost use Rattle.record_sharing.specs.InForce.{InForce, in_force_with, IsKept};
     ghost use Rattle.record_sharing.specs.Judges.{AreReady};
@@ -39,12 +49,12 @@ impl Model for InForce {
 
     ghost view = { λ f. in_force_with f.policy f.clock };
 
-    ghost invariant = { λ f. IsKept f.policy (arc_value f.table) (arc_value f.classes) f.definitions.items × IfSome f.judges (AreReady f.policy.rules) };
+    ghost invariant = { λ f. IsKept f.policy (arc_value f.table) (arc_value f.classes) f.definitions.items × All (AreReady f.policy.rules) f.judges.items };
 }
 
 impl InForce {
     ghost use Rattle.record_sharing.specs.InForce.{in_force_with, timing_by, count_by, as_list};
-    ghost use Rattle.record_sharing.specs.Judges.{JudgeFor, JudgesAny, AreReady};
+    ghost use Rattle.record_sharing.specs.Judges.{JudgeFor, JudgesAny};
     ghost use Rattle.record_sharing.specs.Sharing.{blank};
 
     /// Before the first edit and the first advance of the clock: a policy without rules.
@@ -78,12 +88,13 @@ impl InForce {
             classes: Arc::new(alloc, classes)?,
             definitions,
             clock,
-            judges: None,
+            judges: Vec::new(alloc),
         })
     }
 
     /// What decides over the records of a message of this observation domain, for these subscriptions, which were given nothing yet:
-    /// what decided over the last message, where that was of this domain too and for the same ones.
+    /// what decided over a message before, where that was of this domain too and for the same ones, and ended with records of the
+    /// template with which this one begins.
     ///
     /// # Errors
     /// Want of memory.
@@ -91,37 +102,38 @@ impl InForce {
         &mut self,
         alloc: Global,
         domain: u32,
+        runs: &[Run],
         served: &[Served<'_>],
     ) -> Result<Judges, AllocError>
         ensures judges { IfOk result (λ judges. JudgesAny judges self.old domain served.now) }
         ensures shares { IfOk result (λ judges. judges.shares ≡ map blank served.now) }
         ensures stay { self.new ≡ self.old }
     {
-        match self.judges_again(domain, served) {
+        match self.judges_again(domain, runs, served) {
             Some(judges) => Ok(judges),
             None => self.judges_anew(alloc, domain, served),
         }
     }
 
-    /// What decided over the last message, where it is for these.
-    fn judges_again(&mut self, domain: u32, served: &[Served<'_>]) -> Option<Judges>
+    /// What decided over a message before, where it is for these.
+    fn judges_again(&mut self, domain: u32, runs: &[Run], served: &[Served<'_>]) -> Option<Judges>
         ensures judges { IfSome result (λ judges. JudgesAny judges self.old domain served.now) }
         ensures shares { IfSome result (λ judges. judges.shares ≡ map blank served.now) }
         ensures stay { self.new ≡ self.old }
     {
-        let judges = self.judges.take()?;
-        if !judges.are_for(domain, served) {
-            return None;
-        }
-        Some(judges)
+        let place = place_for(&self.judges, domain, runs, served)?;
+        Some(self.judges.remove(place))
     }
 
-    /// Keeps what decided over a message, for the next one.
+    /// Keeps what decided over a message, for those to come, where there is memory.
     pub(crate) fn keep(&mut self, judges: Judges)
         requires { AreReady self.old.policy.rules judges }
         ensures { self.new ≡ self.old }
     {
-        self.judges = Some(judges);
+        make_room(&mut self.judges, judges.len());
+        if self.judges.reserve(1).is_ok() {
+            self.judges.push_reserved(judges);
+        }
     }
 
     /// What decides over records of this domain, for these subscriptions, made anew.
@@ -188,6 +200,15 @@ impl InForce {
             Some(definition) => Ok(Some(Count::of(alloc, definition, flow_record)?)),
             None => Ok(None),
         }
+    }
+}
+
+/// Drops what is kept where it is as much as may be, for so many subscriptions.
+fn make_room(kept: &mut Vec<Judges>, subscriptions: usize)
+    ensures { (rules : List Rule) → All (AreReady rules) kept.old.items → All (AreReady rules) kept.new.items }
+{
+    if subscriptions > MANY_SUBSCRIPTIONS || kept.len() >= MOST_KEPT {
+        kept.clear();
     }
 }
 

@@ -1,5 +1,5 @@
 //! What becomes of a message's records, for each subscription.
-ghost use Rattle.std.specs.Prelude.{◌≡◌, ◌<◌, ◌++◌, ◌∷◌, [], ℕ, List, Some, None, true, map, length, slice_get, IfOk, OnOk};
+ghost use Rattle.std.specs.Prelude.{◌≡◌, ◌<◌, ◌++◌, ◌∷◌, [], ℕ, List, Some, None, true, map, length, slice_get, IfOk, IfSome, OnOk};
 ghost use Rattle.std.specs.Arc.{arc_value};
 ghost use Rattle.ipfix_template.specs.DataRecord.{DataRecord};
 ghost use Rattle.address_classes.specs.Cuts.{HaveCuts};
@@ -13,6 +13,7 @@ use crate::shares::Share;
 use address_classes::{AddressClasses, AddressPlaces, RecentClasses};
 use flow_anonymize::{Decision, Plans, RecordClasses};
 use ipfix_template::{RecordView, Template};
+use record_runs::Run;
 use rule_table::RuleTable;
 use std::alloc::{AllocError, Global};
 use std::marker::Model;
@@ -154,6 +155,19 @@ impl Judges {
             .disclose(alloc, classes, flow_record)
     }
 
+    /// How many subscriptions they judge for.
+    pub(crate) fn len(&self) -> usize {
+        self.judges.len()
+    }
+
+    /// Whether a message with these runs begins with records of the template that came last.
+    fn expect(&self, runs: &[Run]) -> bool {
+        match runs.first() {
+            Some(run) => self.is_for(run.template()),
+            None => true,
+        }
+    }
+
     /// Whether they judge the records of this domain, for these subscriptions.
     pub(crate) fn are_for(&self, domain: u32, served: &[Served<'_>]) -> bool
         ensures { result ≡ true → AreFor self.now domain served.now }
@@ -173,7 +187,25 @@ impl Judges {
     }
 }
 
-ghost use Rattle.record_sharing.specs.Judges.{for_of, given_to, of_template, is_of, whose, emptied};
+ghost use Rattle.record_sharing.specs.Judges.{Judges as JudgesOf, AreFor, for_of, given_to, of_template, is_of, whose, emptied};
+
+/// The place of those that judge the records of a domain, for these subscriptions, and expect a message with these runs.
+pub(crate) fn place_for(
+    kept: &[Judges],
+    domain: u32,
+    runs: &[Run],
+    served: &[Served<'_>],
+) -> Option<usize>
+    ensures within { IfSome result (λ place. place < length kept.now) }
+    ensures found { IfSome result (λ place. (judges : JudgesOf) → slice_get kept.now place ≡ Some judges → AreFor judges domain served.now) }
+{
+    'kept: for place in 0..kept.len() {
+        if kept[place].expect(runs) && kept[place].are_for(domain, served) {
+            return Some(place);
+        }
+    }
+    None
+}
 
 /// Begins with records of this template, for each.
 ///

@@ -1,7 +1,7 @@
 //! What the records of one message give to each subscription, what they add to its aggregates, and what the audit notes of
 //! them.
 //!
-//! - `in_force`: [`InForce`], the policy in force and the time of the clock, with what was worked out for the last message.
+//! - `in_force`: [`InForce`], the policy in force and the time of the clock, with what was worked out for the last messages.
 //! - `judges`: what becomes of a record, for each subscription.
 //! - `served`: [`Served`], a subscription that is served, with its subscriber's name.
 //! - `shares`: [`Shares`], what each of them is given ([`Share`]), what is added to its aggregates ([`Tally`]), and what the
@@ -9,7 +9,7 @@
 //!
 //! Proved: `Shares::of_records` gives each subscription, in their order, the records that the policy discloses to its
 //! subscriber (`shares`) and what counts in its aggregates by the clock (`tallies`), and notes what is kept back or counts
-//! by record and then by subscription (`notes`). What was worked out for a message serves the next one of the same observation
+//! by record and then by subscription (`notes`). What was worked out for a message serves later ones of the same observation
 //! domain to the same subscriptions; that it is for them is looked at each time, and none of it shows in these clauses (`stay`).
 #![tactic(auto)]
 

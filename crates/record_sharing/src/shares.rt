@@ -75,7 +75,7 @@ impl Shares {
         ensures notes { IfOk result (λ s. s.notes.items ≡ notes_of domain in_force.old records.now served.now) }
         ensures stay { in_force.new ≡ in_force.old }
     {
-        let mut judges = in_force.judges(alloc, domain, served)?;
+        let mut judges = in_force.judges(alloc, domain, records.runs(), served)?;
         let mut sums = Sums::of_none(alloc, served)?;
         sums.add_runs(alloc, in_force, &mut judges, domain, records.runs(), served)?;
         let shares = judges.take_shares(alloc)?;

@@ -1,18 +1,27 @@
-use Rattle.std.proofs.Common.{Option, IfSome, List, sym, ap, subst, ◌∙◌}
+use Rattle.std.proofs.Common.{◌<◌, List, length, slice_get, sym, ap, subst, ◌∙◌, arith}
 use Rattle.policy_text.specs.declared.rule.Rule.{Rule}
 use Rattle.record_sharing.specs.InForce.{InForce}
-use Rattle.record_sharing.specs.Judges.{Judges, AreReady}
-use Rattle.record_sharing.proofs.JudgeLaws.{ready_judges, ready_blank}
+use Rattle.record_sharing.specs.Judges.{Judges, AreReady, AreFor}
+use Rattle.record_sharing.proofs.JudgeLaws.{got, ready_judges, ready_blank}
 use Rattle.record_sharing.proofs.in_force.InForce.judges_again.Goals as goal
 
--- those that were kept are ready
-ready : (c : goal.Else-not-are_for) → AreReady c.args.self.now.policy.rules c.in_ok-judges.judges
+there : (c : goal.After-remove) → c.in_ok-place.place < length c.self.inside.judges.items
+there c = omega (arith, c.in_ok-place.ensures.within, ap length c.deref.ensures.value)
+
+-- what was kept is ready
+ready : (c : goal.After-remove) → AreReady c.args.self.now.policy.rules c.remove.result
 ready c =
-    subst (λ (rules : List Rule). AreReady rules c.in_ok-judges.judges) (ap (λ (f : InForce). f.policy.rules) c.self.view_is)
-    (subst (λ (o : Option Judges). IfSome o (AreReady c.self.inside.policy.rules)) (sym c.take.ensures.value ∙ c.in_ok-judges.was) c.self.invariant.1)
+    subst (λ (rules : List Rule). AreReady rules c.remove.result) (ap (λ (f : InForce). f.policy.rules) c.self.view_is)
+    (subst (AreReady c.self.inside.policy.rules) (sym c.remove.ensures.value) (c.self.invariant.1 c.in_ok-place.place c.remove.result (there c)))
+
+-- and is for these
+for_these : (c : goal.After-remove) → AreFor c.remove.result c.args.domain c.args.served.now
+for_these c =
+    c.in_ok-place.ensures.found c.remove.result
+    (ap (λ (js : List Judges). slice_get js c.in_ok-place.place) c.deref.ensures.value ∙ got c.self.inside.judges.items c.in_ok-place.place c.remove.result (there c) c.remove.ensures.value)
 
 pub returns-clause-judges : goal.returns-clause-judges
-returns-clause-judges c = ready_judges c.in_ok-judges.judges c.args.self.now c.args.domain c.args.served.now (ready c) (c.are_for.ensures c.if-not-are_for.false)
+returns-clause-judges c = ready_judges c.remove.result c.args.self.now c.args.domain c.args.served.now (ready c) (for_these c)
 
 pub returns-clause-shares : goal.returns-clause-shares
-returns-clause-shares c = ready_blank c.in_ok-judges.judges c.args.self.now.policy.rules c.args.domain c.args.served.now (ready c) (c.are_for.ensures c.if-not-are_for.false)
+returns-clause-shares c = ready_blank c.remove.result c.args.self.now.policy.rules c.args.domain c.args.served.now (ready c) (for_these c)
