@@ -34,10 +34,10 @@ pub struct InForce {
 }
 
 /// For how many observation domains and templates is kept what judged their messages.
-const MOST_KEPT: usize = 8;
+const MOST_KEPT: usize = 64;
 
-/// For more subscriptions than these it is kept for one domain alone, since each has plans of its own.
-const MANY_SUBSCRIPTIONS: usize = 1000;
+/// And for how many subscriptions in all of them together, since each has plans of its own; for one domain it is kept in any case.
+const MOST_PLANS: usize = 8192;
 
 impl Model for InForce {
     ghost use Rattle.std.specs.List.{All};
@@ -203,11 +203,11 @@ impl InForce {
     }
 }
 
-/// Drops what is kept where it is as much as may be, for so many subscriptions.
+/// Drops what is kept where it is as much as may be, of so many subscriptions each.
 fn make_room(kept: &mut Vec<Judges>, subscriptions: usize)
     ensures { (rules : List Rule) → All (AreReady rules) kept.old.items → All (AreReady rules) kept.new.items }
 {
-    if subscriptions > MANY_SUBSCRIPTIONS || kept.len() >= MOST_KEPT {
+    if kept.len() >= MOST_KEPT || kept.len().saturating_mul(subscriptions) >= MOST_PLANS {
         kept.clear();
     }
 }

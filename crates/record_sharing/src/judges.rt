@@ -200,7 +200,7 @@ pub(crate) fn place_for(
     ensures found { IfSome result (λ place. (judges : JudgesOf) → slice_get kept.now place ≡ Some judges → AreFor judges domain served.now) }
 {
     'kept: for place in 0..kept.len() {
-        if kept[place].expect(runs) && kept[place].are_for(domain, served) {
+        if kept[place].are_for(domain, served) && kept[place].expect(runs) {
             return Some(place);
         }
     }
