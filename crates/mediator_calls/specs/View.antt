@@ -7,7 +7,7 @@ use Rattle.mediator_state.specs.declared.engine.Engine.{Engine}
 use Rattle.mediator_state.specs.declared.state.State.{State}
 use Rattle.mediator_state.specs.Seen.{place_of}
 use Rattle.mediator_state.specs.Calls.{StandsFor}
-use Rattle.mediator_core.specs.Mediation.{Place, Mediation, live}
+use Rattle.mediator_calls.specs.Mediation.{Place, Mediation, live}
 
 abbrev pub placed : Engine → ℕ → Place
 placed e sub = record { sub = sub; reached = place_of e sub }

@@ -2,15 +2,15 @@
 ghost use Rattle.std.specs.Prelude.{◌≡◌, true, false, IfOk, IfErr, OnOk, OnErr};
 ghost use Rattle.mediator_history.specs.Subscriptions.{is_live};
 ghost use Rattle.mediator_state.specs.Calls.{RefusesClose, RefusesEdit, RefusesSubscribe, RefusesUnsubscribe, RefusesPull};
-ghost use Rattle.mediator_core.specs.Mediation.{started, journal_limits};
+ghost use Rattle.mediator_calls.specs.Mediation.{started, journal_limits};
 ghost use Rattle.mediator_calls.specs.Limited.{AreAllowed, RefusesLimits};
-ghost use Rattle.mediator_core.specs.Sound.{IsSound};
-ghost use Rattle.mediator_core.specs.Calls.{Opens, RefusesOpen, Closes, Receives, RefusesReceive, Edits, Subscribes, Unsubscribes, Advances, RefusesAdvance, Pulls, IsStatusOf, Drains};
+ghost use Rattle.mediator_calls.specs.Sound.{IsSound};
+ghost use Rattle.mediator_calls.specs.Calls.{Opens, RefusesOpen, Closes, Receives, RefusesReceive, Edits, Subscribes, Unsubscribes, Advances, RefusesAdvance, Pulls, IsStatusOf, Drains};
 
+use crate::{Limits, RunFault, SessionId, SubId, UnknownSub};
 use bytes::Bytes;
 use disclosure_audit::AuditEntry;
 use event_journal::Journal;
-use mediator_calls::{Limits, RunFault, SessionId, SubId, UnknownSub};
 use mediator_state::{Fault, Receipt, State, Status};
 use std::alloc::{AllocError, Global};
 use std::marker::Model;
@@ -26,8 +26,8 @@ pub struct Mediator {
 }
 
 impl Model for Mediator {
-    ghost use Rattle.mediator_core.specs.Mediation.{Mediation};
-    ghost use Rattle.mediator_core.specs.View.{view_of, StandsForJournal};
+    ghost use Rattle.mediator_calls.specs.Mediation.{Mediation};
+    ghost use Rattle.mediator_calls.specs.View.{view_of, StandsForJournal};
 
     ghost Value = { Mediation };
 

@@ -1,9 +1,9 @@
 use Rattle.std.proofs.Common.{subst}
-use Rattle.mediator_core.specs.Mediation.{Mediation}
-use Rattle.mediator_core.specs.View.{view_of}
-use Rattle.mediator_core.specs.Calls.{Pulls}
-use Rattle.mediator_core.proofs.CallLaws.{if_ok_gives, pulls}
-use Rattle.mediator_core.proofs.mediator.Mediator.pull.Goals as goal
+use Rattle.mediator_calls.specs.Mediation.{Mediation}
+use Rattle.mediator_calls.specs.View.{view_of}
+use Rattle.mediator_calls.specs.Calls.{Pulls}
+use Rattle.mediator_calls.proofs.CallLaws.{if_ok_gives, pulls}
+use Rattle.mediator_calls.proofs.mediator.Mediator.pull.Goals as goal
 
 pub returns-clause-ok : goal.returns-clause-ok
 returns-clause-ok c = if_ok_gives c.pull.result c.pull.ensures.ok

@@ -1,9 +1,9 @@
 use Rattle.std.proofs.Common.{subst}
-use Rattle.mediator_core.specs.Mediation.{Mediation}
-use Rattle.mediator_core.specs.View.{view_of}
-use Rattle.mediator_core.specs.Calls.{IsStatusOf}
-use Rattle.mediator_core.proofs.CallLaws.{status_is}
-use Rattle.mediator_core.proofs.mediator.Mediator.status.Goals as goal
+use Rattle.mediator_calls.specs.Mediation.{Mediation}
+use Rattle.mediator_calls.specs.View.{view_of}
+use Rattle.mediator_calls.specs.Calls.{IsStatusOf}
+use Rattle.mediator_calls.proofs.CallLaws.{status_is}
+use Rattle.mediator_calls.proofs.mediator.Mediator.status.Goals as goal
 
 pub returns-in-Some-clause-ok : goal.returns-in-Some-clause-ok
 returns-in-Some-clause-ok c = subst (λ (m : Mediation). IsStatusOf m c.args.sub.0 c.in-Some.status) c.self.view_is

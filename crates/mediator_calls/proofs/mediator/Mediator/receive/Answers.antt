@@ -1,9 +1,9 @@
 use Rattle.std.proofs.Common.{subst}
-use Rattle.mediator_core.specs.Mediation.{Mediation}
-use Rattle.mediator_core.specs.View.{view_of}
-use Rattle.mediator_core.specs.Calls.{Receives, RefusesReceive}
-use Rattle.mediator_core.proofs.CallLaws.{if_ok_gives, if_err_gives, receives, refuses_receive}
-use Rattle.mediator_core.proofs.mediator.Mediator.receive.Goals as goal
+use Rattle.mediator_calls.specs.Mediation.{Mediation}
+use Rattle.mediator_calls.specs.View.{view_of}
+use Rattle.mediator_calls.specs.Calls.{Receives, RefusesReceive}
+use Rattle.mediator_calls.proofs.CallLaws.{if_ok_gives, if_err_gives, receives, refuses_receive}
+use Rattle.mediator_calls.proofs.mediator.Mediator.receive.Goals as goal
 
 pub returns-clause-ok : goal.returns-clause-ok
 returns-clause-ok c = if_ok_gives c.receive.result c.receive.ensures.ok

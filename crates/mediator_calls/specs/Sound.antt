@@ -5,7 +5,7 @@ use Rattle.stream_meaning.specs.Served.{AreStreamable}
 use Rattle.mediator_history.specs.Disclosed.{disclosed}
 use Rattle.mediator_history.specs.Auditing.{audit_list}
 use Rattle.mediator_state.specs.Standing.{AreNumbered}
-use Rattle.mediator_core.specs.Mediation.{Mediation, place_at}
+use Rattle.mediator_calls.specs.Mediation.{Mediation, place_at}
 
 -- what is disclosed can be streamed, no place is past the end of what is disclosed, no more was drained than was noted, and no
 -- number of a session or a subscription comes again

@@ -1,9 +1,9 @@
 use Rattle.std.proofs.Common.{subst}
-use Rattle.mediator_core.specs.Mediation.{Mediation}
-use Rattle.mediator_core.specs.View.{view_of}
-use Rattle.mediator_core.specs.Calls.{Advances, RefusesAdvance}
-use Rattle.mediator_core.proofs.CallLaws.{on_ok_gives, if_err_gives, advances, refuses_advance}
-use Rattle.mediator_core.proofs.mediator.Mediator.advance.Goals as goal
+use Rattle.mediator_calls.specs.Mediation.{Mediation}
+use Rattle.mediator_calls.specs.View.{view_of}
+use Rattle.mediator_calls.specs.Calls.{Advances, RefusesAdvance}
+use Rattle.mediator_calls.proofs.CallLaws.{on_ok_gives, if_err_gives, advances, refuses_advance}
+use Rattle.mediator_calls.proofs.mediator.Mediator.advance.Goals as goal
 
 pub returns-clause-ok : goal.returns-clause-ok
 returns-clause-ok c = on_ok_gives c.advance.result c.advance.ensures.ok

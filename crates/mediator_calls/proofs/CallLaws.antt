@@ -25,11 +25,11 @@ use Rattle.mediator_state.specs.Seen.{place_of, IsUntouched}
 use Rattle.mediator_state.specs.Standing.{AreNumbered, Stands}
 use Rattle.mediator_state.specs.Calls as state
 use Rattle.mediator_calls.specs.declared.limits.Limits.{Limits}
-use Rattle.mediator_core.specs.Mediation.{Place, Mediation, place_at, noted_at, journal_limits}
-use Rattle.mediator_core.specs.View.{view_of, tells, limits_of, StandsForJournal}
-use Rattle.mediator_core.specs.Calls.{GoesOn, Opens, Closes, with_cuts, Receives, RefusesReceive, Edits, Subscribes, Unsubscribes, Advances, RefusesAdvance, Pulls, IsStatusOf, Drains}
-use Rattle.mediator_core.specs.Sound.{IsSound}
-use Rattle.mediator_core.proofs.Places.{place_is, within, unplaced_at, cuts_are, places_same}
+use Rattle.mediator_calls.specs.Mediation.{Place, Mediation, place_at, noted_at, journal_limits}
+use Rattle.mediator_calls.specs.View.{view_of, tells, limits_of, StandsForJournal}
+use Rattle.mediator_calls.specs.Calls.{GoesOn, Opens, Closes, with_cuts, Receives, RefusesReceive, Edits, Subscribes, Unsubscribes, Advances, RefusesAdvance, Pulls, IsStatusOf, Drains}
+use Rattle.mediator_calls.specs.Sound.{IsSound}
+use Rattle.mediator_calls.proofs.Places.{place_is, within, unplaced_at, cuts_are, places_same}
 
 -- ---- results
 

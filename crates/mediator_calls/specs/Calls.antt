@@ -22,7 +22,7 @@ use Rattle.mediator_state.specs.declared.receipt.Status.{Status}
 use Rattle.mediator_state.specs.Planning.{IsNext, RefusesMessage}
 use Rattle.mediator_state.specs.Accepting.{receipt_of}
 use Rattle.mediator_state.specs.Calls.{LacksRoomAfter, HasMeaning, IsFree, IsStatus}
-use Rattle.mediator_core.specs.Mediation.{Mediation, place_at, waiting_at, noted_at, stream_limits, journal_limits}
+use Rattle.mediator_calls.specs.Mediation.{Mediation, place_at, waiting_at, noted_at, stream_limits, journal_limits}
 
 -- behind the history there was room for these entries, and it goes on with them; nothing is handed out or drained
 pub record GoesOn (old : Mediation) (more : List Entry) (new : Mediation) : Type 0 where

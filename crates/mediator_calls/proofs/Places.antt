@@ -25,8 +25,8 @@ use Rattle.mediator_state.specs.declared.engine.Engine.{Engine}
 use Rattle.mediator_state.specs.declared.state.State.{State}
 use Rattle.mediator_state.specs.Standing.{place, IsLiveAs, Stands}
 use Rattle.mediator_state.specs.Seen.{place_in, place_of, waiting_in, waiting_of}
-use Rattle.mediator_core.specs.Mediation.{Place, Mediation, live, reached_among, place_at, waiting_at, stream_limits}
-use Rattle.mediator_core.specs.View.{placed, view_of, StandsForJournal}
+use Rattle.mediator_calls.specs.Mediation.{Place, Mediation, live, reached_among, place_at, waiting_at, stream_limits}
+use Rattle.mediator_calls.specs.View.{placed, view_of, StandsForJournal}
 
 -- ---- who is live
 

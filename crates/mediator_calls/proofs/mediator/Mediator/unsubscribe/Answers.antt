@@ -1,9 +1,9 @@
 use Rattle.std.proofs.Common.{subst}
-use Rattle.mediator_core.specs.Mediation.{Mediation}
-use Rattle.mediator_core.specs.View.{view_of}
-use Rattle.mediator_core.specs.Calls.{Unsubscribes}
-use Rattle.mediator_core.proofs.CallLaws.{on_ok_gives, unsubscribes}
-use Rattle.mediator_core.proofs.mediator.Mediator.unsubscribe.Goals as goal
+use Rattle.mediator_calls.specs.Mediation.{Mediation}
+use Rattle.mediator_calls.specs.View.{view_of}
+use Rattle.mediator_calls.specs.Calls.{Unsubscribes}
+use Rattle.mediator_calls.proofs.CallLaws.{on_ok_gives, unsubscribes}
+use Rattle.mediator_calls.proofs.mediator.Mediator.unsubscribe.Goals as goal
 
 pub returns-clause-ok : goal.returns-clause-ok
 returns-clause-ok c = on_ok_gives c.unsubscribe.result c.unsubscribe.ensures.ok
