@@ -20,6 +20,3 @@ mod laws;
 pub use answer::{Answer, answer_text, out_of_memory_text};
 pub use command::{Command, LONGEST_LINE, LONGEST_POLICY, MOST_AUDIT_ENTRIES, read_command};
 pub use laws::one_meaning;
-
-#[cfg(test)]
-mod tests;

@@ -44,6 +44,3 @@ pub use laws::{accepted_messages_are_the_history, due_is_built, nothing_closes};
 pub use mediator_state::Fault;
 pub use message_intake::FramingFault;
 pub use octet_devices::{Device, Failed, Sink, Source};
-
-#[cfg(test)]
-mod tests;

@@ -19,8 +19,6 @@ mod key;
 mod laws;
 mod reading;
 mod settings;
-#[cfg(test)]
-mod tests;
 mod values;
 
 pub use fault::SettingsFault;

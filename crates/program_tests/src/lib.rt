@@ -1,0 +1,17 @@
+//! Tests of the crates right below `ipmd`, of what its process doesn't show. Nothing else is here, and no crate stands on it.
+//! What the process shows is tested from outside, in the folder `tests`.
+//!
+//! - `settings`: of `serve_settings`.
+//! - `answers`: of `admin_lines`, with answers that no server is brought to give.
+//! - `offline`: of `offline_filter`, with reads that are counted, and the names of faults.
+//!
+//! What no clause says is shown too: that a call succeeds while there is memory. Where it is refused memory it is made again,
+//! and answers as if nothing had happened.
+#![tactic(auto)]
+
+#[cfg(test)]
+mod answers;
+#[cfg(test)]
+mod offline;
+#[cfg(test)]
+mod settings;

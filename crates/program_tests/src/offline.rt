@@ -1,0 +1,125 @@
+//! Streams that are filtered with a bound on reads, and the names of faults. A run that is refused memory has written a front
+//! of what is due.
+use message_intake::FramingFault;
+use offline_filter::{Device, Fault, OfflineFault, OfflineJob, OfflineReport, offline};
+use policy_text::{FaultKind, PolicyFault};
+use std::alloc::Global;
+use std::test::Fail;
+
+/// A template of ports, protocol and octets, and one record of it: a message of 50 octets.
+const ONE_RECORD: &[u8] = b"\x00\x0a\x00\x32\x65\x53\xf1\x00\x00\x00\x00\x00\x00\x00\x00\x07\
+\x00\x02\x00\x14\x01\x00\x00\x03\x00\x08\x00\x04\x00\x07\x00\x02\x00\x01\x00\x04\
+\x01\x00\x00\x0e\xc0\x00\x02\x4d\x01\xbb\x00\x00\x05\xdc";
+
+/// The record without its octet count: a template of two fields, and 6 octets; another Export Time, and domain 0.
+const WITHOUT_OCTETS: &[u8] = b"\x00\x0a\x00\x2a\x65\x53\xf1\x3c\x00\x00\x00\x00\x00\x00\x00\x00\
+\x00\x02\x00\x10\x01\x00\x00\x02\x00\x08\x00\x04\x00\x07\x00\x02\
+\x01\x00\x00\x0a\xc0\x00\x02\x4d\x01\xbb";
+
+const REMOVE: &str =
+    "policy 1\nrule for * in * from * to * pass\nrule for * in * from * to * element octetDeltaCount remove\nrule for * in * from * to * element * keep\n";
+
+/// What a run answered and left.
+#[derive(Drop)]
+struct Ran {
+    answer: Result<OfflineReport, OfflineFault>,
+    written: Vec<u8>,
+    audit: Vec<u8>,
+}
+
+fn run(alloc: Global, turns: u64, asked: bool) -> Ran {
+    let job = OfflineJob {
+        policy: REMOVE,
+        name: "acme",
+        now: 0x6553_f13c,
+        target: 1400,
+        turns,
+        audit: asked,
+    };
+    let mut reader = Device::new(ONE_RECORD);
+    let mut writer = Device::new(Vec::new(alloc));
+    let mut audit = Device::new(Vec::new(alloc));
+    let answer = offline(alloc, &job, &mut reader, &mut writer, &mut audit);
+    Ran {
+        answer,
+        written: writer.into_inner(),
+        audit: audit.into_inner(),
+    }
+}
+
+/// Whether a run was refused memory.
+fn was_refused(ran: &Ran) -> bool {
+    matches!(
+        ran.answer,
+        Err(
+            OfflineFault::Core(Fault::OutOfMemory)
+                | OfflineFault::Write { .. }
+                | OfflineFault::AuditWrite
+        )
+    )
+}
+
+const DONE: Result<OfflineReport, OfflineFault> = Ok(OfflineReport {
+    messages: 1,
+    records: 1,
+    disclosed: 1,
+});
+
+/// How many reads are allowed, whether the audit is asked for, and what is answered. A read that finds the end counts too.
+const RUNS: [(u64, bool, Result<OfflineReport, OfflineFault>); 4] = [
+    (1, true, Err(OfflineFault::Turns)),
+    (1, false, Err(OfflineFault::Turns)),
+    (2, true, DONE),
+    (2, false, DONE),
+];
+
+#[test]
+fn reads_are_counted(rt: HostRuntime) {
+    for (turns, asked, answer) in RUNS {
+        let mut ran = run(rt.alloc(), turns, asked);
+        if was_refused(&ran) {
+            assert!(rt; WITHOUT_OCTETS.starts_with(ran.written.as_slice()));
+            ran = run(rt.alloc(), turns, asked);
+        }
+        let audit: &[u8] = if asked { b"3 0 1 removed 2:2\n" } else { b"" };
+        assert_eq!(rt; ran.answer, answer, "{turns} reads");
+        assert_eq!(rt; ran.written.as_slice(), WITHOUT_OCTETS, "{turns} reads");
+        assert_eq!(rt; ran.audit.as_slice(), audit, "{turns} reads");
+    }
+}
+
+const NO_HEADER: PolicyFault = PolicyFault {
+    line: 1,
+    kind: FaultKind::NoHeader,
+};
+
+const NAMES: [(OfflineFault, &str); 7] = [
+    (OfflineFault::Read, "Read"),
+    (OfflineFault::Write { sent: 3 }, "Write"),
+    (OfflineFault::Framing(FramingFault::CutOff), "Framing"),
+    (OfflineFault::Turns, "Turns"),
+    (OfflineFault::Core(Fault::BadName), "Core"),
+    (OfflineFault::Cut, "Cut"),
+    (OfflineFault::AuditWrite, "AuditWrite"),
+];
+
+/// Those that the program says are left out.
+const NAMES_OF_THE_CORE: [(Fault, &str); 4] = [
+    (Fault::Policy(NO_HEADER), "Policy"),
+    (Fault::JournalFull, "JournalFull"),
+    (Fault::AuditFull { need: 2, room: 1 }, "AuditFull"),
+    (Fault::OutOfMemory, "OutOfMemory"),
+];
+
+#[test]
+fn names_of_faults(rt: HostRuntime) -> Result<(), Fail> {
+    for (fault, name) in NAMES {
+        let text = format!(in rt.alloc(); "{fault}")?;
+        assert_eq!(rt; text.as_str(), name);
+    }
+    for (fault, name) in NAMES_OF_THE_CORE {
+        let text = format!(in rt.alloc(); "{fault}")?;
+        assert_eq!(rt; text.as_str(), name);
+    }
+    Ok(())
+}
