@@ -1,13 +1,14 @@
-//! Tests of the crates that policies are read, judged and recorded by. Nothing else is here, and no crate stands on it. A
+//! Tests of the crates that policies are read, judged and applied by. Nothing else is here, and no crate stands on it. A
 //! crate with tests is proved twice, so the crates below have none of their own.
 //!
+//! - `records`: records of fields, for the others.
 //! - `prefixes`: of `flow_prefix`.
 //! - `policies`: of `policy_text`.
+//! - `tables`: of `rule_table` and `address_classes`, by worked rows. `random`: of `rule_table`, against the walk over all rules.
 //! - `disclosures`: of `flow_anonymize`.
 //! - `audits`: of `disclosure_audit`.
-//! - `journals`: of `event_journal`.
 //! - `sharing`: of `record_sharing`.
-//! - `groups`: of `running_groups`.
+//! - `groups`: of `running_groups`. `second_opinion`: on what they add up to, by a plain list of records.
 #![tactic(auto)]
 
 #[cfg(test)]
@@ -17,10 +18,16 @@ mod disclosures;
 #[cfg(test)]
 mod groups;
 #[cfg(test)]
-mod journals;
-#[cfg(test)]
 mod policies;
 #[cfg(test)]
 mod prefixes;
 #[cfg(test)]
+mod random;
+#[cfg(test)]
+mod records;
+#[cfg(test)]
+mod second_opinion;
+#[cfg(test)]
 mod sharing;
+#[cfg(test)]
+mod tables;

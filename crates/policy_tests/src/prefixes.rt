@@ -1,55 +1,34 @@
-//! Worked cases, texts at the edges of the grammar, and that a call that was refused memory answers as ever
-//! when it is made again.
+//! Worked cases, and texts at the edges of the grammar.
 use flow_prefix::{Prefix, PrefixFault, keep_bits};
-use std::alloc::{AllocError, Global};
-use std::process::Abort;
 use std::test::Fail;
 
 /// Octets, and what is left where so many bits are kept.
-static KEPT: [(&str, &[u8], usize, &[u8]); 13] = [
-    ("kept_bits", &[192, 0, 2, 77], 24, &[192, 0, 2, 0]),
-    ("kept_bits", &[192, 0, 2, 77], 28, &[192, 0, 2, 64]),
-    ("kept_bits", &[192, 0, 2, 77], 32, &[192, 0, 2, 77]),
-    ("kept_bits", &[192, 0, 2, 77], 0, &[0, 0, 0, 0]),
-    ("IPv6", &[0xff; 16], 0, &[0; 16]),
+static KEPT: [(&[u8], usize, &[u8]); 13] = [
+    (&[192, 0, 2, 77], 24, &[192, 0, 2, 0]),
+    (&[192, 0, 2, 77], 28, &[192, 0, 2, 64]),
+    (&[192, 0, 2, 77], 32, &[192, 0, 2, 77]),
+    (&[192, 0, 2, 77], 0, &[0, 0, 0, 0]),
+    (&[0xff; 16], 0, &[0; 16]),
+    (&[0xff; 16], 1, b"\x80\0\0\0\0\0\0\0\0\0\0\0\0\0\0\0"),
     (
-        "IPv6",
-        &[0xff; 16],
-        1,
-        b"\x80\0\0\0\0\0\0\0\0\0\0\0\0\0\0\0",
-    ),
-    (
-        "IPv6",
         &[0xff; 16],
         63,
         b"\xff\xff\xff\xff\xff\xff\xff\xfe\0\0\0\0\0\0\0\0",
     ),
     (
-        "IPv6",
         &[0xff; 16],
         64,
         b"\xff\xff\xff\xff\xff\xff\xff\xff\0\0\0\0\0\0\0\0",
     ),
     (
-        "IPv6",
         &[0xff; 16],
         127,
         b"\xff\xff\xff\xff\xff\xff\xff\xff\xff\xff\xff\xff\xff\xff\xff\xfe",
     ),
-    ("IPv6", &[0xff; 16], 128, &[0xff; 16]),
-    ("MAC", b"\x00\x00\x5e\x00\x53\xaf", 0, &[0; 6]),
-    (
-        "MAC",
-        b"\x00\x00\x5e\x00\x53\xaf",
-        24,
-        b"\x00\x00\x5e\0\0\0",
-    ),
-    (
-        "MAC",
-        b"\x00\x00\x5e\x00\x53\xaf",
-        48,
-        b"\x00\x00\x5e\x00\x53\xaf",
-    ),
+    (&[0xff; 16], 128, &[0xff; 16]),
+    (b"\x00\x00\x5e\x00\x53\xaf", 0, &[0; 6]),
+    (b"\x00\x00\x5e\x00\x53\xaf", 24, b"\x00\x00\x5e\0\0\0"),
+    (b"\x00\x00\x5e\x00\x53\xaf", 48, b"\x00\x00\x5e\x00\x53\xaf"),
 ];
 
 /// Texts of prefixes, and what is printed for them.
@@ -132,64 +111,24 @@ static INSIDE: [(&str, &[u8], bool); 9] = [
     ("8000::/1", &[127; 16], false),
 ];
 
-/// Keeps bits of octets that these are enough of.
-fn keep(octets: &[u8], n: usize, out: &mut Vec<u8>) -> Result<bool, AllocError> {
-    if octets.len() > 16 || n > 8 * octets.len() {
-        return Ok(false);
-    }
-    keep_bits(octets, n, out)?;
-    Ok(true)
-}
-
-/// What is left of the octets. The call leaves what stood before; one that is refused changes nothing,
-/// and is made again.
-fn expect_kept(
-    rt: &impl Abort,
-    alloc: Global,
-    (name, octets, n, want): &(&str, &[u8], usize, &[u8]),
-) -> Result<(), AllocError> {
-    let before = b"before".as_slice();
-    let mut out = Vec::from_slice(alloc, before)?;
-    if keep(octets, *n, &mut out).is_err() {
-        assert_eq!(rt; out.as_slice(), before);
-        assert!(rt; keep(octets, *n, &mut out)?);
-    }
-    assert_eq!(rt; out.strip_prefix(before), Some(*want), "{name} at {n}");
-    Ok(())
-}
-
 #[test]
 fn kept_bits(rt: HostRuntime) -> Result<(), Fail> {
-    for row in &KEPT {
-        expect_kept(&rt, rt.alloc(), row)?;
+    for (octets, n, want) in &KEPT {
+        if octets.len() > 16 || *n > 8 * octets.len() {
+            return Err(Fail::new("too many bits"));
+        }
+        let mut out = Vec::new(rt.alloc());
+        keep_bits(octets, *n, &mut out)?;
+        assert_eq!(rt; out.as_slice(), *want, "{octets:?} at {n}");
     }
-    Ok(())
-}
-
-/// A prefix's printed text; a call that is refused is made again.
-fn print(alloc: Global, prefix: &Prefix) -> Result<String, AllocError> {
-    match prefix.print(alloc) {
-        Ok(text) => Ok(text),
-        Err(_) => prefix.print(alloc),
-    }
-}
-
-/// That the prefix of a text prints as the other text, which is read back.
-fn expect_print(rt: &impl Abort, alloc: Global, text: &str, want: &str) -> Result<(), Fail> {
-    let prefix = Prefix::parse(text)?;
-    assert_eq!(rt; print(alloc, &prefix)?.as_str(), want, "of {text}");
-    assert_eq!(rt;
-        Prefix::parse_ascii(want.as_bytes()),
-        Ok(prefix),
-        "back from {want}"
-    );
     Ok(())
 }
 
 #[test]
 fn canonical_texts(rt: HostRuntime) -> Result<(), Fail> {
     for (text, want) in &PRINTED {
-        expect_print(&rt, rt.alloc(), text, want)?;
+        let prefix = Prefix::parse(text)?;
+        assert_eq!(rt; prefix.print(rt.alloc())?.as_str(), *want, "of {text}");
     }
     Ok(())
 }
@@ -199,29 +138,6 @@ fn refused_texts(rt: HostRuntime) {
     for (text, want) in &REFUSED {
         assert_eq!(rt; Prefix::parse(text).err(), Some(*want), "at {text}");
     }
-}
-
-/// A text with a thousand digits in it.
-fn long_text(alloc: Global, front: &str, back: &str) -> Result<String, AllocError> {
-    let mut text = String::from_str(alloc, front)?;
-    for _ in 0..1000 {
-        text.push('9')?;
-    }
-    text.push_str(back)?;
-    Ok(text)
-}
-
-#[test]
-fn a_thousand_digits(rt: HostRuntime) -> Result<(), Fail> {
-    for (front, back) in [("10.0.0.0/", ""), ("", ".0.0.0/8"), ("", "::/16")] {
-        let text = long_text(rt.alloc(), front, back)?;
-        assert_eq!(rt;
-            Prefix::parse(&text).err(),
-            Some(PrefixFault::BadText),
-            "{front}, {back}"
-        );
-    }
-    Ok(())
 }
 
 #[test]
