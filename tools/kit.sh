@@ -1,5 +1,5 @@
 # Sourced by `try`, `test`, `build`, `.ci/run` and the benches: the kit that README.md names, the crates below a crate, sums of the
-# sources, and how many checks go side by side. It sets `top`, the top of the repository, and changes no folder.
+# sources, and how many checks go side by side. It sets `top`, the top of the repository, and goes to no other folder.
 top=$(cd "$(dirname "$(realpath "${BASH_SOURCE[0]}")")/.." && pwd)
 
 # The kit that README.md names, as `rt version` prints it.
@@ -7,7 +7,8 @@ wanted_kit() {
     grep -o -m 1 'rattle-kit-[0-9a-z]* logic [0-9a-f]*' "$top/README.md"
 }
 
-# Ends in 2 where there is no `rt`; warns, and returns 1, where `rt` is of another kit than README.md names. Both say the remedy.
+# Sets `kit`, the folder of the kit, and `kit_found`, its name. It ends in 2 where there is no `rt`; it warns, and returns 1, where
+# `rt` is of another kit than README.md names. Both say the remedy.
 require_kit() {
     local wanted
     wanted=$(wanted_kit)
@@ -15,6 +16,7 @@ require_kit() {
         echo "no rt on the path: unpack the kit that README.md names, $wanted, and run this again with PATH=KIT/bin:\$PATH" >&2
         exit 2
     fi
+    kit=$(dirname "$(dirname "$(realpath "$(command -v rt)")")")
     kit_found=$(rt version)
     [ "$kit_found" = "$wanted" ] && return 0
     echo "rt is of the kit $kit_found, and README.md names $wanted: put bin/ of that one first on the path" >&2
@@ -46,11 +48,12 @@ sources_sum() {
     (cd "$top" && shopt -s nullglob && sum_of HANDLES crates.txt crates/*/{src,specs,proofs})
 }
 
-# How many checks, or tests, go side by side: as many as there are processors, and no more than the free memory holds: lanes GB, of
-# which one takes at most so many GB.
+# How many checks, or tests, go side by side: as many as there are processors, and as the free memory holds, where each takes at
+# most so many GB: lanes GB
 lanes() {
     awk -v most="$(nproc)" -v each="$1" '/^MemAvailable:/ {
         found = int($2 / (each * 1000000))
-        print found > most ? most : found > 0 ? found : 1
+        if (found > most) found = most
+        print (found > 0 ? found : 1)
     }' /proc/meminfo
 }
