@@ -37,6 +37,18 @@ crates_below() {
     done
 }
 
+# Copies what a proof of these crates reads, and of those below them, to a folder, which then is the top of a repository, with
+# nothing that earlier runs left and no must-fail edits: copy_below FOLDER CRATE..
+copy_below() {
+    local folder=$1 crate
+    shift
+    mkdir -p "$folder/.git" "$folder/crates" && cp "$top/HANDLES" "$folder" || return
+    for crate in $(crates_below "$@"); do
+        grep "^$crate:" "$top/crates.txt" >> "$folder/crates.txt" || return
+        tar -C "$top" -cf - --exclude="crates/$crate"/{out,must-fail,wrong-bodies} "crates/$crate" | tar -C "$folder" -xf - || return
+    done
+}
+
 # A sum over the files at or below these paths from the top, and the kit, in one line: sum_of PATH..
 sum_of() {
     (cd "$top" && { echo "${kit_found:-$(rt version)}"; find "$@" -type f -print0 | LC_ALL=C sort -z | xargs -0 sha256sum; } |
@@ -46,6 +58,12 @@ sum_of() {
 # The sum of all that a proof of this repository reads, in one line.
 sources_sum() {
     (cd "$top" && shopt -s nullglob && sum_of HANDLES crates.txt crates/*/{src,specs,proofs})
+}
+
+# The path of the program that `./build` made, or status 1 where it isn't there or a source has changed since.
+proved_program() {
+    local program=$top/crates/ipmd/out/ipmd
+    [ -x "$program" ] && [ "$(cat "$program.sources" 2> /dev/null)" = "$(sources_sum)" ] && echo "$program"
 }
 
 # How many checks, or tests, go side by side: as many as there are processors, and as the free memory holds, where each takes at
