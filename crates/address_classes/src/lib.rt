@@ -29,6 +29,3 @@ pub use classes::AddressClasses;
 pub use keys::RecentClasses;
 pub use laws::{key_of_three, same_keys};
 pub use places::AddressPlaces;
-
-#[cfg(test)]
-mod tests;

@@ -13,9 +13,9 @@ use Rattle.subscriber_stream.proofs.Standings.{records_in-append}
 use Rattle.event_journal.specs.declared.entry.Entry.{Entry}
 use Rattle.mediator_history.specs.Subscriptions.{is_live}
 use Rattle.mediator_history.specs.Disclosed.{given_at, disclosed}
-use Rattle.mediator_core.specs.Mediation.{Mediation, place_at, waiting_at}
-use Rattle.mediator_core.specs.Sound.{IsSound}
-use Rattle.mediator_core.specs.Calls.{GoesOn, Pulls}
+use Rattle.mediator_calls.specs.Mediation.{Mediation, place_at, waiting_at}
+use Rattle.mediator_calls.specs.Sound.{IsSound}
+use Rattle.mediator_calls.specs.Calls.{GoesOn, Pulls}
 use Rattle.counted_mediator.specs.Counted.{handed_at}
 use Rattle.counted_mediator.specs.Handing.{records_next}
 

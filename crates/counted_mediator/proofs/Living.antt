@@ -14,7 +14,7 @@ use Rattle.mediator_history.proofs.HistoryLaws.{flat_map-push}
 use Rattle.mediator_history.proofs.LastLaws.{all_of}
 use Rattle.mediator_history.proofs.ListFilters.{filter_ext, filter_alike, filter_filter, filter_all, all_filter, distinct_filter}
 use Rattle.mediator_state.specs.Standing.{AreNumbered}
-use Rattle.mediator_core.specs.Mediation.{live}
+use Rattle.mediator_calls.specs.Mediation.{live}
 
 -- an entry that begins no subscription and ends none
 pub record IsSilent (e : Entry) : Type 0 where

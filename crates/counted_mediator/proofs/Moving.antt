@@ -14,10 +14,10 @@ use Rattle.mediator_history.proofs.LastLaws.{all_of}
 use Rattle.mediator_history.proofs.ListFilters.{is_in-append}
 use Rattle.mediator_state.specs.declared.receipt.Receipt.{Receipt}
 use Rattle.mediator_state.specs.declared.receipt.Status.{Status}
-use Rattle.mediator_core.specs.Mediation.{Mediation, live, waiting_at, stream_limits}
-use Rattle.mediator_core.specs.Calls.{GoesOn, Opens, Closes, with_cuts, Receives, Edits, Subscribes, Unsubscribes, Advances, IsStatusOf, Drains}
-use Rattle.mediator_core.specs.Sound.{IsSound}
-use Rattle.mediator_core.proofs.Places.{is_in-live}
+use Rattle.mediator_calls.specs.Mediation.{Mediation, live, waiting_at, stream_limits}
+use Rattle.mediator_calls.specs.Calls.{GoesOn, Opens, Closes, with_cuts, Receives, Edits, Subscribes, Unsubscribes, Advances, IsStatusOf, Drains}
+use Rattle.mediator_calls.specs.Sound.{IsSound}
+use Rattle.mediator_calls.proofs.Places.{is_in-live}
 use Rattle.counted_mediator.specs.Counted.{Counted, counted_as, receipts_in, handed_at, handed_live, IsCounted, Counts}
 use Rattle.counted_mediator.proofs.Living.{IsSilent, live_same, cuts_silent, live_begun, live_ended, all_live, live_apart}
 use Rattle.counted_mediator.proofs.Receipts.{receipts_more, before_same, receipts_behind_cuts}

@@ -7,10 +7,10 @@ use Rattle.subscriber_stream.specs.Message.{next_message}
 use Rattle.event_journal.specs.declared.entry.Entry.{Entry}
 use Rattle.mediator_history.specs.Disclosed.{disclosed}
 use Rattle.mediator_state.specs.declared.receipt.Status.{Status}
-use Rattle.mediator_core.specs.Mediation.{Mediation, live, place_at, waiting_at}
-use Rattle.mediator_core.specs.Calls.{Pulls, IsStatusOf}
-use Rattle.mediator_core.specs.Sound.{IsSound}
-use Rattle.mediator_core.proofs.Places.{is_in-live}
+use Rattle.mediator_calls.specs.Mediation.{Mediation, live, place_at, waiting_at}
+use Rattle.mediator_calls.specs.Calls.{Pulls, IsStatusOf}
+use Rattle.mediator_calls.specs.Sound.{IsSound}
+use Rattle.mediator_calls.proofs.Places.{is_in-live}
 use Rattle.counted_mediator.specs.declared.handed.Handed.{Handed}
 use Rattle.counted_mediator.specs.Counted.{Counted, counted_as, receipts_in, handed_at, handed_live, IsCounted, Counts}
 use Rattle.counted_mediator.specs.Handing.{records_next, HandsOut}

@@ -4,7 +4,7 @@ use Rattle.subscriber_stream.specs.Parts.{parts, records_in}
 use Rattle.event_journal.specs.declared.entry.Entry.{Entry}
 use Rattle.event_journal.specs.declared.entry.Entry.TheVariants.{Open, Close, Cut}
 use Rattle.mediator_history.specs.Disclosed.{disclosed}
-use Rattle.mediator_core.specs.Mediation.{Mediation, live, place_at}
+use Rattle.mediator_calls.specs.Mediation.{Mediation, live, place_at}
 
 -- a mediator; the place in its journal from which on entries are counted; and the records that were handed to subscriptions which
 -- have ended

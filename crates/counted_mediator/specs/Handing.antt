@@ -5,8 +5,8 @@ use Rattle.subscriber_stream.specs.Message.{taken}
 use Rattle.mediator_history.specs.Subscriptions.{is_live}
 use Rattle.mediator_history.specs.Disclosed.{disclosed}
 use Rattle.mediator_state.specs.Calls.{RefusesPull}
-use Rattle.mediator_core.specs.Mediation.{Mediation, place_at, waiting_at}
-use Rattle.mediator_core.specs.Calls.{Pulls}
+use Rattle.mediator_calls.specs.Mediation.{Mediation, place_at, waiting_at}
+use Rattle.mediator_calls.specs.Calls.{Pulls}
 use Rattle.counted_mediator.specs.declared.handed.Handed.{Handed}
 use Rattle.counted_mediator.specs.declared.fault.PullFault.{PullFault}
 use Rattle.counted_mediator.specs.declared.fault.PullFault.TheVariants.{HandedFull, Core}

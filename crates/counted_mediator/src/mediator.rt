@@ -2,8 +2,8 @@
 ghost use Rattle.std.specs.Prelude.{◌≡◌, ◌≤◌, false, length, IfOk, IfErr, OnOk, OnErr};
 ghost use Rattle.mediator_history.specs.Subscriptions.{is_live};
 ghost use Rattle.mediator_state.specs.Calls.{RefusesClose, RefusesEdit, RefusesSubscribe, RefusesUnsubscribe};
-ghost use Rattle.mediator_core.specs.Mediation.{journal_limits};
-ghost use Rattle.mediator_core.specs.Calls.{Opens, RefusesOpen, Closes, Receives, RefusesReceive, Edits, Subscribes, Unsubscribes, Advances, RefusesAdvance, IsStatusOf, Drains};
+ghost use Rattle.mediator_calls.specs.Mediation.{journal_limits};
+ghost use Rattle.mediator_calls.specs.Calls.{Opens, RefusesOpen, Closes, Receives, RefusesReceive, Edits, Subscribes, Unsubscribes, Advances, RefusesAdvance, IsStatusOf, Drains};
 ghost use Rattle.counted_mediator.specs.Counted.{counted_as, handed_at, handed_live, handed_of, Counts};
 ghost use Rattle.counted_mediator.specs.Handing.{HandsOut, RefusesHanding};
 
@@ -11,8 +11,7 @@ use crate::fault::PullFault;
 use crate::handed::Handed;
 use bytes::Bytes;
 use disclosure_audit::AuditEntry;
-use mediator_calls::{SessionId, SubId, UnknownSub};
-use mediator_core::Mediator;
+use mediator_calls::{Mediator, SessionId, SubId, UnknownSub};
 use mediator_state::{Fault, Receipt, Status};
 use std::alloc::AllocError;
 use std::marker::Model;

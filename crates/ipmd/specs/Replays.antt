@@ -6,7 +6,7 @@ use Rattle.mediator_calls.specs.Limited.{AreAllowed}
 use Rattle.call_lists.specs.declared.call_list.CallList.{CallList}
 use Rattle.call_lists.specs.Lists.{asked, list_of}
 use Rattle.call_lists.specs.Answers.{answers_text}
-use Rattle.mediator_core.specs.Mediation.{Mediation, started}
+use Rattle.mediator_calls.specs.Mediation.{Mediation, started}
 use Rattle.mediator_core.specs.Runs.{Runs}
 use Rattle.mediator_core.specs.Headline.{HistoryIsTheCalls, HandedIsDisclosed, HandedIsFront, DrainedIsAudited, IsBuiltFromDisclosed}
 use Rattle.ipmd_offline.specs.declared.fault.ProgramFault.{ProgramFault}

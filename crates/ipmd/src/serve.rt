@@ -13,7 +13,7 @@ use crate::system::System;
 use ipmd_offline::{ProgramFault, write_text};
 use log::info;
 use log::sink::Locked;
-use mediator_core::Mediator;
+use mediator_calls::Mediator;
 use mediator_server::{Collector, ListenFault, Plan, listen};
 use octet_devices::Device;
 use serve_settings::{Settings, read_settings};

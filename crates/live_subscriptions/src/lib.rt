@@ -17,6 +17,3 @@ pub mod subscriptions;
 
 pub use subscription::Subscription;
 pub use subscriptions::Subscriptions;
-
-#[cfg(test)]
-mod tests;

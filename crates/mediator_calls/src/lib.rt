@@ -1,18 +1,28 @@
-//! The calls of a mediator and their answers as values: what a list of calls is made of.
+//! The mediator with its calls, and its calls and their answers as values: what a list of calls is made of.
 //!
+//! - `mediator`: [`Mediator`], with its calls.
 //! - `call`: [`Call`] and [`Reply`].
 //! - `ids`: [`SessionId`] and [`SubId`]. `limits`: [`Limits`], with the ranges that a mediator allows.
 //! - `fault`: [`RunFault`] and [`UnknownSub`]; the other refusals are [`mediator_state::Fault`].
 //!
-//! Proved: `Limits::are_allowed` is true exactly where each limit stands in its range.
+//! Proved of each call, by what contracts see of a mediator (its history, the places of its live subscriptions, how many
+//! audit entries were drained, its limits): an accepted call answers what the history says and goes on with just its
+//! entry, behind just the cuts that it makes (`ok`); a refused one changes nothing (`same`), and its fault is the first
+//! cause that stands (`err`). `journal` is the history (`entries`), and every mediator keeps that what is disclosed can be
+//! streamed, that no place or drained count is past its end and that no number of a session or a subscription comes again
+//! (`sound`): its type keeps that its state stands for its journal. `Limits::are_allowed` is true exactly where each limit
+//! stands in its range.
 #![tactic(auto)]
 
 mod call;
 mod fault;
 mod ids;
 mod limits;
+mod mediator;
 
 pub use call::{Call, Reply};
 pub use fault::{RunFault, UnknownSub};
 pub use ids::{SessionId, SubId};
 pub use limits::Limits;
+pub use mediator::Mediator;
+pub use mediator_state::{Fault, Receipt, Status};

@@ -21,8 +21,8 @@ use Rattle.mediator_calls.specs.declared.call.Call.{Call}
 use Rattle.mediator_calls.specs.declared.call.Call.TheVariants as call
 use Rattle.mediator_calls.specs.declared.call.Reply.{Reply}
 use Rattle.mediator_calls.specs.declared.call.Reply.TheVariants as reply
-use Rattle.mediator_core.specs.Mediation.{Mediation, started, place_at}
-use Rattle.mediator_core.specs.Calls.{GoesOn, Subscribes, Unsubscribes, Pulls}
+use Rattle.mediator_calls.specs.Mediation.{Mediation, started, place_at}
+use Rattle.mediator_calls.specs.Calls.{GoesOn, Subscribes, Unsubscribes, Pulls}
 use Rattle.mediator_core.specs.Runs.{Answers, answer_in, asked_in}
 
 -- the messages are all that it was handed, up to a place, which is its own while it is live, and the start before it begins

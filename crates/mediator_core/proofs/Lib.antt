@@ -1,5 +1,3 @@
-pub mod Places
-pub mod CallLaws
 pub mod Holding
 pub mod RunLaws
 pub mod SecrecyLaws

@@ -27,11 +27,11 @@ use Rattle.mediator_calls.specs.declared.call.Call.{Call}
 use Rattle.mediator_calls.specs.declared.call.Call.TheVariants as call
 use Rattle.mediator_calls.specs.declared.call.Reply.{Reply}
 use Rattle.mediator_calls.specs.declared.call.Reply.TheVariants as reply
-use Rattle.mediator_core.specs.Mediation.{Mediation, started, place_at, waiting_at, noted_at, stream_limits}
-use Rattle.mediator_core.specs.Calls.{GoesOn, with_cuts, Drains}
+use Rattle.mediator_calls.specs.Mediation.{Mediation, started, place_at, waiting_at, noted_at, stream_limits}
+use Rattle.mediator_calls.specs.Calls.{GoesOn, with_cuts, Drains}
 use Rattle.mediator_core.specs.Runs.{Answers, Runs, entry_in, entries_of, is_of_call, answer_in, answers_to, handed_to, GiveUntilNone, MeanFront, drained_in, drained_by, asked_in, Ask}
 use Rattle.mediator_core.specs.Headline.{HistoryIsTheCalls, HandedIsDisclosed, HandedIsFront, DrainedIsAudited, IsBuiltFromDisclosed}
-use Rattle.mediator_core.specs.Sound.{IsSound}
+use Rattle.mediator_calls.specs.Sound.{IsSound}
 use Rattle.mediator_core.proofs.Holding.{Holds, holds_first, HoldsAfter, holds_after}
 
 -- ---- lists of answers

@@ -8,7 +8,7 @@ use Rattle.mediator_history.specs.Disclosed.{disclosed}
 use Rattle.mediator_history.specs.Auditing.{audit_list}
 use Rattle.mediator_calls.specs.declared.call.Call.{Call}
 use Rattle.mediator_calls.specs.declared.call.Reply.{Reply}
-use Rattle.mediator_core.specs.Mediation.{Mediation, place_at, noted_at}
+use Rattle.mediator_calls.specs.Mediation.{Mediation, place_at, noted_at}
 use Rattle.mediator_core.specs.Runs.{entries_of, is_of_call, answers_to, handed_to, GiveUntilNone, MeanFront, drained_by, Ask}
 
 -- the entries of the history, cuts aside, are those of the accepted calls, in order

@@ -1,4 +1,7 @@
 pub use Rattle.mediator_calls.specs.Limited
+pub use Rattle.mediator_calls.specs.Mediation
+pub use Rattle.mediator_calls.specs.Sound
+pub use Rattle.mediator_calls.specs.Calls
 pub use Rattle.event_journal.specs.Sizes
 pub use Rattle.event_journal.specs.Room
 pub use Rattle.ipfix_session.specs.Meaning as SessionMeaning
@@ -19,10 +22,6 @@ pub use Rattle.mediator_state.specs.Planning
 pub use Rattle.mediator_state.specs.Standing as StateStanding
 pub use Rattle.mediator_state.specs.Accepting
 pub use Rattle.mediator_state.specs.Calls as StateCalls
-pub mod Mediation
-pub mod View
-pub mod Sound
-pub mod Calls
 pub mod Refusals
 pub mod Runs
 pub mod Headline

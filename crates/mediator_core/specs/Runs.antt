@@ -15,8 +15,8 @@ use Rattle.mediator_calls.specs.declared.call.Call.{Call}
 use Rattle.mediator_calls.specs.declared.call.Call.TheVariants as call
 use Rattle.mediator_calls.specs.declared.call.Reply.{Reply}
 use Rattle.mediator_calls.specs.declared.call.Reply.TheVariants as reply
-use Rattle.mediator_core.specs.Mediation.{Mediation, journal_limits}
-use Rattle.mediator_core.specs.Calls.{Opens, RefusesOpen, Closes, Receives, RefusesReceive, Edits, Subscribes, Unsubscribes, Advances, RefusesAdvance, Pulls, IsStatusOf, Drains}
+use Rattle.mediator_calls.specs.Mediation.{Mediation, journal_limits}
+use Rattle.mediator_calls.specs.Calls.{Opens, RefusesOpen, Closes, Receives, RefusesReceive, Edits, Subscribes, Unsubscribes, Advances, RefusesAdvance, Pulls, IsStatusOf, Drains}
 use Rattle.mediator_core.specs.Refusals.{RefusesStatus, RefusesDrain}
 
 -- ---- a call and its reply

@@ -1,17 +1,9 @@
-//! The mediator: IPFIX messages of any number of exporters' sessions in, and for each subscription out again what a policy
-//! discloses to it, records and closed aggregates, with an audit of what was kept back.
+//! The mediator as a whole: IPFIX messages of any number of exporters' sessions in, and for each subscription out again what a
+//! policy discloses to it, records and closed aggregates, with an audit of what was kept back.
 //!
-//! - `mediator`: [`Mediator`], with its calls.
-//! - `transcript`: [`run`], a list of calls on a new mediator, and its [`Transcript`]; [`Call`] and [`Reply`] are calls and
-//!   answers as values (`mediator_calls`).
+//! - [`Mediator`] with its calls, and [`Call`] and [`Reply`], calls and answers as values, are `mediator_calls`'.
+//! - `transcript`: [`run`], a list of calls on a new mediator, and its [`Transcript`].
 //! - `laws`: what never matters to what a subscription is disclosed.
-//!
-//! Proved of each call, by what contracts see of a mediator (its history, the places of its live subscriptions, how many
-//! audit entries were drained, its limits): an accepted call answers what the history says and goes on with just its
-//! entry, behind just the cuts that it makes (`ok`); a refused one changes nothing (`same`), and its fault is the first
-//! cause that stands (`err`). `journal` is the history (`entries`), and every mediator keeps that what is disclosed can be
-//! streamed, that no place or drained count is past its end and that no number of a session or a subscription comes again
-//! (`sound`): its type keeps that its state stands for its journal.
 //!
 //! Proved of [`run`], for every list of calls and any limits that are allowed: each reply is that of its call, one after
 //! another from a mediator before any call (`steps`); the history's entries are those of the accepted calls, in order,
@@ -25,13 +17,12 @@
 #![tactic(auto)]
 
 mod laws;
-mod mediator;
 mod transcript;
 
 pub use laws::{
     denied_values_never_matter, entries_of_others_never_matter, rules_of_others_never_matter,
 };
-pub use mediator::Mediator;
-pub use mediator_calls::{Call, Limits, Reply, RunFault, SessionId, SubId, UnknownSub};
-pub use mediator_state::{Fault, Receipt, Status};
+pub use mediator_calls::{
+    Call, Fault, Limits, Mediator, Receipt, Reply, RunFault, SessionId, Status, SubId, UnknownSub,
+};
 pub use transcript::{Transcript, run};

@@ -1,12 +1,11 @@
 //! Calls in a row on a new mediator.
 ghost use Rattle.std.specs.Prelude.{◌≡◌, ◌++◌, ◌≤◌, ℕ, List, length, IfOk, IfErr};
-ghost use Rattle.mediator_core.specs.Mediation.{started};
+ghost use Rattle.mediator_calls.specs.Mediation.{started};
 ghost use Rattle.mediator_calls.specs.Limited.{RefusesLimits};
 ghost use Rattle.mediator_core.specs.Runs.{Answers, Runs};
 ghost use Rattle.mediator_core.specs.Headline.{HistoryIsTheCalls, HandedIsDisclosed, HandedIsFront, DrainedIsAudited, IsBuiltFromDisclosed};
 
-use crate::mediator::Mediator;
-use mediator_calls::{Call, Limits, Reply, RunFault};
+use mediator_calls::{Call, Limits, Mediator, Reply, RunFault};
 use mediator_state::Fault;
 use std::alloc::Global;
 
@@ -17,57 +16,55 @@ pub struct Transcript {
     pub mediator: Mediator,
 }
 
-impl Mediator {
-    /// Makes a call that stands as a value.
-    pub fn answer(&mut self, call: Call) -> Reply
-        ensures { Answers self.old call result self.new }
-    {
-        match call {
-            Call::Open => match self.open() {
-                Ok(session) => Reply::Opened(session),
-                Err(fault) => Reply::Refused(fault),
-            },
-            Call::Close { session } => match self.close(session) {
-                Ok(()) => Reply::Closed,
-                Err(fault) => Reply::Refused(fault),
-            },
-            Call::Receive {
-                session,
-                number,
-                message,
-            } => match self.receive(session, number, message) {
-                Ok(receipt) => Reply::Received(receipt),
-                Err(fault) => Reply::Refused(fault),
-            },
-            Call::Edit { text } => match self.edit(text.as_str()) {
-                Ok(edits) => Reply::Edited(edits),
-                Err(fault) => Reply::Refused(fault),
-            },
-            Call::Subscribe { name } => match self.subscribe(name.as_str()) {
-                Ok(sub) => Reply::Subscribed(sub),
-                Err(fault) => Reply::Refused(fault),
-            },
-            Call::Unsubscribe { sub } => match self.unsubscribe(sub) {
-                Ok(()) => Reply::Unsubscribed,
-                Err(fault) => Reply::Refused(fault),
-            },
-            Call::Advance { t } => match self.advance(t) {
-                Ok(()) => Reply::Advanced,
-                Err(fault) => Reply::Refused(fault),
-            },
-            Call::Pull { sub, now, target } => match self.pull(sub, now, target) {
-                Ok(answer) => Reply::Pulled(answer),
-                Err(fault) => Reply::Refused(fault),
-            },
-            Call::Status { sub } => match self.status(sub) {
-                Ok(status) => Reply::Stands(status),
-                Err(_) => Reply::Refused(Fault::UnknownSub),
-            },
-            Call::DrainAudit { most } => match self.drain_audit(most) {
-                Ok(entries) => Reply::Drained(entries),
-                Err(_) => Reply::Refused(Fault::OutOfMemory),
-            },
-        }
+/// Makes a call that stands as a value.
+fn answer(mediator: &mut Mediator, call: Call) -> Reply
+    ensures { Answers mediator.old call result mediator.new }
+{
+    match call {
+        Call::Open => match mediator.open() {
+            Ok(session) => Reply::Opened(session),
+            Err(fault) => Reply::Refused(fault),
+        },
+        Call::Close { session } => match mediator.close(session) {
+            Ok(()) => Reply::Closed,
+            Err(fault) => Reply::Refused(fault),
+        },
+        Call::Receive {
+            session,
+            number,
+            message,
+        } => match mediator.receive(session, number, message) {
+            Ok(receipt) => Reply::Received(receipt),
+            Err(fault) => Reply::Refused(fault),
+        },
+        Call::Edit { text } => match mediator.edit(text.as_str()) {
+            Ok(edits) => Reply::Edited(edits),
+            Err(fault) => Reply::Refused(fault),
+        },
+        Call::Subscribe { name } => match mediator.subscribe(name.as_str()) {
+            Ok(sub) => Reply::Subscribed(sub),
+            Err(fault) => Reply::Refused(fault),
+        },
+        Call::Unsubscribe { sub } => match mediator.unsubscribe(sub) {
+            Ok(()) => Reply::Unsubscribed,
+            Err(fault) => Reply::Refused(fault),
+        },
+        Call::Advance { t } => match mediator.advance(t) {
+            Ok(()) => Reply::Advanced,
+            Err(fault) => Reply::Refused(fault),
+        },
+        Call::Pull { sub, now, target } => match mediator.pull(sub, now, target) {
+            Ok(answer) => Reply::Pulled(answer),
+            Err(fault) => Reply::Refused(fault),
+        },
+        Call::Status { sub } => match mediator.status(sub) {
+            Ok(status) => Reply::Stands(status),
+            Err(_) => Reply::Refused(Fault::UnknownSub),
+        },
+        Call::DrainAudit { most } => match mediator.drain_audit(most) {
+            Ok(entries) => Reply::Drained(entries),
+            Err(_) => Reply::Refused(Fault::OutOfMemory),
+        },
     }
 }
 
@@ -88,7 +85,7 @@ pub fn run(alloc: Global, limits: Limits, calls: Vec<Call>) -> Result<Transcript
     let mut mediator = Mediator::new(alloc, limits)?;
     let mut replies = Vec::with_capacity(alloc, calls.len())?;
     'calls: for call in calls {
-        let reply = mediator.answer(call);
+        let reply = answer(&mut mediator, call);
         replies.push_reserved(reply);
     }
     let _journal = mediator.journal();

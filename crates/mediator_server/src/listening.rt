@@ -7,7 +7,7 @@ use crate::notes;
 use crate::plan::Plan;
 use crate::service::{Hands, serve};
 use log::Log;
-use mediator_core::Mediator;
+use mediator_calls::Mediator;
 use mediator_state::Fault;
 use shared_mediator::{CloseFault, Closed, EntryLedger, HandleFault, RecordLedger, SharedMediator};
 use std::alloc::{AllocError, Global};

@@ -30,6 +30,3 @@ mod table;
 
 pub use candidates::Candidates;
 pub use table::RuleTable;
-
-#[cfg(test)]
-mod tests;

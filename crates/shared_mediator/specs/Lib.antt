@@ -19,10 +19,9 @@ pub use Rattle.mediator_state.specs.Planning
 pub use Rattle.mediator_state.specs.Standing as StateStanding
 pub use Rattle.mediator_state.specs.Accepting
 pub use Rattle.mediator_state.specs.Calls as StateCalls
-pub use Rattle.mediator_core.specs.Mediation
-pub use Rattle.mediator_core.specs.Sound
-pub use Rattle.mediator_core.specs.Calls as MediatorCalls
-pub use Rattle.mediator_core.specs.Refusals
+pub use Rattle.mediator_calls.specs.Mediation
+pub use Rattle.mediator_calls.specs.Sound
+pub use Rattle.mediator_calls.specs.Calls as MediatorCalls
 pub use Rattle.entry_receipts.specs.Receipts
 pub use Rattle.entry_receipts.specs.Marking
 pub use Rattle.counted_mediator.specs.Counted

@@ -18,7 +18,7 @@ use crate::shared::SharedMediator;
 use counted_mediator::CountedMediator;
 use entry_receipts::Marks;
 use event_journal::Journal;
-use mediator_core::Mediator;
+use mediator_calls::Mediator;
 use std::alloc::Global;
 use std::sync::ledger::Share;
 

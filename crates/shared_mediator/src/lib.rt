@@ -1,5 +1,5 @@
 //! A mediator that threads share: one lock, and handles by which exporters offer messages, deliveries pull them and
-//! administrators do the rest, each in a thread of its own. The logic is `mediator_core`'s; this crate locks, calls and lets
+//! administrators do the rest, each in a thread of its own. The logic is `mediator_calls`'s; this crate locks, calls and lets
 //! go.
 //!
 //! - `shared`: [`SharedMediator`]. `closing`: `SharedMediator::close`, with [`Closed`].
@@ -7,7 +7,7 @@
 //! - `desk`: what lies under the lock, and what each call does there. `ledgers`: [`EntryLedger`] and [`RecordLedger`].
 //! - `fault`: [`HandleFault`] and [`CloseFault`].
 //!
-//! Proved: whenever the lock is taken, its mediator's state stands for its journal (`mediator_core`), one book's total is the
+//! Proved: whenever the lock is taken, its mediator's state stands for its journal (`mediator_calls`), one book's total is the
 //! number of messages, edits, begins and ends of subscriptions and advances of the clock that came since `new`, and the
 //! other's is the number of records handed to the subscriptions that have ended and to those that are live (the type that
 //! lies under the lock keeps it). Each call under the lock answers and leaves what the mediator's does (`ok`, `same`,

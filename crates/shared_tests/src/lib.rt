@@ -2,22 +2,20 @@
 //! no crate stands on it. Each test ends by itself, and tells the same whatever the schedule.
 //!
 //! - `sharing`: a case is played through the handles of a new shared mediator, which is closed then.
-//! - `octets`: the messages; `hands`: handles and their calls, each of which is to be answered.
-//! - `refusals`: calls through handles by one thread, and what they refuse. `exporters`: two exporters, handles that are missing
-//!   or used up, and waits. `crowd`: eight exporters and nine deliveries at once, and the same journal replayed by one thread.
+//! - `octets`: the messages, the policies and the limits.
+//! - `calls`: each call once by one thread, its refusals, and handles that are missing. `waits`: what ends a wait in a thread of its
+//!   own. `crowd`: eight exporters and nine deliveries at once, and `replay`: the same journal replayed by one thread.
 #![tactic(auto)]
 
 #[cfg(test)]
+mod calls;
+#[cfg(test)]
 mod crowd;
 #[cfg(test)]
-mod exporters;
-#[cfg(test)]
-mod hands;
-#[cfg(test)]
 mod octets;
-#[cfg(test)]
-mod refusals;
 #[cfg(test)]
 mod replay;
 #[cfg(test)]
 mod sharing;
+#[cfg(test)]
+mod waits;

@@ -1,5 +1,23 @@
-//! Messages, as an exporter sends them and as a subscriber gets them. What an exporter sends has the Export Time 1700000000
-//! and domain 7; what a subscriber gets has 1700000060 and domain 0.
+//! Policies, limits, and messages as an exporter sends them and as a subscriber gets them. What an exporter sends has the Export
+//! Time 1700000000 and domain 7; what a subscriber gets has 1700000060 and domain 0.
+use mediator_core::Limits;
+
+pub(crate) const PASS: &str =
+    "policy 1\nrule for * in * from * to * pass\nrule for * in * from * to * element * keep\n";
+
+pub(crate) const WITHHOLD: &str =
+    "policy 1\nrule for * in * from * to * withhold\nrule for * in * from * to * pass\nrule for * in * from * to * element * keep\n";
+
+/// So many records in a queue, templates of a subscription and entries of the journal.
+pub(crate) const fn limits(queue: u32, shapes: u32, entries: u64) -> Limits {
+    Limits {
+        queue,
+        shapes,
+        audit: 10_000_000,
+        entries,
+        octets: 1_000_000_000,
+    }
+}
 
 /// The Export Time of what is pulled.
 pub(crate) const NOW: u32 = 1_700_000_060;
@@ -16,18 +34,6 @@ pub(crate) const NEXT_RECORD: &[u8] =
 \x00\x02\x00\x14\x01\x00\x00\x03\x00\x08\x00\x04\x00\x07\x00\x02\x00\x01\x00\x04\
 \x01\x00\x00\x0e\xc0\x00\x02\x4d\x01\xbb\x00\x00\x05\xdc";
 
-/// The same with Sequence Number 5.
-pub(crate) const ONE_RECORD_NUMBERED_FIVE: &[u8] =
-    b"\x00\x0a\x00\x32\x65\x53\xf1\x00\x00\x00\x00\x05\x00\x00\x00\x07\
-\x00\x02\x00\x14\x01\x00\x00\x03\x00\x08\x00\x04\x00\x07\x00\x02\x00\x01\x00\x04\
-\x01\x00\x00\x0e\xc0\x00\x02\x4d\x01\xbb\x00\x00\x05\xdc";
-
-/// The template and two records.
-pub(crate) const TWO_RECORDS: &[u8] =
-    b"\x00\x0a\x00\x3c\x65\x53\xf1\x00\x00\x00\x00\x00\x00\x00\x00\x07\
-\x00\x02\x00\x14\x01\x00\x00\x03\x00\x08\x00\x04\x00\x07\x00\x02\x00\x01\x00\x04\
-\x01\x00\x00\x18\xc0\x00\x02\x4d\x01\xbb\x00\x00\x05\xdc\xc0\x00\x02\x4d\x01\xbb\x00\x00\x05\xdc";
-
 /// A template with one record, which is withdrawn before a second one, and then defined anew for a third: two templates.
 pub(crate) const WITHDRAWN: &[u8] =
     b"\x00\x0a\x00\x3f\x65\x53\xf1\x00\x00\x00\x00\x00\x00\x00\x00\x07\
@@ -43,16 +49,6 @@ pub(crate) const DISCLOSED: &[u8] =
     b"\x00\x0a\x00\x32\x65\x53\xf1\x3c\x00\x00\x00\x00\x00\x00\x00\x00\
 \x00\x02\x00\x14\x01\x00\x00\x03\x00\x08\x00\x04\x00\x07\x00\x02\x00\x01\x00\x04\
 \x01\x00\x00\x0e\xc0\x00\x02\x4d\x01\xbb\x00\x00\x05\xdc";
-
-/// The message of one record that comes behind so many, with this source port.
-pub(crate) fn record_of_port(before: u32, port: u16) -> [u8; 50] {
-    let mut message = *b"\x00\x0a\x00\x32\x65\x53\xf1\x00\x00\x00\x00\x00\x00\x00\x00\x07\
-\x00\x02\x00\x14\x01\x00\x00\x03\x00\x08\x00\x04\x00\x07\x00\x02\x00\x01\x00\x04\
-\x01\x00\x00\x0e\xc0\x00\x02\x4d\x01\xbb\x00\x00\x05\xdc";
-    message[8..12].copy_from_slice(&before.to_be_bytes());
-    message[44..46].copy_from_slice(&port.to_be_bytes());
-    message
-}
 
 /// The message of one flow that comes behind so many: it starts at this time, in milliseconds since 1970, and goes to this port.
 pub(crate) fn flow(before: u32, start: u64, port: u16) -> [u8; 66] {

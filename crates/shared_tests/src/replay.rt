@@ -1,6 +1,6 @@
 //! A journal, replayed by one thread: each subscriber gets from it what it got from the threads.
-use crate::crowd::{ROOMY, TARGET};
-use crate::octets::NOW;
+use crate::crowd::TARGET;
+use crate::octets::{NOW, limits};
 use crate::sharing::Taken;
 use event_journal::{Entry, Journal};
 use mediator_core::{Mediator, SessionId, SubId};
@@ -9,13 +9,13 @@ use std::process::Abort;
 
 /// Makes the calls of a journal again on a new mediator, and that each subscription's messages are what it took. One that was cut
 /// gets no more there than what it was disclosed by then; so it ends here, where all that has come to it is pulled.
-pub(crate) fn replay<R: Abort>(
-    rt: &R,
+pub(crate) fn replay(
+    rt: &impl Abort,
     alloc: Global,
     journal: &Journal,
     taken: &[Taken],
 ) -> Result<(), AllocError> {
-    let Ok(mut again) = Mediator::new(alloc, ROOMY) else {
+    let Ok(mut again) = Mediator::new(alloc, limits(1_000_000, 100, 1_000_000)) else {
         return Err(AllocError);
     };
     for position in 0..journal.len() {
@@ -32,8 +32,8 @@ pub(crate) fn replay<R: Abort>(
 }
 
 /// Makes an entry's call, and whether it was accepted with the same number.
-fn play<R: Abort>(
-    rt: &R,
+fn play(
+    rt: &impl Abort,
     again: &mut Mediator,
     entry: &Entry,
     taken: &[Taken],
@@ -57,7 +57,7 @@ fn play<R: Abort>(
 }
 
 /// Ends a subscription that hasn't ended yet, where all that it is disclosed was pulled.
-fn end<R: Abort>(rt: &R, again: &mut Mediator, sub: SubId, taken: &[Taken]) -> bool {
+fn end(rt: &impl Abort, again: &mut Mediator, sub: SubId, taken: &[Taken]) -> bool {
     if again.status(sub).is_err() {
         return true;
     }
@@ -70,7 +70,7 @@ fn end<R: Abort>(rt: &R, again: &mut Mediator, sub: SubId, taken: &[Taken]) -> b
 }
 
 /// That a subscription's messages are just those that were taken.
-fn expect_messages<R: Abort>(rt: &R, again: &mut Mediator, taken: &Taken) {
+fn expect_messages(rt: &impl Abort, again: &mut Mediator, taken: &Taken) {
     let sub = taken.sub;
     for message in &taken.messages {
         match again.pull(sub, NOW, TARGET) {

@@ -2,7 +2,9 @@
 ghost use Rattle.std.specs.Prelude.{◌≡◌, ◌+◌, ◌*◌};
 ghost use Rattle.counted_mediator.specs.Counted.{handed_live};
 
-use crate::{crowd, exporters, refusals};
+use crate::calls::calls;
+use crate::crowd::crowd;
+use crate::waits::waits;
 use bytes::Bytes;
 use mediator_core::{Limits, Mediator, SubId};
 use shared_mediator::{
@@ -19,32 +21,16 @@ use std::thread::Threads;
 /// What is done on a shared mediator.
 #[derive(Clone, Copy, Debug, PartialEq, Eq)]
 pub(crate) enum Case {
-    /// Nothing.
-    Nothing,
-    /// A message, an edit that withholds all, and another message.
-    ThroughHandles,
-    /// A message with its template twice.
-    SameTwice,
-    /// Each refusal of a call.
-    Refusals,
-    /// As many entries as there may be, and one more.
-    FullJournal,
-    /// As many audit entries as there may be, and one more.
-    FullAudit,
-    /// One handle more than there may be, of each kind.
-    OneTooMany,
-    /// Two exporters and a delivery in threads.
-    TwoExporters,
-    /// The same, and an exporter's handle isn't given back.
+    /// Each call once by one thread, and its refusal.
+    Calls,
+    /// The same, and the exporter's handle isn't given back.
     NoExporter,
-    /// A delivery's handle isn't.
+    /// The delivery's handle isn't.
     NoDelivery,
-    /// An administrator's handle isn't.
+    /// The administrator's handle isn't.
     NoAdmin,
-    /// Each end of a wait but a cut.
+    /// Each end of a wait.
     Waits,
-    /// A wait that a cut ends.
-    WaitsForCut,
     /// Eight exporters and nine deliveries.
     Crowd,
 }
@@ -57,22 +43,18 @@ pub(crate) struct Hands<E: EntryLedger, H: RecordLedger> {
     pub(crate) admins: Vec<AdminHandle<E>>,
 }
 
-/// The messages of a subscription, and how many records stand in them.
+/// The messages of a subscription.
 #[derive(Drop)]
 pub(crate) struct Taken {
     pub(crate) sub: SubId,
     pub(crate) messages: Vec<Bytes>,
-    pub(crate) records: u64,
 }
 
-/// What came of a case: how the mediator was closed, what its deliveries had taken, and of how many calls the exporters and the
-/// administrators had receipts.
+/// How the mediator was closed, and what its deliveries had taken.
 #[derive(Drop)]
 pub(crate) struct Ended {
     pub(crate) closed: Result<Closed, CloseFault>,
     pub(crate) taken: Vec<Taken>,
-    pub(crate) offered: u64,
-    pub(crate) administered: u64,
 }
 
 /// Plays a case with at most so many handles of each kind.
@@ -117,22 +99,12 @@ fn run<
         deliveries,
         admins,
     } = play(rt, alloc, &shared, case)?;
-    let taken = taken_by(alloc, &deliveries)?;
-    let offered = exporters.iter().fold(
-        0u64,
-        |sum, exporter| sum.saturating_add(exporter.kept().len() as u64),
-    );
-    let administered = admins.iter().fold(
-        0u64,
-        |sum, admin| sum.saturating_add(admin.kept().len() as u64),
-    );
+    let mut taken = Vec::new(alloc);
+    for delivery in &deliveries {
+        taken.push(taken_of(alloc, delivery)?)?;
+    }
     let closed = shared.close(exporters, deliveries, admins);
-    Ok(Ended {
-        closed,
-        taken,
-        offered,
-        administered,
-    })
+    Ok(Ended { closed, taken })
 }
 
 fn play<
@@ -146,42 +118,28 @@ fn play<
     case: Case,
 ) -> Result<Hands<E, H>, AllocError> {
     match case {
-        Case::Nothing => Ok(none(alloc)),
-        Case::ThroughHandles => refusals::through_handles(rt, alloc, shared),
-        Case::SameTwice => refusals::same_twice(rt, alloc, shared),
-        Case::Refusals => refusals::refusals(rt, alloc, shared),
-        Case::FullJournal => refusals::full_journal(rt, alloc, shared),
-        Case::FullAudit => refusals::full_audit(rt, alloc, shared),
-        Case::OneTooMany => refusals::one_too_many(rt, alloc, shared),
-        Case::TwoExporters => exporters::two_exporters(rt, alloc, shared),
-        Case::NoExporter => exporters::no_exporter(rt, alloc, shared),
-        Case::NoDelivery => exporters::no_delivery(rt, alloc, shared),
-        Case::NoAdmin => exporters::no_admin(rt, alloc, shared),
-        Case::Waits => exporters::waits(rt, alloc, shared),
-        Case::WaitsForCut => exporters::waits_for_cut(rt, alloc, shared),
-        Case::Crowd => crowd::crowd(rt, alloc, shared),
+        Case::Waits => waits(rt, alloc, shared),
+        Case::Crowd => crowd(rt, alloc, shared),
+        _ => Ok(without(calls(rt, alloc, shared)?, case)),
     }
 }
 
-/// No handle.
-pub(crate) fn none<E: EntryLedger, H: RecordLedger>(alloc: Global) -> Hands<E, H> {
-    Hands {
-        exporters: Vec::new(alloc),
-        deliveries: Vec::new(alloc),
-        admins: Vec::new(alloc),
+/// The handles but for the one that isn't given back.
+fn without<E: EntryLedger, H: RecordLedger>(mut hands: Hands<E, H>, case: Case) -> Hands<E, H> {
+    match case {
+        Case::NoExporter => hands.exporters.clear(),
+        Case::NoDelivery => hands.deliveries.clear(),
+        Case::NoAdmin => hands.admins.clear(),
+        _ => {}
     }
+    hands
 }
 
-/// What each delivery has taken.
-fn taken_by<H: RecordLedger>(
-    alloc: Global,
-    deliveries: &[DeliveryHandle<H>],
-) -> Result<Vec<Taken>, AllocError> {
-    let mut taken = Vec::new(alloc);
-    for delivery in deliveries {
-        taken.push(taken_of(alloc, delivery)?)?;
-    }
-    Ok(taken)
+/// One handle in a list.
+pub(crate) fn one<T: Drop>(alloc: Global, handle: T) -> Result<Vec<T>, AllocError> {
+    let mut handles = Vec::new(alloc);
+    handles.push(handle)?;
+    Ok(handles)
 }
 
 fn taken_of<H: RecordLedger>(
@@ -189,14 +147,11 @@ fn taken_of<H: RecordLedger>(
     delivery: &DeliveryHandle<H>,
 ) -> Result<Taken, AllocError> {
     let mut messages = Vec::new(alloc);
-    let mut records = 0u64;
     for handed in delivery.kept() {
         messages.push(handed.message.clone()?)?;
-        records = records.saturating_add(handed.records);
     }
     Ok(Taken {
         sub: delivery.sub(),
         messages,
-        records,
     })
 }

@@ -2,7 +2,7 @@ use Rattle.std.proofs.Common.{◌≡◌, ◌+◌, ◌≤◌, List, ◌++◌, len
 use Rattle.std.specs.Prelude.{vec_capacity}
 use Rattle.std.specs.Vec.Iter.{into_iter_items}
 use Rattle.mediator_calls.specs.declared.call.Reply.{Reply}
-use Rattle.mediator_core.specs.Mediation.{Mediation, started}
+use Rattle.mediator_calls.specs.Mediation.{Mediation, started}
 use Rattle.mediator_core.specs.Runs.{Runs}
 use Rattle.mediator_core.proofs.transcript.run.Given as goal
 

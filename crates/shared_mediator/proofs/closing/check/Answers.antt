@@ -1,5 +1,5 @@
 use Rattle.std.proofs.Common.{◌∙◌, ap, []}
-use Rattle.mediator_core.specs.Mediation.{Mediation}
+use Rattle.mediator_calls.specs.Mediation.{Mediation}
 use Rattle.shared_mediator.proofs.ClosingLaws.{checked}
 use Rattle.shared_mediator.proofs.closing.check.Goals as goal
 

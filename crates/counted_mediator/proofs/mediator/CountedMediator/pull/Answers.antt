@@ -1,6 +1,6 @@
 use Rattle.std.proofs.Common.{◌-◌, arith}
 use Rattle.counted_mediator.proofs.Pulling.{Tells, tells, counted_after, hands_some, hands_none}
-use Rattle.mediator_core.proofs.CallLaws.{if_ok_at}
+use Rattle.mediator_calls.proofs.CallLaws.{if_ok_at}
 use Rattle.counted_mediator.proofs.mediator.CountedMediator.pull.Goals.{in-Some, in-None}
 use Rattle.counted_mediator.proofs.mediator.CountedMediator.pull.Goals as goal
 

@@ -1,5 +1,5 @@
 use Rattle.std.proofs.Common.{rules, ◌≡◌, ap}
-use Rattle.mediator_core.specs.Mediation.{Mediation}
+use Rattle.mediator_calls.specs.Mediation.{Mediation}
 use Rattle.counted_mediator.specs.Counted.{entries_of}
 use Rattle.shared_mediator.specs.Closing.{entries_kept}
 use Rattle.shared_mediator.proofs.ClosingLaws.{closes_for}

@@ -1,0 +1,278 @@
+-- What the calls of a mediator's state say to its callers.
+use Rattle.std.proofs.Common.{◌≡◌, ℕ, ◌+◌, ◌<◌, ◌≤◌, ◌^◌, Bool, true, false, cond, List, [], ◌∷◌, ◌++◌, length, take, drop, Option, Some, None, Result, Ok, Err, refl, sym, ap, ◌∙◌, subst, append-nil, arith}
+use Rattle.std.specs.Prelude.{◌≢◌, ◌==◌, unwrap_or, OnOk, IfOk, IfErr}
+use Rattle.std.proofs.lemmas.Bool.{false≢true, eq-eqb}
+use Rattle.sequences.proofs.BeforeLaws.{last_of-push}
+use Rattle.ipfix_session.specs.Meaning.{meaning_of}
+use Rattle.subscriber_stream.specs.declared.limits.Limits.{Limits as Streamed}
+use Rattle.subscriber_stream.specs.Message.{built, place_after}
+use Rattle.disclosure_audit.specs.declared.entry.AuditEntry.{AuditEntry}
+use Rattle.event_journal.specs.declared.entry.Entry.{Entry}
+use Rattle.event_journal.specs.declared.entry.Entry.TheVariants.{Open, Close, Message, Edit, Subscribe, Unsubscribe, Advance}
+use Rattle.event_journal.specs.Kept.{Kept}
+use Rattle.event_journal.specs.Room.{Limits as Journaled, HasRoomAfter}
+use Rattle.mediator_history.specs.Subscriptions.{begins, is_live, subscriptions_begun}
+use Rattle.mediator_history.specs.Disclosed.{disclosed}
+use Rattle.mediator_history.specs.Auditing.{audit_list}
+use Rattle.mediator_state.specs.declared.engine.Engine.{Engine}
+use Rattle.mediator_state.specs.declared.state.State.{State}
+use Rattle.mediator_state.specs.declared.fault.Fault.{Fault}
+use Rattle.mediator_state.specs.declared.fault.Fault.TheVariants as fault
+use Rattle.mediator_state.specs.declared.receipt.Receipt.{Receipt}
+use Rattle.mediator_state.specs.declared.receipt.Status.{Status}
+use Rattle.mediator_state.specs.Accepting.{receipt_of}
+use Rattle.mediator_state.specs.Seen.{place_of, IsUntouched}
+use Rattle.mediator_state.specs.Standing.{AreNumbered, Stands}
+use Rattle.mediator_state.specs.Calls as state
+use Rattle.mediator_calls.specs.declared.limits.Limits.{Limits}
+use Rattle.mediator_calls.specs.Mediation.{Place, Mediation, place_at, noted_at, journal_limits}
+use Rattle.mediator_calls.specs.View.{view_of, tells, limits_of, StandsForJournal}
+use Rattle.mediator_calls.specs.Calls.{GoesOn, Opens, Closes, with_cuts, Receives, RefusesReceive, Edits, Subscribes, Unsubscribes, Advances, RefusesAdvance, Pulls, IsStatusOf, Drains}
+use Rattle.mediator_calls.specs.Sound.{IsSound}
+use Rattle.mediator_calls.proofs.Places.{place_is, within, unplaced_at, cuts_are, places_same}
+
+-- ---- results
+
+pub on_ok_gives : {X E P Q : Type 0} (r : Result X E) → OnOk r P → (P → Q) → OnOk r Q
+on_ok_gives (Ok x) p f = f p
+on_ok_gives (Err e) p f = tt
+
+pub if_ok_gives : {X E : Type 0} {P Q : X → Type 0} (r : Result X E) → IfOk r P → ((x : X) → P x → Q x) → IfOk r Q
+if_ok_gives (Ok x) p f = f x p
+if_ok_gives (Err e) p f = tt
+
+pub if_err_gives : {X E : Type 0} {P Q : E → Type 0} (r : Result X E) → IfErr r P → ((e : E) → P e → Q e) → IfErr r Q
+if_err_gives (Ok x) p f = tt
+if_err_gives (Err e) p f = f e p
+
+pub if_ok_at : {X E : Type 0} (P : X → Type 0) (r : Result X E) (x : X) → r ≡ Ok x → P x → IfOk r P
+if_ok_at P r x is p = rw is p
+
+pub if_ok_none : {X E : Type 0} (P : X → Type 0) (r : Result X E) (e : E) → r ≡ Err e → IfOk r P
+if_ok_none P r e is = rw is tt
+
+-- ---- the same mediator
+
+limits_same : (s t : State Kept) → t.engine.limits ≡ s.engine.limits → t.engine.audit.limit ≡ s.engine.audit.limit → t.chronicle.limits ≡ s.chronicle.limits → (view_of t).limits ≡ (view_of s).limits
+limits_same s t streams audit journal =
+    let of_streams : Streamed → Limits = λ l. record { queue = l.queue; shapes = l.shapes; audit = t.engine.audit.limit; entries = t.chronicle.limits.entries; octets = t.chronicle.limits.octets } in
+    let of_audit : ℕ → Limits = λ n. record { queue = s.engine.limits.queue; shapes = s.engine.limits.shapes; audit = n; entries = t.chronicle.limits.entries; octets = t.chronicle.limits.octets } in
+    let of_journal : Journaled → Limits = λ l. record { queue = s.engine.limits.queue; shapes = s.engine.limits.shapes; audit = s.engine.audit.limit; entries = l.entries; octets = l.octets } in
+    ap of_streams streams ∙ ap of_audit audit ∙ ap of_journal journal
+
+abbrev made : List Entry → List Place → ℕ → Limits → Mediation
+made h places drained limits = record { history = h; places = places; drained = drained; limits = limits }
+
+made_same : (h g : List Entry) (ps qs : List Place) (m n : ℕ) (k l : Limits) → g ≡ h → qs ≡ ps → n ≡ m → l ≡ k → made g qs n l ≡ made h ps m k
+made_same h g ps qs m n k l hs places drained limits =
+    ap (λ (x : List Entry). made x qs n l) hs ∙ ap (λ (x : List Place). made h x n l) places ∙ ap (λ (x : ℕ). made h ps x l) drained ∙ ap (λ (x : Limits). made h ps m x) limits
+
+pub view_same : (s t : State Kept) → t.chronicle.entries ≡ s.chronicle.entries → IsUntouched s.engine t.engine → t.chronicle.limits ≡ s.chronicle.limits → view_of t ≡ view_of s
+view_same s t entries untouched journaled =
+    made_same s.chronicle.entries t.chronicle.entries (view_of s).places (view_of t).places s.engine.audit.standing.drained t.engine.audit.standing.drained (view_of s).limits (view_of t).limits
+    entries (places_same s t entries untouched.places) untouched.drained (limits_same s t untouched.limits untouched.audit_limit journaled)
+
+-- for every history for which the one stands the other does
+abbrev pub KeepsHistories : State Kept → State Kept → Type 0
+KeepsHistories s t = (h : List Entry) → state.StandsFor tells s h → state.StandsFor tells t h
+
+-- a state that stands for a history stands for its journal
+pub for_journal : (t : State Kept) (h : List Entry) → state.StandsFor tells t h → StandsForJournal t
+for_journal t h stands = record { told = refl; stands = subst (λ (g : List Entry). Stands t.engine g) (sym stands.told) stands.stands }
+
+pub stands_on : (s t : State Kept) → StandsForJournal s → KeepsHistories s t → StandsForJournal t
+stands_on s t stands keeps = for_journal t s.chronicle.entries (keeps s.chronicle.entries stands)
+
+pub same_on : (s t : State Kept) → StandsForJournal s → KeepsHistories s t → IsUntouched s.engine t.engine → t.chronicle.limits ≡ s.chronicle.limits → view_of t ≡ view_of s
+same_on s t stands keeps untouched journaled = view_same s t (keeps s.chronicle.entries stands).told untouched journaled
+
+pub for_some : (s : State Kept) → StandsForJournal s → state.StandsForSome tells s
+for_some s stands = record { history = s.chronicle.entries; stands = stands }
+
+-- ---- a history that goes on
+
+-- the state goes on with these entries
+abbrev pub AcceptsNext : State Kept → List Entry → State Kept → Type 0
+AcceptsNext s more t = state.Accepts tells limits_of s s.chronicle.entries more t
+
+pub accepted_stands : (s t : State Kept) (more : List Entry) → AcceptsNext s more t → StandsForJournal t
+accepted_stands s t more accepts = for_journal t (s.chronicle.entries ++ more) accepts.stands
+
+pub goes_on_where : (s t : State Kept) (more : List Entry) → StandsForJournal s → AcceptsNext s more t → ((sub : ℕ) → is_live sub t.chronicle.entries ≡ true → place_of t.engine sub ≡ place_of s.engine sub)
+    → t.engine.audit.standing.drained ≡ s.engine.audit.standing.drained → t.engine.limits ≡ s.engine.limits → t.engine.audit.limit ≡ s.engine.audit.limit → t.chronicle.limits ≡ s.chronicle.limits → GoesOn (view_of s) more (view_of t)
+goes_on_where s t more stands accepts places drained streams audit journaled = record {
+  room = accepts.room;
+  history = accepts.stands.told;
+  places = λ sub on. place_is t (accepted_stands s t more accepts) sub ∙ places sub on ∙ sym (place_is s stands sub);
+  drained = drained;
+  limits = limits_same s t streams audit journaled;
+}
+
+pub goes_on : (s t : State Kept) (more : List Entry) → StandsForJournal s → AcceptsNext s more t → IsUntouched s.engine t.engine → t.chronicle.limits ≡ s.chronicle.limits → GoesOn (view_of s) more (view_of t)
+goes_on s t more stands accepts untouched journaled = goes_on_where s t more stands accepts (λ sub on. untouched.places sub) untouched.drained untouched.limits untouched.audit_limit journaled
+
+-- ---- each call
+
+pub opens : (s t : State Kept) (n : ℕ) → StandsForJournal s → state.Opens tells limits_of s s.chronicle.entries n t → IsUntouched s.engine t.engine → t.chronicle.limits ≡ s.chronicle.limits → Opens (view_of s) n (view_of t)
+opens s t n stands opened untouched journaled = record { number = opened.number; goes_on = goes_on s t (Open n ∷ []) stands opened.accepts untouched journaled }
+
+pub closes : (s t : State Kept) (session : ℕ) → StandsForJournal s → state.Closes tells limits_of s s.chronicle.entries session t → IsUntouched s.engine t.engine → t.chronicle.limits ≡ s.chronicle.limits → Closes (view_of s) session (view_of t)
+closes s t session stands closed untouched journaled = record { opened = closed.opened; goes_on = goes_on s t (Close session ∷ []) stands closed.accepts untouched journaled }
+
+pub edits : (s t : State Kept) (text : List ℕ) (n : ℕ) → StandsForJournal s → state.Edits tells limits_of s s.chronicle.entries text n t → IsUntouched s.engine t.engine → t.chronicle.limits ≡ s.chronicle.limits → Edits (view_of s) text n (view_of t)
+edits s t text n stands edited untouched journaled = record {
+  policy = edited.policy;
+  spelled = edited.spelled;
+  number = edited.number;
+  goes_on = goes_on s t (Edit text ∷ []) stands edited.accepts untouched journaled;
+}
+
+-- a subscription that never began has no place
+new_place : (s : State Kept) (n : ℕ) → StandsForJournal s → n ≡ subscriptions_begun s.chronicle.entries + 1 → place_at (view_of s) n ≡ 0
+new_place s n stands next =
+    unplaced_at s stands n (stands.stands.numbered.subscriptions n (omega (arith, next))).gone
+
+pub subscribes : (s t : State Kept) (name : List ℕ) (n : ℕ) → StandsForJournal s → state.Subscribes tells limits_of s s.chronicle.entries name n t → IsUntouched s.engine t.engine → t.chronicle.limits ≡ s.chronicle.limits → Subscribes (view_of s) name n (view_of t)
+subscribes s t name n stands begun untouched journaled = record {
+  named = begun.named;
+  free = begun.free;
+  number = begun.number;
+  goes_on = goes_on s t (Subscribe n name ∷ []) stands begun.accepts untouched journaled;
+  start = place_is t (accepted_stands s t (Subscribe n name ∷ []) begun.accepts) n ∙ untouched.places n ∙ sym (place_is s stands n) ∙ new_place s n stands begun.number;
+}
+
+-- what ended isn't live
+ended : (h : List Entry) (sub : ℕ) → is_live sub (h ++ Unsubscribe sub ∷ []) ≡ false
+ended h sub = last_of-push (begins sub) false h (Unsubscribe sub) ∙ (rw (eq-eqb sub sub refl) refl)
+
+pub unsubscribes : (s t : State Kept) (sub : ℕ) → StandsForJournal s → state.Unsubscribes tells limits_of s s.chronicle.entries sub t → ((q : ℕ) → q ≢ sub → place_of t.engine q ≡ place_of s.engine q)
+    → t.engine.audit.standing.drained ≡ s.engine.audit.standing.drained → t.engine.limits ≡ s.engine.limits → t.engine.audit.limit ≡ s.engine.audit.limit → t.chronicle.limits ≡ s.chronicle.limits → Unsubscribes (view_of s) sub (view_of t)
+unsubscribes s t sub stands over others drained streams audit journaled = record {
+  live = over.live;
+  goes_on = goes_on_where s t (Unsubscribe sub ∷ []) stands over.accepts kept drained streams audit journaled;
+} where
+  kept : (q : ℕ) → is_live q t.chronicle.entries ≡ true → place_of t.engine q ≡ place_of s.engine q
+  kept q on = others q (λ same. false≢true (sym (ap (λ (n : ℕ). is_live n t.chronicle.entries) same ∙ ap (is_live sub) over.accepts.stands.told ∙ ended s.chronicle.entries sub) ∙ ap (λ (n : ℕ). is_live n t.chronicle.entries) refl ∙ on))
+
+-- ---- a message
+
+with_cuts_are : (s : State Kept) → StandsForJournal s → (entry : Entry) → state.with_cuts s.engine s.chronicle.entries entry ≡ with_cuts (view_of s) entry
+with_cuts_are s stands entry = ap (λ (cuts : List Entry). cuts ++ entry ∷ []) (cuts_are s stands entry)
+
+goes_on_with_cuts : (s t : State Kept) (entry : Entry) → StandsForJournal s → AcceptsNext s (state.with_cuts s.engine s.chronicle.entries entry) t → IsUntouched s.engine t.engine → t.chronicle.limits ≡ s.chronicle.limits → GoesOn (view_of s) (with_cuts (view_of s) entry) (view_of t)
+goes_on_with_cuts s t entry stands accepts untouched journaled =
+    goes_on s t (with_cuts (view_of s) entry) stands (subst (λ (more : List Entry). AcceptsNext s more t) (with_cuts_are s stands entry) accepts) untouched journaled
+
+pub receives : (s t : State Kept) (session number : ℕ) (octets : List ℕ) (r : Receipt) → StandsForJournal s → state.Receives tells limits_of s s.chronicle.entries session number octets r t → IsUntouched s.engine t.engine → t.chronicle.limits ≡ s.chronicle.limits → Receives (view_of s) session number octets r (view_of t)
+receives s t session number octets r stands got untouched journaled = record {
+  next = got.next;
+  meaning = got.meaning;
+  means = got.means;
+  goes_on = goes_on_with_cuts s t (Message session number octets) stands got.accepts untouched journaled;
+  receipt = got.receipt ∙ ap (λ (cuts : List Entry). receipt_of (length s.chronicle.entries) (length cuts) got.meaning) (cuts_are s stands (Message session number octets));
+}
+
+-- there is no room for the entry and its cuts
+no_room : (s : State Kept) (entry : Entry) → StandsForJournal s → (HasRoomAfter s.chronicle.limits s.chronicle.entries (state.with_cuts s.engine s.chronicle.entries entry) → ⊥) → HasRoomAfter s.chronicle.limits s.chronicle.entries (with_cuts (view_of s) entry) → ⊥
+no_room s entry stands lacks room = lacks (subst (λ (more : List Entry). HasRoomAfter s.chronicle.limits s.chronicle.entries more) (sym (with_cuts_are s stands entry)) room)
+
+-- the audit entries of these entries behind a history are so many
+abbrev Notes : List Entry → List Entry → ℕ → Type 0
+Notes h more need = (noted : List AuditEntry) × (audit_list (h ++ more) ≡ audit_list h ++ noted) × (need ≡ length noted)
+
+-- there is room for the entry and its cuts, but the audit has none
+abbrev LacksAuditFor : State Kept → List Entry → ℕ → ℕ → Type 0
+LacksAuditFor s more need room =
+    HasRoomAfter s.chronicle.limits s.chronicle.entries more × Notes s.chronicle.entries more need × (room + length s.engine.audit.standing.entries ≡ s.engine.audit.limit) × (room < need)
+
+abbrev LacksAuditSeen : Mediation → List Entry → ℕ → ℕ → Type 0
+LacksAuditSeen m more need room =
+    HasRoomAfter (journal_limits m.limits) m.history more × Notes m.history more need × (room + length (noted_at m) ≡ m.limits.audit) × (room < need)
+
+no_audit : (s : State Kept) (entry : Entry) (need room : ℕ) → StandsForJournal s → LacksAuditFor s (state.with_cuts s.engine s.chronicle.entries entry) need room → LacksAuditSeen (view_of s) (with_cuts (view_of s) entry) need room
+no_audit s entry need room stands r =
+    let same = with_cuts_are s stands entry in (
+      subst (λ (more : List Entry). HasRoomAfter s.chronicle.limits s.chronicle.entries more) same r.0,
+      subst (λ (more : List Entry). Notes s.chronicle.entries more need) same r.1,
+      subst (λ (waiting : List AuditEntry). room + length waiting ≡ s.engine.audit.limit) stands.stands.audit.waiting r.2,
+      r.3,
+    )
+
+pub refuses_receive : (why : Fault) (s : State Kept) (session number : ℕ) (octets : List ℕ) → StandsForJournal s → state.RefusesReceive why s.chronicle.limits s.engine s.chronicle.entries session number octets → RefusesReceive why (view_of s) session number octets
+refuses_receive fault.JournalFull s session number octets stands r = (r.0, r.1, no_room s (Message session number octets) stands r.2)
+refuses_receive (fault.AuditFull need room) s session number octets stands r =
+    let lacks = no_audit s (Message session number octets) need room stands (r.2, r.3, r.4, r.5) in
+    (r.0, r.1, lacks.0, lacks.1, lacks.2, lacks.3)
+refuses_receive fault.OutOfMemory s session number octets stands r = r
+refuses_receive fault.UnknownSession s session number octets stands r = r
+refuses_receive (fault.OutOfTurn expected) s session number octets stands r = r
+refuses_receive (fault.Malformed why) s session number octets stands r = r
+refuses_receive (fault.Policy why) s session number octets stands r = r
+refuses_receive fault.BadName s session number octets stands r = r
+refuses_receive (fault.AlreadySubscribed sub) s session number octets stands r = r
+refuses_receive fault.UnknownSub s session number octets stands r = r
+refuses_receive (fault.ClockBack last) s session number octets stands r = r
+
+-- ---- an advance of the clock
+
+pub advances : (s t : State Kept) (time : ℕ) → StandsForJournal s → state.Advances tells limits_of s s.chronicle.entries time t → IsUntouched s.engine t.engine → t.chronicle.limits ≡ s.chronicle.limits → Advances (view_of s) time (view_of t)
+advances s t time stands advanced untouched journaled = record {
+  ahead = advanced.ahead;
+  goes_on = goes_on_with_cuts s t (Advance time) stands advanced.accepts untouched journaled;
+}
+
+pub refuses_advance : (why : Fault) (s : State Kept) (time : ℕ) → StandsForJournal s → state.RefusesAdvance why s.chronicle.limits s.engine s.chronicle.entries time → RefusesAdvance why (view_of s) time
+refuses_advance (fault.ClockBack last) s time stands r = r
+refuses_advance fault.JournalFull s time stands r = (r.0, no_room s (Advance time) stands r.1)
+refuses_advance (fault.AuditFull need room) s time stands r =
+    let lacks = no_audit s (Advance time) need room stands (r.1, r.2, r.3, r.4) in
+    (r.0, lacks.0, lacks.1, lacks.2, lacks.3)
+refuses_advance fault.OutOfMemory s time stands r = r
+refuses_advance fault.UnknownSession s time stands r = absurd r
+refuses_advance (fault.OutOfTurn expected) s time stands r = absurd r
+refuses_advance (fault.Malformed why) s time stands r = absurd r
+refuses_advance (fault.Policy why) s time stands r = absurd r
+refuses_advance fault.BadName s time stands r = absurd r
+refuses_advance (fault.AlreadySubscribed sub) s time stands r = absurd r
+refuses_advance fault.UnknownSub s time stands r = absurd r
+
+-- ---- what is handed out
+
+pub pulls : (s t : State Kept) (sub now target : ℕ) (answer : Option (List ℕ)) → StandsForJournal s → now < 2 ^ 32 → target < 2 ^ 16 → state.Pulls tells s s.chronicle.entries sub now target answer t → ((q : ℕ) → q ≢ sub → place_of t.engine q ≡ place_of s.engine q)
+    → t.engine.audit.standing.drained ≡ s.engine.audit.standing.drained → t.engine.limits ≡ s.engine.limits → t.engine.audit.limit ≡ s.engine.audit.limit → t.chronicle.limits ≡ s.chronicle.limits → Pulls (view_of s) sub now target answer (view_of t)
+pulls s t sub now target answer stands time size pulled others drained streams audit journaled =
+    let after : StandsForJournal t = for_journal t s.chronicle.entries pulled.stands in
+    record {
+      time = time;
+      size = size;
+      live = pulled.live;
+      message = pulled.message ∙ ap (λ (p : ℕ). built (disclosed sub s.chronicle.entries) p now target) (sym (place_is s stands sub));
+      moved = place_is t after sub ∙ pulled.moved ∙ ap (λ (p : ℕ). place_after (disclosed sub s.chronicle.entries) p target) (sym (place_is s stands sub));
+      others = λ q other. place_is t after q ∙ others q other ∙ sym (place_is s stands q);
+      history = pulled.stands.told;
+      drained = drained;
+      limits = limits_same s t streams audit journaled;
+    }
+
+pub status_is : (s : State Kept) (sub : ℕ) (status : Status) → StandsForJournal s → state.IsStatus s.chronicle.entries sub (place_of s.engine sub) status → IsStatusOf (view_of s) sub status
+status_is s sub status stands is = subst (λ (p : ℕ). state.IsStatus s.chronicle.entries sub p status) (sym (place_is s stands sub)) is
+
+pub drains : (s t : State Kept) (most : ℕ) (out : List AuditEntry) → StandsForJournal s → (out ≡ take most (drop s.engine.audit.standing.drained (audit_list s.chronicle.entries))) × state.StandsFor tells t s.chronicle.entries → ((q : ℕ) → place_of t.engine q ≡ place_of s.engine q)
+    → t.engine.audit.standing.drained ≡ s.engine.audit.standing.drained + length out → t.engine.limits ≡ s.engine.limits → t.engine.audit.limit ≡ s.engine.audit.limit → t.chronicle.limits ≡ s.chronicle.limits → Drains (view_of s) most out (view_of t)
+drains s t most out stands drained places count streams audit journaled = record {
+  entries = drained.0;
+  drained = count;
+  history = drained.1.told;
+  places = λ sub. place_is t (for_journal t s.chronicle.entries drained.1) sub ∙ places sub ∙ sym (place_is s stands sub);
+  limits = limits_same s t streams audit journaled;
+}
+
+-- ---- what every mediator keeps
+
+pub is_sound : (s : State Kept) → StandsForJournal s → IsSound (view_of s)
+is_sound s stands = record {
+  streamable = stands.stands.small.streamable;
+  places = within s stands;
+  drained = stands.stands.audit.within;
+  numbered = stands.stands.numbered;
+}

@@ -1,0 +1,16 @@
+use Rattle.std.proofs.Common.{subst}
+use Rattle.mediator_calls.specs.Mediation.{Mediation}
+use Rattle.mediator_calls.specs.View.{view_of}
+use Rattle.mediator_calls.specs.Calls.{Advances, RefusesAdvance}
+use Rattle.mediator_calls.proofs.CallLaws.{on_ok_gives, if_err_gives, advances, refuses_advance}
+use Rattle.mediator_calls.proofs.mediator.Mediator.advance.Goals as goal
+
+pub returns-clause-ok : goal.returns-clause-ok
+returns-clause-ok c = on_ok_gives c.advance.result c.advance.ensures.ok
+    (λ ok. subst (λ (m : Mediation). Advances m c.args.t (view_of c.advance.new.self)) c.self.view_is
+    (advances c.self.inside.state c.advance.new.self c.args.t c.self.invariant (ok c.self.inside.state.chronicle.entries c.self.invariant) c.advance.ensures.untouched c.advance.ensures.journaled))
+
+pub returns-clause-err : goal.returns-clause-err
+returns-clause-err c = if_err_gives c.advance.result c.advance.ensures.err
+    (λ e refused. subst (λ (m : Mediation). RefusesAdvance e m c.args.t) c.self.view_is
+    (refuses_advance e c.self.inside.state c.args.t c.self.invariant (refused c.self.inside.state.chronicle.entries c.self.invariant)))

@@ -1,0 +1,11 @@
+use Rattle.std.proofs.Common.{subst}
+use Rattle.mediator_calls.specs.Mediation.{Mediation}
+use Rattle.mediator_calls.specs.View.{view_of}
+use Rattle.mediator_calls.specs.Calls.{Closes}
+use Rattle.mediator_calls.proofs.CallLaws.{on_ok_gives, closes}
+use Rattle.mediator_calls.proofs.mediator.Mediator.close.Goals as goal
+
+pub returns-clause-ok : goal.returns-clause-ok
+returns-clause-ok c = on_ok_gives c.close.result c.close.ensures.ok
+    (λ ok. subst (λ (m : Mediation). Closes m c.args.session.0 (view_of c.close.new.self)) c.self.view_is
+    (closes c.self.inside.state c.close.new.self c.args.session.0 c.self.invariant (ok c.self.inside.state.chronicle.entries c.self.invariant) c.close.ensures.untouched c.close.ensures.journaled))

@@ -1,0 +1,16 @@
+use Rattle.std.proofs.Common.{subst}
+use Rattle.mediator_calls.specs.Mediation.{Mediation}
+use Rattle.mediator_calls.specs.View.{view_of}
+use Rattle.mediator_calls.specs.Calls.{Receives, RefusesReceive}
+use Rattle.mediator_calls.proofs.CallLaws.{if_ok_gives, if_err_gives, receives, refuses_receive}
+use Rattle.mediator_calls.proofs.mediator.Mediator.receive.Goals as goal
+
+pub returns-clause-ok : goal.returns-clause-ok
+returns-clause-ok c = if_ok_gives c.receive.result c.receive.ensures.ok
+    (λ x ok. subst (λ (m : Mediation). Receives m c.args.session.0 c.args.number c.args.message x (view_of c.receive.new.self)) c.self.view_is
+    (receives c.self.inside.state c.receive.new.self c.args.session.0 c.args.number c.args.message x c.self.invariant (ok c.self.inside.state.chronicle.entries c.self.invariant) c.receive.ensures.untouched c.receive.ensures.journaled))
+
+pub returns-clause-err : goal.returns-clause-err
+returns-clause-err c = if_err_gives c.receive.result c.receive.ensures.err
+    (λ e refused. subst (λ (m : Mediation). RefusesReceive e m c.args.session.0 c.args.number c.args.message) c.self.view_is
+    (refuses_receive e c.self.inside.state c.args.session.0 c.args.number c.args.message c.self.invariant (refused c.self.inside.state.chronicle.entries c.self.invariant)))

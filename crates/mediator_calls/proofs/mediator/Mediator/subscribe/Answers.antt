@@ -1,0 +1,15 @@
+use Rattle.std.proofs.Common.{subst}
+use Rattle.mediator_calls.specs.Mediation.{Mediation}
+use Rattle.mediator_calls.specs.View.{view_of}
+use Rattle.mediator_calls.specs.Calls.{Subscribes}
+use Rattle.mediator_calls.proofs.CallLaws.{if_ok_at, if_ok_none, subscribes}
+use Rattle.mediator_calls.proofs.mediator.Mediator.subscribe.Goals.{in-Ok, in-Err}
+use Rattle.mediator_calls.proofs.mediator.Mediator.subscribe.Goals as goal
+
+pub returns-clause-ok : goal.returns-clause-ok
+returns-clause-ok c = elim c.match-subscribe.branch [
+  | in-Ok w ↦ if_ok_at _ c.match-subscribe.result _ w.result-is
+      (subst (λ (m : Mediation). Subscribes m c.args.name.now w.in-Ok.sub (view_of c.subscribe.new.self)) c.self.view_is
+      (subscribes c.self.inside.state c.subscribe.new.self c.args.name.now w.in-Ok.sub c.self.invariant (w.in-Ok.ensures.ok c.self.inside.state.chronicle.entries c.self.invariant) w.in-Ok.ensures.untouched w.in-Ok.ensures.journaled))
+  | in-Err w ↦ if_ok_none _ c.match-subscribe.result _ w.result-is
+]

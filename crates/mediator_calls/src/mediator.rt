@@ -1,0 +1,212 @@
+//! A mediator and its calls.
+ghost use Rattle.std.specs.Prelude.{◌≡◌, true, false, IfOk, IfErr, OnOk, OnErr};
+ghost use Rattle.mediator_history.specs.Subscriptions.{is_live};
+ghost use Rattle.mediator_state.specs.Calls.{RefusesClose, RefusesEdit, RefusesSubscribe, RefusesUnsubscribe, RefusesPull};
+ghost use Rattle.mediator_calls.specs.Mediation.{started, journal_limits};
+ghost use Rattle.mediator_calls.specs.Limited.{AreAllowed, RefusesLimits};
+ghost use Rattle.mediator_calls.specs.Sound.{IsSound};
+ghost use Rattle.mediator_calls.specs.Calls.{Opens, RefusesOpen, Closes, Receives, RefusesReceive, Edits, Subscribes, Unsubscribes, Advances, RefusesAdvance, Pulls, IsStatusOf, Drains};
+
+use crate::{Limits, RunFault, SessionId, SubId, UnknownSub};
+use bytes::Bytes;
+use disclosure_audit::AuditEntry;
+use event_journal::Journal;
+use mediator_state::{Fault, Receipt, State, Status};
+use std::alloc::{AllocError, Global};
+use std::marker::Model;
+
+/// A mediator: sessions of exporters, a policy, subscriptions that are given what the policy discloses to them, and an audit
+/// of what it keeps back. All that it accepted stands in its journal.
+///
+/// Contracts see its history, which is its journal; the place up to which each live subscription's records were handed
+/// out; how many audit entries were drained; and its limits. A call that is refused changes nothing of that.
+#[derive(Drop)]
+pub struct Mediator {
+    state: State<Journal>,
+}
+
+impl Model for Mediator {
+    ghost use Rattle.mediator_calls.specs.Mediation.{Mediation};
+    ghost use Rattle.mediator_calls.specs.View.{view_of, StandsForJournal};
+
+    ghost Value = { Mediation };
+
+    ghost view = { λ m. view_of m.state };
+
+    ghost invariant = { λ m. StandsForJournal m.state };
+}
+
+impl Mediator {
+    /// A mediator before any call: no session is open, nobody is subscribed, and the policy has no rules, so it withholds
+    /// all.
+    ///
+    /// # Errors
+    /// A limit is out of its range, or memory ran out.
+    pub fn new(alloc: Global, limits: Limits) -> Result<Mediator, RunFault>
+        ensures ok { IfOk result (λ m. m ≡ started limits) }
+        ensures allowed { OnOk result (AreAllowed limits) }
+        ensures err { IfErr result (λ e. RefusesLimits e limits) }
+    {
+        if !limits.are_allowed() {
+            return Err(RunFault::BadLimits);
+        }
+        let held = mediator_state::Limits {
+            queue: limits.queue,
+            shapes: limits.shapes,
+            audit: limits.audit,
+        };
+        let journal = Journal::new(alloc, limits.entries, limits.octets);
+        let state = State::new(alloc, held, journal)?;
+        Ok(Mediator { state })
+    }
+
+    /// The journal: all that was accepted, oldest first.
+    pub fn journal(&self) -> &Journal
+        ensures entries { result.now.entries ≡ self.now.history }
+        ensures limits { result.now.limits ≡ journal_limits self.now.limits }
+        // What is kept of every mediator: callers learn it here.
+        ensures sound { IsSound self.now }
+    {
+        self.state.chronicle()
+    }
+
+    /// Opens a session of an exporter, and answers its number: 1, 2, and so on.
+    ///
+    /// # Errors
+    /// The journal is full, or memory ran out.
+    pub fn open(&mut self) -> Result<SessionId, Fault>
+        ensures ok { IfOk result (λ session. Opens self.old session.0 self.new) }
+        ensures same { OnErr result (self.new ≡ self.old) }
+        ensures err { IfErr result (λ e. RefusesOpen e self.old) }
+    {
+        match self.state.open() {
+            Ok(session) => Ok(SessionId(session)),
+            Err(fault) => Err(fault),
+        }
+    }
+
+    /// Closes a session: its number never comes again.
+    ///
+    /// # Errors
+    /// No session with this number is open; the journal is full, or memory ran out.
+    pub fn close(&mut self, session: SessionId) -> Result<(), Fault>
+        ensures ok { OnOk result (Closes self.old session.0 self.new) }
+        ensures same { OnErr result (self.new ≡ self.old) }
+        ensures err { IfErr result (λ e. RefusesClose e (journal_limits self.old.limits) self.old.history session.0) }
+    {
+        self.state.close(session.0)
+    }
+
+    /// Accepts the next message of a session, whose number is that of the messages that the session had. Each subscription
+    /// that is served is given what the policy in force discloses to it, and the audit names what is kept back. A
+    /// subscription whose limits leave no room for what it would be given is cut before the message, and gets nothing of
+    /// it or of later ones.
+    ///
+    /// # Errors
+    /// The session isn't open; the number isn't that of its next message; the message is malformed (RFC 7011); the journal
+    /// is full, or the audit; or memory ran out.
+    pub fn receive(
+        &mut self,
+        session: SessionId,
+        number: u64,
+        message: Bytes,
+    ) -> Result<Receipt, Fault>
+        ensures ok { IfOk result (λ receipt. Receives self.old session.0 number message receipt self.new) }
+        ensures same { OnErr result (self.new ≡ self.old) }
+        ensures err { IfErr result (λ e. RefusesReceive e self.old session.0 number message) }
+    {
+        self.state.receive(session.0, number, message)
+    }
+
+    /// Puts the policy of a text in force, and answers how many edits there were. What was accepted before is judged by the
+    /// policy of its time, and running groups close as they stand.
+    ///
+    /// # Errors
+    /// The text is no policy; the journal is full, or memory ran out.
+    pub fn edit(&mut self, text: &str) -> Result<u64, Fault>
+        ensures ok { IfOk result (λ edits. Edits self.old text.now edits self.new) }
+        ensures same { OnErr result (self.new ≡ self.old) }
+        ensures err { IfErr result (λ e. RefusesEdit e (journal_limits self.old.limits) self.old.history text.now) }
+    {
+        self.state.edit(text)
+    }
+
+    /// Begins a subscription under a name, and answers its number: 1, 2, and so on.
+    ///
+    /// # Errors
+    /// The text is no name, or that of a live subscription; the journal is full, or memory ran out.
+    pub fn subscribe(&mut self, name: &str) -> Result<SubId, Fault>
+        ensures ok { IfOk result (λ sub. Subscribes self.old name.now sub.0 self.new) }
+        ensures same { OnErr result (self.new ≡ self.old) }
+        ensures err { IfErr result (λ e. RefusesSubscribe e (journal_limits self.old.limits) self.old.history name.now) }
+    {
+        match self.state.subscribe(name) {
+            Ok(sub) => Ok(SubId(sub)),
+            Err(fault) => Err(fault),
+        }
+    }
+
+    /// Ends a subscription: what waits for it is gone, its name is free again, and its number never comes again.
+    ///
+    /// # Errors
+    /// No subscription with this number is live; the journal is full, or memory ran out.
+    pub fn unsubscribe(&mut self, sub: SubId) -> Result<(), Fault>
+        ensures ok { OnOk result (Unsubscribes self.old sub.0 self.new) }
+        ensures same { OnErr result (self.new ≡ self.old) }
+        ensures err { IfErr result (λ e. RefusesUnsubscribe e (journal_limits self.old.limits) self.old.history sub.0) }
+    {
+        self.state.unsubscribe(sub.0)
+    }
+
+    /// Advances the clock to `t`, in milliseconds since 1970: each running group whose interval's end and grace it comes to is
+    /// closed, and its subscription is given the group's record. A subscription whose limits leave no room for what it
+    /// would be given is cut before the advance.
+    ///
+    /// # Errors
+    /// The clock stands later; the journal is full, or the audit; or memory ran out.
+    pub fn advance(&mut self, t: u64) -> Result<(), Fault>
+        ensures ok { OnOk result (Advances self.old t self.new) }
+        ensures same { OnErr result (self.new ≡ self.old) }
+        ensures err { IfErr result (λ e. RefusesAdvance e self.old t) }
+    {
+        self.state.advance(t)
+    }
+
+    /// Builds a live subscription's next message, with the Export Time `now`, in seconds since 1970, of at most `target`
+    /// octets where more than one announcement or record stand in it; `None` where nothing waits.
+    ///
+    /// # Errors
+    /// No subscription with this number is live, or memory ran out.
+    pub fn pull(&mut self, sub: SubId, now: u32, target: u16) -> Result<Option<Bytes>, Fault>
+        ensures ok { IfOk result (λ answer. Pulls self.old sub.0 now target answer self.new) }
+        ensures same { OnErr result (self.new ≡ self.old) }
+        ensures err { IfErr result (λ e. RefusesPull e self.old.history sub.0) }
+    {
+        self.state.pull(sub.0, now, target)
+    }
+
+    /// How a live subscription stands. It takes no memory.
+    ///
+    /// # Errors
+    /// No subscription with this number is live.
+    pub fn status(&self, sub: SubId) -> Result<Status, UnknownSub>
+        ensures ok { IfOk result (λ status. IsStatusOf self.now sub.0 status) }
+        ensures err { OnErr result (is_live sub.0 self.now.history ≡ false) }
+    {
+        match self.state.status(sub.0) {
+            Some(status) => Ok(status),
+            None => Err(UnknownSub),
+        }
+    }
+
+    /// Hands out the oldest `most` of the audit's entries that wait, or all if there are fewer.
+    ///
+    /// # Errors
+    /// Want of memory.
+    pub fn drain_audit(&mut self, most: u32) -> Result<Vec<AuditEntry>, AllocError>
+        ensures ok { IfOk result (λ out. Drains self.old most out.items self.new) }
+        ensures same { OnErr result (self.new ≡ self.old) }
+    {
+        self.state.drain_audit(most)
+    }
+}

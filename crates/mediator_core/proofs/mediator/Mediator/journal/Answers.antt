@@ -1,9 +1,0 @@
-use Rattle.std.proofs.Common.{subst}
-use Rattle.mediator_core.specs.Mediation.{Mediation}
-use Rattle.mediator_core.specs.View.{view_of}
-use Rattle.mediator_core.specs.Sound.{IsSound}
-use Rattle.mediator_core.proofs.CallLaws.{is_sound}
-use Rattle.mediator_core.proofs.mediator.Mediator.journal.Goals as goal
-
-pub returns-clause-sound : goal.returns-clause-sound
-returns-clause-sound c = subst IsSound c.self.view_is (is_sound c.self.inside.state c.self.invariant)
