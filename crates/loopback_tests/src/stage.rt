@@ -1,4 +1,4 @@
-//! A server that is to be run: its plan with free addresses, and the doors of its collectors.
+//! A server that is to be run: its plan with free addresses, and the door of its collector.
 
 use log::Log;
 use mediator_core::{Limits, Mediator};
@@ -13,91 +13,77 @@ use std::thread::Threads;
 use std::time::Clock;
 
 /// All is disclosed to all.
-pub(crate) const PASS: &str =
+const PASS: &str =
     "policy 1\nrule for * in * from * to * pass\nrule for * in * from * to * element * keep\n";
 
-/// No queue is ever full.
-pub(crate) const ROOMY: Limits = Limits {
-    queue: 1_000_000,
+const ROOMY: Limits = Limits {
+    queue: 100,
     shapes: 100,
-    audit: 1_000_000,
-    entries: 1_000_000,
-    octets: 1_000_000_000,
+    audit: 100,
+    entries: 100,
+    octets: 1_000_000,
 };
 
-/// The most octets of a message to a collector.
-pub(crate) const TARGET: u16 = 1400;
+/// The most octets of a message to the collector.
+const TARGET: u16 = 1400;
 
 /// How often a connection is read at most.
-pub(crate) const TURNS: u64 = 1_000_000;
+const TURNS: u64 = 1000;
 
-/// A plan, and the doors of its collectors.
+/// A plan, and the door of its collector.
 #[derive(Drop)]
 pub(crate) struct Stage {
     pub(crate) plan: Plan,
-    pub(crate) doors: Vec<TcpListener>,
+    pub(crate) door: TcpListener,
 }
 
 /// A door on a port that was free.
-pub(crate) fn open_door<R: Net<Listener = TcpListener, Stream = TcpStream> + Abort>(
-    rt: &R,
-) -> TcpListener {
+fn open_door<R: Net<Listener = TcpListener, Stream = TcpStream> + Abort>(rt: &R) -> TcpListener {
     TcpListener::bind(rt, "127.0.0.1:0").expect(rt, "a free port")
 }
 
 /// The address of a door.
-pub(crate) fn address_of(
-    rt: &impl Abort,
-    alloc: Global,
-    door: &TcpListener,
-) -> Result<String, AllocError> {
+fn address_of(rt: &impl Abort, alloc: Global, door: &TcpListener) -> Result<String, AllocError> {
     let address = door.local_addr().expect(rt, "an address");
     format!(in alloc; "{address}")
 }
 
 /// An address on which nobody listens.
-pub(crate) fn free_address<R: Net<Listener = TcpListener, Stream = TcpStream> + Abort>(
+fn free_address<R: Net<Listener = TcpListener, Stream = TcpStream> + Abort>(
     rt: &R,
     alloc: Global,
 ) -> Result<String, AllocError> {
     address_of(rt, alloc, &open_door(rt))
 }
 
-/// A server with this policy for so many exporters, and a collector that listens for each name.
+/// A server for one exporter, and acme's collector, which listens.
 pub(crate) fn set_up<R: Net<Listener = TcpListener, Stream = TcpStream> + Abort>(
     rt: &R,
     alloc: Global,
-    policy: &str,
-    connections: u64,
-    names: &[&str],
 ) -> Result<Stage, AllocError> {
-    let mut doors = Vec::new(alloc);
+    let door = open_door(rt);
     let mut deliver = Vec::new(alloc);
-    for name in names {
-        let door = open_door(rt);
-        deliver.push(Collector {
-            name: String::from_str(alloc, *name)?,
-            address: address_of(rt, alloc, &door)?,
-        })?;
-        doors.push(door)?;
-    }
+    deliver.push(Collector {
+        name: String::from_str(alloc, "acme")?,
+        address: address_of(rt, alloc, &door)?,
+    })?;
     let plan = Plan {
         exporters: free_address(rt, alloc)?,
         admin: free_address(rt, alloc)?,
-        policy: String::from_str(alloc, policy)?,
-        connections,
+        policy: String::from_str(alloc, PASS)?,
+        connections: 1,
         target: TARGET,
         turns: TURNS,
         deliver,
     };
-    Ok(Stage { plan, doors })
+    Ok(Stage { plan, door })
 }
 
 /// Runs a server by a plan, on a mediator of its own.
 pub(crate) fn run<
     R: Net<Listener = TcpListener, Stream = TcpStream> + Threads + Wait + Clock + Log + Sync,
->(rt: &R, alloc: Global, plan: &Plan, limits: Limits) -> Result<Closed, ListenFault> {
-    match Mediator::new(alloc, limits) {
+>(rt: &R, alloc: Global, plan: &Plan) -> Result<Closed, ListenFault> {
+    match Mediator::new(alloc, ROOMY) {
         Ok(mediator) => listen(rt, alloc, plan, mediator),
         Err(_) => Err(ListenFault::Core(Fault::OutOfMemory)),
     }

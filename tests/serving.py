@@ -1,0 +1,160 @@
+"""Runs of `ipmd serve`, on free ports, with settings and a policy in a folder of their own."""
+import json
+import os
+import subprocess
+import tempfile
+import threading
+import unittest
+from typing import NamedTuple
+
+import program
+from peers import HOST, Admin, Door, free_port, reach, wait_until
+
+# All is disclosed to all.
+PASS = "policy 1\nrule for * in * from * to * pass\nrule for * in * from * to * element * keep\n"
+
+# Settings by which nothing is ever full, but for where a test says otherwise.
+ROOMY = {
+    "target": 1400,
+    "turns": 1_000_000,
+    "queue": 1_000_000,
+    "shapes": 100,
+    "audit": 1_000_000,
+    "journal_entries": 1_000_000,
+    "journal_octets": 1_000_000_000,
+}
+
+# How long a run may last before it is killed, in seconds.
+LONGEST = 60
+
+
+class Ended(NamedTuple):
+    """How a run ended: its status, what it said on standard output, and its notes on standard error."""
+
+    status: int
+    output: str
+    notes: str
+
+
+class Run:
+    """A run of `ipmd serve`, as a context: it is killed where it hasn't ended by then, or lasts too long.
+
+    A collector listens for each subscriber; `doors` may give the doors, by name. `settings` are those that aren't the usual
+    ones; a value of None leaves the key out.
+    """
+
+    def __init__(self, rules=PASS, subscribers=("acme",), connections=1, doors=None, longest=LONGEST, **settings):
+        self.doors = {name: Door() for name in subscribers} | (doors or {})
+        self.ports = {"exporters": free_port(), "admin": free_port()}
+        self.folder = tempfile.TemporaryDirectory(prefix="ipmd-test-")
+        self.settings = {
+            "exporters": f"{HOST}:{self.ports['exporters']}",
+            "admin": f"{HOST}:{self.ports['admin']}",
+            "policy": "policy.txt",
+            "connections": connections,
+            "deliver": {name: f"{HOST}:{door.port}" for name, door in self.doors.items()},
+        }
+        self.settings |= ROOMY | settings
+        self.rules, self.longest, self.peers = rules, longest, []
+
+    def __enter__(self):
+        self.write("policy.txt", self.rules)
+        self.write("settings.toml", settings_text(self.settings))
+        words = [program.path(), "serve", "--settings", "settings.toml"]
+        with open(self.path("output"), "wb") as output, open(self.path("notes"), "wb") as notes:
+            self.child = subprocess.Popen(words, cwd=self.folder.name, stdin=subprocess.DEVNULL, stdout=output, stderr=notes)
+        self.watch = threading.Timer(self.longest, self.child.kill)
+        self.watch.start()
+        return self
+
+    def __exit__(self, *_):
+        self.watch.cancel()
+        self.child.kill()
+        self.child.wait()
+        for one in [*self.peers, *self.doors.values()]:
+            one.close()
+        self.folder.cleanup()
+
+    def path(self, name):
+        return os.path.join(self.folder.name, name)
+
+    def write(self, name, text):
+        with open(self.path(name), "w", encoding="utf-8") as file:
+            file.write(text)
+
+    def text(self, name):
+        with open(self.path(name), encoding="utf-8") as file:
+            return file.read()
+
+    def exporter(self):
+        """An exporter that has connected."""
+        return self.keep(reach(self.ports["exporters"]))
+
+    def admin(self):
+        """The administrator, connected."""
+        return self.keep(reach(self.ports["admin"], Admin))
+
+    def keep(self, peer):
+        self.peers.append(peer)
+        return peer
+
+    def collector(self, name="acme"):
+        """A subscriber's collector, when the program has connected to it."""
+        try:
+            return self.doors[name].accept()
+        except TimeoutError:
+            raise AssertionError(f"nobody connects to {name}'s collector; noted:\n{self.notes()}") from None
+
+    def notes(self):
+        """What was noted up to here."""
+        return self.text("notes")
+
+    def wait_for_note(self, text, times=1):
+        """Waits until a text stands so often in the notes."""
+        try:
+            wait_until(lambda: self.notes().count(text) >= times, f"{times} notes with {text!r}")
+        except AssertionError as late:
+            raise AssertionError(f"{late}; noted:\n{self.notes()}") from None
+
+    def wait_for_audit(self, admin, wanted):
+        """Waits until the audit has an entry, and sees that these are its lines."""
+        found = wait_until(admin.audit, f"the audit has {wanted}")
+        while len(found) < len(wanted):
+            found += wait_until(admin.audit, f"the audit has {wanted}, and not only {found}")
+        assert found == wanted, found
+
+    def end(self, patience=20.0):
+        """Waits until the run has ended, and answers how."""
+        try:
+            status = self.child.wait(patience)
+        except subprocess.TimeoutExpired:
+            raise AssertionError(f"the run goes on; noted:\n{self.notes()}") from None
+        return Ended(status, self.text("output"), self.notes())
+
+
+def settings_text(settings):
+    """Settings as TOML, without those that are None."""
+    lines = [f"{key} = {toml_value(value)}\n" for key, value in settings.items() if value is not None]
+    return "".join(lines)
+
+
+def toml_value(value):
+    if isinstance(value, dict):
+        return "{ " + ", ".join(f"{name} = {json.dumps(one)}" for name, one in value.items()) + " }"
+    return json.dumps(value)
+
+
+class ServeTest(unittest.TestCase):
+    """A test that makes runs."""
+
+    def start(self, rules=PASS, **asked):
+        """A run that is over, at the latest, when the test is."""
+        return self.enterContext(Run(rules, **asked))
+
+    def expect_served(self, run, accepted, handed, patience=20.0):
+        """That a run ends as it should, with these counts; answers how it ended."""
+        ended = run.end(patience)
+        self.assertEqual(ended.output, f"accepted {accepted} handed {handed}\n", ended.notes)
+        self.assertEqual(ended.status, 0, ended.notes)
+        self.assertTrue(ended.notes.endswith(f"[INFO  ipmd] accepted {accepted} handed {handed}\n"), ended.notes)
+        return ended

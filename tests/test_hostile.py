@@ -1,0 +1,211 @@
+"""Exporters that send nonsense, stay with half a message, or fail: each ends its own connection alone."""
+import contextlib
+import random
+import socket
+import struct
+import unittest
+from concurrent.futures import ThreadPoolExecutor
+
+from messages import FLOW, OPTIONS_TEMPLATES, VARIABLE, Template, address, flow_message, message, records, set_of
+from serving import ServeTest
+
+# One record, and what may stand behind it.
+GOOD = flow_message(0)
+
+# What a hostile exporter sends, whether it ends itself, and what is noted of it.
+HOSTILE = [
+    (b"GET / HTTP/1.1\r\nHost: localhost\r\n\r\n", False, "failed, BadVersion: messages 0 records 0 gaps 0"),
+    # A header of NetFlow version 9.
+    (bytes.fromhex("00090001 00000000 6553f100 00000000 00000007"), False, "failed, BadVersion: messages 0 records 0 gaps 0"),
+    # A length that has no room for the header.
+    (bytes.fromhex("000a000f 6553f100 00000000 000000"), False, "failed, BadLength: messages 0 records 0 gaps 0"),
+    # A set that is shorter than its own header.
+    (bytes.fromhex("000a0014 6553f100 00000000 00000007 00020003"), False, "failed, Malformed: messages 0 records 0 gaps 0"),
+    # One record, and behind it octets that begin no message.
+    (GOOD + bytes.fromhex("00090010"), False, "failed, BadVersion: messages 1 records 1 gaps 0"),
+    # One record, and half of a header behind it.
+    (GOOD + bytes.fromhex("000a0032 6553"), True, "failed, CutOff: messages 1 records 1 gaps 0"),
+    # As many octets as a message may have are announced, and a few come.
+    (bytes.fromhex("000affff 6553f100 00000000 00000007 0002ffef"), True, "failed, CutOff: messages 0 records 0 gaps 0"),
+    (b"\0", True, "failed, CutOff: messages 0 records 0 gaps 0"),
+    (b"", True, "ended: messages 0 records 0 gaps 0"),
+]
+
+# How many good exporters there are beside them, and how many messages each sends before the hostile ones come, and again
+# when they are gone.
+GOOD_EXPORTERS = 9
+MESSAGES = 10
+
+# How many exporters send streams with faults at random places.
+STRANGERS = 300
+
+# A template of an interface's name, of a value of an enterprise's, and of an address; and options of interfaces by their number.
+NAMED = Template(257, ((82, VARIABLE), ((29305, 1), 4), (8, 4)))
+OPTIONS = set_of(OPTIONS_TEMPLATES, struct.pack("!HHHHHHHHH", 258, 3, 1, 10, 4, 82, VARIABLE, 4, 1))
+OPTIONS_DATA = set_of(258, struct.pack("!I", 3) + b"\x04eth0\x06" + struct.pack("!I", 4) + b"\x04eth1\x11")
+
+# A stream with a template again, values of any length, options, a withdrawal and a template behind it.
+STREAM = (
+    GOOD
+    + message(1, FLOW.octets(), FLOW.data(*(FLOW.record(address(f"192.0.2.{n}"), n, n) for n in range(20))))
+    + message(21, NAMED.octets(), NAMED.data(*(NAMED.record(b"x" * n, n, address("192.0.2.1")) for n in (3, 300))))
+    + message(23, OPTIONS, OPTIONS_DATA)
+    + message(25, Template(256, ()).octets())
+    + message(25, FLOW.octets(), FLOW.data(FLOW.record(address("192.0.2.1"), 1, 2)))
+)
+
+# Beta is shown no names, and of addresses the first 24 bits.
+RULES = """policy 1
+rule for * in * from * to * pass
+rule for beta in * from * to * element sourceIPv4Address truncate 24
+rule for beta in * from * to * element interfaceName remove
+rule for * in * from * to * element * keep
+"""
+
+
+def faulty(chance):
+    """The stream with one to four faults: octets that are others, are missing, or are too many."""
+    octets = bytearray(STREAM)
+    for _ in range(chance.choice((1, 1, 1, 2, 4))):
+        place, count, kind = chance.randrange(len(octets)), chance.randrange(1, 5), chance.randrange(8)
+        if kind == 0:
+            del octets[place : place + count]
+        elif kind == 1:
+            octets[place:place] = chance.randbytes(count)
+        elif kind < 5:
+            octets[place] = chance.randrange(256)
+        else:
+            octets[place] = chance.choice((0, 1, 2, 3, 128, 255))
+    return bytes(octets)
+
+
+def ports_of(octets):
+    """The source ports of the records that a collector got."""
+    return [int.from_bytes(dict(record)[7], "big") for record in records(octets)]
+
+
+class Hostile(ServeTest):
+    def attack(self, run, octets, ends):
+        """A hostile exporter, to the end of its connection: it is sent nothing."""
+        stranger = run.exporter()
+        stranger.send(octets)
+        if ends:
+            # The connection may have been ended already, for a fault.
+            with contextlib.suppress(OSError):
+                stranger.end_sending()
+        self.assertEqual(stranger.take_end(), b"")
+
+    def send_good(self, exporters, before):
+        """Each of the good exporters sends messages behind so many."""
+        for port, exporter in enumerate(exporters, 1):
+            for n in range(before, before + MESSAGES):
+                exporter.send(flow_message(n, port))
+
+    def test_hostile_exporters(self):
+        """Nine hostile exporters come and go between the messages of nine good ones, of which none is lost."""
+        run = self.start(connections=GOOD_EXPORTERS + len(HOSTILE))
+        collector = run.collector()
+        run.admin().close()
+        good = [run.exporter() for _ in range(GOOD_EXPORTERS)]
+        self.send_good(good, 0)
+        for octets, ends, _ in HOSTILE:
+            self.attack(run, octets, ends)
+        self.send_good(good, MESSAGES)
+        for exporter in good:
+            exporter.close()
+        # Nine exporters with twenty messages each, and two messages of hostile ones, of one record each.
+        self.assertEqual(sorted(ports_of(collector.take_all())), sorted([*range(1, 10)] * 20 + [443] * 2))
+        self.expect_noted(self.expect_served(run, 182, 182).notes)
+
+    def expect_noted(self, notes):
+        """Nine good exporters and nine others, a collector and an administrator begin and end; the begin and the totals."""
+        for _, _, text in HOSTILE:
+            self.assertIn(f" {text}\n", notes)
+        self.assertEqual(notes.count(" ended: messages 20 records 20 gaps 0\n"), GOOD_EXPORTERS)
+        self.assertEqual(len(notes.splitlines()), 42, notes)
+
+    def test_half_a_message_stays(self):
+        """A stranger sends half a message and stays: nobody else waits for it, and the run ends when it goes."""
+        run = self.start(connections=3)
+        collector, admin, stranger = run.collector(), run.admin(), run.exporter()
+        stranger.send(GOOD[:30])
+        got = b""
+        for port in (1, 2):
+            exporter = run.exporter()
+            exporter.send(flow_message(0, port))
+            got += collector.take_message()
+            exporter.close()
+        run.wait_for_note(" ended: messages 1 records 1 gaps 0\n", 2)
+        self.assertEqual(admin.ask("status 1"), "ok 0 2 live")
+        admin.close()
+        run.wait_for_note(" ended: commands 1\n")
+        self.assertIsNone(run.child.poll())
+        stranger.close()
+        self.assertEqual(collector.take_all(), b"")
+        self.assertEqual(ports_of(got), [1, 2])
+        self.assertIn(" failed, CutOff: messages 0 records 0 gaps 0\n", self.expect_served(run, 2, 2).notes)
+
+    def test_random_faults(self):
+        """Strangers send streams with faults at random places: the run goes on, and all that collectors are sent is IPFIX."""
+        run = self.start(RULES, subscribers=("acme", "beta"), connections=STRANGERS + 1, shapes=65280)
+        chance = random.Random(7011)
+        run.admin().close()
+        with ThreadPoolExecutor(2) as pool:
+            taking = [pool.submit(run.collector(name).take_all) for name in ("acme", "beta")]
+            for _ in range(STRANGERS):
+                self.attack(run, faulty(chance), True)
+            exporter = run.exporter()
+            exporter.send(STREAM)
+            exporter.close()
+            acme, beta = (records(one.result()) for one in taking)
+        # The last is whole: its 26 records are those that acme gets last, as they are.
+        self.assertEqual([dict(one).get(1) for one in acme[-26:]].count(None), 4)
+        self.assertEqual(acme[-1], FLOW.seen(address("192.0.2.1"), 1, 2))
+        self.assertEqual(beta[-1], FLOW.seen(address("192.0.2.0"), 1, 2))
+        self.assertFalse([one for one in beta if 82 in dict(one) or dict(one).get(8, b"\0")[-1]])
+        ended = run.end()
+        self.assertTrue(ended.output.endswith(f" handed {len(acme) + len(beta)}\n"), ended.output)
+        self.assertEqual(ended.status, 0, ended.notes)
+
+    def test_octet_by_octet(self):
+        """A message that comes in as many pieces as it has octets is one message."""
+        run = self.start()
+        collector, exporter = run.collector(), run.exporter()
+        run.admin().close()
+        for place in range(len(GOOD)):
+            exporter.send(GOOD[place : place + 1])
+        exporter.close()
+        self.assertEqual(ports_of(collector.take_all()), [443])
+        self.expect_served(run, 1, 1)
+
+    def test_turns(self):
+        """A connection that was read as often as the settings allow is ended; what it brought stays."""
+        run = self.start(turns=2)
+        collector, exporter = run.collector(), run.exporter()
+        run.admin().close()
+        got = b""
+        for before in (0, 1):
+            exporter.send(flow_message(before))
+            got += collector.take_message()
+        self.assertEqual(exporter.take_end(), b"")
+        self.assertEqual(collector.take_all(), b"")
+        self.assertEqual(ports_of(got), [443, 443])
+        self.assertIn(" failed, Turns: messages 2 records 2 gaps 0\n", self.expect_served(run, 2, 2).notes)
+
+    def test_reset(self):
+        """An exporter that resets its connection has failed; what it brought before is delivered."""
+        run = self.start()
+        collector, exporter = run.collector(), run.exporter()
+        run.admin().close()
+        exporter.send(GOOD)
+        got = collector.take_message()
+        # Closed with no time to linger, a connection is reset.
+        exporter.stream.setsockopt(socket.SOL_SOCKET, socket.SO_LINGER, struct.pack("ii", 1, 0))
+        exporter.close()
+        self.assertEqual(collector.take_all(), b"")
+        self.assertEqual(ports_of(got), [443])
+        self.assertIn(" failed, Read: messages 1 records 1 gaps 0\n", self.expect_served(run, 1, 1).notes)
+
+
+if __name__ == "__main__":
+    unittest.main()

@@ -1,0 +1,111 @@
+"""Runs of `ipmd serve` that can't begin, or can't go on."""
+import os
+import resource
+import socket
+import unittest
+
+from messages import flow_message, records
+from peers import HOST, Door, free_port
+from serving import PASS, ServeTest
+
+DEVICE = "ipmd: device\n"
+
+
+class Refusals(ServeTest):
+    def expect_refused(self, status, fault, note="", rules=PASS, **asked):
+        """That a run ends at once with this status and this last line, and that nothing is said on standard output."""
+        run = self.start(rules, **asked)
+        ended = run.end()
+        self.assertTrue(ended.notes.endswith(fault), ended.notes)
+        self.assertIn(note, ended.notes)
+        self.assertEqual((ended.status, ended.output), (status, ""), ended.notes)
+
+    def test_address_in_use(self):
+        """Someone else listens where exporters, or the administrator, would connect."""
+        with socket.create_server((HOST, 0)) as taken:
+            address = f"{HOST}:{taken.getsockname()[1]}"
+            for key in ("exporters", "admin"):
+                with self.subTest(key=key):
+                    note = f"[ERROR ipmd] cannot listen on {address}: "
+                    self.expect_refused(3, DEVICE, note, subscribers=(), **{key: address})
+
+    def test_no_address(self):
+        """The administrator's address is none, or it isn't this machine's."""
+        for address in ("nowhere", "192.0.2.1:4750"):
+            with self.subTest(address=address):
+                note = f"[ERROR ipmd] cannot listen on {address}: "
+                self.expect_refused(3, DEVICE, note, subscribers=(), admin=address)
+
+    def test_no_collector(self):
+        """The second of two collectors doesn't listen: the first is left again, and sent nothing."""
+        nobody = f"{HOST}:{free_port()}"
+        note = f"[ERROR ipmd] cannot connect to collector beta {nobody}: "
+        with Door() as door:
+            deliver = {"acme": f"{HOST}:{door.port}", "beta": nobody}
+            self.expect_refused(3, DEVICE, note, subscribers=(), deliver=deliver)
+            self.assertEqual(door.accept().take_all(), b"")
+
+    def test_no_policy(self):
+        """The policy's file has none."""
+        self.expect_refused(1, "ipmd: policy line 1: NoHeader\n", rules="hello")
+
+    def test_no_subscription(self):
+        """A subscriber can't be named in a policy, or the journal has no room for it, or for the policy."""
+        self.expect_refused(1, "ipmd: BadName\n", subscribers=("Acme", "beta"))
+        # The policy and one subscription have room.
+        self.expect_refused(1, "ipmd: JournalFull\n", subscribers=("acme", "beta"), journal_entries=2)
+        # An edit counts for its own octets, and nine more.
+        room = 9 + len(PASS)
+        self.expect_refused(1, "ipmd: JournalFull\n", subscribers=(), journal_octets=room - 1)
+
+    def test_subscribed_twice(self):
+        """A subscriber has one subscription: the administrator can't make a second one."""
+        run = self.start()
+        admin = run.admin()
+        self.assertEqual(admin.ask("subscribe acme"), "err AlreadySubscribed 1")
+        self.assertEqual(admin.ask("subscribe beta"), "ok 2")
+        admin.close()
+        run.exporter().close()
+        self.expect_served(run, 0, 0)
+
+    def test_no_session(self):
+        """The first exporter's message has no room in the journal, and then the second one's session has none."""
+        run = self.start(subscribers=(), connections=2, journal_entries=2)
+        # The policy and one session have room.
+        first = run.exporter()
+        first.send(flow_message(0))
+        self.assertEqual(first.take_end(), b"")
+        second = run.exporter()
+        self.assertEqual(second.take_end(), b"")
+        run.admin().close()
+        notes = self.expect_served(run, 0, 0).notes
+        self.assertIn(" failed, JournalFull: messages 0 records 0 gaps 0\n", notes)
+        self.assertIn(" refused: JournalFull\n", notes)
+
+    def test_failed_door(self):
+        """A connection can't be accepted, for want of a file descriptor: the run ends, and with it all connections."""
+        run = self.start(connections=2)
+        collector, exporter = run.collector(), run.exporter()
+        message = flow_message(0)
+        exporter.send(message)
+        self.assertEqual(len(records(collector.take(len(message)))), 1)
+        descriptors = [int(name) for name in os.listdir(f"/proc/{run.child.pid}/fd")]
+        _, most = resource.prlimit(run.child.pid, resource.RLIMIT_NOFILE)
+        resource.prlimit(run.child.pid, resource.RLIMIT_NOFILE, (max(descriptors) + 1, most))
+        with socket.socket() as second:
+            # It may be reset before it knows that it was connected.
+            second.connect_ex((HOST, run.ports["exporters"]))
+            self.expect_all_left(run, exporter, collector)
+
+    def expect_all_left(self, run, exporter, collector):
+        """That a run ends for want of a connection, and leaves its peers without a word."""
+        self.assertEqual(exporter.take_end(), b"")
+        self.assertEqual(collector.take_all(), b"")
+        ended = run.end()
+        self.assertEqual((ended.status, ended.output), (3, ""))
+        self.assertIn("[ERROR ipmd] cannot accept a connection: ", ended.notes)
+        self.assertTrue(ended.notes.endswith(DEVICE), ended.notes)
+
+
+if __name__ == "__main__":
+    unittest.main()
