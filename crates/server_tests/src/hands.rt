@@ -1,4 +1,4 @@
-//! Handles and their calls, each of which is to be answered.
+//! Handles, and messages that are offered before a case.
 use crate::stage::Hands;
 use bytes::Bytes;
 use mediator_core::{Limits, SubId};
@@ -12,17 +12,16 @@ use std::sync::Wait;
 pub(crate) const PASS: &str =
     "policy 1\nrule for * in * from * to * pass\nrule for * in * from * to * element * keep\n";
 
-/// The usual limits.
-pub(crate) const LIMITS: Limits = Limits {
-    queue: 100,
-    shapes: 100,
-    audit: 100,
-    entries: 1000,
-    octets: 1_000_000,
-};
+/// More calls of a device than any case here makes.
+pub(crate) const ENOUGH: usize = 10_000;
 
-/// The usual limits, but for the entries of the journal and of the audit, and the records of a queue.
-pub(crate) const fn limits(entries: u64, audit: u32, queue: u32) -> Limits {
+/// How many entries the journal may have, the audit, and a queue how many records.
+pub(crate) type Bounds = (u64, u32, u32);
+
+/// None of them is reached.
+pub(crate) const ROOMY: Bounds = (1000, 100, 100);
+
+pub(crate) fn limits_of((entries, audit, queue): Bounds) -> Limits {
     Limits {
         queue,
         shapes: 100,
@@ -32,87 +31,36 @@ pub(crate) const fn limits(entries: u64, audit: u32, queue: u32) -> Limits {
     }
 }
 
-pub(crate) fn exporter<E: EntryLedger, H: RecordLedger, R: Wait + Abort>(
-    rt: &R,
-    shared: &SharedMediator<E, H>,
-) -> ExporterHandle<E> {
-    shared.exporter(rt).expect(rt, "an exporter")
-}
-
-pub(crate) fn delivery<E: EntryLedger, H: RecordLedger, R: Wait + Abort>(
-    rt: &R,
-    shared: &SharedMediator<E, H>,
-    sub: SubId,
-) -> DeliveryHandle<H> {
-    shared.delivery(rt, sub).expect(rt, "a delivery")
-}
-
-pub(crate) fn admin<E: EntryLedger, H: RecordLedger, R: Wait + Abort>(
-    rt: &R,
-    shared: &SharedMediator<E, H>,
-) -> AdminHandle<E> {
-    shared.admin(rt).expect(rt, "an administrator")
-}
-
-/// An administrator who has put this policy in force, where there is one, and begun the subscription of `acme`.
-pub(crate) fn admin_of<E: EntryLedger, H: RecordLedger, R: Wait + Abort>(
-    rt: &R,
-    shared: &SharedMediator<E, H>,
-    policy: Option<&str>,
-) -> AdminHandle<E> {
-    let mut admin = admin(rt, shared);
-    if let Some(text) = policy {
-        edit(rt, shared, &mut admin, text);
-    }
-    let sub = subscribe(rt, shared, &mut admin, "acme");
-    assert!(rt; sub == SubId(1));
-    admin
-}
-
-fn edit<E: EntryLedger, H: RecordLedger, R: Wait + Abort>(
-    rt: &R,
-    shared: &SharedMediator<E, H>,
-    admin: &mut AdminHandle<E>,
-    text: &str,
-) {
-    let answer = admin.edit(rt, shared, text);
-    assert!(rt; answer == Ok(1), "{answer:?}");
-}
-
-pub(crate) fn subscribe<E: EntryLedger, H: RecordLedger, R: Wait + Abort>(
-    rt: &R,
-    shared: &SharedMediator<E, H>,
-    admin: &mut AdminHandle<E>,
-    name: &str,
-) -> SubId {
-    admin
-        .subscribe(rt, shared, name)
-        .expect(rt, "a subscription")
-}
-
-/// Offers a message, which is accepted.
-pub(crate) fn offer<E: EntryLedger, H: RecordLedger, R: Wait + Abort>(
+/// An administrator who has put this policy in force and begun the subscription of `acme`, and an exporter who has offered these
+/// messages.
+pub(crate) fn begin<E: EntryLedger, H: RecordLedger, R: Wait + Abort>(
     rt: &R,
     alloc: Global,
     shared: &SharedMediator<E, H>,
-    exporter: &mut ExporterHandle<E>,
-    octets: &[u8],
-) -> Result<(), AllocError> {
-    let message = Bytes::copy_from_slice(alloc, octets)?;
-    let answer = exporter.offer(rt, shared, message);
-    assert!(rt; answer.is_ok(), "{answer:?}");
-    Ok(())
+    policy: &str,
+    offered: &[&[u8]],
+) -> Result<(AdminHandle<E>, ExporterHandle<E>), AllocError> {
+    let mut admin = shared.admin(rt).expect(rt, "an administrator");
+    admin.edit(rt, shared, policy).expect(rt, "an edit");
+    let sub = admin.subscribe(rt, shared, "acme");
+    assert!(rt; sub == Ok(SubId(1)));
+    let mut exporter = shared.exporter(rt).expect(rt, "an exporter");
+    for octets in offered {
+        let message = Bytes::copy_from_slice(alloc, octets)?;
+        exporter.offer(rt, shared, message).expect(rt, "a receipt");
+    }
+    Ok((admin, exporter))
 }
 
-/// All handles: an exporter's and a delivery's, where there is one, and an administrator's.
+/// All handles: an exporter's, an administrator's, and a delivery's, where there is one.
 pub(crate) fn hands<E: EntryLedger, H: RecordLedger>(
     alloc: Global,
-    exporter: Option<ExporterHandle<E>>,
-    delivery: Option<DeliveryHandle<H>>,
+    exporter: ExporterHandle<E>,
     admin: AdminHandle<E>,
+    delivery: Option<DeliveryHandle<H>>,
 ) -> Result<Hands<E, H>, AllocError> {
     Ok(Hands {
-        exporters: listed(alloc, exporter)?,
+        exporters: listed(alloc, Some(exporter))?,
         deliveries: listed(alloc, delivery)?,
         admins: listed(alloc, Some(admin))?,
     })

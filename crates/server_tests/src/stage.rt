@@ -2,7 +2,7 @@
 ghost use Rattle.std.specs.Prelude.{◌≡◌, ◌+◌, ◌*◌};
 ghost use Rattle.counted_mediator.specs.Counted.{handed_live};
 
-use crate::{administering, delivering, serving, whole};
+use crate::{administering, delivering, serving};
 use mediator_core::{Limits, Mediator};
 use shared_mediator::{
     AdminHandle, CloseFault, Closed, DeliveryHandle, EntryLedger, ExporterHandle, RecordLedger,
@@ -19,19 +19,13 @@ const HANDLES: u64 = 4;
 
 /// What is done on a shared mediator.
 #[derive(Clone, Copy)]
-pub(crate) enum Case<'a> {
+pub(crate) enum Case {
     /// An exporter's stream is served.
-    Serve(serving::Row<'a>),
-    /// An exporter's stream without end is.
-    ServeEndless,
+    Serve(serving::Row),
     /// A subscription is delivered.
-    Deliver(delivering::Row<'a>),
-    /// A subscription that has ended is.
-    DeliverEnded,
+    Deliver(delivering::Row),
     /// An administrator's connection is served.
-    Administer(administering::Row<'a>),
-    /// Two exporters, an administrator and a delivery are.
-    Whole,
+    Administer(administering::Row),
 }
 
 /// The handles that come back.
@@ -47,7 +41,7 @@ pub(crate) fn play<R: Wait + Abort>(
     rt: &R,
     alloc: Global,
     limits: Limits,
-    case: Case<'_>,
+    case: Case,
 ) -> Result<Closed, AllocError> {
     let Ok(mediator) = Mediator::new(alloc, limits) else {
         return Err(AllocError);
@@ -61,7 +55,7 @@ pub(crate) fn play<R: Wait + Abort>(
 fn run<E: EntryLedger, H: RecordLedger, R: Wait + Abort>(
     rt: &R,
     alloc: Global,
-    case: Case<'_>,
+    case: Case,
     mediator: Mediator,
     handles: u64,
     entries: Blank,
@@ -87,14 +81,11 @@ fn play_case<E: EntryLedger, H: RecordLedger, R: Wait + Abort>(
     rt: &R,
     alloc: Global,
     shared: &SharedMediator<E, H>,
-    case: Case<'_>,
+    case: Case,
 ) -> Result<Hands<E, H>, AllocError> {
     match case {
         Case::Serve(row) => serving::serve(rt, alloc, shared, row),
-        Case::ServeEndless => serving::serve_endless(rt, alloc, shared),
         Case::Deliver(row) => delivering::deliver_row(rt, alloc, shared, row),
-        Case::DeliverEnded => delivering::deliver_ended(rt, alloc, shared),
         Case::Administer(row) => administering::administer(rt, alloc, shared, row),
-        Case::Whole => whole::all_together(rt, alloc, shared),
     }
 }
