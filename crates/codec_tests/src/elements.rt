@@ -1,7 +1,7 @@
 //! What no clause says: the registry's own numbers, names and kinds, texts that name nothing, lengths
 //! at their edges, and that each call succeeds where memory is left.
 use ipfix_element::{ElementId, Kind, allowed_length, by_name, full_width, kind_of, name_of};
-use std::alloc::{AllocError, Global};
+use std::alloc::Global;
 use std::process::Abort;
 use std::test::Fail;
 
@@ -110,19 +110,11 @@ static LENGTHS: [(Kind, Option<u16>, &[u16], &[u16]); 11] = [
     (Kind::Octets, None, &[0, 1, 65534, 65535], &[]),
 ];
 
-/// The element's name, at the second call where the first was refused memory.
-fn named(alloc: Global, element: ElementId) -> Result<String, AllocError> {
-    match name_of(alloc, element) {
-        Ok(name) => Ok(name),
-        Err(_) => name_of(alloc, element),
-    }
-}
-
 fn both_ways(rt: &impl Abort, alloc: Global, row: &Named) -> Result<(), Fail> {
     let (pen, number, kind, name) = row;
     let element = ElementId::new(*pen, *number).ok_or("a number above 32767")?;
     assert_eq!(rt; kind_of(element), *kind, "{name}");
-    assert_eq!(rt; named(alloc, element)?.as_str(), *name);
+    assert_eq!(rt; name_of(alloc, element)?.as_str(), *name);
     assert_eq!(rt; by_name(name), Some(element), "{name}");
     Ok(())
 }
@@ -132,29 +124,12 @@ fn names_both_ways(rt: HostRuntime) -> Result<(), Fail> {
     for row in &ELEMENTS {
         both_ways(&rt, rt.alloc(), row)?;
     }
-    Ok(())
-}
-
-#[test]
-fn prefix_and_element_names(rt: HostRuntime) -> Result<(), Fail> {
     for row in &WORKED {
         both_ways(&rt, rt.alloc(), row)?;
     }
-    Ok(())
-}
-
-#[test]
-fn texts_that_name_nothing(rt: HostRuntime) -> Result<(), Fail> {
     for text in &NAMELESS {
         assert_eq!(rt; by_name(text), None, "{text}");
     }
-    let mut long = String::from_str(rt.alloc(), "e")?;
-    for _ in 0..1000 {
-        long.push('7')?;
-    }
-    assert_eq!(rt; by_name(&long), None);
-    long.push_str("/1")?;
-    assert_eq!(rt; by_name(&long), None);
     Ok(())
 }
 

@@ -1,7 +1,6 @@
 //! Worked cases of framing.
 use bytes::Bytes;
 use ipfix_message::{FrameError, Framer};
-use std::alloc::{AllocError, Global};
 use std::process::Abort;
 use std::test::Fail;
 
@@ -178,10 +177,6 @@ static CASES: [Case; 8] = [
     },
 ];
 
-fn feed_once(framer: &mut Framer, octets: &[u8]) -> Result<Vec<Bytes>, FrameError> {
-    framer.feed(octets)
-}
-
 /// How many messages a piece makes whole; each is this one.
 fn feed(
     rt: &impl Abort,
@@ -189,33 +184,15 @@ fn feed(
     octets: &[u8],
     message: &[u8],
 ) -> Result<usize, FrameError> {
-    let found = feed_once(framer, octets)?;
+    let found = framer.feed(octets)?;
     for next in &found {
         assert_eq!(rt; next.as_slice(), message);
     }
     Ok(found.len())
 }
 
-/// The same, once more if memory was refused: the refused call changed nothing.
-fn feed_again(
-    rt: &impl Abort,
-    framer: &mut Framer,
-    octets: &[u8],
-    message: &[u8],
-) -> Result<usize, FrameError> {
-    let before = framer.pending();
-    match feed(rt, framer, octets, message) {
-        Err(FrameError::OutOfMemory) => {
-            assert_eq!(rt; framer.pending(), before);
-            assert_eq!(rt; framer.fault(), None);
-            feed(rt, framer, octets, message)
-        }
-        answer => answer,
-    }
-}
-
 fn expect_piece(rt: &impl Abort, name: &str, framer: &mut Framer, piece: &Piece) {
-    let answer = feed_again(rt, framer, piece.octets, ONE_RECORD);
+    let answer = feed(rt, framer, piece.octets, ONE_RECORD);
     assert_eq!(rt; answer, piece.answer, "{name}");
     assert_eq!(rt; framer.pending(), piece.pending, "{name}");
     assert_eq!(rt; framer.fault(), piece.fault, "{name}");
@@ -229,57 +206,6 @@ fn pieces(rt: HostRuntime) {
             expect_piece(&rt, case.name, &mut framer, piece);
         }
     }
-}
-
-/// Feeds a message octet by octet: empty answers, and at the last the message.
-fn expect_octet_by_octet(
-    rt: &impl Abort,
-    framer: &mut Framer,
-    message: &[u8],
-) -> Result<(), FrameError> {
-    for (place, octet) in message.iter().enumerate() {
-        assert_eq!(rt; framer.pending(), place);
-        let whole = feed(rt, framer, &[*octet], message)?;
-        let is_last = framer.pending() == 0;
-        assert_eq!(rt; whole, usize::from(is_last), "at {place}");
-    }
-    assert_eq!(rt; framer.pending(), 0);
-    Ok(())
-}
-
-/// A message of `length` octets: the front of its header, and zeros.
-fn zeros(alloc: Global, length: u16) -> Result<Vec<u8>, AllocError> {
-    let mut octets = Vec::new(alloc);
-    octets.extend_from_slice(&[0, 10])?;
-    octets.extend_from_slice(&length.to_be_bytes())?;
-    for _ in 4..length {
-        octets.push(0)?;
-    }
-    Ok(octets)
-}
-
-/// The message of one record, and then ten of the longest.
-#[test]
-fn octet_by_octet(rt: HostRuntime) -> Result<(), Fail> {
-    let mut framer = Framer::new(rt.alloc());
-    expect_octet_by_octet(&rt, &mut framer, ONE_RECORD)?;
-    let longest = zeros(rt.alloc(), u16::MAX)?;
-    for _ in 0..10 {
-        expect_octet_by_octet(&rt, &mut framer, &longest)?;
-    }
-    Ok(())
-}
-
-#[test]
-fn many_shortest_messages_in_one_piece(rt: HostRuntime) -> Result<(), Fail> {
-    let shortest = zeros(rt.alloc(), 16)?;
-    let mut piece = Vec::new(rt.alloc());
-    for _ in 0..10_000 {
-        piece.extend_from_slice(&shortest)?;
-    }
-    let whole = feed(&rt, &mut Framer::new(rt.alloc()), &piece, &shortest)?;
-    assert_eq!(rt; whole, 10_000);
-    Ok(())
 }
 
 static NAMES: [(FrameError, &str); 3] = [

@@ -1,8 +1,8 @@
-//! Runs of records: what a run hands out, and what stands in a list of runs.
+//! What stands in a list of runs of records.
 use crate::records::{Layout, record_of, template_of, values_of};
 use ipfix_session::Session;
 use ipfix_template::Record;
-use record_runs::{Records, Run};
+use record_runs::Records;
 use std::alloc::Global;
 use std::process::Abort;
 use std::test::Fail;
@@ -24,38 +24,11 @@ fn name_record(alloc: Global) -> Result<Record, Fail> {
     record_of(alloc, template, values)
 }
 
-/// That this is the run of the two records.
-fn expect_two(rt: &impl Abort, run: &Run) {
-    assert_eq!(rt; run.len(), 2);
-    assert!(rt; !run.is_empty());
-    assert_eq!(rt; run.end(0), 0);
-    assert_eq!(rt; run.end(1), 4);
-    assert_eq!(rt; run.end(2), 8);
-    assert_eq!(rt; run.text(0), b"\x00\x00\x05\xdc".as_slice());
-    assert_eq!(rt; run.text(1), b"\x00\x00\x00\x28".as_slice());
-}
-
 fn expect_octets(rt: &impl Abort, record: Option<&Record>, wanted: &[u8]) {
     match record {
         Some(record) => assert_eq!(rt; record.as_octets().as_slice(), wanted),
         None => panic!(rt; "no record"),
     }
-}
-
-#[test]
-fn run_of_a_data_set(rt: HostRuntime) -> Result<(), Fail> {
-    let read = Session::new(rt.alloc()).apply(TWO_RECORDS)?;
-    let mut runs = read.records.into_runs();
-    let Some(run) = runs.pop() else {
-        return Err(Fail::new("no run"));
-    };
-    assert!(rt; runs.is_empty());
-    expect_two(&rt, &run);
-    assert_eq!(rt; run.template().fields.len(), 1);
-    let (_, octets, ends) = run.into_parts();
-    assert_eq!(rt; octets.len(), 8);
-    assert_eq!(rt; ends.as_slice(), [4, 8].as_slice());
-    Ok(())
 }
 
 #[test]
