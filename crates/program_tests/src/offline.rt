@@ -69,7 +69,7 @@ struct Case {
     answer: Result<OfflineReport, OfflineFault>,
 }
 
-fn case(turns: u64, asked: bool, answer: Result<OfflineReport, OfflineFault>) -> Case {
+fn reading_case(turns: u64, asked: bool, answer: Result<OfflineReport, OfflineFault>) -> Case {
     Case {
         turns,
         asked,
@@ -107,8 +107,8 @@ const DONE: OfflineReport = OfflineReport {
 
 /// Whether a run by one read is cut, and one by two is done, with an audit or without.
 fn counts_reads(alloc: Global, asked: bool) -> bool {
-    runs_so(alloc, &case(1, asked, Err(OfflineFault::Turns)))
-        && runs_so(alloc, &case(2, asked, Ok(DONE)))
+    runs_so(alloc, &reading_case(1, asked, Err(OfflineFault::Turns)))
+        && runs_so(alloc, &reading_case(2, asked, Ok(DONE)))
 }
 
 #[test]
