@@ -416,42 +416,73 @@ fn counts(stream: &Stream) -> (u32, u32, u64) {
     (stream.queued(), stream.shapes(), stream.handed())
 }
 
-/// What a step says of the stream is so.
-fn expect_step(
-    rt: &impl Abort,
-    alloc: Global,
-    name: &str,
-    stream: &mut Stream,
-    step: &Step,
-) -> Result<(), Fail> {
-    match step {
-        Step::Give(given) => {
-            let records = records_of(alloc, given)?;
-            assert!(rt; give(stream, records)?, "room in {name}");
-        }
-        Step::GiveMessage(message) => {
-            let read = Session::new(alloc).apply(message)?;
-            assert!(rt; give(stream, read.records)?, "room in {name}");
-        }
-        Step::NoRoom(given) => {
-            let records = records_of(alloc, given)?;
-            assert!(rt; !stream.room(&records), "no room in {name}");
-        }
-        Step::Counts(queued, shapes, handed) => {
-            assert_eq!(rt; counts(stream), (*queued, *shapes, *handed), "{name}");
-        }
-        Step::Pull(target, wanted) => {
-            let message = stream.pull(NOW, *target)?.ok_or("nothing was queued")?;
-            assert_eq!(rt; message.as_slice(), *wanted, "{name}");
-        }
-        Step::PullLength(target, length) => {
-            let message = stream.pull(NOW, *target)?.ok_or("nothing was queued")?;
-            assert_eq!(rt; message.len(), *length, "{name}");
-        }
-        Step::End => {
-            assert!(rt; stream.pull(NOW, 1400)?.is_none(), "the end of {name}");
-            assert_eq!(rt; stream.queued(), 0, "{name}");
-        }
+/// Whether the stream takes these records.
+fn takes(alloc: Global, stream: &mut Stream, given: &[Given]) -> Result<bool, Fail> {
+    let records = records_of(alloc, given)?;
+    Ok(give(stream, records)?)
+}
+
+/// Whether it takes the records of a message.
+fn takes_message(alloc: Global, stream: &mut Stream, message: &[u8]) -> Result<bool, Fail> {
+    let read = Session::new(alloc).apply(message)?;
+    Ok(give(stream, read.records)?)
+}
+
+/// Whether it has room for these records.
+fn has_room(alloc: Global, stream: &Stream, given: &[Given]) -> Result<bool, Fail> {
+    let records = records_of(alloc, given)?;
+    Ok(stream.room(&records))
+}
+
+/// Whether its next message has these octets.
+fn pulls(stream: &mut Stream, target: u16, wanted: &[u8]) -> Result<bool, AllocError> {
+    match stream.pull(NOW, target)? {
+        Some(message) => Ok(message.as_slice() == wanted),
+        None => Ok(false),
+    }
+}
+
+/// Whether its next message has so many octets.
+fn pulls_octets(stream: &mut Stream, target: u16, length: usize) -> Result<bool, AllocError> {
+    match stream.pull(NOW, target)? {
+        Some(message) => Ok(message.len() == length),
+        None => Ok(false),
+    }
+}
+
+/// Whether nothing waits in it.
+fn is_at_its_end(stream: &mut Stream) -> Result<bool, AllocError> {
+    let none = stream.pull(NOW, 1400)?.is_none();
+    Ok(none && stream.queued() == 0)
+}
+
+/// Whether what a step says of the stream is so.
+fn holds(alloc: Global, stream: &mut Stream, step: &Step) -> Result<bool, Fail> {
+    Ok(match step {
+        Step::Give(given) => takes(alloc, stream, given)?,
+        Step::GiveMessage(message) => takes_message(alloc, stream, message)?,
+        Step::NoRoom(given) => !has_room(alloc, stream, given)?,
+        Step::Counts(queued, shapes, handed) => counts(stream) == (*queued, *shapes, *handed),
+        Step::Pull(target, wanted) => pulls(stream, *target, wanted)?,
+        Step::PullLength(target, length) => pulls_octets(stream, *target, *length)?,
+        Step::End => is_at_its_end(stream)?,
+    })
+}
+
+/// That what the steps of a case say is so.
+fn expect_case(rt: &impl Abort, alloc: Global, case: &Case) -> Result<(), Fail> {
+    assert!(rt; case.shapes <= 65_280);
+    let limits = Limits {
+        queue: case.queue,
+        shapes: case.shapes,
+    };
+    let mut stream = Stream::new(alloc, limits);
+    for (number, step) in case.steps.iter().enumerate() {
+        assert!(rt;
+            holds(alloc, &mut stream, step)?,
+            "step {number} of {}",
+            case.name
+        );
     }
     Ok(())
 }
@@ -459,15 +490,7 @@ fn expect_step(
 #[test]
 fn streams(rt: HostRuntime) -> Result<(), Fail> {
     for case in &CASES {
-        assert!(rt; case.shapes <= 65_280);
-        let limits = Limits {
-            queue: case.queue,
-            shapes: case.shapes,
-        };
-        let mut stream = Stream::new(rt.alloc(), limits);
-        for step in case.steps {
-            expect_step(&rt, rt.alloc(), case.name, &mut stream, step)?;
-        }
+        expect_case(&rt, rt.alloc(), case)?;
     }
     Ok(())
 }

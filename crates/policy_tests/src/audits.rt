@@ -12,7 +12,7 @@ enum Kept {
 }
 
 /// An entry's position, index and subscription, what was kept back, and its line.
-const LINES: &[((u64, u32, u64), Kept, &str)] = &[
+static LINES: [((u64, u32, u64), Kept, &str); 8] = [
     (
         (3, 0, 1),
         Kept::Withheld(0, Reason::Rule),
@@ -80,16 +80,24 @@ fn what_of(alloc: Global, kept: &Kept) -> Result<What, AllocError> {
     })
 }
 
+/// The line of an entry with this position, index and subscription.
+fn line_of(alloc: Global, place: (u64, u32, u64), kept: &Kept) -> Result<String, AllocError> {
+    let (position, index, sub) = place;
+    let what = what_of(alloc, kept)?;
+    let entry = AuditEntry {
+        position,
+        index,
+        sub,
+        what,
+    };
+    line(alloc, &entry)
+}
+
 #[test]
 fn audit_lines(rt: HostRuntime) -> Result<(), Fail> {
-    for ((position, index, sub), kept, due) in LINES {
-        let entry = AuditEntry {
-            position: *position,
-            index: *index,
-            sub: *sub,
-            what: what_of(rt.alloc(), kept)?,
-        };
-        assert_eq!(rt; line(rt.alloc(), &entry)?.as_str(), *due);
+    for (place, kept, due) in &LINES {
+        let text = line_of(rt.alloc(), *place, kept)?;
+        assert!(rt; text.as_str() == *due, "{due}");
     }
     Ok(())
 }

@@ -177,7 +177,9 @@ fn agreed_of_all(
     let table = RuleTable::build(alloc, policy)?;
     let mut named = 0usize;
     for _ in 0..RECORDS {
-        let flow_record = random_record(alloc, random).ok_or("no record")?;
+        let Some(flow_record) = random_record(alloc, random) else {
+            return Err(Fail::new("no record"));
+        };
         let name = random.pick(&["acme", "bolt", "c3"]);
         let domain = random.below(3) as u32;
         let (_, more) = agreed(rt, alloc, policy, &table, name, domain, &flow_record)?;

@@ -55,5 +55,8 @@ pub(crate) fn built(alloc: Global, fields: &[Field], scope: u16) -> Result<Recor
             return Err(Fail::new("no field"));
         }
     }
-    Ok(record_of(alloc, specs, values, scope).ok_or("no record")?)
+    match record_of(alloc, specs, values, scope) {
+        Some(flow_record) => Ok(flow_record),
+        None => Err(Fail::new("no record")),
+    }
 }

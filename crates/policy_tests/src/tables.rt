@@ -6,6 +6,7 @@ use policy_judge::Side;
 use policy_text::Policy;
 use rule_table::RuleTable;
 use std::alloc::Global;
+use std::process::Abort;
 use std::test::Fail;
 
 /// Inside 192.0.2.0/24, which begins and ends before the other two.
@@ -99,14 +100,19 @@ pub(crate) fn policy_of(alloc: Global, lines: &str) -> Result<Policy, Fail> {
     }
 }
 
+/// The rule that decides on a record of these fields; the table and the walk agree on it.
+fn deciding(rt: &impl Abort, alloc: Global, rules: &str, fields: &[Field]) -> Result<u32, Fail> {
+    let policy = policy_of(alloc, rules)?;
+    let flow_record = built(alloc, fields, 0)?;
+    let table = RuleTable::build(alloc, &policy)?;
+    let (rule, _) = agreed(rt, alloc, &policy, &table, "acme", 7, &flow_record)?;
+    Ok(rule)
+}
+
 #[test]
 fn first_rule_decides(rt: HostRuntime) -> Result<(), Fail> {
-    let alloc = rt.alloc();
     for (rules, fields, due) in &DECIDING {
-        let policy = policy_of(alloc, rules)?;
-        let table = RuleTable::build(alloc, &policy)?;
-        let flow_record = built(alloc, fields, 0)?;
-        let (rule, _) = agreed(&rt, alloc, &policy, &table, "acme", 7, &flow_record)?;
+        let rule = deciding(&rt, rt.alloc(), rules, fields)?;
         assert!(rt; rule == *due, "{rules}");
     }
     Ok(())
@@ -165,14 +171,24 @@ static PAIRS: [(&str, Field, Field, bool); 9] = [
     ("::/0", LOWEST4, LOWEST6, false),
 ];
 
+/// The key of a source.
+fn key_of(alloc: Global, classes: &AddressClasses, source: Field) -> Result<Option<u64>, Fail> {
+    let flow_record = built(alloc, &[source], 0)?;
+    Ok(classes.key(Side::Source, &flow_record))
+}
+
+/// Whether two sources are of one class, by a rule with this prefix.
+fn are_alike(alloc: Global, prefix: &str, one: Field, other: Field) -> Result<bool, Fail> {
+    let classes = classes_of(alloc, prefix, "*")?;
+    let key = key_of(alloc, &classes, one)?;
+    Ok(key.is_some() && key == key_of(alloc, &classes, other)?)
+}
+
 #[test]
 fn bounds_of_prefixes(rt: HostRuntime) -> Result<(), Fail> {
-    let alloc = rt.alloc();
     for (prefix, one, other, same) in &PAIRS {
-        let classes = classes_of(alloc, prefix, "*")?;
-        let one = classes.key(Side::Source, &built(alloc, &[*one], 0)?);
-        let other = classes.key(Side::Source, &built(alloc, &[*other], 0)?);
-        assert!(rt; one.is_some() && (one == other) == *same, "{prefix}");
+        let alike = are_alike(rt.alloc(), prefix, *one, *other)?;
+        assert!(rt; alike == *same, "{prefix}");
     }
     Ok(())
 }
