@@ -5,7 +5,7 @@ use record_runs::Records;
 use std::alloc::{AllocError, Global};
 use std::process::Abort;
 use std::test::Fail;
-use subscriber_stream::{Limits, Stream};
+use subscriber_stream::{Limits, PullError, Stream};
 
 /// The Export Time of the worked cases.
 const NOW: u32 = 0x6553_f13c;
@@ -435,7 +435,7 @@ fn has_room(alloc: Global, stream: &Stream, given: &[Given]) -> Result<bool, Fai
 }
 
 /// Whether its next message has these octets.
-fn pulls(stream: &mut Stream, target: u16, wanted: &[u8]) -> Result<bool, AllocError> {
+fn pulls(stream: &mut Stream, target: u16, wanted: &[u8]) -> Result<bool, PullError> {
     match stream.pull(NOW, target)? {
         Some(message) => Ok(message.as_slice() == wanted),
         None => Ok(false),
@@ -443,7 +443,7 @@ fn pulls(stream: &mut Stream, target: u16, wanted: &[u8]) -> Result<bool, AllocE
 }
 
 /// Whether its next message has so many octets.
-fn pulls_octets(stream: &mut Stream, target: u16, length: usize) -> Result<bool, AllocError> {
+fn pulls_octets(stream: &mut Stream, target: u16, length: usize) -> Result<bool, PullError> {
     match stream.pull(NOW, target)? {
         Some(message) => Ok(message.len() == length),
         None => Ok(false),
@@ -451,7 +451,7 @@ fn pulls_octets(stream: &mut Stream, target: u16, length: usize) -> Result<bool,
 }
 
 /// Whether nothing waits in it.
-fn is_at_its_end(stream: &mut Stream) -> Result<bool, AllocError> {
+fn is_at_its_end(stream: &mut Stream) -> Result<bool, PullError> {
     let none = stream.pull(NOW, 1400)?.is_none();
     Ok(none && stream.queued() == 0)
 }

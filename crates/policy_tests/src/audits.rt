@@ -12,7 +12,7 @@ enum Kept {
 }
 
 /// An entry's position, index and subscription, what was kept back, and its line.
-static LINES: [((u64, u32, u64), Kept, &str); 8] = [
+static LINES: [((u64, u32, u64), Kept, &str); 10] = [
     (
         (3, 0, 1),
         Kept::Withheld(0, Reason::Rule),
