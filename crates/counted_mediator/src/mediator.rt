@@ -21,7 +21,6 @@ use std::marker::Model;
 ///
 /// Contracts see the mediator; the place in its journal; and how many records the subscriptions had that have ended. A call
 /// that is refused changes nothing of that.
-#[derive(Drop)]
 pub struct CountedMediator {
     mediator: Mediator,
     /// The journal's length when this value was made.
@@ -30,6 +29,13 @@ pub struct CountedMediator {
     gone: u64,
     /// The records that were handed to these and to the live ones.
     handed: u64,
+}
+
+impl Drop for CountedMediator {
+    // Written out: a derived one is proved anew in each crate that drops such a value.
+    fn drop(self) {
+        let CountedMediator { mediator: _, from: _, gone: _, handed: _ } = self;
+    }
 }
 
 impl Model for CountedMediator {
@@ -68,7 +74,13 @@ impl CountedMediator {
     pub fn into_mediator(self) -> Mediator
         ensures { result ≡ self.core }
     {
-        self.mediator
+        let CountedMediator {
+            mediator,
+            from: _,
+            gone: _,
+            handed: _,
+        } = self;
+        mediator
     }
 
     /// How many entries the journal has.

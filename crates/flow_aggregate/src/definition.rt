@@ -18,7 +18,6 @@ use std::sync::Arc;
 
 /// An aggregate's definition, made ready for records to be counted in it: its groups share it. Two are one where name,
 /// key, interval and grace are equal, whatever edit brought them.
-#[derive(Drop)]
 pub struct Definition {
     interval: u32,
     grace: u32,
@@ -26,6 +25,13 @@ pub struct Definition {
     key: Arc<Vec<ElementId>>,
     // That of the records of its closed groups.
     closed: Arc<Template>,
+}
+
+impl Drop for Definition {
+    // Written out: a derived one is proved anew in each crate that drops such a value.
+    fn drop(self) {
+        let Definition { interval: _, grace: _, name: _, key: _, closed: _ } = self;
+    }
 }
 
 impl Model for Definition {

@@ -22,7 +22,6 @@ use std::sync::Arc;
 
 /// What a policy discloses to one subscriber of the records of an observation domain, and what passed since they were taken. What becomes of
 /// a record is worked out once for the classes of its addresses, and kept for records of the same template that are alike in them.
-#[derive(Drop)]
 pub struct Plans {
     table: Arc<RuleTable>,
     classes: Arc<AddressClasses>,
@@ -31,6 +30,13 @@ pub struct Plans {
     /// The template of the records that come.
     template: Option<Arc<Template>>,
     shelf: Shelf,
+}
+
+impl Drop for Plans {
+    // Written out: a derived one is proved anew in each crate that drops such a value.
+    fn drop(self) {
+        let Plans { table: _, classes: _, name: _, domain: _, template: _, shelf: _ } = self;
+    }
 }
 
 impl Model for Plans {

@@ -81,10 +81,16 @@ impl Values {
 ///
 /// Its values are kept as the octets that [`encode_record`](crate::encode_record) writes for them, each value in
 /// its shortest text, one after another; they may be a part of the message that brought them.
-#[derive(Drop)]
 pub struct Record {
     template: Arc<Template>,
     octets: Bytes,
+}
+
+impl Drop for Record {
+    // Written out: a derived one is proved anew in each crate that drops such a value.
+    fn drop(self) {
+        let Record { template: _, octets: _ } = self;
+    }
 }
 
 impl Model for Record {

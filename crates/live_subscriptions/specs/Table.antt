@@ -8,7 +8,8 @@ use Rattle.subscriber_stream.specs.declared.limits.Limits.{Limits}
 use Rattle.subscriber_stream.specs.Shapes.{shapes_after}
 use Rattle.subscriber_stream.specs.Standing.{Standing, Kept, HasRoom, queued}
 use Rattle.subscriber_stream.specs.Calls.{TakesRecords, Gives}
-use Rattle.record_sharing.specs.declared.served.Served.{Served}
+use Rattle.live_subscriptions.specs.declared.served.Served.{Served}
+use Rattle.live_subscriptions.specs.declared.share.Share.{Share}
 use Rattle.live_subscriptions.specs.declared.subscription.Subscription.{Subscription}
 
 -- the live subscriptions under their numbers, and the numbers of those that are served
@@ -84,6 +85,10 @@ abbrev pub HasSpare : List (ℕ × Subscription) → ℕ × List DataRecord → 
 HasSpare live share = IfSome (at_key share.0 live) (λ s. length share.1 ≤ s.stream.spare)
 
 -- ---- giving
+
+-- a share as a pair: the subscription with what it is given
+abbrev pub shown : Share → ℕ × List DataRecord
+shown s = (s.sub, s.given)
 
 -- the records of all shares for this subscription, one share after another
 abbrev pub given_to : ℕ → List (ℕ × List DataRecord) → List DataRecord

@@ -2,6 +2,7 @@
 //!
 //! - `subscription`: [`Subscription`], a live subscription with its stream.
 //! - `subscriptions`: [`Subscriptions`], the table of them.
+//! - `served`: [`Served`], one that is served, with its subscriber's name; `share`: [`Share`], what one is given.
 //!
 //! Proved, of every table: `get` answers the subscription of a number, and `named` the number that has a name, or that
 //! none has it. `served` answers those that are served, in their order, and `without_room` exactly those for which
@@ -12,8 +13,12 @@
 
 mod live;
 mod names;
+mod served;
+mod share;
 pub mod subscription;
 pub mod subscriptions;
 
+pub use served::Served;
+pub use share::Share;
 pub use subscription::Subscription;
 pub use subscriptions::Subscriptions;

@@ -3,11 +3,12 @@ ghost use Rattle.std.specs.Prelude.{◌≡◌, ◌≢◌, ◌≤◌, ℕ, [], �
 ghost use Rattle.std.specs.Option.{option_map, option_copied};
 ghost use Rattle.std.specs.List.{AllByRecursion};
 ghost use Rattle.ipfix_session.specs.Keeping.{at_key};
-ghost use Rattle.record_sharing.specs.Sharing.{shown};
+ghost use Rattle.live_subscriptions.specs.Table.{shown};
 
+use crate::served::Served;
+use crate::share::Share;
 use crate::subscription::Subscription;
 use bytes::Bytes;
-use record_sharing::{Served, Share};
 use std::alloc::{AllocError, Global};
 use std::collections::BTreeMap;
 use subscriber_stream::PullError;

@@ -3,27 +3,39 @@ ghost use Rattle.std.specs.Prelude.{◌≡◌, ◌≢◌, ◌≤◌, ◌++◌, �
 ghost use Rattle.std.specs.Option.{option_map, option_copied};
 ghost use Rattle.std.specs.List.{AllByRecursion};
 ghost use Rattle.policy_text.specs.Naming.{is_name};
-ghost use Rattle.record_sharing.specs.Sharing.{shown};
+ghost use Rattle.live_subscriptions.specs.Table.{shown};
 ghost use Rattle.live_subscriptions.specs.Table.{at, SameTable, HasName, Related, AreReady, TakesGiven, PullsOne, given_to, lacks_room_at, told, told_in, cut_off};
 
 use crate::live::Live;
 use crate::names::Names;
+use crate::served::Served;
+use crate::share::Share;
 use crate::subscription::Subscription;
 use bytes::Bytes;
 use policy_text::Name;
-use record_sharing::{Served, Share};
 use std::alloc::{AllocError, Global};
 use std::marker::Model;
 use subscriber_stream::{PullError, Stream};
 
 /// The live subscriptions. Look-ups by number and by name take time that grows with the logarithm of their number; what
 /// goes over the served ones doesn't go over those that are cut.
-#[derive(Drop)]
 pub struct Subscriptions {
     alloc: Global,
     live: Live,
     names: Names,
     served: Vec<u64>,
+}
+
+impl Drop for Subscriptions {
+    // Written out: a derived one is proved anew in each crate that drops such a value.
+    fn drop(self) {
+        let Subscriptions {
+            alloc: _,
+            live: _,
+            names: _,
+            served: _,
+        } = self;
+    }
 }
 
 impl Model for Subscriptions {

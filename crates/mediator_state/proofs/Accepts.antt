@@ -28,7 +28,8 @@ use Rattle.mediator_history.proofs.CutLaws.{is_open-cuts, messages-cuts, length-
 use Rattle.flow_aggregate.specs.Counts.{Count, count_of, HavePlaces}
 use Rattle.flow_aggregate.specs.Running.{Entries}
 use Rattle.running_groups.specs.Table.{groups_at}
-use Rattle.record_sharing.specs.Sharing.{shown, tallied}
+use Rattle.live_subscriptions.specs.Table.{shown}
+use Rattle.record_sharing.specs.Sharing.{tallied}
 use Rattle.open_sessions.specs.declared.open_session.OpenSession.{OpenSession}
 use Rattle.live_subscriptions.specs.declared.subscription.Subscription.{Subscription}
 use Rattle.live_subscriptions.specs.Table.{at, cut_off, HasSpare, IsReady, AreReadyAmong}

@@ -19,9 +19,9 @@ use Rattle.mediator_history.specs.Cuts.{is_cut_by, after_cuts}
 use Rattle.mediator_history.proofs.ListFilters.{filter_alike}
 use Rattle.mediator_history.proofs.CutLaws.{is_served-cuts, served-cuts}
 use Rattle.mediator_history.proofs.CountingLaws.{given_at-cuts}
-use Rattle.record_sharing.specs.declared.served.Served.{Served}
-use Rattle.record_sharing.specs.declared.shares.Share.{Share}
-use Rattle.record_sharing.specs.Sharing.{shown}
+use Rattle.live_subscriptions.specs.declared.served.Served.{Served}
+use Rattle.live_subscriptions.specs.declared.share.Share.{Share}
+use Rattle.live_subscriptions.specs.Table.{shown}
 use Rattle.running_groups.specs.Table.{groups_at}
 use Rattle.live_subscriptions.specs.Table.{Table, told, told_in, lacks_room_at}
 use Rattle.mediator_state.specs.declared.engine.Engine.{Engine}

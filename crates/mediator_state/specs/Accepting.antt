@@ -14,7 +14,8 @@ use Rattle.mediator_history.specs.Sessions.{is_open, messages_of}
 use Rattle.mediator_history.specs.Subscriptions.{served}
 use Rattle.mediator_history.specs.Auditing.{audit_at}
 use Rattle.flow_aggregate.specs.Counts.{Count}
-use Rattle.record_sharing.specs.Sharing.{shown, tallied}
+use Rattle.live_subscriptions.specs.Table.{shown}
+use Rattle.record_sharing.specs.Sharing.{tallied}
 use Rattle.live_subscriptions.specs.Table.{Table, at, HasSpare, AreReady}
 use Rattle.mediator_state.specs.declared.engine.Engine.{Engine}
 use Rattle.mediator_state.specs.declared.fault.Fault.{Fault}

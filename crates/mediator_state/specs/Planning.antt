@@ -17,10 +17,11 @@ use Rattle.mediator_history.specs.Counting.{counted_at}
 use Rattle.mediator_history.specs.Disclosed.{given_at}
 use Rattle.mediator_history.specs.Auditing.{audit_at, audit_entry}
 use Rattle.mediator_history.specs.Cuts.{is_cut_by, after_cuts}
-use Rattle.record_sharing.specs.declared.served.Served.{Served}
+use Rattle.live_subscriptions.specs.declared.served.Served.{Served}
 use Rattle.record_sharing.specs.declared.shares.Note.{Note}
 use Rattle.record_sharing.specs.InForce.{InForce}
-use Rattle.record_sharing.specs.Sharing.{shown, tallied, share_of}
+use Rattle.live_subscriptions.specs.Table.{shown}
+use Rattle.record_sharing.specs.Sharing.{tallied, share_of}
 use Rattle.open_sessions.specs.declared.open_session.OpenSession.{OpenSession}
 use Rattle.live_subscriptions.specs.Table.{Table, at, lacks_room_at}
 use Rattle.mediator_state.specs.declared.engine.Engine.{Engine}

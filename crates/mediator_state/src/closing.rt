@@ -2,11 +2,11 @@
 ghost use Rattle.std.specs.Prelude.{◌≡◌, ℕ, List, [], map, IfOk};
 ghost use Rattle.event_journal.specs.declared.entry.Entry.{Entry};
 ghost use Rattle.event_journal.specs.declared.entry.Entry.TheVariants.{Advance};
-ghost use Rattle.record_sharing.specs.Sharing.{shown};
+ghost use Rattle.live_subscriptions.specs.Table.{shown};
 
 use crate::engine::Engine;
 use crate::plan::see_shares;
-use record_sharing::{Served, Share};
+use live_subscriptions::{Served, Share};
 use std::alloc::{AllocError, Global};
 
 /// What an advance of the clock would do.

@@ -19,17 +19,16 @@ use crate::receipt::Receipt;
 use crate::tallies::{count_all, reserve_all};
 use disclosure_audit::{Audit, AuditEntry, What};
 use ipfix_session::Reading;
-use live_subscriptions::Subscriptions;
+use live_subscriptions::{Share, Subscriptions};
 use open_sessions::Sessions;
 use policy_text::Policy;
-use record_sharing::{InForce, Share, Tally};
+use record_sharing::{InForce, Tally};
 use running_groups::RunningGroups;
 use std::alloc::{AllocError, Global};
 use subscriber_stream::{Limits, Stream};
 
 /// What a mediator keeps beside its history. Contracts say by `Stands` for which histories it stands; its calls change it
 /// by one entry, or by none.
-#[derive(Drop)]
 pub(crate) struct Engine {
     pub(crate) alloc: Global,
     /// How much each subscription's stream may hold.
@@ -47,6 +46,24 @@ pub(crate) struct Engine {
     /// How many subscriptions began.
     begun: u64,
     pub(crate) audit: Audit,
+}
+
+impl Drop for Engine {
+    // Written out: a derived one is proved anew in each crate that drops such a value.
+    fn drop(self) {
+        let Engine {
+            alloc: _,
+            limits: _,
+            in_force: _,
+            edits: _,
+            sessions: _,
+            opened: _,
+            subscriptions: _,
+            groups: _,
+            begun: _,
+            audit: _,
+        } = self;
+    }
 }
 
 impl Engine {
@@ -244,7 +261,8 @@ impl Engine {
     ghost use Rattle.ipfix_session.specs.Keeping.{at_key};
     ghost use Rattle.ipfix_session.specs.ReadAhead.{HasRoomFor};
     ghost use Rattle.live_subscriptions.specs.Table.{HasSpare};
-    ghost use Rattle.record_sharing.specs.Sharing.{shown, tallied};
+    ghost use Rattle.live_subscriptions.specs.Table.{shown};
+    ghost use Rattle.record_sharing.specs.Sharing.{tallied};
     ghost use Rattle.mediator_state.specs.Planning.{IsPlan};
     ghost use Rattle.mediator_state.specs.Accepting.{HasRoomForPlan, HasAuditFor, IsPlannedFor, LacksAudit, IsReadyToTake, IsMessage, receipt_of};
     ghost use Rattle.std.specs.Prelude.{map, IfErr};
@@ -338,7 +356,7 @@ impl Engine {
     ghost use Rattle.std.specs.Prelude.{map, IfErr};
     ghost use Rattle.mediator_state.specs.Standing.{Stands};
     ghost use Rattle.mediator_state.specs.Seen.{IsSameEngine, IsUntouched};
-    ghost use Rattle.record_sharing.specs.Sharing.{shown};
+    ghost use Rattle.live_subscriptions.specs.Table.{shown};
     ghost use Rattle.event_journal.specs.declared.entry.Entry.TheVariants.{Advance};
     ghost use Rattle.mediator_history.specs.Counting.{clock_of};
     ghost use Rattle.mediator_state.specs.Planning.{IsJudged};

@@ -4,7 +4,8 @@ ghost use Rattle.sequences.specs.Octets.{AreOctets};
 ghost use Rattle.record_sharing.specs.InForce.{InForce as Force};
 ghost use Rattle.ipfix_template.specs.DataRecord.{DataRecord};
 ghost use Rattle.event_journal.specs.declared.entry.Entry.{Entry};
-ghost use Rattle.record_sharing.specs.Sharing.{shown, tallied, shares_of, tallies_of, notes_of};
+ghost use Rattle.live_subscriptions.specs.Table.{shown};
+ghost use Rattle.record_sharing.specs.Sharing.{tallied, shares_of, tallies_of, notes_of};
 ghost use Rattle.std.specs.List.{AllByRecursion};
 ghost use Rattle.mediator_state.specs.Planning.{stamp, AreStreamed};
 
@@ -13,10 +14,10 @@ use crate::fault::Fault;
 use bytes::Bytes;
 use disclosure_audit::AuditEntry;
 use ipfix_session::Reading;
-use live_subscriptions::Subscriptions;
+use live_subscriptions::{Served, Share, Subscriptions};
 use open_sessions::OpenSession;
 use record_runs::Records;
-use record_sharing::{InForce, Note, Served, Share, Shares, Tally};
+use record_sharing::{InForce, Note, Shares, Tally};
 use std::alloc::{AllocError, Global};
 use stream_meaning::see_records;
 

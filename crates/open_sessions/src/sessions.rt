@@ -12,10 +12,16 @@ use std::collections::BTreeMap;
 use std::marker::Model;
 
 /// The open sessions by their numbers. Look-ups and changes take time that grows with the logarithm of their number.
-#[derive(Drop)]
 pub struct Sessions {
     alloc: Global,
     by_number: BTreeMap<u64, OpenSession>,
+}
+
+impl Drop for Sessions {
+    // Written out: a derived one is proved anew in each crate that drops such a value.
+    fn drop(self) {
+        let Sessions { alloc: _, by_number: _ } = self;
+    }
 }
 
 impl Model for Sessions {

@@ -1,7 +1,8 @@
 //! Many groups, which one advance of the clock closes.
 use ipfix_session::Session;
+use live_subscriptions::Served;
 use policy_text::Policy;
-use record_sharing::{InForce, Served, Shares, Tally};
+use record_sharing::{InForce, Shares, Tally};
 use running_groups::RunningGroups;
 use std::alloc::{AllocError, Global};
 use std::process::Abort;

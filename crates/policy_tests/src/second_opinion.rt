@@ -1,8 +1,9 @@
 //! Records counted in running groups, and the same records kept in a list and added up when all is over.
 use ipfix_session::Session;
 use ipfix_template::Record;
+use live_subscriptions::Served;
 use policy_text::Policy;
-use record_sharing::{InForce, Served, Shares, Tally};
+use record_sharing::{InForce, Shares, Tally};
 use running_groups::RunningGroups;
 use std::alloc::{AllocError, Global};
 use std::process::Abort;

@@ -1,8 +1,9 @@
 //! Two subscriptions side by side, neither of which sees what the other's rules do.
 use disclosure_audit::What;
 use ipfix_session::Session;
+use live_subscriptions::Served;
 use policy_text::Policy;
-use record_sharing::{InForce, Served, Shares};
+use record_sharing::{InForce, Shares};
 use std::alloc::Global;
 use std::process::Abort;
 use std::test::Fail;

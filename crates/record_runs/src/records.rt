@@ -11,11 +11,17 @@ use std::marker::Model;
 const MOST_RECORDS: usize = isize::MAX as usize;
 
 /// Data Records one after another, of any templates. Contracts see the list of them.
-#[derive(Drop)]
 pub struct Records {
     runs: Vec<Run>,
     /// How many records the runs have.
     count: usize,
+}
+
+impl Drop for Records {
+    // Written out: a derived one is proved anew in each crate that drops such a value.
+    fn drop(self) {
+        let Records { runs: _, count: _ } = self;
+    }
 }
 
 impl Model for Records {
@@ -77,7 +83,7 @@ impl Records {
         ensures kept { AllByRecursion IsKeptRun result.items }
         ensures sound { AllByRecursion IsSound self }
     {
-        let Records { runs, .. } = self;
+        let Records { runs, count: _ } = self;
         runs
     }
 

@@ -10,10 +10,11 @@ use Rattle.ipfix_template.specs.DataRecord.{DataRecord}
 use Rattle.policy_text.specs.declared.rule.Rule.{Rule}
 use Rattle.flow_anonymize.specs.Plans.{PlansFor}
 use Rattle.record_sharing.specs.declared.judges.Judge.{Judge}
-use Rattle.record_sharing.specs.declared.served.Served.{Served}
+use Rattle.live_subscriptions.specs.declared.served.Served.{Served}
 use Rattle.record_sharing.specs.InForce.{InForce}
-use Rattle.record_sharing.specs.declared.shares.Share.{Share}
-use Rattle.record_sharing.specs.Sharing.{blank, shown}
+use Rattle.live_subscriptions.specs.declared.share.Share.{Share}
+use Rattle.live_subscriptions.specs.Table.{shown}
+use Rattle.record_sharing.specs.Sharing.{blank}
 use Rattle.record_sharing.specs.Judges.{Judges, for_of, given_to, plans_for, of_template, JudgeFor, JudgesAny, AreReady, AreFor, whose, emptied, is_of}
 
 got_map : {A B : Type 0} (f : A → B) (xs : List A) (n : ℕ) (x other : A) → n < length xs → x ≡ get_or xs n other → slice_get (map f xs) n ≡ Some (f x)

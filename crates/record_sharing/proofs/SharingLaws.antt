@@ -18,7 +18,7 @@ use Rattle.mediator_history.specs.Counting.{counts}
 use Rattle.mediator_history.specs.Disclosed.{passed}
 use Rattle.mediator_history.specs.Auditing.{kept_back}
 use Rattle.record_sharing.specs.InForce.{InForce}
-use Rattle.record_sharing.specs.declared.served.Served.{Served}
+use Rattle.live_subscriptions.specs.declared.served.Served.{Served}
 use Rattle.record_sharing.specs.declared.shares.Tally.{Tally}
 use Rattle.record_sharing.specs.declared.shares.Note.{Note}
 use Rattle.record_sharing.specs.Sharing.{outcome_by, given_by, added_by, kept_by, kept_back_by, counts_by, tallied, blank, share_by, shares_of, tallies_of, note_of, noted, noted_of_each, notes_of}

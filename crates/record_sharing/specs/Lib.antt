@@ -1,3 +1,4 @@
+pub use Rattle.live_subscriptions.specs.Table
 pub use Rattle.flow_anonymize.specs.Disclosed as Disclosures
 pub use Rattle.mediator_history.specs.Disclosed
 pub use Rattle.mediator_history.specs.Auditing

@@ -16,8 +16,7 @@ use Rattle.mediator_history.specs.Counting.{counts, counted_in, timing_at}
 use Rattle.mediator_history.specs.Disclosed.{passed}
 use Rattle.mediator_history.specs.Auditing.{kept_back, removed_of, told_of, reason_named}
 use Rattle.record_sharing.specs.InForce.{InForce}
-use Rattle.record_sharing.specs.declared.served.Served.{Served}
-use Rattle.record_sharing.specs.declared.shares.Share.{Share}
+use Rattle.live_subscriptions.specs.declared.served.Served.{Served}
 use Rattle.record_sharing.specs.declared.shares.Tally.{Tally}
 use Rattle.record_sharing.specs.declared.shares.Note.{Note}
 
@@ -39,10 +38,7 @@ given_by domain f name r = passed (outcome_by domain f name r)
 abbrev pub added_by : ℕ → InForce → List ℕ → DataRecord → List Count
 added_by domain f name r = map count_of (counts f.policy.aggregates f.clock r (outcome_by domain f name r))
 
--- a share and a tally as pairs: the subscription with what it is given, or with what is added to its aggregates
-abbrev pub shown : Share → ℕ × List DataRecord
-shown s = (s.sub, s.given)
-
+-- a tally as a pair: the subscription with what is added to its aggregates
 abbrev pub tallied : Tally → ℕ × List Count
 tallied t = (t.sub, t.counts.items)
 

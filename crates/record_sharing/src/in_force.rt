@@ -9,10 +9,10 @@ ghost use Rattle.policy_text.specs.Classes.{is_key_kind};
 ghost use Rattle.policy_text.specs.Policies.{nothing};
 
 use crate::judges::{Judges, place_for};
-use crate::served::Served;
 use address_classes::AddressClasses;
 use flow_aggregate::{Count, Definition, Timing, judge_time};
 use ipfix_template::Record;
+use live_subscriptions::Served;
 use policy_text::{AggregateDef, Policy};
 use record_runs::Run;
 use rule_table::RuleTable;
@@ -22,7 +22,6 @@ use std::sync::Arc;
 
 /// The policy in force, and the time to which the clock was advanced. The policy's rules are kept in a table too, with the classes
 /// that their prefixes make, its aggregates as groups share them, and what was worked out for the messages that came last.
-#[derive(Drop)]
 pub struct InForce {
     policy: Policy,
     table: Arc<RuleTable>,
@@ -31,6 +30,20 @@ pub struct InForce {
     clock: u64,
     /// What judged the last messages, for those to come.
     judges: Vec<Judges>,
+}
+
+impl Drop for InForce {
+    // Written out: a derived one is proved anew in each crate that drops such a value.
+    fn drop(self) {
+        let InForce {
+            policy: _,
+            table: _,
+            classes: _,
+            definitions: _,
+            clock: _,
+            judges: _,
+        } = self;
+    }
 }
 
 /// For how many observation domains and templates is kept what judged their messages.

@@ -6,13 +6,12 @@ ghost use Rattle.address_classes.specs.Cuts.{HaveCuts};
 ghost use Rattle.flow_anonymize.specs.Outcome.{passed, decision_of};
 ghost use Rattle.flow_anonymize.specs.Classes.{classes_of};
 ghost use Rattle.flow_anonymize.specs.Plans.{PlansFor, outcome_for};
-ghost use Rattle.record_sharing.specs.Sharing.{shown};
+ghost use Rattle.live_subscriptions.specs.Table.{shown};
 
-use crate::served::Served;
-use crate::shares::Share;
 use address_classes::{AddressClasses, AddressPlaces, RecentClasses};
 use flow_anonymize::{Decision, Plans, RecordClasses};
 use ipfix_template::{RecordView, Template};
+use live_subscriptions::{Served, Share};
 use record_runs::Run;
 use rule_table::RuleTable;
 use std::alloc::{AllocError, Global};

@@ -3,9 +3,8 @@
 //!
 //! - `in_force`: [`InForce`], the policy in force and the time of the clock, with what was worked out for the last messages.
 //! - `judges`: what becomes of a record, for each subscription.
-//! - `served`: [`Served`], a subscription that is served, with its subscriber's name.
-//! - `shares`: [`Shares`], what each of them is given ([`Share`]), what is added to its aggregates ([`Tally`]), and what the
-//!   audit notes ([`Note`]).
+//! - `shares`: [`Shares`], what each subscription is given (a [`Share`](live_subscriptions::Share)), what is added to its
+//!   aggregates ([`Tally`]), and what the audit notes ([`Note`]).
 //!
 //! Proved: `Shares::of_records` gives each subscription, in their order, the records that the policy discloses to its
 //! subscriber (`shares`) and what counts in its aggregates by the clock (`tallies`), and notes what is kept back or counts
@@ -15,9 +14,7 @@
 
 mod in_force;
 mod judges;
-mod served;
 mod shares;
 
 pub use in_force::InForce;
-pub use served::Served;
-pub use shares::{Note, Share, Shares, Tally};
+pub use shares::{Note, Shares, Tally};

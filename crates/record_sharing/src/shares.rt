@@ -7,26 +7,18 @@ ghost use Rattle.flow_aggregate.specs.Counts.{Count as OneCount, count_of};
 ghost use Rattle.mediator_history.specs.Auditing.{reason_named, removed_of, told_of};
 ghost use Rattle.record_sharing.specs.InForce.{count_by, timing_by, as_list};
 ghost use Rattle.record_sharing.specs.Judges.{JudgeFor, JudgesAny};
-ghost use Rattle.record_sharing.specs.Sharing.{blank, counts_by, kept_back_by, shown, tallied, shares_of, tallies_of, notes_of, note_of, noted_of_each};
+ghost use Rattle.live_subscriptions.specs.Table.{shown};
+ghost use Rattle.record_sharing.specs.Sharing.{blank, counts_by, kept_back_by, tallied, shares_of, tallies_of, notes_of, note_of, noted_of_each};
 
 use crate::in_force::InForce;
 use crate::judges::Judges;
-use crate::served::Served;
 use disclosure_audit::{RemovedFields, What};
 use flow_aggregate::{Count, Timing};
 use flow_anonymize::Decision;
 use ipfix_template::RecordView;
+use live_subscriptions::{Served, Share};
 use record_runs::{Records, Run};
 use std::alloc::{AllocError, Global};
-
-/// What a subscription is given.
-#[derive(Drop)]
-pub struct Share {
-    /// The number of the subscription.
-    pub sub: u64,
-    /// The records that pass, as they are disclosed.
-    pub given: Records,
-}
 
 /// What is added to the aggregates of a subscription.
 #[derive(Drop)]

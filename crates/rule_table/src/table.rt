@@ -19,7 +19,6 @@ use std::marker::Model;
 const FEW_RULES: usize = 32;
 
 /// The rules of a policy, with an index by which those are found that may match a record. Contracts see the rules.
-#[derive(Drop)]
 pub struct RuleTable {
     rules: Vec<Rule>,
     /// Each rule's mark and place as one number, ascending.
@@ -28,6 +27,13 @@ pub struct RuleTable {
     sources: Vec<Shape>,
     /// The shapes of the prefixes of destinations, each once.
     destinations: Vec<Shape>,
+}
+
+impl Drop for RuleTable {
+    // Written out: a derived one is proved anew in each crate that drops such a value.
+    fn drop(self) {
+        let RuleTable { rules: _, entries: _, sources: _, destinations: _ } = self;
+    }
 }
 
 impl Model for RuleTable {

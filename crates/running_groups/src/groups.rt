@@ -13,10 +13,16 @@ use std::collections::BTreeMap;
 use std::marker::Model;
 
 /// The groups that are still open, by the numbers of the subscriptions that are to have their records.
-#[derive(Drop)]
 pub struct RunningGroups {
     alloc: Global,
     by_number: BTreeMap<u64, Running>,
+}
+
+impl Drop for RunningGroups {
+    // Written out: a derived one is proved anew in each crate that drops such a value.
+    fn drop(self) {
+        let RunningGroups { alloc: _, by_number: _ } = self;
+    }
 }
 
 impl Model for RunningGroups {

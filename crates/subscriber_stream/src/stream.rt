@@ -29,7 +29,6 @@ use std::marker::Model;
 /// A template gets the next ID, from 256 on, where the first record of it is given, and is announced
 /// directly before that record. The Sequence Number of a message is the number of records handed out
 /// before it, modulo 2^32, and its Observation Domain is 0 (RFC 7011, section 3.1).
-#[derive(Drop)]
 pub struct Stream {
     alloc: Global,
     limits: Limits,
@@ -39,6 +38,22 @@ pub struct Stream {
     handed: u64,
     announced: u32,
     spare: usize,
+}
+
+impl Drop for Stream {
+    // Written out: a derived one is proved anew in each crate that drops such a value.
+    fn drop(self) {
+        let Stream {
+            alloc: _,
+            limits: _,
+            shapes: _,
+            queue: _,
+            waiting: _,
+            handed: _,
+            announced: _,
+            spare: _,
+        } = self;
+    }
 }
 
 impl Model for Stream {

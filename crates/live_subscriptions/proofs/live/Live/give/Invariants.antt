@@ -1,6 +1,6 @@
 use Rattle.std.proofs.Common.{map}
 use Rattle.std.specs.Vec.Iter.{into_iter_items}
-use Rattle.record_sharing.specs.Sharing.{shown}
+use Rattle.live_subscriptions.specs.Table.{shown}
 use Rattle.live_subscriptions.proofs.LiveLaws.{IsGiving}
 use Rattle.live_subscriptions.proofs.live.Live.give.Given as goal
 

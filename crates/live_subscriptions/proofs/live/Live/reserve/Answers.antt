@@ -1,5 +1,5 @@
 use Rattle.std.proofs.Common.{◌∙◌, arith}
-use Rattle.record_sharing.specs.Sharing.{shown}
+use Rattle.live_subscriptions.specs.Table.{shown}
 use Rattle.live_subscriptions.proofs.LiveLaws.{spare_more}
 use Rattle.live_subscriptions.proofs.live.Live.reserve.Goals as goal
 

@@ -1,5 +1,5 @@
 use Rattle.std.proofs.Common.{◌≡◌, map, filter, take}
-use Rattle.record_sharing.specs.Sharing.{shown}
+use Rattle.live_subscriptions.specs.Table.{shown}
 use Rattle.live_subscriptions.specs.Table.{lacks_room_among}
 use Rattle.live_subscriptions.proofs.live.Live.without_room.Given as goal
 

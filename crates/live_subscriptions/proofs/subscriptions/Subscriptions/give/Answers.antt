@@ -1,6 +1,6 @@
 use Rattle.std.proofs.Common.{map, refl}
 use Rattle.ipfix_session.specs.Keeping.{at_key}
-use Rattle.record_sharing.specs.Sharing.{shown}
+use Rattle.live_subscriptions.specs.Table.{shown}
 use Rattle.live_subscriptions.specs.Table.{given_to}
 use Rattle.live_subscriptions.specs.Naming.{number_of, name_at}
 use Rattle.live_subscriptions.proofs.NameLaws.{named_same, name_given}

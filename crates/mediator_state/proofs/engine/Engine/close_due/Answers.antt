@@ -1,5 +1,5 @@
 use Rattle.std.proofs.Common.{◌≡◌, refl, rules, map}
-use Rattle.record_sharing.specs.Sharing.{shown}
+use Rattle.live_subscriptions.specs.Table.{shown}
 use Rattle.mediator_state.proofs.AdvanceSteps.{Closes, advance_step, places_closed}
 use Rattle.mediator_state.proofs.engine.Engine.close_due.Goals as goal
 

@@ -1,5 +1,6 @@
 use Rattle.std.proofs.Common.{◌≡◌, refl, rules}
-use Rattle.record_sharing.specs.Sharing.{shown, tallied}
+use Rattle.live_subscriptions.specs.Table.{shown}
+use Rattle.record_sharing.specs.Sharing.{tallied}
 use Rattle.std.specs.Prelude.{map}
 use Rattle.mediator_state.proofs.MessageSteps.{TakesMessage, message_step, places_taken}
 use Rattle.mediator_state.proofs.engine.Engine.take.Goals as goal
