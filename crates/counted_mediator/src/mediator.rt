@@ -34,7 +34,12 @@ pub struct CountedMediator {
 impl Drop for CountedMediator {
     // Written out: a derived one is proved anew in each crate that drops such a value.
     fn drop(self) {
-        let CountedMediator { mediator: _, from: _, gone: _, handed: _ } = self;
+        let CountedMediator {
+            mediator: _,
+            from: _,
+            gone: _,
+            handed: _,
+        } = self;
     }
 }
 

@@ -22,7 +22,13 @@ pub struct Audit {
 impl Drop for Audit {
     // Written out: a derived one is proved anew in each crate that drops such a value.
     fn drop(self) {
-        let Audit { alloc: _, queue: _, limit: _, drained: _, spare: _ } = self;
+        let Audit {
+            alloc: _,
+            queue: _,
+            limit: _,
+            drained: _,
+            spare: _,
+        } = self;
     }
 }
 

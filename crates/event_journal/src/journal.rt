@@ -19,7 +19,10 @@ pub struct Journal {
 impl Drop for Journal {
     // Written out: a derived one is proved anew in each crate that drops such a value.
     fn drop(self) {
-        let Journal { entries: _, tally: _ } = self;
+        let Journal {
+            entries: _,
+            tally: _,
+        } = self;
     }
 }
 

@@ -30,7 +30,13 @@ pub struct Definition {
 impl Drop for Definition {
     // Written out: a derived one is proved anew in each crate that drops such a value.
     fn drop(self) {
-        let Definition { interval: _, grace: _, name: _, key: _, closed: _ } = self;
+        let Definition {
+            interval: _,
+            grace: _,
+            name: _,
+            key: _,
+            closed: _,
+        } = self;
     }
 }
 

@@ -33,7 +33,11 @@ pub struct Running {
 impl Drop for Running {
     // Written out: a derived one is proved anew in each crate that drops such a value.
     fn drop(self) {
-        let Running { alloc: _, groups: _, earliest: _ } = self;
+        let Running {
+            alloc: _,
+            groups: _,
+            earliest: _,
+        } = self;
     }
 }
 

@@ -35,7 +35,14 @@ pub struct Plans {
 impl Drop for Plans {
     // Written out: a derived one is proved anew in each crate that drops such a value.
     fn drop(self) {
-        let Plans { table: _, classes: _, name: _, domain: _, template: _, shelf: _ } = self;
+        let Plans {
+            table: _,
+            classes: _,
+            name: _,
+            domain: _,
+            template: _,
+            shelf: _,
+        } = self;
     }
 }
 

@@ -40,7 +40,10 @@ pub struct Session {
 impl Drop for Session {
     // Written out: a derived one is proved anew in each crate that drops such a value.
     fn drop(self) {
-        let Session { alloc: _, domains: _ } = self;
+        let Session {
+            alloc: _,
+            domains: _,
+        } = self;
     }
 }
 

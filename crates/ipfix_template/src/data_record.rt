@@ -89,7 +89,10 @@ pub struct Record {
 impl Drop for Record {
     // Written out: a derived one is proved anew in each crate that drops such a value.
     fn drop(self) {
-        let Record { template: _, octets: _ } = self;
+        let Record {
+            template: _,
+            octets: _,
+        } = self;
     }
 }
 

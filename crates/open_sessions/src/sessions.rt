@@ -20,7 +20,10 @@ pub struct Sessions {
 impl Drop for Sessions {
     // Written out: a derived one is proved anew in each crate that drops such a value.
     fn drop(self) {
-        let Sessions { alloc: _, by_number: _ } = self;
+        let Sessions {
+            alloc: _,
+            by_number: _,
+        } = self;
     }
 }
 

@@ -34,7 +34,10 @@ pub struct Policy {
 impl Drop for Policy {
     // Written out: a derived one is proved anew in each crate that drops such a value.
     fn drop(self) {
-        let Policy { aggregates: _, rules: _ } = self;
+        let Policy {
+            aggregates: _,
+            rules: _,
+        } = self;
     }
 }
 

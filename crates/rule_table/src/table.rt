@@ -32,7 +32,12 @@ pub struct RuleTable {
 impl Drop for RuleTable {
     // Written out: a derived one is proved anew in each crate that drops such a value.
     fn drop(self) {
-        let RuleTable { rules: _, entries: _, sources: _, destinations: _ } = self;
+        let RuleTable {
+            rules: _,
+            entries: _,
+            sources: _,
+            destinations: _,
+        } = self;
     }
 }
 

@@ -21,7 +21,10 @@ pub struct RunningGroups {
 impl Drop for RunningGroups {
     // Written out: a derived one is proved anew in each crate that drops such a value.
     fn drop(self) {
-        let RunningGroups { alloc: _, by_number: _ } = self;
+        let RunningGroups {
+            alloc: _,
+            by_number: _,
+        } = self;
     }
 }
 
