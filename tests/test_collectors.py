@@ -19,7 +19,7 @@ STEADY = 8000
 STEADY_OCTETS = 1000
 
 # How many seconds a collector may take nothing.
-GIVEN_UP_AFTER = 20.0
+GIVEN_UP_AFTER = 12.0
 
 # How many records may wait. They are more octets than the system keeps for a collector that takes nothing, so that it holds up
 # its delivery whenever the subscription is cut.
@@ -122,10 +122,10 @@ class Collectors(ServeTest):
         self.assertRegex(notes, rf"\[WARN  ipmd\] collector acme 127.0.0.1:\d+ was cut: octets \d+ records {sent - 1}\n")
 
     def test_given_up(self):
-        """Acme's collector takes nothing and stays: nobody else waits, after 20 seconds it is given up, and the run ends.
+        """Acme's collector takes nothing and stays: nobody else waits, after 12 seconds it is given up, and the run ends.
 
-        This is the one test that lasts 20 seconds, since no setting makes that time shorter. The collector asks for segments of
-        1,000 octets, as many as a message has. So a write that waits has sent nothing of its message, and the 20 seconds
+        This is the one test that lasts 12 seconds, since no setting makes that time shorter. The collector asks for segments of
+        1,000 octets, as many as a message has. So a write that waits has sent nothing of its message, and the 12 seconds
         don't begin a second time.
         """
         doors = {"acme": Door(room=65536, segment=STEADY_OCTETS), "beta": Door()}

@@ -34,8 +34,6 @@ mod noting;
 mod replay;
 mod serve;
 mod system;
-#[cfg(test)]
-mod tests;
 
 use crate::replay::replay;
 use crate::serve::serve;

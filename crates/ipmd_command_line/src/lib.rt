@@ -11,7 +11,7 @@
 //! refused only where clap refuses them by these commands, where not exactly one option names the policy, or for want
 //! of memory (`refused`). What a fault of the parser or of memory becomes is exact (`from_gives` of each).
 //!
-//! Shown by the tests of `ipmd` alone: the texts that the parser makes, of the help and of a refused command line.
+//! Shown by tests of the process alone: the texts that the parser makes, of the help and of a refused command line.
 #![tactic(auto)]
 
 mod command_line;

@@ -22,8 +22,9 @@
 //! the whole text spells, white space skipped, and a text that is refused as no hexadecimal spells nothing (`ok`, `hex` of
 //! `read_hex`); what the audit's writer gets (`filter_input`, `filter_octets`).
 //!
-//! Shown by tests of `ipmd` alone: that the audit's writer is the file of `--audit`, that all is flushed, the order of
-//! faults, and the texts that the parser makes, of the help (the output grew by some text) and of a refused command line.
+//! Shown by tests alone, those of the process and `program_tests`: that the audit's writer is the file of `--audit`, that all is
+//! flushed, the order of faults, and the texts that the parser makes, of the help (the output grew by some text) and of a refused
+//! command line.
 #![tactic(auto)]
 
 mod check;

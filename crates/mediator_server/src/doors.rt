@@ -13,7 +13,7 @@ use std::sync::{Arc, Mutex, Wait};
 use std::time::Duration;
 
 /// A peer that takes nothing for so many seconds has failed.
-const PATIENCE: u64 = 20;
+const PATIENCE: u64 = 12;
 
 /// A connection that has come in, and its peer's address.
 #[derive(Drop)]

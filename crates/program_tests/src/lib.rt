@@ -4,6 +4,7 @@
 //! - `settings`: of `serve_settings`.
 //! - `answers`: of `admin_lines`, with answers that no server is brought to give.
 //! - `offline`: of `offline_filter`, with reads that are counted, and the names of faults.
+//! - `devices`: of `ipmd_offline`, on devices that fail; `memory`: where memory is refused.
 //!
 //! What no clause says is shown too: that a call succeeds while there is memory. Where it is refused memory it is made again,
 //! and answers as if nothing had happened.
@@ -11,6 +12,10 @@
 
 #[cfg(test)]
 mod answers;
+#[cfg(test)]
+mod devices;
+#[cfg(test)]
+mod memory;
 #[cfg(test)]
 mod offline;
 #[cfg(test)]
