@@ -2,7 +2,7 @@
 
 ghost use Rattle.std.specs.Prelude.{◌≡◌, [], IfErr, IfOk, OnOk, string_bytes};
 ghost use Rattle.std.specs.Io.KnownBytes.{Appends};
-ghost use Rattle.counted_mediator.specs.Counted.{handed_live};
+ghost use Rattle.mediator_calls.specs.Counted.{handed_live};
 ghost use Rattle.mediator_server.specs.Listening.{IsServed};
 ghost use Rattle.octet_devices.specs.Device.{device_inner};
 ghost use Rattle.serve_settings.specs.Asked.{asked, pairs};

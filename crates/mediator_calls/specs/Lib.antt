@@ -1,3 +1,6 @@
+pub use Rattle.mediator_state.specs.FaultTexts as StateFaultTexts
+pub use Rattle.stream_meaning.specs.Means
+pub use Rattle.subscriber_stream.specs.Calls as StreamCalls
 pub use Rattle.event_journal.specs.Sizes
 pub use Rattle.event_journal.specs.Room
 pub use Rattle.ipfix_session.specs.Meaning as SessionMeaning
@@ -22,3 +25,5 @@ pub mod Mediation
 pub mod View
 pub mod Sound
 pub mod Calls
+pub mod Counted
+pub mod Handing

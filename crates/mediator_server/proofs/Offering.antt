@@ -5,7 +5,7 @@ use Rattle.std.proofs.lemmas.List.{length-map, map-append}
 use Rattle.event_journal.specs.declared.entry.Entry.TheVariants.{Message}
 use Rattle.entry_receipts.specs.declared.kept.KeptEntry.{KeptEntry}
 use Rattle.mediator_state.specs.declared.fault.Fault.{Fault}
-use Rattle.counted_mediator.specs.declared.fault.PullFault.TheVariants as pull
+use Rattle.mediator_calls.specs.declared.fault.PullFault.TheVariants as pull
 use Rattle.shared_mediator.specs.Locked.{Exporting}
 use Rattle.mediator_server.specs.declared.fault.ServeFault.{ServeFault}
 use Rattle.mediator_server.specs.declared.fault.ServeFault.TheVariants.{Core}

@@ -12,7 +12,7 @@ use Rattle.event_journal.specs.declared.entry.Entry.TheVariants.{Message}
 use Rattle.entry_receipts.specs.declared.kept.KeptEntry.{KeptEntry}
 use Rattle.mediator_state.specs.declared.fault.Fault.{Fault}
 use Rattle.mediator_state.specs.declared.fault.Fault.TheVariants as fault
-use Rattle.counted_mediator.specs.declared.fault.PullFault.TheVariants as pull
+use Rattle.mediator_calls.specs.declared.fault.PullFault.TheVariants as pull
 use Rattle.shared_mediator.specs.Locked.{Exporting}
 use Rattle.mediator_server.specs.declared.fault.ServeFault.{ServeFault}
 use Rattle.mediator_server.specs.declared.fault.ServeFault.TheVariants.{Read, Framing, Turns, Core}

@@ -10,8 +10,7 @@ ghost use Rattle.mediator_server.specs.Answering.{Edits, Subscribes, Unsubscribe
 use crate::command_input::CommandInput;
 use crate::fault::ServeFault;
 use admin_lines::{Answer, Command, answer_text, out_of_memory_text, read_command};
-use counted_mediator::PullFault;
-use mediator_calls::{SubId, UnknownSub};
+use mediator_calls::{PullFault, SubId, UnknownSub};
 use mediator_state::Fault;
 use octet_devices::{Sink, Source, write_all};
 use shared_mediator::{AdminHandle, EntryLedger, RecordLedger, SharedMediator};

@@ -6,8 +6,7 @@ ghost use Rattle.mediator_server.specs.Delivering.{Delivers, FailsToDeliver, Fit
 
 use crate::clock::Clock;
 use crate::fault::ServeFault;
-use counted_mediator::PullFault;
-use mediator_calls::SubId;
+use mediator_calls::{PullFault, SubId};
 use octet_devices::{Sink, write_all};
 use shared_mediator::{
     AdminHandle, DeliveryHandle, EntryLedger, RecordLedger, SharedMediator, Waited,

@@ -1,6 +1,6 @@
 //! Why a connection is served no more.
 
-use counted_mediator::PullFault;
+use mediator_calls::PullFault;
 use mediator_state::Fault;
 use message_intake::{FramingFault, IntakeFault};
 use std::alloc::AllocError;
@@ -54,7 +54,7 @@ impl From<PullFault> for ServeFault {
 
 impl From<Fault> for ServeFault {
     ghost use Rattle.std.specs.Prelude.{◌≡◌};
-    ghost use Rattle.counted_mediator.specs.declared.fault.PullFault.TheVariants as pull;
+    ghost use Rattle.mediator_calls.specs.declared.fault.PullFault.TheVariants as pull;
     ghost use Rattle.mediator_server.specs.declared.fault.ServeFault.TheVariants.{Core};
 
     ghost from_gives = { λ f e. e ≡ Core (pull.Core f) };

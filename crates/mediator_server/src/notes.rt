@@ -3,8 +3,8 @@
 use crate::exporter::Counts;
 use crate::fault::ServeFault;
 use crate::plan::Collector;
-use counted_mediator::Handed;
 use log::{Log, error, info, warn};
+use mediator_calls::Handed;
 use shared_mediator::{Closed, HandleFault};
 use std::fmt::{self, Display, Formatter, Write};
 use std::io;

@@ -3,11 +3,11 @@
 use crate::hands::{Bounds, ENOUGH, PASS, ROOMY, begin, hands, limits_of};
 use crate::octets::{LENGTH_15, SET_OF_3, STREAM, TWO_RECORDS, VERSION_9};
 use crate::stage::{Case, Hands, play};
-use counted_mediator::PullFault;
 use event_journal::Entry;
 use faulty_devices::Sparing;
 use ipfix_message::DecodeError;
 use ipfix_session::ReadError;
+use mediator_calls::PullFault;
 use mediator_core::Fault;
 use mediator_server::{ServeFault, serve_exporter};
 use message_intake::FramingFault;

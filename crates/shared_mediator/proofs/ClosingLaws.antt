@@ -9,7 +9,7 @@ use Rattle.entry_receipts.specs.declared.kept.KeptEntry.{KeptEntry}
 use Rattle.entry_receipts.specs.Receipts.{all_kept, AreReceipts, AreComplete}
 use Rattle.entry_receipts.specs.Marking.{Marked, AreMarked}
 use Rattle.entry_receipts.proofs.Complete.{length_all_kept, all_of_handles, complete}
-use Rattle.counted_mediator.specs.Counted.{Counted, has_receipt, entries_of}
+use Rattle.mediator_calls.specs.Counted.{Counted, has_receipt, entries_of}
 use Rattle.shared_mediator.specs.Locked.{Exporting}
 use Rattle.shared_mediator.specs.Handles.{HasReceipt}
 use Rattle.shared_mediator.specs.Closing.{KeepsMessages, receipts_of, entries_kept, HasReceipts}

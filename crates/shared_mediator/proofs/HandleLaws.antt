@@ -5,7 +5,7 @@ use Rattle.std.proofs.lemmas.List.{length-append, take_more}
 use Rattle.sequences.proofs.ListLaws.{AllByRecursion-append}
 use Rattle.event_journal.specs.declared.entry.Entry.TheVariants.{Message}
 use Rattle.entry_receipts.specs.declared.kept.KeptEntry.{KeptEntry}
-use Rattle.counted_mediator.specs.Counted.{has_receipt}
+use Rattle.mediator_calls.specs.Counted.{has_receipt}
 use Rattle.shared_mediator.specs.Locked.{Exporting}
 use Rattle.shared_mediator.specs.Handles.{HasReceipt, IsMessage, AreMessages, IsExporting}
 use Rattle.shared_mediator.specs.Closing.{KeepsMessages}

@@ -4,7 +4,7 @@ use Rattle.mediator_history.specs.Subscriptions.{is_live, is_served}
 use Rattle.mediator_state.specs.declared.fault.Fault.TheVariants.{UnknownSub}
 use Rattle.mediator_calls.specs.Mediation.{waiting_at}
 use Rattle.mediator_calls.specs.Calls.{RefusesOpen}
-use Rattle.counted_mediator.specs.Counted.{Counts}
+use Rattle.mediator_calls.specs.Counted.{Counts}
 use Rattle.shared_mediator.specs.Locked.{Locked}
 use Rattle.shared_mediator.specs.declared.fault.HandleFault.{HandleFault}
 use Rattle.shared_mediator.specs.declared.fault.HandleFault.TheVariants as handle

@@ -3,7 +3,7 @@ use Rattle.std.specs.Prelude.{◌≡◌, ℕ, List, ◌++◌, map, length, take,
 use Rattle.event_journal.specs.declared.entry.Entry.{Entry}
 use Rattle.entry_receipts.specs.declared.kept.KeptEntry.{KeptEntry}
 use Rattle.entry_receipts.specs.Receipts.{all_kept, AreReceipts, AreComplete}
-use Rattle.counted_mediator.specs.Counted.{has_receipt}
+use Rattle.mediator_calls.specs.Counted.{has_receipt}
 use Rattle.shared_mediator.specs.declared.fault.CloseFault.{CloseFault}
 use Rattle.shared_mediator.specs.declared.fault.CloseFault.TheVariants.{MissingHandle}
 use Rattle.shared_mediator.specs.Locked.{Locked, Exporting, Delivering}

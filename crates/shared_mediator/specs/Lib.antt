@@ -24,8 +24,8 @@ pub use Rattle.mediator_calls.specs.Sound
 pub use Rattle.mediator_calls.specs.Calls as MediatorCalls
 pub use Rattle.entry_receipts.specs.Receipts
 pub use Rattle.entry_receipts.specs.Marking
-pub use Rattle.counted_mediator.specs.Counted
-pub use Rattle.counted_mediator.specs.Handing
+pub use Rattle.mediator_calls.specs.Counted
+pub use Rattle.mediator_calls.specs.Handing
 pub mod Locked
 pub mod Keeping
 pub mod Handles

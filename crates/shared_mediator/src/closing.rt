@@ -3,7 +3,7 @@ ghost use Rattle.std.specs.Prelude.{◌≡◌, ◌≢◌, ◌+◌, ◌++◌, Lis
 ghost use Rattle.std.specs.List.{AllByRecursion};
 ghost use Rattle.entry_receipts.specs.declared.kept.KeptEntry.{KeptEntry};
 ghost use Rattle.entry_receipts.specs.Marking.{Marked, AreMarked};
-ghost use Rattle.counted_mediator.specs.Counted.{entries_of};
+ghost use Rattle.mediator_calls.specs.Counted.{entries_of};
 ghost use Rattle.shared_mediator.specs.declared.fault.CloseFault.TheVariants.{MissingHandle};
 ghost use Rattle.shared_mediator.specs.Handles.{HasReceipt};
 ghost use Rattle.shared_mediator.specs.Closing.{KeepsMessages, receipts_of, messages_accepted, entries_kept, records_handed, HasReceipts, AreAll, RefusesClosing};
@@ -15,10 +15,9 @@ use crate::exporter::ExporterHandle;
 use crate::fault::CloseFault;
 use crate::ledgers::{EntryLedger, RecordLedger};
 use crate::shared::SharedMediator;
-use counted_mediator::CountedMediator;
 use entry_receipts::Marks;
 use event_journal::Journal;
-use mediator_calls::Mediator;
+use mediator_calls::{CountedMediator, Mediator};
 use std::alloc::Global;
 use std::sync::ledger::Share;
 

@@ -6,8 +6,7 @@ ghost use Rattle.shared_mediator.specs.Handles.{KeepsHanded, records_kept};
 
 use crate::ledgers::{EntryLedger, RecordLedger};
 use crate::shared::SharedMediator;
-use counted_mediator::{Handed, PullFault};
-use mediator_calls::SubId;
+use mediator_calls::{Handed, PullFault, SubId};
 use mediator_state::Fault;
 use std::alloc::Global;
 use std::marker::Model;

@@ -5,8 +5,8 @@ ghost use Rattle.mediator_state.specs.Calls.{RefusesClose, RefusesEdit, RefusesS
 ghost use Rattle.mediator_calls.specs.Mediation.{journal_limits};
 ghost use Rattle.mediator_calls.specs.Sound.{IsSound};
 ghost use Rattle.mediator_calls.specs.Calls.{Opens, Closes, Receives, RefusesReceive, Edits, Subscribes, Unsubscribes, Advances, RefusesAdvance, IsStatusOf, Drains};
-ghost use Rattle.counted_mediator.specs.Counted.{counted_as, handed_at, handed_live};
-ghost use Rattle.counted_mediator.specs.Handing.{HandsOut, RefusesHanding, records_of};
+ghost use Rattle.mediator_calls.specs.Counted.{counted_as, handed_at, handed_live};
+ghost use Rattle.mediator_calls.specs.Handing.{HandsOut, RefusesHanding, records_of};
 ghost use Rattle.shared_mediator.specs.Locked.{locked_as};
 ghost use Rattle.shared_mediator.specs.Calls.{Makes, Adds, RefusesExporter, RefusesDelivery, RefusesAdmin, IsWaited};
 
@@ -14,9 +14,8 @@ use crate::delivery::Waited;
 use crate::fault::HandleFault;
 use crate::ledgers::{EntryLedger, RecordLedger};
 use bytes::Bytes;
-use counted_mediator::{CountedMediator, Handed, PullFault};
 use disclosure_audit::AuditEntry;
-use mediator_calls::{Mediator, SessionId, SubId, UnknownSub};
+use mediator_calls::{CountedMediator, Handed, Mediator, PullFault, SessionId, SubId, UnknownSub};
 use mediator_state::{Fault, Receipt, Status};
 use std::alloc::AllocError;
 use std::marker::Model;

@@ -4,10 +4,10 @@ use crate::octets::{
 };
 use crate::sharing::{Case, Hands, one, share};
 use bytes::Bytes;
-use counted_mediator::PullFault;
 use disclosure_audit::line;
 use ipfix_message::DecodeError;
 use ipfix_session::{ReadError, Skips};
+use mediator_calls::PullFault;
 use mediator_core::{Fault, Receipt, Status, SubId, UnknownSub};
 use policy_text::{FaultKind, PolicyFault};
 use shared_mediator::{

@@ -1,6 +1,0 @@
-pub mod Living
-pub mod Receipts
-pub mod Sums
-pub mod Handing
-pub mod Moving
-pub mod Pulling

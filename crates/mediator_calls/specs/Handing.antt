@@ -1,0 +1,36 @@
+-- What a pull hands out, and how many records stand in it.
+use Rattle.std.specs.Prelude.{◌≡◌, ℕ, ◌+◌, ◌≤◌, ◌^◌, true, List, length, take, drop, Option, Some, None, option_map}
+use Rattle.subscriber_stream.specs.Parts.{parts, records_in}
+use Rattle.subscriber_stream.specs.Message.{taken}
+use Rattle.mediator_history.specs.Subscriptions.{is_live}
+use Rattle.mediator_history.specs.Disclosed.{disclosed}
+use Rattle.mediator_state.specs.Calls.{RefusesPull}
+use Rattle.mediator_calls.specs.Mediation.{Mediation, place_at, waiting_at}
+use Rattle.mediator_calls.specs.Calls.{Pulls}
+use Rattle.mediator_calls.specs.declared.handed.Handed.{Handed}
+use Rattle.mediator_calls.specs.declared.fault.PullFault.{PullFault}
+use Rattle.mediator_calls.specs.declared.fault.PullFault.TheVariants.{HandedFull, Core}
+use Rattle.mediator_calls.specs.Counted.{Counted, Counts, handed_of}
+
+-- how many records stand in a subscription's next message
+abbrev pub records_next : Mediation → ℕ → ℕ → ℕ
+records_next m sub target =
+    length (records_in (take (taken (disclosed sub m.history) (place_at m sub) target) (drop (place_at m sub) (parts (disclosed sub m.history)))))
+
+abbrev pub octets_of : Option Handed → Option (List ℕ)
+octets_of answer = option_map (λ h. h.message) answer
+
+abbrev pub records_of : Option Handed → ℕ
+records_of None = 0
+records_of (Some h) = h.records
+
+-- the mediator's next message for the subscription, with the number of its records, which count as handed from then on
+pub record HandsOut (old : Counted) (sub now target : ℕ) (answer : Option Handed) (new : Counted) : Type 0 where
+  pub pulls : Pulls old.core sub now target (octets_of answer) new.core
+  pub records : records_of answer ≡ records_next old.core sub target
+  pub counts : Counts old 0 (records_of answer) 0 new
+
+-- the count has no room for all that waits for a live subscription; or the mediator's own refusal
+abbrev pub RefusesHanding : PullFault → Counted → ℕ → Type 0
+RefusesHanding HandedFull c sub = (is_live sub c.core.history ≡ true) × (2 ^ 64 ≤ handed_of c + waiting_at c.core sub)
+RefusesHanding (Core why) c sub = RefusesPull why c.core.history sub
