@@ -180,11 +180,14 @@ fn fails_to_count<R: Files + AllocGlobal>(rt: &R) -> Result<bool, Fail> {
 
 /// The same of the version.
 fn fails_to_show(alloc: Global) -> Result<bool, Fail> {
+    let words = ["--version"];
     let mut output = buffer(alloc)?;
-    Ok(match read_command_line(alloc, &["--version"]) {
-        Ok(Task::Show(shown)) => has_failed(&show(alloc, &shown, &mut output)),
-        _ => false,
-    })
+    let task = read_command_line(alloc, &words);
+    let Ok(Task::Show(shown)) = &task else {
+        return Ok(false);
+    };
+    let answer = show(alloc, shown, &mut output);
+    Ok(has_failed(&answer))
 }
 
 #[test]
