@@ -79,6 +79,25 @@ unfoldable pub width_at : Option Element → Option ℕ
 width_at None = None
 width_at (Some e) = width_of_kind (kind_of e)
 
+-- the kinds of elements whose values are times
+abbrev pub is_time_kind : Kind → Bool
+is_time_kind U8 = false
+is_time_kind U16 = false
+is_time_kind U32 = false
+is_time_kind U64 = false
+is_time_kind Ipv4 = false
+is_time_kind Ipv6 = false
+is_time_kind Mac = false
+is_time_kind Seconds = true
+is_time_kind Millis = true
+is_time_kind Text = false
+is_time_kind Octets = false
+
+-- a named element whose values are times: what `degrade` is for
+unfoldable pub is_time_at : Option Element → Bool
+is_time_at None = false
+is_time_at (Some e) = is_time_kind (kind_of e)
+
 -- elements of a key have no enterprise number, so the number tells them apart
 unfoldable pub with_key : List Element → Element → Result (List Element) FaultKind
 with_key key e =
@@ -111,7 +130,7 @@ unfoldable pub new_name : List Aggregate → Word → Result Word FaultKind
 new_name aggregates word =
     if is_name word then (if is_some (place_of aggregates word) then Err DoubleAggregate else Ok word) else Err BadName
 
--- 1 to 86400
+-- 1 to 86400: the length of an interval, and to how many seconds times are degraded
 unfoldable pub interval : Word → Result ℕ FaultKind
 interval word = number 86400 word >>= λ seconds. if nat_lt seconds 1 then Err BadNumber else Ok seconds
 

@@ -4,6 +4,7 @@ use Rattle.std.specs.List.{AllByRecursion}
 use Rattle.policy_text.specs.declared.fault.FaultKind.{FaultKind}
 use Rattle.policy_text.specs.declared.fault.FaultKind.TheVariants.{NoHeader}
 use Rattle.policy_text.specs.declared.fault.PolicyFault.{PolicyFault}
+use Rattle.policy_text.specs.declared.version.Version.{Version}
 use Rattle.policy_text.specs.Words.{Word, words_of, lines_of, is_skipped}
 use Rattle.policy_text.specs.Policies.{Meaning, with_aggregate, Aggregate as Definition}
 use Rattle.policy_text.specs.Grammar.{IsAggregate}
@@ -15,7 +16,7 @@ use Rattle.policy_text.specs.LineParts.Part.{first_word}
 
 -- a line that may stand after the policy so far; before the header it is the header
 abbrev pub MayStand : Option Meaning → List Word → Type 0
-MayStand None words = words ≡ header
+MayStand None words = (version : Version) × (words ≡ header version)
 MayStand (Some policy) words = (new : Meaning) × (AddsRule policy words new ⊎ AddsAggregate policy words new)
 
 -- Where no aggregate is defined, a rule as far as its `aggregate`: with a name it may stand after the line of an aggregate.
@@ -31,7 +32,7 @@ Begins so_far words = (more : List Word) × (MayStand so_far (words ++ more) ⊎
 -- the kind of a fault by its place
 abbrev pub IsKind : Option Meaning → List Word → List Word → FaultKind → Type 0
 IsKind None front words kind = kind ≡ NoHeader
-IsKind (Some policy) front words kind = IsKindBehind (first_word ∷ []) front words kind
+IsKind (Some policy) front words kind = IsKindBehind (first_word policy.version ∷ []) front words kind
 
 -- Behind front the line is faulty: it ends and is none that may stand here, or no continuation mends its next word.
 abbrev pub IsFaulty : Option Meaning → List Word → List Word → Type 0

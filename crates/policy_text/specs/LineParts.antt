@@ -1,32 +1,34 @@
 -- What each word of a line is to be, and the kind of fault where it is not.
-use Rattle.std.specs.Prelude.{◌≡◌, ◌⊎◌, ◌||◌, List, [], ◌∷◌, ◌++◌, map, if◌then◌else◌, is_some, codes, ◌==◌}
+use Rattle.std.specs.Prelude.{◌≡◌, ◌⊎◌, ◌&&◌, ◌||◌, List, [], ◌∷◌, ◌++◌, map, if◌then◌else◌, is_some, codes, ◌==◌}
 use Rattle.std.specs.List.{slice_split, fold}
 use Rattle.std.specs.Str.{bytes_eq}
 use Rattle.ipfix_element.specs.Element.{Element, IsElement}
 use Rattle.ipfix_element.specs.Names.{element_name}
 use Rattle.numerals.specs.Numerals.{number_of}
 use Rattle.policy_text.specs.declared.fault.FaultKind.{FaultKind}
-use Rattle.policy_text.specs.declared.fault.FaultKind.TheVariants.{UnknownWord, BadName, BadNumber, BadPrefix, BadTruncate, UnknownAggregate, DoubleAggregate, BadKey, TooMany}
+use Rattle.policy_text.specs.declared.fault.FaultKind.TheVariants.{UnknownWord, BadName, BadNumber, BadPrefix, BadTruncate, UnknownAggregate, DoubleAggregate, BadKey, TooMany, BadDegrade}
+use Rattle.policy_text.specs.declared.version.Version.{Version}
 use Rattle.policy_text.specs.Words.{Word}
 use Rattle.policy_text.specs.Naming.{is_name}
+use Rattle.policy_text.specs.Policies.{has_degrade}
 use Rattle.policy_text.specs.Grammar.{IsKey}
 
--- what a word of a line is to be
+-- what a word of a line is to be; where the version matters, the part has that of the text
 pub data Part : Type 0 where
   -- `rule` or `aggregate`
-  first_word : Part
+  first_word : Version → Part
   -- the one word that the grammar has there
   keyword : Part
   who : Part
   domain : Part
   network : Part
   -- `pass`, `withhold`, `aggregate` or `element`
-  action : Part
+  action : Version → Part
   -- the NAME of an aggregate that a line before defines
   known_name : Part
   element_or_star : Part
-  -- `keep`, `remove` or `truncate`
-  treatment : Part
+  -- `keep`, `remove`, `truncate`, or `degrade` in a version that has it
+  treatment : Version → Part
   bits : Part
   -- the NAME of an aggregate that no line before defines
   unused_name : Part
@@ -36,19 +38,21 @@ pub data Part : Type 0 where
   line_end : Part
 
 -- the parts of a line's words
-abbrev pub rule_parts : List Part
-rule_parts = keyword ∷ who ∷ keyword ∷ domain ∷ keyword ∷ network ∷ keyword ∷ network ∷ action ∷ []
+abbrev pub rule_parts : Version → List Part
+rule_parts version = keyword ∷ who ∷ keyword ∷ domain ∷ keyword ∷ network ∷ keyword ∷ network ∷ action version ∷ []
 
 abbrev pub aggregate_parts : List Part
 aggregate_parts = unused_name ∷ keyword ∷ key_list ∷ keyword ∷ seconds ∷ keyword ∷ seconds ∷ []
 
 -- The parts behind a word: those that follow, or those of the line, the action or the treatment that the word names.
 abbrev pub parts_after : Part → Word → List Part → List Part
-parts_after first_word word parts = if bytes_eq word (codes "rule") then rule_parts else aggregate_parts
-parts_after action word parts =
+parts_after (first_word version) word parts = if bytes_eq word (codes "rule") then rule_parts version else aggregate_parts
+parts_after (action version) word parts =
     if bytes_eq word (codes "aggregate") then known_name ∷ []
-    else if bytes_eq word (codes "element") then element_or_star ∷ treatment ∷ [] else []
-parts_after treatment word parts = if bytes_eq word (codes "truncate") then bits ∷ [] else []
+    else if bytes_eq word (codes "element") then element_or_star ∷ treatment version ∷ [] else []
+parts_after (treatment version) word parts =
+    if bytes_eq word (codes "truncate") then bits ∷ []
+    else if bytes_eq word (codes "degrade") then seconds ∷ [] else []
 parts_after part word parts = parts
 
 -- the parts that are left when the first of them is this word
@@ -78,15 +82,17 @@ pub record IsKeyFault (word : Word) (kind : FaultKind) : Type 0 where
 
 -- the kind of a faulty word by its part
 abbrev pub IsKindOf : Part → Word → FaultKind → Type 0
-IsKindOf first_word word kind = kind ≡ (if bytes_eq word (codes "rule") || bytes_eq word (codes "aggregate") then TooMany else UnknownWord)
+IsKindOf (first_word version) word kind = kind ≡ (if bytes_eq word (codes "rule") || bytes_eq word (codes "aggregate") then TooMany else UnknownWord)
 IsKindOf keyword word kind = kind ≡ UnknownWord
 IsKindOf who word kind = kind ≡ BadName
 IsKindOf domain word kind = kind ≡ BadNumber
 IsKindOf network word kind = kind ≡ BadPrefix
-IsKindOf action word kind = kind ≡ UnknownWord
+IsKindOf (action version) word kind = kind ≡ UnknownWord
 IsKindOf known_name word kind = kind ≡ (if is_name word then UnknownAggregate else BadName)
 IsKindOf element_or_star word kind = kind ≡ BadName
-IsKindOf treatment word kind = kind ≡ (if bytes_eq word (codes "truncate") then BadTruncate else UnknownWord)
+IsKindOf (treatment version) word kind =
+    kind ≡ (if bytes_eq word (codes "truncate") then BadTruncate
+    else if has_degrade version && bytes_eq word (codes "degrade") then BadDegrade else UnknownWord)
 IsKindOf bits word kind = kind ≡ (if is_some (number_of 999 word) then BadTruncate else BadNumber)
 IsKindOf unused_name word kind = kind ≡ (if is_name word then DoubleAggregate else BadName)
 IsKindOf key_list word kind = IsKeyFault word kind

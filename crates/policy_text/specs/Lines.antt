@@ -1,16 +1,17 @@
 -- What the words of a line stand for, read from the left, or the fault of the first word that doesn't fit.
-use Rattle.std.specs.Prelude.{ℕ, List, [], ◌∷◌, length, Option, Some, None, Result, Ok, Err, nat_le, if◌then◌else◌, codes}
+use Rattle.std.specs.Prelude.{ℕ, Bool, true, false, List, [], ◌∷◌, length, Option, Some, None, Result, Ok, Err, nat_le, ◌&&◌, if◌then◌else◌, codes}
 use Rattle.std.specs.Str.{bytes_eq}
 use Rattle.ipfix_element.specs.Element.{Element}
 use Rattle.sequences.specs.Results.{◌>>=◌}
 use Rattle.policy_text.specs.declared.fault.FaultKind.{FaultKind}
-use Rattle.policy_text.specs.declared.fault.FaultKind.TheVariants.{UnknownWord, BadTruncate, TooMany}
+use Rattle.policy_text.specs.declared.fault.FaultKind.TheVariants.{UnknownWord, BadTruncate, TooMany, BadDegrade}
 use Rattle.policy_text.specs.declared.rule.Rule.{Rule}
 use Rattle.policy_text.specs.declared.rule.Action.{Action}
-use Rattle.policy_text.specs.declared.rule.Action.TheVariants.{Pass, Withhold, Aggregate, Keep, Remove, Truncate}
+use Rattle.policy_text.specs.declared.rule.Action.TheVariants.{Pass, Withhold, Aggregate, Keep, Remove, Truncate, Degrade}
+use Rattle.policy_text.specs.declared.version.Version.{Version}
 use Rattle.policy_text.specs.Words.{Word}
-use Rattle.policy_text.specs.Policies.{Meaning, with_aggregate, with_rule, Aggregate as Definition}
-use Rattle.policy_text.specs.Classes.{name, number, element, prefix, or_star, key_of, width_at, aggregate_place, new_name, interval, bits_within}
+use Rattle.policy_text.specs.Policies.{Meaning, has_degrade, with_aggregate, with_rule, Aggregate as Definition}
+use Rattle.policy_text.specs.Classes.{name, number, element, prefix, or_star, key_of, width_at, is_time_at, aggregate_place, new_name, interval, bits_within}
 
 -- the next word and those after it; in a line that ends early it is missing
 unfoldable pub next_of : List Word → Result (Word × List Word) FaultKind
@@ -42,13 +43,21 @@ truncate_of (Some width) words = do
   bits ← next (bits_within width) words
   Ok (Truncate bits.0, bits.1)
 
--- behind `element ELEM`, of an element of this width
-unfoldable pub element_action : Option ℕ → List Word → Result (Action × List Word) FaultKind
-element_action width words = do
+-- what `degrade` asks of an element whose values are times or not
+unfoldable pub degrade_of : Bool → List Word → Result (Action × List Word) FaultKind
+degrade_of false words = Err BadDegrade
+degrade_of true words = do
+  seconds ← next interval words
+  Ok (Degrade seconds.0, seconds.1)
+
+-- behind `element ELEM`, in a text of this version
+unfoldable pub element_action : Version → Option Element → List Word → Result (Action × List Word) FaultKind
+element_action version e words = do
   w ← next_of words
   if bytes_eq w.0 (codes "keep") then Ok (Keep, w.1)
       else if bytes_eq w.0 (codes "remove") then Ok (Remove, w.1)
-      else if bytes_eq w.0 (codes "truncate") then truncate_of width w.1
+      else if bytes_eq w.0 (codes "truncate") then truncate_of (width_at e) w.1
+      else if has_degrade version && bytes_eq w.0 (codes "degrade") then degrade_of (is_time_at e) w.1
       else Err UnknownWord
 
 -- behind `aggregate`
@@ -58,25 +67,25 @@ aggregate_action aggregates words = do
   Ok ((None, Aggregate place.0), place.1)
 
 -- behind `element`
-unfoldable pub on_element : List Word → Result ((Option Element × Action) × List Word) FaultKind
-on_element words = do
+unfoldable pub on_element : Version → List Word → Result ((Option Element × Action) × List Word) FaultKind
+on_element version words = do
   e ← next (or_star element) words
-  action ← element_action (width_at e.0) e.1
+  action ← element_action version e.0 e.1
   Ok ((e.0, action.0), action.1)
 
 -- an action with its element
-unfoldable pub action_of : List Definition → List Word → Result ((Option Element × Action) × List Word) FaultKind
-action_of aggregates words = do
+unfoldable pub action_of : Version → List Definition → List Word → Result ((Option Element × Action) × List Word) FaultKind
+action_of version aggregates words = do
   w ← next_of words
   if bytes_eq w.0 (codes "pass") then Ok ((None, Pass), w.1)
       else if bytes_eq w.0 (codes "withhold") then Ok ((None, Withhold), w.1)
       else if bytes_eq w.0 (codes "aggregate") then aggregate_action aggregates w.1
-      else if bytes_eq w.0 (codes "element") then on_element w.1
+      else if bytes_eq w.0 (codes "element") then on_element version w.1
       else Err UnknownWord
 
 -- behind `rule`
-unfoldable pub rule_of : List Definition → List Word → Result Rule FaultKind
-rule_of aggregates words = do
+unfoldable pub rule_of : Version → List Definition → List Word → Result Rule FaultKind
+rule_of version aggregates words = do
   a ← after (codes "for") words
   who ← next (or_star name) a
   b ← after (codes "in") who.1
@@ -85,7 +94,7 @@ rule_of aggregates words = do
   from ← next (or_star prefix) c
   d ← after (codes "to") from.1
   to ← next (or_star prefix) d
-  done ← action_of aggregates to.1
+  done ← action_of version aggregates to.1
   nothing_more ← ended done.1
   Ok (record { who = who.0; domain = domain.0; from = from.0; to = to.0; element = done.0.0; action = done.0.1 })
 
@@ -104,7 +113,7 @@ aggregate_of aggregates words = do
 
 -- the policy with one rule more
 unfoldable pub rule_line : Meaning → List Word → Result Meaning FaultKind
-rule_line policy words = if nat_le 4096 (length policy.rules) then Err TooMany else (rule_of policy.aggregates words >>= λ r. Ok (with_rule policy r))
+rule_line policy words = if nat_le 4096 (length policy.rules) then Err TooMany else (rule_of policy.version policy.aggregates words >>= λ r. Ok (with_rule policy r))
 
 -- the policy with one aggregate more
 unfoldable pub aggregate_line : Meaning → List Word → Result Meaning FaultKind

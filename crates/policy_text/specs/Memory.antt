@@ -1,6 +1,6 @@
 -- Which texts take memory to be read: a name in a line is kept before the line's fault is known, and so are the rule
 -- and the aggregate of a line without one.
-use Rattle.std.specs.Prelude.{◌≡◌, ℕ, Bool, true, false, List, ◌∷◌, ◌++◌, length, Result, Ok, Err, is_ok, is_none, nat_lt, not, ◌&&◌, ◌||◌, if◌then◌else◌, codes}
+use Rattle.std.specs.Prelude.{◌≡◌, ℕ, Bool, true, false, List, ◌∷◌, ◌++◌, length, Option, Some, None, Result, Ok, Err, is_ok, is_none, nat_lt, not, ◌&&◌, ◌||◌, if◌then◌else◌, codes}
 use Rattle.std.specs.Str.{bytes_eq}
 use Rattle.policy_text.specs.declared.fault.FaultKind.{FaultKind}
 use Rattle.policy_text.specs.Words.{Word, words_of, lines_of, is_skipped}
@@ -34,7 +34,7 @@ names_subscriber words = name_follows (after (codes "for") words)
 
 -- a rule's line takes memory for the subscriber's name, and for the rule
 unfoldable pub rule_takes : Meaning → List Word → Bool
-rule_takes policy words = nat_lt (length policy.rules) 4096 && (names_subscriber words || is_ok (rule_of policy.aggregates words))
+rule_takes policy words = nat_lt (length policy.rules) 4096 && (names_subscriber words || is_ok (rule_of policy.version policy.aggregates words))
 
 -- an aggregate's line takes memory for its name, and then for its key and the aggregate
 unfoldable pub aggregate_takes : Meaning → List Word → Bool
@@ -50,8 +50,9 @@ unfoldable pub line_takes : Meaning → List Word → Bool
 line_takes policy words = takes_by policy (next_of words)
 
 -- a line that is skipped takes none, and nor does the header
-unfoldable pub step_takes : Bool → Meaning → List ℕ → Bool
-step_takes started policy line = started && (not (is_skipped (words_of line)) && line_takes policy (words_of line))
+unfoldable pub step_takes : Option Meaning → List ℕ → Bool
+step_takes None line = false
+step_takes (Some policy) line = not (is_skipped (words_of line)) && line_takes policy (words_of line)
 
 -- A line takes memory, and those before it spell a policy so far: neither the header nor a line before it takes any, and no
 -- line behind the first faulty one is read.

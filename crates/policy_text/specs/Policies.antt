@@ -1,7 +1,14 @@
 -- What a policy is.
-use Rattle.std.specs.Prelude.{ℕ, ◌≤◌, List, [], ◌∷◌, ◌++◌}
+use Rattle.std.specs.Prelude.{ℕ, ◌≤◌, Bool, true, false, List, [], ◌∷◌, ◌++◌}
 use Rattle.ipfix_element.specs.Element.{Element}
 use Rattle.policy_text.specs.declared.rule.Rule.{Rule}
+use Rattle.policy_text.specs.declared.version.Version.{Version}
+use Rattle.policy_text.specs.declared.version.Version.TheVariants.{One, Two}
+
+-- whether a version has rules that degrade times
+abbrev pub has_degrade : Version → Bool
+has_degrade One = false
+has_degrade Two = true
 
 -- an aggregate's definition: its key elements, and its seconds
 pub record Aggregate : Type 0 where
@@ -21,17 +28,22 @@ pub record IsRanged (key interval grace : ℕ) : Type 0 where
   pub interval_high : interval ≤ 86400
   pub grace_high : grace ≤ 86400
 
--- the aggregates and the rules, in the order of the text
+-- the version that the header names, and the aggregates and the rules in the order of the text
 pub record Meaning : Type 0 where
+  pub version : Version
   pub aggregates : List Aggregate
   pub rules : List Rule
 
--- the policy before its first line
+-- the policy of a header alone
+abbrev pub without_lines : Version → Meaning
+without_lines version = record { version = version; aggregates = []; rules = [] }
+
+-- the policy where there is none
 abbrev pub nothing : Meaning
-nothing = record { aggregates = []; rules = [] }
+nothing = without_lines One
 
 abbrev pub with_aggregate : Meaning → Aggregate → Meaning
-with_aggregate policy a = record { aggregates = policy.aggregates ++ a ∷ []; rules = policy.rules }
+with_aggregate policy a = record { version = policy.version; aggregates = policy.aggregates ++ a ∷ []; rules = policy.rules }
 
 abbrev pub with_rule : Meaning → Rule → Meaning
-with_rule policy rule = record { aggregates = policy.aggregates; rules = policy.rules ++ rule ∷ [] }
+with_rule policy rule = record { version = policy.version; aggregates = policy.aggregates; rules = policy.rules ++ rule ∷ [] }

@@ -7,7 +7,9 @@ use Rattle.ipfix_element.specs.Names.{element_name}
 use Rattle.flow_prefix.specs.Printing.{prefix_text}
 use Rattle.policy_text.specs.declared.rule.Rule.{Rule}
 use Rattle.policy_text.specs.declared.rule.Action.{Action}
-use Rattle.policy_text.specs.declared.rule.Action.TheVariants.{Pass, Withhold, Aggregate, Keep, Remove, Truncate}
+use Rattle.policy_text.specs.declared.rule.Action.TheVariants.{Pass, Withhold, Aggregate, Keep, Remove, Truncate, Degrade}
+use Rattle.policy_text.specs.declared.version.Version.{Version}
+use Rattle.policy_text.specs.declared.version.Version.TheVariants.{One, Two}
 use Rattle.policy_text.specs.Words.{Word}
 use Rattle.policy_text.specs.Policies.{Meaning, Aggregate as Definition}
 use Rattle.policy_text.specs.Classes.{star}
@@ -30,6 +32,7 @@ action_words aggregates element (Aggregate place) = codes "aggregate" ∷ name_a
 action_words aggregates element Keep = codes "element" ∷ word_or_star element_name element ∷ codes "keep" ∷ []
 action_words aggregates element Remove = codes "element" ∷ word_or_star element_name element ∷ codes "remove" ∷ []
 action_words aggregates element (Truncate bits) = codes "element" ∷ word_or_star element_name element ∷ codes "truncate" ∷ decimal bits ∷ []
+action_words aggregates element (Degrade seconds) = codes "element" ∷ word_or_star element_name element ∷ codes "degrade" ∷ decimal seconds ∷ []
 
 abbrev pub rule_words : List Definition → Rule → List Word
 rule_words aggregates r =
@@ -45,8 +48,12 @@ abbrev pub aggregate_words : Definition → List Word
 aggregate_words a =
     codes "aggregate" ∷ a.name ∷ codes "key" ∷ key_text a.key ∷ codes "interval" ∷ decimal a.interval ∷ codes "grace" ∷ decimal a.grace ∷ []
 
-abbrev pub header : List Word
-header = codes "policy" ∷ codes "1" ∷ []
+abbrev pub version_word : Version → Word
+version_word One = codes "1"
+version_word Two = codes "2"
+
+abbrev pub header : Version → List Word
+header version = codes "policy" ∷ version_word version ∷ []
 
 -- one space between words, and a line feed
 abbrev pub line_text : List Word → List ℕ
@@ -54,7 +61,7 @@ line_text words = join_with_byte 32 words ++ 10 ∷ []
 
 -- the header, the aggregates and the rules
 abbrev pub policy_lines : Meaning → List (List Word)
-policy_lines policy = header ∷ (map aggregate_words policy.aggregates ++ map (rule_words policy.aggregates) policy.rules)
+policy_lines policy = header policy.version ∷ (map aggregate_words policy.aggregates ++ map (rule_words policy.aggregates) policy.rules)
 
 unfoldable pub policy_text : Meaning → List ℕ
 policy_text policy = flat_map line_text (policy_lines policy)

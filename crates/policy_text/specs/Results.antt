@@ -2,7 +2,7 @@
 use Rattle.std.specs.Prelude.{◌≡◌, ℕ, Bool, true, false, Option, Some, None, Result, Ok, Err, MatchBool, if◌then◌else◌}
 use Rattle.sequences.specs.Results.{FailsBut, GivesBut}
 use Rattle.policy_text.specs.declared.fault.FaultKind.{FaultKind}
-use Rattle.policy_text.specs.declared.fault.FaultKind.TheVariants.{NoHeader, UnknownWord, BadName, BadNumber, BadPrefix, BadTruncate, UnknownAggregate, DoubleAggregate, BadKey, TooMany, OutOfMemory}
+use Rattle.policy_text.specs.declared.fault.FaultKind.TheVariants.{NoHeader, UnknownWord, BadName, BadNumber, BadPrefix, BadTruncate, UnknownAggregate, DoubleAggregate, BadKey, TooMany, OutOfMemory, BadDegrade}
 use Rattle.policy_text.specs.declared.fault.PolicyFault.{PolicyFault}
 
 -- a value, or this fault
@@ -22,6 +22,7 @@ is_memory DoubleAggregate = false
 is_memory BadKey = false
 is_memory TooMany = false
 is_memory OutOfMemory = true
+is_memory BadDegrade = false
 
 -- the fault is the one that reading gives, unless memory ran out
 abbrev pub Fails : {Y : Type 0} → FaultKind → Result Y FaultKind → Type 0

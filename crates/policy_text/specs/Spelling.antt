@@ -4,8 +4,9 @@ use Rattle.std.specs.Fmt.{decimal}
 use Rattle.flow_prefix.specs.declared.prefix.Prefix.{Prefix}
 use Rattle.flow_prefix.specs.Text.{IsPrefixText}
 use Rattle.policy_text.specs.declared.rule.Rule.{Rule}
+use Rattle.policy_text.specs.declared.version.Version.{Version}
 use Rattle.policy_text.specs.Words.{Word, words_of, lines_of, is_skipped}
-use Rattle.policy_text.specs.Policies.{Meaning, nothing, with_rule, with_aggregate, Aggregate as Definition}
+use Rattle.policy_text.specs.Policies.{Meaning, without_lines, with_rule, with_aggregate, Aggregate as Definition}
 use Rattle.policy_text.specs.Classes.{star}
 use Rattle.policy_text.specs.Grammar.{IsRule, IsAggregate}
 use Rattle.policy_text.specs.Printing.{word_or_star, itself, action_words, aggregate_words, header}
@@ -21,11 +22,11 @@ rule_tail aggregates r from to =
     codes "for" ∷ word_or_star itself r.who ∷ codes "in" ∷ word_or_star decimal r.domain
     ∷ codes "from" ∷ from ∷ codes "to" ∷ to ∷ action_words aggregates r.element r.action
 
--- the words spell a rule that may stand after these aggregates
-pub record SpellsRule (aggregates : List Definition) (words : List Word) (r : Rule) : Type 0 where
+-- the words spell a rule that may stand after these aggregates, in a text of this version
+pub record SpellsRule (version : Version) (aggregates : List Definition) (words : List Word) (r : Rule) : Type 0 where
   pub from : Word
   pub to : Word
-  pub sound : IsRule aggregates r
+  pub sound : IsRule version aggregates r
   pub from_is : IsPrefixWord r.from from
   pub to_is : IsPrefixWord r.to to
   pub words_are : words ≡ rule_tail aggregates r from to
@@ -36,7 +37,7 @@ pub record AddsRule (old : Meaning) (words : List Word) (new : Meaning) : Type 0
   pub rule : Rule
   pub words_are : words ≡ codes "rule" ∷ tail
   pub room : length old.rules < 4096
-  pub spelled : SpellsRule old.aggregates tail rule
+  pub spelled : SpellsRule old.version old.aggregates tail rule
   pub added : with_rule old rule ≡ new
 
 -- a line of an aggregate: there are at most 256
@@ -56,12 +57,12 @@ abbrev pub AreLines : Meaning → List (List ℕ) → Meaning → Type 0
 AreLines old [] new = old ≡ new
 AreLines old (line ∷ lines) new = (mid : Meaning) × AfterLine old (words_of line) mid × AreLines mid lines new
 
--- the header is the first line that isn't skipped
+-- the header is the first line that isn't skipped, and names the version
 abbrev pub AreAllLines : List (List ℕ) → Meaning → Type 0
 AreAllLines [] new = ⊥
 AreAllLines (line ∷ lines) new =
     ((is_skipped (words_of line) ≡ true) × AreAllLines lines new)
-    ⊎ ((is_skipped (words_of line) ≡ false) × (words_of line ≡ header) × AreLines nothing lines new)
+    ⊎ ((is_skipped (words_of line) ≡ false) × (version : Version) × (words_of line ≡ header version) × AreLines (without_lines version) lines new)
 
 -- the text spells the policy
 abbrev pub Spells : List ℕ → Meaning → Type 0

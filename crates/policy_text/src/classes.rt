@@ -6,7 +6,7 @@ ghost use Rattle.policy_text.specs.Results.{Gives, is_memory};
 ghost use Rattle.policy_text.specs.Naming.{is_name};
 ghost use Rattle.policy_text.specs.Memory.{is_new_name};
 ghost use Rattle.policy_text.specs.Elements.{element_of};
-ghost use Rattle.policy_text.specs.Classes.{star, name, number, element, prefix, or_star, is_key_kind, width_at, with_key, add_piece, add_pieces, key_of, place_of, aggregate_place, new_name, interval, bits_within};
+ghost use Rattle.policy_text.specs.Classes.{star, name, number, element, prefix, or_star, is_key_kind, width_at, is_time_kind, is_time_at, with_key, add_piece, add_pieces, key_of, place_of, aggregate_place, new_name, interval, bits_within};
 ghost use Rattle.ipfix_element.specs.Kinds.{kind_of};
 
 use crate::aggregate::AggregateDef;
@@ -21,7 +21,7 @@ use std::str::from_utf8;
 
 /// The greatest number of an observation domain.
 const GREATEST_DOMAIN: u32 = u32::MAX;
-/// A day, the longest interval and the longest grace.
+/// A day: the longest interval, the longest grace, and the most that times are degraded to.
 const MOST_SECONDS: u32 = 86_400;
 /// The greatest number of three digits.
 const THREE_DIGITS: u32 = 999;
@@ -164,6 +164,34 @@ pub(crate) fn width_at(element: &Option<ElementId>) -> Option<u32>
     }
 }
 
+/// Whether the values of a named element are times.
+#[tactic(auto, unfolding(crate::specs::Classes::is_time_at))]
+pub(crate) fn is_time_at(element: &Option<ElementId>) -> bool
+    ensures { result ≡ is_time_at element.now }
+{
+    match element {
+        Some(element) => is_time_kind(kind_of(*element)),
+        None => false,
+    }
+}
+
+fn is_time_kind(kind: Kind) -> bool
+    ensures { result ≡ is_time_kind kind }
+{
+    match kind {
+        Kind::Seconds | Kind::Millis => true,
+        Kind::U8
+        | Kind::U16
+        | Kind::U32
+        | Kind::U64
+        | Kind::Ipv4
+        | Kind::Ipv6
+        | Kind::Mac
+        | Kind::Text
+        | Kind::Octets => false,
+    }
+}
+
 fn is_key_kind(kind: Kind) -> bool
     ensures { result ≡ is_key_kind kind }
 {
@@ -217,7 +245,7 @@ pub(crate) fn read_new_name(
     Ok(Name::new(alloc, word)?)
 }
 
-/// The length of an interval: 1 to 86400 seconds.
+/// The length of an interval, or of what times are degraded to: 1 to 86400 seconds.
 #[tactic(auto, unfolding(crate::specs::Classes::interval))]
 pub(crate) fn read_interval(word: &[u8]) -> Result<u32, FaultKind>
     ensures value { Gives (λ n. n) result (interval word.now) }

@@ -5,7 +5,7 @@ use std::fmt::{self, Display, Formatter, Write};
 /// What is wrong with the first word that doesn't fit. Its text is its name.
 #[derive(Clone, Copy, Debug, PartialEq, Eq)]
 pub enum FaultKind {
-    /// The first line that isn't skipped isn't `policy 1`.
+    /// The first line that isn't skipped is neither `policy 1` nor `policy 2`.
     NoHeader,
     /// Another word than the grammar's keyword, a line that ends early, or a word too many.
     UnknownWord,
@@ -27,6 +27,8 @@ pub enum FaultKind {
     TooMany,
     /// Memory ran out.
     OutOfMemory,
+    /// `degrade` of an element whose values are no times.
+    BadDegrade,
 }
 
 impl Error for FaultKind {}
@@ -50,6 +52,7 @@ impl Display for FaultKind {
             FaultKind::BadKey => "BadKey",
             FaultKind::TooMany => "TooMany",
             FaultKind::OutOfMemory => "OutOfMemory",
+            FaultKind::BadDegrade => "BadDegrade",
         })
     }
 }

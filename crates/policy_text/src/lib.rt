@@ -3,6 +3,7 @@
 //! It judges no record.
 //!
 //! - `policy`: [`Policy`], read by `parse` and written by `print`.
+//! - `version`: [`Version`], which the header of a text names.
 //! - `rule`: [`Rule`] and [`Action`], plain data.
 //! - `aggregate`: [`AggregateDef`], whose ranges its type keeps.
 //! - `name`: [`Name`] of a subscriber or an aggregate, and the test [`is_name`].
@@ -29,6 +30,7 @@ mod name;
 mod policy;
 mod print;
 mod rule;
+mod version;
 mod words;
 
 pub use aggregate::AggregateDef;
@@ -37,3 +39,4 @@ pub use laws::{first_fault, one_policy, print_then_parse};
 pub use name::{Name, is_name};
 pub use policy::Policy;
 pub use rule::{Action, Rule};
+pub use version::Version;

@@ -3,17 +3,18 @@ ghost use Rattle.policy_text.specs.Policies.{IsKeyLength};
 ghost use Rattle.policy_text.specs.Results.{Gives, is_memory};
 ghost use Rattle.policy_text.specs.Naming.{is_name};
 ghost use Rattle.policy_text.specs.Memory.{is_next, is_new_name, names_subscriber};
-ghost use Rattle.policy_text.specs.Classes.{name, number, element, prefix, or_star, aggregate_place, bits_within, width_at, new_name, key_of, interval};
-ghost use Rattle.policy_text.specs.Lines.{next, truncate_of, element_action, aggregate_action, on_element, action_of, rule_of, aggregate_of};
+ghost use Rattle.policy_text.specs.Classes.{name, number, element, prefix, or_star, aggregate_place, bits_within, width_at, is_time_at, new_name, key_of, interval};
+ghost use Rattle.policy_text.specs.Lines.{next, truncate_of, degrade_of, element_action, aggregate_action, on_element, action_of, rule_of, aggregate_of};
 
 use crate::aggregate::AggregateDef;
 use crate::classes::{
-    read_bits, read_domain, read_element_or_star, read_grace, read_interval, read_key,
+    is_time_at, read_bits, read_domain, read_element_or_star, read_grace, read_interval, read_key,
     read_new_name, read_place, read_prefix_or_star, read_who, width_at,
 };
 use crate::fault::FaultKind;
 use crate::name::Name;
 use crate::rule::{Action, Rule};
+use crate::version::Version;
 use crate::words::{Words, is_word};
 use flow_prefix::Prefix;
 use ipfix_element::ElementId;
@@ -89,10 +90,28 @@ impl Words<'_> {
         Ok(Action::Truncate(bits))
     }
 
-    /// What stands behind `element ELEM`, of an element of this width.
+    /// What stands behind `degrade`, of an element whose values are times or not.
+    #[tactic(auto, unfolding(crate::specs::Lines::degrade_of))]
+    fn degrade(&mut self, is_time: bool) -> Result<Action, FaultKind>
+        ensures value { Gives (λ action. (action, self.new)) result (degrade_of is_time self.old) }
+        ensures sure { IfErr result (λ kind. is_memory kind ≡ false) }
+    {
+        if !is_time {
+            return Err(FaultKind::BadDegrade);
+        }
+        let seconds = self.interval()?;
+        Ok(Action::Degrade(seconds))
+    }
+
+    /// What stands behind `element ELEM`, in a text of this version.
     #[tactic(auto, unfolding(crate::specs::Lines::element_action))]
-    fn element_action(&mut self, width: Option<u32>) -> Result<Action, FaultKind>
-        ensures value { Gives (λ action. (action, self.new)) result (element_action width self.old) }
+    fn element_action(
+        &mut self,
+        version: Version,
+        element: &Option<ElementId>,
+    ) -> Result<Action, FaultKind>
+        ensures value { Gives (λ action. (action, self.new)) result
+            (element_action version element.now self.old) }
         ensures sure { IfErr result (λ kind. is_memory kind ≡ false) }
     {
         let word = self.word()?;
@@ -103,7 +122,10 @@ impl Words<'_> {
             return Ok(Action::Remove);
         }
         if is_word(word, b"truncate") {
-            return self.truncate(width);
+            return self.truncate(width_at(element));
+        }
+        if version.has_degrade() && is_word(word, b"degrade") {
+            return self.degrade(is_time_at(element));
         }
         Err(FaultKind::UnknownWord)
     }
@@ -122,13 +144,12 @@ impl Words<'_> {
     }
 
     #[tactic(auto, unfolding(crate::specs::Lines::on_element))]
-    fn on_element(&mut self) -> Result<(Option<ElementId>, Action), FaultKind>
-        ensures value { Gives (λ done. (done, self.new)) result (on_element self.old) }
+    fn on_element(&mut self, version: Version) -> Result<(Option<ElementId>, Action), FaultKind>
+        ensures value { Gives (λ done. (done, self.new)) result (on_element version self.old) }
         ensures sure { IfErr result (λ kind. is_memory kind ≡ false) }
     {
         let element = self.element()?;
-        let width = width_at(&element);
-        let action = self.element_action(width)?;
+        let action = self.element_action(version, &element)?;
         Ok((element, action))
     }
 
@@ -136,9 +157,11 @@ impl Words<'_> {
     #[tactic(auto, unfolding(crate::specs::Lines::action_of))]
     fn action(
         &mut self,
+        version: Version,
         aggregates: &[AggregateDef],
     ) -> Result<(Option<ElementId>, Action), FaultKind>
-        ensures value { Gives (λ done. (done, self.new)) result (action_of aggregates.now self.old) }
+        ensures value { Gives (λ done. (done, self.new)) result
+            (action_of version aggregates.now self.old) }
         ensures sure { IfErr result (λ kind. is_memory kind ≡ false) }
     {
         let word = self.word()?;
@@ -152,7 +175,7 @@ impl Words<'_> {
             return self.aggregate_action(aggregates);
         }
         if is_word(word, b"element") {
-            return self.on_element();
+            return self.on_element(version);
         }
         Err(FaultKind::UnknownWord)
     }
@@ -198,14 +221,15 @@ impl Words<'_> {
     }
 }
 
-/// The rule that the words behind `rule` spell.
+/// The rule that the words behind `rule` spell, in a text of this version.
 #[tactic(auto, unfolding(crate::specs::Lines::rule_of, crate::specs::Memory::names_subscriber))]
 pub(crate) fn read_rule(
     alloc: Global,
+    version: Version,
     aggregates: &[AggregateDef],
     words: &mut Words<'_>,
 ) -> Result<Rule, FaultKind>
-    ensures value { Gives (λ rule. rule) result (rule_of aggregates.now words.old) }
+    ensures value { Gives (λ rule. rule) result (rule_of version aggregates.now words.old) }
     ensures memory { IfErr result (λ kind. is_memory kind ≡ true → names_subscriber words.old ≡ true) }
 {
     words.keyword(b"for")?;
@@ -216,7 +240,7 @@ pub(crate) fn read_rule(
     let from = words.prefix()?;
     words.keyword(b"to")?;
     let to = words.prefix()?;
-    let (element, action) = words.action(aggregates)?;
+    let (element, action) = words.action(version, aggregates)?;
     words.end()?;
     Ok(Rule {
         who,

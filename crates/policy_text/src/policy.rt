@@ -1,13 +1,13 @@
 ghost use Rattle.std.specs.Prelude.{◌≡◌, false, true, Ok, IfOk, IfErr, string_bytes};
 ghost use Rattle.policy_text.specs.Grammar.{IsPolicy};
-ghost use Rattle.policy_text.specs.Policies.{Meaning};
+ghost use Rattle.policy_text.specs.Policies.{Meaning, without_lines};
 ghost use Rattle.policy_text.specs.Spelling.{Spells};
 ghost use Rattle.policy_text.specs.Printing.{policy_text};
 ghost use Rattle.policy_text.specs.FirstFault.{IsFirstFault};
 ghost use Rattle.policy_text.specs.Results.{Gives, Parses, fault_at, is_memory};
 ghost use Rattle.policy_text.specs.Lines.{rule_line, aggregate_line, line_of};
 ghost use Rattle.policy_text.specs.Words.{words_of, is_skipped};
-ghost use Rattle.policy_text.specs.Parsing.{is_header, line_step, policy_of};
+ghost use Rattle.policy_text.specs.Parsing.{numbered_version, version_of, line_step, policy_of};
 ghost use Rattle.policy_text.specs.Memory.{rule_takes, aggregate_takes, line_takes, step_takes, TakesMemory};
 
 use crate::aggregate::AggregateDef;
@@ -15,6 +15,7 @@ use crate::fault::{FaultKind, PolicyFault};
 use crate::lines::{read_aggregate, read_rule};
 use crate::print::policy_to_text;
 use crate::rule::Rule;
+use crate::version::Version;
 use crate::words::{Words, first_word, is_word};
 use flow_prefix::cut_at;
 use std::alloc::{AllocError, Global};
@@ -24,9 +25,10 @@ const MOST_RULES: usize = 4096;
 
 const MOST_AGGREGATES: usize = 256;
 
-/// An ordered list of rules, with the aggregates that they name.
+/// An ordered list of rules, with the aggregates that they name, in a version of the language.
 #[derive(Debug)]
 pub struct Policy {
+    version: Version,
     aggregates: Vec<AggregateDef>,
     rules: Vec<Rule>,
 }
@@ -35,6 +37,7 @@ impl Drop for Policy {
     // Written out: a derived one is proved anew in each crate that drops such a value.
     fn drop(self) {
         let Policy {
+            version: _,
             aggregates: _,
             rules: _,
         } = self;
@@ -47,15 +50,15 @@ impl Model for Policy {
 
     ghost Value = { Meaning };
 
-    ghost view = { λ p. record { aggregates = p.aggregates.items; rules = p.rules.items } };
+    ghost view = { λ p. record { version = p.version; aggregates = p.aggregates.items; rules = p.rules.items } };
 
-    ghost invariant = { λ p. IsPolicy (record { aggregates = p.aggregates.items; rules = p.rules.items }) };
+    ghost invariant = { λ p. IsPolicy (record { version = p.version; aggregates = p.aggregates.items; rules = p.rules.items }) };
 }
 
 impl Policy {
-    /// The policy that a text spells: `policy 1`, and then a line for each aggregate and each rule, each
-    /// aggregate before the rules that name it. Lines without words and lines that begin with `#` are
-    /// skipped. A fault is that of the first faulty line, and in it of the first word that doesn't fit;
+    /// The policy that a text spells: `policy 1` or `policy 2`, and then a line for each aggregate and each
+    /// rule, each aggregate before the rules that name it. Lines without words and lines that begin with
+    /// `#` are skipped. A fault is that of the first faulty line, and in it of the first word that doesn't fit;
     /// where memory runs out the fault has line 0.
     pub fn parse(alloc: Global, text: &str) -> Result<Policy, PolicyFault>
         // What is read is spelled so.
@@ -78,26 +81,40 @@ impl Policy {
         ensures exact { Parses (λ policy. policy) result (policy_of text.now) }
         ensures memory { IfErr result (λ fault. is_memory fault.kind ≡ true → TakesMemory text.now) }
     {
-        let mut policy = Policy {
-            aggregates: Vec::new(alloc),
-            rules: Vec::new(alloc),
-        };
-        let mut started = false;
+        let mut policy = None;
         let mut number = 1;
         let mut rest = text.as_bytes();
         'lines: while let Some((line, after)) = cut_at(rest, b'\n') {
-            started = match policy.read_line(alloc, started, line) {
-                Ok(started) => started,
+            policy = match read_line(alloc, policy, line) {
+                Ok(policy) => policy,
                 Err(kind) => return Err(fault_at(number, kind)),
             };
             number += 1;
             rest = after;
         }
-        match policy.read_line(alloc, started, rest) {
-            Ok(true) => Ok(policy),
-            Ok(false) => Err(fault_at(1, FaultKind::NoHeader)),
+        match read_line(alloc, policy, rest) {
+            Ok(Some(policy)) => Ok(policy),
+            Ok(None) => Err(fault_at(1, FaultKind::NoHeader)),
             Err(kind) => Err(fault_at(number, kind)),
         }
+    }
+
+    /// The policy of a header alone.
+    fn new(alloc: Global, version: Version) -> Policy
+        ensures { result ≡ without_lines version }
+    {
+        Policy {
+            version,
+            aggregates: Vec::new(alloc),
+            rules: Vec::new(alloc),
+        }
+    }
+
+    /// The version that the text's header names.
+    pub fn version(&self) -> Version
+        ensures { result ≡ self.now.version }
+    {
+        self.version
     }
 
     /// The aggregates, in the order of the text.
@@ -115,7 +132,7 @@ impl Policy {
         self.rules.as_slice()
     }
 
-    /// The one printed text: `policy 1`, the aggregates and the rules, each in their order, one space
+    /// The one printed text: the header, the aggregates and the rules, each in their order, one space
     /// between words and a line feed behind each line. Fails only for want of memory.
     pub fn print(&self, alloc: Global) -> Result<String, AllocError>
         ensures text { IfOk result (λ text. string_bytes text ≡ policy_text self.now) }
@@ -124,26 +141,6 @@ impl Policy {
     {
         let _rules = &self.rules;
         policy_to_text(alloc, self)
-    }
-
-    /// Reads a line, and says whether the header was read by then.
-    #[tactic(auto, unfolding(crate::specs::Parsing::line_step, crate::specs::Parsing::step, crate::specs::Memory::step_takes))]
-    fn read_line(&mut self, alloc: Global, started: bool, line: &[u8]) -> Result<bool, FaultKind>
-        ensures value { Gives (λ started. (started, self.new)) result
-            (line_step started self.old line.now) }
-        ensures memory { IfErr result (λ kind. is_memory kind ≡ true → step_takes started self.old line.now ≡ true) }
-    {
-        if is_skipped(line) {
-            return Ok(started);
-        }
-        if started {
-            self.add_line(alloc, line)?;
-            return Ok(true);
-        }
-        if is_header(line) {
-            return Ok(true);
-        }
-        Err(FaultKind::NoHeader)
     }
 
     /// Adds the rule or the aggregate of a line.
@@ -171,7 +168,7 @@ impl Policy {
         if self.rules.len() >= MOST_RULES {
             return Err(FaultKind::TooMany);
         }
-        let rule = read_rule(alloc, &self.aggregates, words)?;
+        let rule = read_rule(alloc, self.version, &self.aggregates, words)?;
         self.rules.push(rule)?;
         Ok(())
     }
@@ -187,6 +184,31 @@ impl Policy {
         let aggregate = read_aggregate(alloc, &self.aggregates, words)?;
         self.aggregates.push(aggregate)?;
         Ok(())
+    }
+}
+
+/// Reads a line. Before the header there is no policy.
+#[tactic(auto, unfolding(crate::specs::Parsing::line_step, crate::specs::Parsing::step, crate::specs::Memory::step_takes))]
+fn read_line(
+    alloc: Global,
+    policy: Option<Policy>,
+    line: &[u8],
+) -> Result<Option<Policy>, FaultKind>
+    ensures value { Gives (λ policy. policy) result (line_step policy line.now) }
+    ensures memory { IfErr result (λ kind. is_memory kind ≡ true → step_takes policy line.now ≡ true) }
+{
+    if is_skipped(line) {
+        return Ok(policy);
+    }
+    match policy {
+        Some(mut policy) => {
+            policy.add_line(alloc, line)?;
+            Ok(Some(policy))
+        }
+        None => match version_of(line) {
+            Some(version) => Ok(Some(Policy::new(alloc, version))),
+            None => Err(FaultKind::NoHeader),
+        },
     }
 }
 
@@ -212,20 +234,29 @@ fn is_skipped(line: &[u8]) -> bool
     }
 }
 
-/// Whether the words of the line are `policy 1`.
-#[tactic(auto, unfolding(crate::specs::Parsing::is_header))]
-fn is_header(line: &[u8]) -> bool
-    ensures { result ≡ is_header (words_of line.now) }
+/// The version that the line names, if it is a header.
+#[tactic(auto, unfolding(crate::specs::Parsing::version_of))]
+fn version_of(line: &[u8]) -> Option<Version>
+    ensures { result ≡ version_of (words_of line.now) }
 {
     let mut words = Words::new(line);
-    let Some(first) = words.take() else {
-        return false;
-    };
-    let Some(second) = words.take() else {
-        return false;
-    };
-    if words.take().is_some() {
-        return false;
+    let first = words.take()?;
+    let second = words.take()?;
+    if words.take().is_some() || !is_word(first, b"policy") {
+        return None;
     }
-    is_word(first, b"policy") && is_word(second, b"1")
+    numbered_version(second)
+}
+
+/// The version of this number.
+fn numbered_version(word: &[u8]) -> Option<Version>
+    ensures { result ≡ numbered_version word.now }
+{
+    if is_word(word, b"1") {
+        Some(Version::One)
+    } else if is_word(word, b"2") {
+        Some(Version::Two)
+    } else {
+        None
+    }
 }

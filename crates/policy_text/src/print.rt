@@ -4,12 +4,13 @@ ghost use Rattle.std.specs.List.{flat_map, join_with_byte};
 ghost use Rattle.ipfix_element.specs.Names.{element_name};
 ghost use Rattle.flow_prefix.specs.Printing.{prefix_text};
 ghost use Rattle.policy_text.specs.Grammar.{name_at};
-ghost use Rattle.policy_text.specs.Printing.{policy_text, rule_words, aggregate_words, action_words, key_text, line_text, word_or_star, itself};
+ghost use Rattle.policy_text.specs.Printing.{policy_text, header, rule_words, aggregate_words, action_words, key_text, line_text, word_or_star, itself};
 
 use crate::aggregate::AggregateDef;
 use crate::name::Name;
 use crate::policy::Policy;
 use crate::rule::{Action, Rule};
+use crate::version::Version;
 use flow_prefix::Prefix;
 use ipfix_element::{ElementId, name_of};
 use std::alloc::{AllocError, Global};
@@ -20,10 +21,20 @@ pub(crate) fn policy_to_text(alloc: Global, policy: &Policy) -> Result<String, A
     ensures { IfOk result (λ text. string_bytes text ≡ policy_text policy.now) }
 {
     let mut text = String::new(alloc);
-    text.push_str("policy 1\n")?;
+    put_header(&mut text, policy.version())?;
     put_aggregates(alloc, &mut text, policy.aggregates())?;
     put_rules(alloc, &mut text, policy.aggregates(), policy.rules())?;
     Ok(text)
+}
+
+fn put_header(text: &mut String, version: Version) -> Result<(), AllocError>
+    ensures { OnOk result (string_bytes text.new ≡ string_bytes text.old
+        ++ line_text (header version)) }
+{
+    text.push_str(match version {
+        Version::One => "policy 1\n",
+        Version::Two => "policy 2\n",
+    })
 }
 
 fn put_aggregates(
@@ -137,6 +148,11 @@ fn put_action(
             put_on_element(alloc, text, &rule.element)?;
             text.push_str("truncate ")?;
             put_bits(text, bits)
+        }
+        Action::Degrade(seconds) => {
+            put_on_element(alloc, text, &rule.element)?;
+            text.push_str("degrade ")?;
+            put_number(text, seconds)
         }
     }
 }

@@ -17,6 +17,8 @@ pub enum Action {
     Remove,
     /// Keep this many of the value's most significant bits.
     Truncate(usize),
+    /// Lower the time to a multiple of this many seconds, 1 to 86400.
+    Degrade(u32),
 }
 
 /// One rule. `None` is `*`, no condition.
