@@ -2,6 +2,7 @@
 use Rattle.std.proofs.Common.{◌≡◌, ◌⊎◌, inl, inr, ℕ, ◌+◌, ◌<◌, ◌≤◌, Bool, true, false, cond, leb, List, [], ◌∷◌, ◌++◌, length, get_or, Option, Some, None, Result, Ok, Err, refl, sym, ap, ◌∙◌, subst, arith, ⊎_elim, append_assoc, append-nil, codes}
 use Rattle.std.specs.Str.{bytes_eq}
 use Rattle.std.proofs.lemmas.Slice.Eq.{bytes_eq-Decides}
+use Rattle.std.proofs.lemmas.Option.{none-some}
 use Rattle.std.proofs.lemmas.Bool.{cases_Bool, leb-true, leb-false, lt-leb, le-leb, false≢true}
 use Rattle.sequences.proofs.ResultLaws.{Err-Ok, same_Err, bind_Ok}
 use Rattle.sequences.specs.Results.{◌>>=◌}
@@ -9,20 +10,22 @@ use Rattle.policy_text.specs.declared.fault.FaultKind.{FaultKind}
 use Rattle.policy_text.specs.declared.fault.FaultKind.TheVariants.{NoHeader, UnknownWord, TooMany}
 use Rattle.policy_text.specs.declared.fault.PolicyFault.{PolicyFault}
 use Rattle.policy_text.specs.declared.rule.Rule.{Rule}
+use Rattle.policy_text.specs.declared.version.Version.{Version}
+use Rattle.policy_text.specs.declared.version.Version.TheVariants.{One, Two}
 use Rattle.policy_text.specs.Words.{Word, words_of, lines_of, is_skipped}
-use Rattle.policy_text.specs.Policies.{Meaning, nothing, with_rule, with_aggregate, Aggregate as Definition}
+use Rattle.policy_text.specs.Policies.{Meaning, without_lines, with_rule, with_aggregate, Aggregate as Definition}
 use Rattle.policy_text.specs.Results.{at_line, then_read}
 use Rattle.policy_text.specs.Lines.{next_of, rule_of, aggregate_of, rule_line, aggregate_line, line_of}
-use Rattle.policy_text.specs.Parsing.{is_header, step, line_step, read_lines, policy_of}
+use Rattle.policy_text.specs.Parsing.{numbered_version, version_of, after_header, step, line_step, read_lines, policy_of}
 use Rattle.policy_text.specs.Grammar.{IsAggregate, IsPolicy}
-use Rattle.policy_text.specs.Printing.{header}
+use Rattle.policy_text.specs.Printing.{version_word, header}
 use Rattle.policy_text.specs.Spelling.{AddsRule, AddsAggregate, AfterLine, AreLines}
 use Rattle.policy_text.specs.LineParts.{IsKindOf, rule_parts, aggregate_parts}
 use Rattle.policy_text.specs.FirstFault.{MayStand, AwaitsAggregate, IsFaulty, IsLineFault, SpellSoFar, IsFirstFault}
 use Rattle.policy_text.specs.LineParts.Part.{first_word}
 use Rattle.policy_text.proofs.ParsingLaws.{read_lines-cons, read_lines-done, read_lines-empty}
-use Rattle.policy_text.proofs.KeptLaws.{IsPolicy-nothing, with_rule-kept, with_aggregate-kept}
-use Rattle.policy_text.proofs.SpellLaws.{rule_line-found, rule_line-only, line_of-found, line_of-only, line_step-found, header-found}
+use Rattle.policy_text.proofs.KeptLaws.{IsPolicy-without_lines, with_rule-kept, with_aggregate-kept}
+use Rattle.policy_text.proofs.SpellLaws.{rule_line-found, rule_line-only, line_of-found, line_of-only, line_step-found, numbered-is, header-found}
 use Rattle.policy_text.proofs.PlaceLaws.{Completes, IsStuck, Place, ok_or_err, kind_behind}
 use Rattle.policy_text.proofs.KindLaws.{bound_err}
 use Rattle.policy_text.proofs.LinePlaceLaws.{rule_reads, aggregate_reads}
@@ -35,7 +38,7 @@ pub read_stands : (policy new : Meaning) (words : List Word) → line_of policy 
 read_stands policy new words e = (new, line_of-found policy new words e)
 
 -- behind `rule`
-rule_room : (policy : Meaning) (words : List Word) → length policy.rules < 4096 → line_of policy (codes "rule" ∷ words) ≡ (rule_of policy.aggregates words >>= λ r. Ok (with_rule policy r))
+rule_room : (policy : Meaning) (words : List Word) → length policy.rules < 4096 → line_of policy (codes "rule" ∷ words) ≡ (rule_of policy.version policy.aggregates words >>= λ r. Ok (with_rule policy r))
 unfolding line_of next_of rule_line
 rule_room policy words room = rw (lt-leb 4096 (length policy.rules) room) refl
 
@@ -76,29 +79,29 @@ rule_first word words tail other e = false≢true (sym other ∙ (bytes_eq-Decid
 abbrev Goes : Meaning → List Word → Type 0
 Goes policy words = MayStand (Some policy) words ⊎ AwaitsAggregate (Some policy) words
 
-rule_read : (policy : Meaning) (words : List Word) (r : Rule) → length policy.rules < 4096 → rule_of policy.aggregates words ≡ Ok r → (new : Meaning) × AddsRule policy (codes "rule" ∷ words) new
+rule_read : (policy : Meaning) (words : List Word) (r : Rule) → length policy.rules < 4096 → rule_of policy.version policy.aggregates words ≡ Ok r → (new : Meaning) × AddsRule policy (codes "rule" ∷ words) new
 unfolding rule_line
 rule_read policy words r room e =
     (with_rule policy r, rule_line-found policy (with_rule policy r) (codes "rule" ∷ words) words refl (rw (lt-leb 4096 (length policy.rules) room, e) refl))
 
-rule_goes : (policy : Meaning) (words : List Word) → length policy.rules < 4096 → Completes policy.aggregates rule_of words → Goes policy (codes "rule" ∷ words)
+rule_goes : (policy : Meaning) (words : List Word) → length policy.rules < 4096 → Completes policy.aggregates (rule_of policy.version) words → Goes policy (codes "rule" ∷ words)
 rule_goes policy words room c =
-    ⊎_elim (λ (now : (r : Rule) × (rule_of policy.aggregates words ≡ Ok r)).
+    ⊎_elim (λ (now : (r : Rule) × (rule_of policy.version policy.aggregates words ≡ Ok r)).
     let read = rule_read policy words now.0 room now.1 in
     inl (read.0, inl read.1))
-    (λ (later : (policy.aggregates ≡ []) × (a : Definition) × IsAggregate [] a × (r : Rule) × (rule_of (a ∷ []) (words ++ a.name ∷ []) ≡ Ok r)).
+    (λ (later : (policy.aggregates ≡ []) × (a : Definition) × IsAggregate [] a × (r : Rule) × (rule_of policy.version (a ∷ []) (words ++ a.name ∷ []) ≡ Ok r)).
     let a = later.1 in
     let same : policy.aggregates ++ a ∷ [] ≡ a ∷ [] = ap (λ (list : List Definition). list ++ a ∷ []) later.0 in
-    let read = rule_read (with_aggregate policy a) (words ++ a.name ∷ []) later.3 room (ap (λ list. rule_of list (words ++ a.name ∷ [])) same ∙ later.4) in
+    let read = rule_read (with_aggregate policy a) (words ++ a.name ∷ []) later.3 room (ap (λ list. rule_of policy.version list (words ++ a.name ∷ [])) same ∙ later.4) in
     inr (later.0, a, later.2, read.0, read.1))
     c
 
-rule_of_line : (policy new : Meaning) (words : List Word) → length policy.rules < 4096 → line_of policy (codes "rule" ∷ words) ≡ Ok new → (r : Rule) × (rule_of policy.aggregates words ≡ Ok r)
+rule_of_line : (policy new : Meaning) (words : List Word) → length policy.rules < 4096 → line_of policy (codes "rule" ∷ words) ≡ Ok new → (r : Rule) × (rule_of policy.version policy.aggregates words ≡ Ok r)
 rule_of_line policy new words room e =
-    let read = bind_Ok (rule_of policy.aggregates words) (λ r. Ok (with_rule policy r)) new (sym (rule_room policy words room) ∙ e) in
+    let read = bind_Ok (rule_of policy.version policy.aggregates words) (λ r. Ok (with_rule policy r)) new (sym (rule_room policy words room) ∙ e) in
     (read.0, read.1)
 
-rule_went : (policy : Meaning) (words : List Word) → length policy.rules < 4096 → Goes policy (codes "rule" ∷ words) → Completes policy.aggregates rule_of words
+rule_went : (policy : Meaning) (words : List Word) → length policy.rules < 4096 → Goes policy (codes "rule" ∷ words) → Completes policy.aggregates (rule_of policy.version) words
 rule_went policy words room g =
     ⊎_elim (λ (now : MayStand (Some policy) (codes "rule" ∷ words)).
     let read = stands_read policy (codes "rule" ∷ words) now in
@@ -107,7 +110,7 @@ rule_went policy words room g =
     let a = later.1 in
     let same : policy.aggregates ++ a ∷ [] ≡ a ∷ [] = ap (λ (list : List Definition). list ++ a ∷ []) later.0 in
     let read = rule_of_line (with_aggregate policy a) later.3 (words ++ a.name ∷ []) room (rule_line-only (with_aggregate policy a) later.3 (codes "rule" ∷ words ++ a.name ∷ []) later.4) in
-    inr (later.0, a, later.2, read.0, ap (λ list. rule_of list (words ++ a.name ∷ [])) (sym same) ∙ read.1))
+    inr (later.0, a, later.2, read.0, ap (λ list. rule_of policy.version list (words ++ a.name ∷ [])) (sym same) ∙ read.1))
     g
 
 -- the same behind `aggregate`
@@ -137,7 +140,7 @@ aggregate_went policy words room g =
 regroup : (word : Word) (front : List Word) (next : Word) (more : List Word) → word ∷ (front ++ next ∷ []) ++ more ≡ word ∷ front ++ next ∷ more
 regroup word front next more = ap (λ ws. word ∷ ws) (append_assoc front (next ∷ []) more)
 
-rule_faulty : (policy : Meaning) (front rest : List Word) → length policy.rules < 4096 → IsStuck policy.aggregates rule_of front rest → IsFaulty (Some policy) (codes "rule" ∷ front) rest
+rule_faulty : (policy : Meaning) (front rest : List Word) → length policy.rules < 4096 → IsStuck policy.aggregates (rule_of policy.version) front rest → IsFaulty (Some policy) (codes "rule" ∷ front) rest
 rule_faulty policy front [] room stuck = λ stands.
     let read = stands_read policy (codes "rule" ∷ front) stands in
     let rule = rule_of_line policy read.0 front room read.1 in
@@ -154,14 +157,14 @@ aggregate_faulty policy front (word ∷ rest) room stuck = λ begins.
     let P : List Word → Type 0 = λ ws. Goes policy ws in
     stuck begins.0 (inl (aggregate_went policy (front ++ word ∷ begins.0) room (subst P (regroup (codes "aggregate") front word begins.0) begins.1)))
 
-rule_fault : (policy : Meaning) (words : List Word) (kind : FaultKind) → length policy.rules < 4096 → Place policy.aggregates rule_parts rule_of words kind → IsLineFault (Some policy) (codes "rule" ∷ words) kind
+rule_fault : (policy : Meaning) (words : List Word) (kind : FaultKind) → length policy.rules < 4096 → Place policy.aggregates (rule_parts policy.version) (rule_of policy.version) words kind → IsLineFault (Some policy) (codes "rule" ∷ words) kind
 rule_fault policy words kind room p = record {
   front = codes "rule" ∷ p.front;
   rest = p.rest;
   words_are = ap (λ ws. codes "rule" ∷ ws) p.words_are;
   begun = inr (p.begun.0, rule_goes policy (p.front ++ p.begun.0) room p.begun.1);
   faulty = rule_faulty policy p.front p.rest room p.stuck;
-  kind_is = kind_behind first_word [] (codes "rule") p.front p.rest kind p.kind_is;
+  kind_is = kind_behind (first_word policy.version) [] (codes "rule") p.front p.rest kind p.kind_is;
 }
 
 aggregate_fault : (policy : Meaning) (words : List Word) (kind : FaultKind) → length policy.aggregates < 256 → Place policy.aggregates aggregate_parts (aggregate_reader policy.aggregates) words kind → IsLineFault (Some policy) (codes "aggregate" ∷ words) kind
@@ -174,10 +177,10 @@ aggregate_fault policy words kind room p =
       words_are = ap (λ ws. codes "aggregate" ∷ ws) p.words_are;
       begun = inr (p.begun.0 ++ goes.0, subst P (append_assoc p.front p.begun.0 goes.0) goes.1);
       faulty = aggregate_faulty policy p.front p.rest room p.stuck;
-      kind_is = kind_behind first_word [] (codes "aggregate") p.front p.rest kind p.kind_is;
+      kind_is = kind_behind (first_word policy.version) [] (codes "aggregate") p.front p.rest kind p.kind_is;
     }
 
-first_word_fault : (policy : Meaning) (word : Word) (words : List Word) (kind : FaultKind) → ((more : List Word) → line_of policy (word ∷ more) ≡ Err kind) → ((a : Definition) (more : List Word) (new : Meaning) → AddsRule (with_aggregate policy a) (word ∷ more) new → ⊥) → IsKindOf first_word word kind → IsLineFault (Some policy) (word ∷ words) kind
+first_word_fault : (policy : Meaning) (word : Word) (words : List Word) (kind : FaultKind) → ((more : List Word) → line_of policy (word ∷ more) ≡ Err kind) → ((a : Definition) (more : List Word) (new : Meaning) → AddsRule (with_aggregate policy a) (word ∷ more) new → ⊥) → IsKindOf (first_word policy.version) word kind → IsLineFault (Some policy) (word ∷ words) kind
 first_word_fault policy word words kind fails no_rule kind_is = record {
   front = [];
   rest = word ∷ words;
@@ -202,9 +205,9 @@ rule_line_fault policy words kind valid e =
     subst P same (first_word_fault policy (codes "rule") words TooMany (λ more. rule_full policy more many) (λ a more new adds. let room = adds.room in omega arith) refl))
     (λ (free : leb 4096 (length policy.rules) ≡ false).
     let room = leb-false 4096 (length policy.rules) free in
-    ⊎_elim (λ (failed : rule_of policy.aggregates words ≡ Err kind). rule_fault policy words kind room ((rule_reads policy.aggregates valid.aggregates).faults words kind failed))
-    (λ (read : (r : Rule) × (rule_of policy.aggregates words ≡ Ok r) × (Ok (with_rule policy r) ≡ Err kind)). absurd (Err-Ok kind (with_rule policy read.0) (sym read.2)))
-    (bound_err (rule_of policy.aggregates words) (λ r. Ok (with_rule policy r)) kind (sym (rule_room policy words room) ∙ e)))
+    ⊎_elim (λ (failed : rule_of policy.version policy.aggregates words ≡ Err kind). rule_fault policy words kind room ((rule_reads policy.aggregates policy.version valid.aggregates).faults words kind failed))
+    (λ (read : (r : Rule) × (rule_of policy.version policy.aggregates words ≡ Ok r) × (Ok (with_rule policy r) ≡ Err kind)). absurd (Err-Ok kind (with_rule policy read.0) (sym read.2)))
+    (bound_err (rule_of policy.version policy.aggregates words) (λ r. Ok (with_rule policy r)) kind (sym (rule_room policy words room) ∙ e)))
     (cases_Bool (leb 4096 (length policy.rules)))
 
 aggregate_line_fault : (policy : Meaning) (words : List Word) (kind : FaultKind) → line_of policy (codes "aggregate" ∷ words) ≡ Err kind → IsLineFault (Some policy) (codes "aggregate" ∷ words) kind
@@ -243,8 +246,8 @@ second_word : List Word → Word
 second_word [] = []
 second_word (word ∷ words) = front_word words
 
-pub is_policy : (word : Word) → bytes_eq word (codes "policy") ≡ true → word ∷ codes "1" ∷ [] ≡ header
-is_policy word t = ap (λ w. w ∷ codes "1" ∷ []) ((bytes_eq-Decides word (codes "policy")).0 t)
+is_policy : (word : Word) (version : Version) → bytes_eq word (codes "policy") ≡ true → word ∷ version_word version ∷ [] ≡ header version
+is_policy word version t = ap (λ w. w ∷ version_word version ∷ []) ((bytes_eq-Decides word (codes "policy")).0 t)
 
 not_policy : (word : Word) (words : List Word) → bytes_eq word (codes "policy") ≡ false → IsLineFault None (word ∷ words) NoHeader
 unfolding front_word
@@ -254,7 +257,7 @@ not_policy word words f = record {
   words_are = refl;
   begun = inl refl;
   faulty = λ begins.
-      ⊎_elim (λ (now : word ∷ begins.0 ≡ header). false≢true (sym f ∙ (bytes_eq-Decides word (codes "policy")).1 (ap front_word now)))
+      ⊎_elim (λ (now : (version : Version) × (word ∷ begins.0 ≡ header version)). false≢true (sym f ∙ (bytes_eq-Decides word (codes "policy")).1 (ap front_word now.1)))
       (λ (later : ⊥). later)
       begins.1;
   kind_is = refl;
@@ -265,57 +268,58 @@ policy_alone word t = record {
   front = word ∷ [];
   rest = [];
   words_are = refl;
-  begun = inr (codes "1" ∷ [], inl (is_policy word t));
-  faulty = λ stands. let same : 1 ≡ 2 = ap length stands in omega (arith, same);
+  begun = inr (codes "1" ∷ [], inl (One, is_policy word One t));
+  faulty = λ stands. let same : 1 ≡ 2 = ap length stands.1 in omega (arith, same);
   kind_is = refl;
 }
 
-not_one : (word next : Word) (words : List Word) → bytes_eq word (codes "policy") ≡ true → bytes_eq next (codes "1") ≡ false → IsLineFault None (word ∷ next ∷ words) NoHeader
+numbered : (version : Version) → numbered_version (version_word version) ≡ Some version
+numbered One = refl
+numbered Two = refl
+
+not_numbered : (word next : Word) (words : List Word) → bytes_eq word (codes "policy") ≡ true → numbered_version next ≡ None → IsLineFault None (word ∷ next ∷ words) NoHeader
 unfolding front_word second_word
-not_one word next words t f = record {
+not_numbered word next words t none = record {
   front = word ∷ [];
   rest = next ∷ words;
   words_are = refl;
-  begun = inr (codes "1" ∷ [], inl (is_policy word t));
+  begun = inr (codes "1" ∷ [], inl (One, is_policy word One t));
   faulty = λ begins.
-      ⊎_elim (λ (now : word ∷ next ∷ begins.0 ≡ header). false≢true (sym f ∙ (bytes_eq-Decides next (codes "1")).1 (ap second_word now)))
+      ⊎_elim (λ (now : (version : Version) × (word ∷ next ∷ begins.0 ≡ header version)).
+      let is : next ≡ version_word now.0 = ap second_word now.1 in
+      none-some now.0 (sym none ∙ ap numbered_version is ∙ numbered now.0))
       (λ (later : ⊥). later)
       begins.1;
   kind_is = refl;
 }
 
-third_word : (word next last : Word) (words : List Word) → bytes_eq word (codes "policy") ≡ true → bytes_eq next (codes "1") ≡ true → IsLineFault None (word ∷ next ∷ last ∷ words) NoHeader
-third_word word next last words t u = record {
+third_word : (word next last : Word) (words : List Word) (version : Version) → bytes_eq word (codes "policy") ≡ true → numbered_version next ≡ Some version → IsLineFault None (word ∷ next ∷ last ∷ words) NoHeader
+third_word word next last words version t u = record {
   front = word ∷ next ∷ [];
   rest = last ∷ words;
   words_are = refl;
-  begun = inr ([], inl (ap (λ w. word ∷ w ∷ []) ((bytes_eq-Decides next (codes "1")).0 u) ∙ is_policy word t));
+  begun = inr ([], inl (version, ap (λ w. word ∷ w ∷ []) (numbered-is next version u) ∙ is_policy word version t));
   faulty = λ begins.
-      ⊎_elim (λ (now : word ∷ next ∷ last ∷ begins.0 ≡ header). let same : length (word ∷ next ∷ last ∷ begins.0) ≡ 2 = ap length now in omega (arith, same))
+      ⊎_elim (λ (now : (version : Version) × (word ∷ next ∷ last ∷ begins.0 ≡ header version)). let same : length (word ∷ next ∷ last ∷ begins.0) ≡ 2 = ap length now.1 in omega (arith, same))
       (λ (later : ⊥). later)
       begins.1;
   kind_is = refl;
 }
 
-behind_policy : (word next : Word) (words : List Word) → bytes_eq word (codes "policy") ≡ true → is_header (word ∷ next ∷ words) ≡ false → IsLineFault None (word ∷ next ∷ words) NoHeader
-unfolding is_header
-behind_policy word next [] t e =
-    ⊎_elim (λ (u : bytes_eq next (codes "1") ≡ true). absurd (false≢true (sym e ∙ rw (t, u) refl)))
-    (λ (f : bytes_eq next (codes "1") ≡ false). not_one word next [] t f)
-    (cases_Bool (bytes_eq next (codes "1")))
-behind_policy word next (last ∷ words) t e =
-    ⊎_elim (λ (u : bytes_eq next (codes "1") ≡ true). third_word word next last words t u)
-    (λ (f : bytes_eq next (codes "1") ≡ false). not_one word next (last ∷ words) t f)
-    (cases_Bool (bytes_eq next (codes "1")))
+behind_policy : (word next : Word) (words : List Word) (o : Option Version) → bytes_eq word (codes "policy") ≡ true → numbered_version next ≡ o → version_of (word ∷ next ∷ words) ≡ None → IsLineFault None (word ∷ next ∷ words) NoHeader
+unfolding version_of
+behind_policy word next words None t u e = not_numbered word next words t u
+behind_policy word next [] (Some version) t u e = let none : numbered_version next ≡ None = rw t at e in absurd (none-some version (sym none ∙ u))
+behind_policy word next (last ∷ words) (Some version) t u e = third_word word next last words version t u
 
-pub header_fault : (words : List Word) → is_skipped words ≡ false → is_header words ≡ false → IsLineFault None words NoHeader
+pub header_fault : (words : List Word) → is_skipped words ≡ false → version_of words ≡ None → IsLineFault None words NoHeader
 header_fault [] counts e = absurd (false≢true (sym counts))
 header_fault (word ∷ []) counts e =
     ⊎_elim (λ (t : bytes_eq word (codes "policy") ≡ true). policy_alone word t)
     (λ (f : bytes_eq word (codes "policy") ≡ false). not_policy word [] f)
     (cases_Bool (bytes_eq word (codes "policy")))
 header_fault (word ∷ next ∷ words) counts e =
-    ⊎_elim (λ (t : bytes_eq word (codes "policy") ≡ true). behind_policy word next words t e)
+    ⊎_elim (λ (t : bytes_eq word (codes "policy") ≡ true). behind_policy word next words (numbered_version next) t refl e)
     (λ (f : bytes_eq word (codes "policy") ≡ false). not_policy word (next ∷ words) f)
     (cases_Bool (bytes_eq word (codes "policy")))
 
@@ -385,30 +389,30 @@ record LineFailed (p : Meaning) (line : List ℕ) (kind : FaultKind) : Type 0 wh
   counts : is_skipped (words_of line) ≡ false
   failed : line_of p (words_of line) ≡ Err kind
 
-line_failed : (p : Meaning) (line : List ℕ) (kind : FaultKind) → line_step true p line ≡ Err kind → LineFailed p line kind
+line_failed : (p : Meaning) (line : List ℕ) (kind : FaultKind) → line_step (Some p) line ≡ Err kind → LineFailed p line kind
 unfolding line_step step
 line_failed p line kind e =
-    ⊎_elim (λ (skip : is_skipped (words_of line) ≡ true). absurd (Err-Ok kind (true, p) (sym (rw skip at e))))
+    ⊎_elim (λ (skip : is_skipped (words_of line) ≡ true). absurd (Err-Ok kind (Some p) (sym (rw skip at e))))
     (λ (kept : is_skipped (words_of line) ≡ false).
     ⊎_elim (λ (failed : line_of p (words_of line) ≡ Err kind). record { counts = kept; failed = failed })
-    (λ (read : (q : Meaning) × (line_of p (words_of line) ≡ Ok q) × (Ok (true, q) ≡ Err kind)). absurd (Err-Ok kind (true, read.0) (sym read.2)))
-    (bound_err (line_of p (words_of line)) (λ q. Ok (true, q)) kind (rw kept at e)))
+    (λ (read : (q : Meaning) × (line_of p (words_of line) ≡ Ok q) × (Ok (Some q) ≡ Err kind)). absurd (Err-Ok kind (Some read.0) (sym read.2)))
+    (bound_err (line_of p (words_of line)) (λ q. Ok (Some q)) kind (rw kept at e)))
     (cases_Bool (is_skipped (words_of line)))
 
-lines_by : (p : Meaning) (n : ℕ) (line : List ℕ) (lines : List (List ℕ)) (fault : PolicyFault) → IsPolicy p → ((q : Meaning) → IsPolicy q → read_lines true q (n + 1) lines ≡ Err fault → FaultIn (LeadTo q) (n + 1) lines fault) → (r : Result (Bool × Meaning) FaultKind) → line_step true p line ≡ r → then_read (at_line n r) (λ x. read_lines x.0 x.1 (n + 1) lines) ≡ Err fault → FaultIn (LeadTo p) n (line ∷ lines) fault
+lines_by : (p : Meaning) (n : ℕ) (line : List ℕ) (lines : List (List ℕ)) (fault : PolicyFault) → IsPolicy p → ((q : Meaning) → IsPolicy q → read_lines (Some q) (n + 1) lines ≡ Err fault → FaultIn (LeadTo q) (n + 1) lines fault) → (r : Result (Option Meaning) FaultKind) → line_step (Some p) line ≡ r → then_read (at_line n r) (λ x. read_lines x (n + 1) lines) ≡ Err fault → FaultIn (LeadTo p) n (line ∷ lines) fault
 lines_by p n line lines fault valid later (Ok x) stepped e =
     let read = line_step-found p line x stepped in
-    later_line (LeadTo x.1) (LeadTo p) n line lines fault (lead_on p x.1 line read.line_is)
-    (later x.1 (adds_kept p x.1 (words_of line) valid read.line_is) (ap (λ b. read_lines b x.1 (n + 1) lines) read.started_is ∙ e))
+    later_line (LeadTo read.mid) (LeadTo p) n line lines fault (lead_on p read.mid line read.line_is)
+    (later read.mid (adds_kept p read.mid (words_of line) valid read.line_is) (ap (λ y. read_lines y (n + 1) lines) read.is ∙ e))
 lines_by p n line lines fault valid later (Err kind) stepped e =
     let failed = line_failed p line kind stepped in
     this_line (LeadTo p) n line lines fault kind (Some p) (same_Err (record { line = n; kind = kind }) fault e) refl failed.counts
     (line_fault p (words_of line) kind valid failed.counts failed.failed)
 
-lines_fault : (p : Meaning) (n : ℕ) (lines : List (List ℕ)) (fault : PolicyFault) → IsPolicy p → read_lines true p n lines ≡ Err fault → FaultIn (LeadTo p) n lines fault
+lines_fault : (p : Meaning) (n : ℕ) (lines : List (List ℕ)) (fault : PolicyFault) → IsPolicy p → read_lines (Some p) n lines ≡ Err fault → FaultIn (LeadTo p) n lines fault
 lines_fault p n [] fault valid e = absurd (Err-Ok fault p (sym e ∙ read_lines-done p n))
 lines_fault p n (line ∷ lines) fault valid e =
-    lines_by p n line lines fault valid (λ q kept f. lines_fault q (n + 1) lines fault kept f) (line_step true p line) refl (sym (read_lines-cons true p n line lines) ∙ e)
+    lines_by p n line lines fault valid (λ q kept f. lines_fault q (n + 1) lines fault kept f) (line_step (Some p) line) refl (sym (read_lines-cons (Some p) n line lines) ∙ e)
 
 -- the same before the header
 abbrev NoLines : List (List ℕ) → PolicyFault → Type 0
@@ -418,41 +422,42 @@ skip_on : (line : List ℕ) → is_skipped (words_of line) ≡ true → (before 
 skip_on line skip before None h = (skip, h)
 skip_on line skip before (Some q) h = inl (skip, h)
 
-header_on : (line : List ℕ) → is_skipped (words_of line) ≡ false → words_of line ≡ header → (before : List (List ℕ)) (so_far : Option Meaning) → LeadTo nothing before so_far → SpellSoFar (line ∷ before) so_far
-header_on line kept is before None h = absurd h
-header_on line kept is before (Some q) h = inr (kept, is, h)
+header_on : (line : List ℕ) (version : Version) → is_skipped (words_of line) ≡ false → words_of line ≡ header version → (before : List (List ℕ)) (so_far : Option Meaning) → LeadTo (without_lines version) before so_far → SpellSoFar (line ∷ before) so_far
+header_on line version kept is before None h = absurd h
+header_on line version kept is before (Some q) h = inr (kept, version, is, h)
 
 record HeaderFailed (line : List ℕ) (kind : FaultKind) : Type 0 where
   counts : is_skipped (words_of line) ≡ false
-  failed : is_header (words_of line) ≡ false
+  failed : version_of (words_of line) ≡ None
   kind_is : NoHeader ≡ kind
 
-abbrev started_with : Meaning → Result (Bool × Meaning) FaultKind
-started_with q = Ok (true, q)
+abbrev some_policy : Meaning → Result (Option Meaning) FaultKind
+some_policy q = Ok (Some q)
 
-header_by : (words : List Word) (kind : FaultKind) (b : Bool) → (cond b (Ok nothing) (Err NoHeader) >>= started_with) ≡ Err kind → (b ≡ false) × (NoHeader ≡ kind)
-header_by words kind true e = absurd (Err-Ok kind (true, nothing) (sym e))
-header_by words kind false e = (refl, same_Err NoHeader kind e)
+header_by : (kind : FaultKind) (o : Option Version) → (after_header o >>= some_policy) ≡ Err kind → (o ≡ None) × (NoHeader ≡ kind)
+header_by kind (Some version) e = absurd (Err-Ok kind (Some (without_lines version)) (sym e))
+header_by kind None e = (refl, same_Err NoHeader kind e)
 
-header_failed : (line : List ℕ) (kind : FaultKind) → line_step false nothing line ≡ Err kind → HeaderFailed line kind
+header_failed : (line : List ℕ) (kind : FaultKind) → line_step None line ≡ Err kind → HeaderFailed line kind
 unfolding line_step step
 header_failed line kind e =
-    ⊎_elim (λ (skip : is_skipped (words_of line) ≡ true). absurd (Err-Ok kind (false, nothing) (sym (rw skip at e))))
+    ⊎_elim (λ (skip : is_skipped (words_of line) ≡ true). absurd (Err-Ok kind None (sym (rw skip at e))))
     (λ (kept : is_skipped (words_of line) ≡ false).
-    let h = header_by (words_of line) kind (is_header (words_of line)) (rw kept at e) in
+    let h = header_by kind (version_of (words_of line)) (rw kept at e) in
     record { counts = kept; failed = h.0; kind_is = h.1 })
     (cases_Bool (is_skipped (words_of line)))
 
-all_by : (n : ℕ) (line : List ℕ) (lines : List (List ℕ)) (fault : PolicyFault) → (read_lines false nothing (n + 1) lines ≡ Err fault → FaultIn SpellSoFar (n + 1) lines fault ⊎ NoLines lines fault) → (r : Result (Bool × Meaning) FaultKind) → line_step false nothing line ≡ r → then_read (at_line n r) (λ x. read_lines x.0 x.1 (n + 1) lines) ≡ Err fault → FaultIn SpellSoFar n (line ∷ lines) fault ⊎ NoLines (line ∷ lines) fault
+all_by : (n : ℕ) (line : List ℕ) (lines : List (List ℕ)) (fault : PolicyFault) → (read_lines None (n + 1) lines ≡ Err fault → FaultIn SpellSoFar (n + 1) lines fault ⊎ NoLines lines fault) → (r : Result (Option Meaning) FaultKind) → line_step None line ≡ r → then_read (at_line n r) (λ x. read_lines x (n + 1) lines) ≡ Err fault → FaultIn SpellSoFar n (line ∷ lines) fault ⊎ NoLines (line ∷ lines) fault
 all_by n line lines fault later (Ok x) stepped e =
     let read = header-found line x stepped in
-    ⊎_elim (λ (skip : (is_skipped (words_of line) ≡ true) × ((false, nothing) ≡ x)).
+    ⊎_elim (λ (skip : (is_skipped (words_of line) ≡ true) × (None ≡ x)).
     ⊎_elim (λ (f : FaultIn SpellSoFar (n + 1) lines fault). inl (later_line SpellSoFar SpellSoFar n line lines fault (skip_on line skip.0) f))
     (λ (none : NoLines lines fault). inr ((skip.0, none.0), none.1))
-    (later (ap (λ (y : Bool × Meaning). read_lines y.0 y.1 (n + 1) lines) skip.1 ∙ e)))
-    (λ (kept : (is_skipped (words_of line) ≡ false) × (words_of line ≡ header) × ((true, nothing) ≡ x)).
-    inl (later_line (LeadTo nothing) SpellSoFar n line lines fault (header_on line kept.0 kept.1)
-    (lines_fault nothing (n + 1) lines fault IsPolicy-nothing (ap (λ (y : Bool × Meaning). read_lines y.0 y.1 (n + 1) lines) kept.2 ∙ e))))
+    (later (ap (λ y. read_lines y (n + 1) lines) skip.1 ∙ e)))
+    (λ (kept : (is_skipped (words_of line) ≡ false) × (version : Version) × (words_of line ≡ header version) × (Some (without_lines version) ≡ x)).
+    let first = without_lines kept.1 in
+    inl (later_line (LeadTo first) SpellSoFar n line lines fault (header_on line kept.1 kept.0 kept.2)
+    (lines_fault first (n + 1) lines fault (IsPolicy-without_lines kept.1) (ap (λ y. read_lines y (n + 1) lines) kept.3 ∙ e))))
     read.how
 all_by n line lines fault later (Err kind) stepped e =
     let failed = header_failed line kind stepped in
@@ -460,10 +465,10 @@ all_by n line lines fault later (Err kind) stepped e =
     inl (this_line SpellSoFar n line lines fault kind None (same_Err (record { line = n; kind = kind }) fault e) tt failed.counts
     (subst P failed.kind_is (header_fault (words_of line) failed.counts failed.failed)))
 
-all_fault : (n : ℕ) (lines : List (List ℕ)) (fault : PolicyFault) → read_lines false nothing n lines ≡ Err fault → FaultIn SpellSoFar n lines fault ⊎ NoLines lines fault
-all_fault n [] fault e = inr (tt, same_Err fault (record { line = 1; kind = NoHeader }) (sym e ∙ read_lines-empty nothing n))
+all_fault : (n : ℕ) (lines : List (List ℕ)) (fault : PolicyFault) → read_lines None n lines ≡ Err fault → FaultIn SpellSoFar n lines fault ⊎ NoLines lines fault
+all_fault n [] fault e = inr (tt, same_Err fault (record { line = 1; kind = NoHeader }) (sym e ∙ read_lines-empty n))
 all_fault n (line ∷ lines) fault e =
-    all_by n line lines fault (λ f. all_fault (n + 1) lines fault f) (line_step false nothing line) refl (sym (read_lines-cons false nothing n line lines) ∙ e)
+    all_by n line lines fault (λ f. all_fault (n + 1) lines fault f) (line_step None line) refl (sym (read_lines-cons None n line lines) ∙ e)
 
 -- a text's fault is its first fault
 pub fault_found : (text : List ℕ) (fault : PolicyFault) → policy_of text ≡ Err fault → IsFirstFault text fault

@@ -1,23 +1,24 @@
 -- The places of faults in the lines of rules and aggregates.
-use Rattle.std.proofs.Common.{◌≡◌, ◌⊎◌, inl, inr, ℕ, ◌<◌, true, false, List, [], ◌∷◌, ◌++◌, length, Option, Some, None, Result, Ok, Err, refl, sym, ap, ◌∙◌, subst, arith, ⊎_elim, codes}
+use Rattle.std.proofs.Common.{◌≡◌, ◌⊎◌, inl, inr, ℕ, ◌<◌, Bool, true, false, ◌&&◌, List, [], ◌∷◌, ◌++◌, length, Option, Some, None, Result, Ok, Err, refl, sym, ap, ◌∙◌, subst, arith, ⊎_elim, codes}
 use Rattle.std.specs.Str.{bytes_eq}
 use Rattle.std.specs.Fmt.{decimal}
 use Rattle.std.proofs.lemmas.Slice.Eq.{bytes_eq-Decides}
-use Rattle.std.proofs.lemmas.Bool.{cases_Bool, lt-ltb}
+use Rattle.std.proofs.lemmas.Bool.{cases_Bool, lt-ltb, and_parts}
 use Rattle.ipfix_element.specs.Element.{Element}
 use Rattle.ipfix_element.specs.Kinds.{kind_of}
 use Rattle.ipfix_element.specs.Registry.{registry}
 use Rattle.sequences.proofs.ResultLaws.{Err-Ok}
 use Rattle.sequences.specs.Results.{◌>>=◌}
 use Rattle.policy_text.specs.declared.fault.FaultKind.{FaultKind}
-use Rattle.policy_text.specs.declared.fault.FaultKind.TheVariants.{UnknownWord, BadTruncate}
+use Rattle.policy_text.specs.declared.fault.FaultKind.TheVariants.{UnknownWord, BadTruncate, BadDegrade}
 use Rattle.policy_text.specs.declared.rule.Action.{Action}
-use Rattle.policy_text.specs.declared.rule.Action.TheVariants.{Pass, Withhold, Aggregate, Keep, Remove, Truncate}
+use Rattle.policy_text.specs.declared.rule.Action.TheVariants.{Pass, Withhold, Aggregate, Keep, Remove, Truncate, Degrade}
+use Rattle.policy_text.specs.declared.version.Version.{Version}
 use Rattle.policy_text.specs.Words.{Word}
 use Rattle.policy_text.specs.Naming.{is_name}
-use Rattle.policy_text.specs.Policies.{Aggregate as Definition}
-use Rattle.policy_text.specs.Classes.{name, number, element, prefix, star, or_star, with_key, key_of, width_at, aggregate_place, new_name, interval, bits_within}
-use Rattle.policy_text.specs.Lines.{next_of, next, ended, truncate_of, element_action, aggregate_action, on_element, action_of, rule_of, aggregate_of}
+use Rattle.policy_text.specs.Policies.{has_degrade, Aggregate as Definition}
+use Rattle.policy_text.specs.Classes.{name, number, element, prefix, star, or_star, with_key, key_of, width_at, is_time_at, aggregate_place, new_name, interval, bits_within}
+use Rattle.policy_text.specs.Lines.{next_of, next, ended, truncate_of, degrade_of, element_action, aggregate_action, on_element, action_of, rule_of, aggregate_of}
 use Rattle.policy_text.specs.Grammar.{IsAggregate, AreAggregates}
 use Rattle.policy_text.specs.Printing.{key_text}
 use Rattle.policy_text.specs.LineParts.{Part, parts_after, rule_parts, aggregate_parts}
@@ -48,61 +49,82 @@ of_element e done = Ok ((e, done.0), done.1)
 abbrev of_bits : ℕ × List Word → Result (Action × List Word) FaultKind
 of_bits done = Ok (Truncate done.0, done.1)
 
-abbrev treated : {B : Type 0} → Option Element → (Option Element × Action → B) → Option ℕ → List Word → Result B FaultKind
-treated e make width words = (element_action width words >>= of_element e) >>= finish make
+abbrev of_seconds : ℕ × List Word → Result (Action × List Word) FaultKind
+of_seconds done = Ok (Degrade done.0, done.1)
+
+abbrev treated : {B : Type 0} → Version → Option Element → (Option Element × Action → B) → Reader B
+treated version e make q words = (element_action version e words >>= of_element e) >>= finish make
 
 truncate_agrees : {B : Type 0} (e : Option Element) (make : Option Element × Action → B) (r : Result (ℕ × List Word) FaultKind) →
     (((r >>= of_bits) >>= of_element e) >>= finish make) ≡ (r >>= finish (λ b. make (e, Truncate b)))
 truncate_agrees e make (Ok x) = refl
 truncate_agrees e make (Err kind) = refl
 
-truncate_branch : {B : Type 0} (here : List Definition) (e : Option Element) (make : Option Element × Action → B) (width : Option ℕ) → Branch here treatment [] (λ q words. treated e make width words) (codes "truncate")
+truncate_branch : {B : Type 0} (here : List Definition) (version : Version) (e : Option Element) (make : Option Element × Action → B) (width : Option ℕ) → width_at e ≡ width → Branch here (treatment version) [] (treated version e make) (codes "truncate")
 unfolding element_action next_of truncate_of
-truncate_branch here e make None = inl (dead here treatment (λ q words. treated e make None words) (codes "truncate") BadTruncate (λ q words. refl) refl)
-truncate_branch {B} here e make (Some width) =
+truncate_branch here version e make None is = inl (dead here (treatment version) (treated version e make) (codes "truncate") BadTruncate (λ q words. rw is refl) refl)
+truncate_branch {B} here version e make (Some width) is =
     let inner : List Definition → ℕ × List Word → Result B FaultKind = λ q done. finish (λ b. make (e, Truncate b)) done in
-    inr (taken here (bits ∷ []) (λ q words. treated e make (Some width) words) (λ q words. next (bits_within width) words >>= inner q) (codes "truncate")
-    (λ q words. truncate_agrees e make (next (bits_within width) words))
+    inr (taken here (bits ∷ []) (treated version e make) (λ q words. next (bits_within width) words >>= inner q) (codes "truncate")
+    (λ q words. rw is (truncate_agrees e make (next (bits_within width) words)))
     (class_step here (bits_within width) bits [] (λ word. refl) (bits_kind width) (decimal 0) 0 (bits-printed width 0 (omega arith) (omega arith)) inner (λ b. end_reads here (make (e, Truncate b)))))
 
-other_treatment : {B : Type 0} (here : List Definition) (e : Option Element) (make : Option Element × Action → B) (width : Option ℕ) (word : Word) → bytes_eq word (codes "keep") ≡ false → bytes_eq word (codes "remove") ≡ false → bytes_eq word (codes "truncate") ≡ false → Branch here treatment [] (λ q words. treated e make width words) word
-unfolding element_action next_of
-other_treatment here e make width word k r t = inl (dead here treatment (λ q words. treated e make width words) word UnknownWord (λ q words. rw (k, r, t) refl) (rw t refl))
+degrade_agrees : {B : Type 0} (e : Option Element) (make : Option Element × Action → B) (r : Result (ℕ × List Word) FaultKind) →
+    (((r >>= of_seconds) >>= of_element e) >>= finish make) ≡ (r >>= finish (λ n. make (e, Degrade n)))
+degrade_agrees e make (Ok x) = refl
+degrade_agrees e make (Err kind) = refl
 
-treatment_branch : {B : Type 0} (here : List Definition) (e : Option Element) (make : Option Element × Action → B) (width : Option ℕ) (word : Word) → Branch here treatment [] (λ q words. treated e make width words) word
+degrade_branch : {B : Type 0} (here : List Definition) (version : Version) (e : Option Element) (make : Option Element × Action → B) → has_degrade version ≡ true → (is_time : Bool) → is_time_at e ≡ is_time → Branch here (treatment version) [] (treated version e make) (codes "degrade")
+unfolding element_action next_of degrade_of
+degrade_branch here version e make known false is = inl (dead here (treatment version) (treated version e make) (codes "degrade") BadDegrade (λ q words. rw (known, is) refl) (rw known refl))
+degrade_branch {B} here version e make known true is =
+    let inner : List Definition → ℕ × List Word → Result B FaultKind = λ q done. finish (λ n. make (e, Degrade n)) done in
+    inr (taken here (seconds ∷ []) (treated version e make) (λ q words. next interval words >>= inner q) (codes "degrade")
+    (λ q words. rw (known, is) (degrade_agrees e make (next interval words)))
+    (class_step here interval seconds [] (λ word. refl) interval_kind (decimal 1) 1 (interval-printed 1 (omega arith) (omega arith)) inner (λ n. end_reads here (make (e, Degrade n)))))
+
+other_treatment : {B : Type 0} (here : List Definition) (version : Version) (e : Option Element) (make : Option Element × Action → B) (word : Word) → bytes_eq word (codes "keep") ≡ false → bytes_eq word (codes "remove") ≡ false → bytes_eq word (codes "truncate") ≡ false → (has_degrade version && bytes_eq word (codes "degrade")) ≡ false → Branch here (treatment version) [] (treated version e make) word
 unfolding element_action next_of
-treatment_branch {B} here e make width word =
-    let read : Reader B = λ q words. treated e make width words in
-    let P : Word → Type 0 = λ w. Branch here treatment [] read w in
+other_treatment here version e make word k r t d = inl (dead here (treatment version) (treated version e make) word UnknownWord (λ q words. rw (k, r, t, d) refl) (rw (t, d) refl))
+
+treatment_branch : {B : Type 0} (here : List Definition) (version : Version) (e : Option Element) (make : Option Element × Action → B) (word : Word) → Branch here (treatment version) [] (treated version e make) word
+unfolding element_action next_of
+treatment_branch {B} here version e make word =
+    let read : Reader B = treated version e make in
+    let P : Word → Type 0 = λ w. Branch here (treatment version) [] read w in
+    let degrades = has_degrade version && bytes_eq word (codes "degrade") in
     ⊎_elim (λ (t : bytes_eq word (codes "keep") ≡ true). at_word P word (codes "keep") t (inr (taken here [] read (ends (make (e, Keep))) (codes "keep") (λ q words. refl) (end_reads here (make (e, Keep))))))
     (λ (k : bytes_eq word (codes "keep") ≡ false).
     ⊎_elim (λ (t : bytes_eq word (codes "remove") ≡ true). at_word P word (codes "remove") t (inr (taken here [] read (ends (make (e, Remove))) (codes "remove") (λ q words. refl) (end_reads here (make (e, Remove))))))
     (λ (r : bytes_eq word (codes "remove") ≡ false).
-    ⊎_elim (λ (t : bytes_eq word (codes "truncate") ≡ true). at_word P word (codes "truncate") t (truncate_branch here e make width))
-    (λ (t : bytes_eq word (codes "truncate") ≡ false). other_treatment here e make width word k r t)
+    ⊎_elim (λ (t : bytes_eq word (codes "truncate") ≡ true). at_word P word (codes "truncate") t (truncate_branch here version e make (width_at e) refl))
+    (λ (t : bytes_eq word (codes "truncate") ≡ false).
+    ⊎_elim (λ (d : degrades ≡ true).
+    let known = and_parts (has_degrade version) (bytes_eq word (codes "degrade")) d in
+    at_word P word (codes "degrade") known.1 (degrade_branch here version e make known.0 (is_time_at e) refl))
+    (λ (d : degrades ≡ false). other_treatment here version e make word k r t d)
+    (cases_Bool degrades))
     (cases_Bool (bytes_eq word (codes "truncate"))))
     (cases_Bool (bytes_eq word (codes "remove"))))
     (cases_Bool (bytes_eq word (codes "keep")))
 
-treatment_reads : {B : Type 0} (here : List Definition) (e : Option Element) (make : Option Element × Action → B) (width : Option ℕ) → Reads here (treatment ∷ []) (λ q words. treated e make width words)
+treatment_reads : {B : Type 0} (here : List Definition) (version : Version) (e : Option Element) (make : Option Element × Action → B) → Reads here (treatment version ∷ []) (treated version e make)
 unfolding element_action next_of ended
-treatment_reads {B} here e make width =
-    let read : Reader B = λ q words. treated e make width words in
-    word_step here treatment [] read refl (codes "keep" ∷ [], inl (make (e, Keep), refl)) (treatment_branch here e make width)
+treatment_reads here version e make = word_step here (treatment version) [] (treated version e make) refl (codes "keep" ∷ [], inl (make (e, Keep), refl)) (treatment_branch here version e make)
 
 -- behind `element`
-element_agrees : {B : Type 0} (make : Option Element × Action → B) (r : Result (Option Element × List Word) FaultKind) →
-    ((r >>= λ e. element_action (width_at e.0) e.1 >>= of_element e.0) >>= finish make) ≡ (r >>= λ e. treated e.0 make (width_at e.0) e.1)
-element_agrees make (Ok e) = refl
-element_agrees make (Err kind) = refl
+element_agrees : {B : Type 0} (version : Version) (make : Option Element × Action → B) (q : List Definition) (r : Result (Option Element × List Word) FaultKind) →
+    ((r >>= λ e. element_action version e.0 e.1 >>= of_element e.0) >>= finish make) ≡ (r >>= λ e. treated version e.0 make q e.1)
+element_agrees version make q (Ok e) = refl
+element_agrees version make q (Err kind) = refl
 
-element_reads : {B : Type 0} (here : List Definition) (make : Option Element × Action → B) → Reads here (element_or_star ∷ treatment ∷ []) (λ q words. on_element words >>= finish make)
+element_reads : {B : Type 0} (here : List Definition) (version : Version) (make : Option Element × Action → B) → Reads here (element_or_star ∷ treatment version ∷ []) (λ q words. on_element version words >>= finish make)
 unfolding on_element
-element_reads {B} here make =
-    let inner : List Definition → Option Element × List Word → Result B FaultKind = λ q e. treated e.0 make (width_at e.0) e.1 in
-    Reads-same here (element_or_star ∷ treatment ∷ []) (λ q words. next (or_star element) words >>= inner q) (λ q words. on_element words >>= finish make)
-    (Agree-all here (λ q words. next (or_star element) words >>= inner q) (λ q words. on_element words >>= finish make) (λ q words. sym (element_agrees make (next (or_star element) words))))
-    (class_step here (or_star element) element_or_star (treatment ∷ []) (λ word. refl) element_or_star_kind star None (or_star-star element) inner (λ e. treatment_reads here e make (width_at e)))
+element_reads {B} here version make =
+    let inner : List Definition → Option Element × List Word → Result B FaultKind = λ q e. treated version e.0 make q e.1 in
+    Reads-same here (element_or_star ∷ treatment version ∷ []) (λ q words. next (or_star element) words >>= inner q) (λ q words. on_element version words >>= finish make)
+    (Agree-all here (λ q words. next (or_star element) words >>= inner q) (λ q words. on_element version words >>= finish make) (λ q words. sym (element_agrees version make q (next (or_star element) words))))
+    (class_step here (or_star element) element_or_star (treatment version ∷ []) (λ word. refl) element_or_star_kind star None (or_star-star element) inner (λ e. treatment_reads here version e make))
 
 -- behind `aggregate` of a rule
 abbrev counted : {B : Type 0} → (Option Element × Action → B) → Reader B
@@ -183,47 +205,47 @@ counted_reads : {B : Type 0} (here : List Definition) (make : Option Element × 
 counted_reads here make valid = word_step here known_name [] (counted make) (counted-nil make here) (counted_opens here make valid) (λ word. counted_branch here make word (aggregate_place here word) refl)
 
 -- what a rule does
-abbrev acted : {B : Type 0} → (Option Element × Action → B) → Reader B
-acted make q words = action_of q words >>= finish make
+abbrev acted : {B : Type 0} → Version → (Option Element × Action → B) → Reader B
+acted version make q words = action_of version q words >>= finish make
 
-other_action : {B : Type 0} (here : List Definition) (make : Option Element × Action → B) (word : Word) → bytes_eq word (codes "pass") ≡ false → bytes_eq word (codes "withhold") ≡ false → bytes_eq word (codes "aggregate") ≡ false → bytes_eq word (codes "element") ≡ false → Branch here action [] (acted make) word
+other_action : {B : Type 0} (here : List Definition) (version : Version) (make : Option Element × Action → B) (word : Word) → bytes_eq word (codes "pass") ≡ false → bytes_eq word (codes "withhold") ≡ false → bytes_eq word (codes "aggregate") ≡ false → bytes_eq word (codes "element") ≡ false → Branch here (action version) [] (acted version make) word
 unfolding action_of next_of
-other_action here make word p w a e = inl (dead here action (acted make) word UnknownWord (λ q words. rw (p, w, a, e) refl) refl)
+other_action here version make word p w a e = inl (dead here (action version) (acted version make) word UnknownWord (λ q words. rw (p, w, a, e) refl) refl)
 
-action_branch : {B : Type 0} (here : List Definition) (make : Option Element × Action → B) → AreAggregates [] here → (word : Word) → Branch here action [] (acted make) word
+action_branch : {B : Type 0} (here : List Definition) (version : Version) (make : Option Element × Action → B) → AreAggregates [] here → (word : Word) → Branch here (action version) [] (acted version make) word
 unfolding action_of next_of
-action_branch {B} here make valid word =
-    let P : Word → Type 0 = λ w. Branch here action [] (acted make) w in
-    ⊎_elim (λ (t : bytes_eq word (codes "pass") ≡ true). at_word P word (codes "pass") t (inr (taken here [] (acted make) (ends (make (None, Pass))) (codes "pass") (λ q words. refl) (end_reads here (make (None, Pass))))))
+action_branch {B} here version make valid word =
+    let P : Word → Type 0 = λ w. Branch here (action version) [] (acted version make) w in
+    ⊎_elim (λ (t : bytes_eq word (codes "pass") ≡ true). at_word P word (codes "pass") t (inr (taken here [] (acted version make) (ends (make (None, Pass))) (codes "pass") (λ q words. refl) (end_reads here (make (None, Pass))))))
     (λ (p : bytes_eq word (codes "pass") ≡ false).
-    ⊎_elim (λ (t : bytes_eq word (codes "withhold") ≡ true). at_word P word (codes "withhold") t (inr (taken here [] (acted make) (ends (make (None, Withhold))) (codes "withhold") (λ q words. refl) (end_reads here (make (None, Withhold))))))
+    ⊎_elim (λ (t : bytes_eq word (codes "withhold") ≡ true). at_word P word (codes "withhold") t (inr (taken here [] (acted version make) (ends (make (None, Withhold))) (codes "withhold") (λ q words. refl) (end_reads here (make (None, Withhold))))))
     (λ (w : bytes_eq word (codes "withhold") ≡ false).
-    ⊎_elim (λ (t : bytes_eq word (codes "aggregate") ≡ true). at_word P word (codes "aggregate") t (inr (taken here (known_name ∷ []) (acted make) (counted make) (codes "aggregate") (λ q words. refl) (counted_reads here make valid))))
+    ⊎_elim (λ (t : bytes_eq word (codes "aggregate") ≡ true). at_word P word (codes "aggregate") t (inr (taken here (known_name ∷ []) (acted version make) (counted make) (codes "aggregate") (λ q words. refl) (counted_reads here make valid))))
     (λ (a : bytes_eq word (codes "aggregate") ≡ false).
-    ⊎_elim (λ (t : bytes_eq word (codes "element") ≡ true). at_word P word (codes "element") t (inr (taken here (element_or_star ∷ treatment ∷ []) (acted make) (λ q words. on_element words >>= finish make) (codes "element") (λ q words. refl) (element_reads here make))))
-    (λ (e : bytes_eq word (codes "element") ≡ false). other_action here make word p w a e)
+    ⊎_elim (λ (t : bytes_eq word (codes "element") ≡ true). at_word P word (codes "element") t (inr (taken here (element_or_star ∷ treatment version ∷ []) (acted version make) (λ q words. on_element version words >>= finish make) (codes "element") (λ q words. refl) (element_reads here version make))))
+    (λ (e : bytes_eq word (codes "element") ≡ false). other_action here version make word p w a e)
     (cases_Bool (bytes_eq word (codes "element"))))
     (cases_Bool (bytes_eq word (codes "aggregate"))))
     (cases_Bool (bytes_eq word (codes "withhold"))))
     (cases_Bool (bytes_eq word (codes "pass")))
 
-action_reads : {B : Type 0} (here : List Definition) (make : Option Element × Action → B) → AreAggregates [] here → Reads here (action ∷ []) (acted make)
+action_reads : {B : Type 0} (here : List Definition) (version : Version) (make : Option Element × Action → B) → AreAggregates [] here → Reads here (action version ∷ []) (acted version make)
 unfolding action_of next_of ended
-action_reads here make valid = word_step here action [] (acted make) refl (codes "pass" ∷ [], inl (make (None, Pass), refl)) (action_branch here make valid)
+action_reads here version make valid = word_step here (action version) [] (acted version make) refl (codes "pass" ∷ [], inl (make (None, Pass), refl)) (action_branch here version make valid)
 
 -- the words behind `rule`
-pub rule_reads : (here : List Definition) → AreAggregates [] here → Reads here rule_parts rule_of
+pub rule_reads : (here : List Definition) (version : Version) → AreAggregates [] here → Reads here (rule_parts version) (rule_of version)
 unfolding rule_of
-rule_reads here valid =
-    keyword_step here (codes "for") (who ∷ keyword ∷ domain ∷ keyword ∷ network ∷ keyword ∷ network ∷ action ∷ []) (λ q a. rule_who q a)
-    (class_step here (or_star name) who (keyword ∷ domain ∷ keyword ∷ network ∷ keyword ∷ network ∷ action ∷ []) (λ word. refl) who_kind star None (or_star-star name) (λ q x. rule_behind_who q x)
-    (λ subscriber. keyword_step here (codes "in") (domain ∷ keyword ∷ network ∷ keyword ∷ network ∷ action ∷ []) (λ q b. rule_domain q subscriber b)
-    (class_step here (or_star (number 4294967295)) domain (keyword ∷ network ∷ keyword ∷ network ∷ action ∷ []) (λ word. refl) domain_kind star None (or_star-star (number 4294967295)) (λ q x. rule_behind_domain q subscriber x)
-    (λ observed. keyword_step here (codes "from") (network ∷ keyword ∷ network ∷ action ∷ []) (λ q c. rule_from q subscriber observed c)
-    (class_step here (or_star prefix) network (keyword ∷ network ∷ action ∷ []) (λ word. refl) network_kind star None (or_star-star prefix) (λ q x. rule_behind_from q subscriber observed x)
-    (λ from. keyword_step here (codes "to") (network ∷ action ∷ []) (λ q d. rule_to q subscriber observed from d)
-    (class_step here (or_star prefix) network (action ∷ []) (λ word. refl) network_kind star None (or_star-star prefix) (λ q x. rule_action q subscriber observed from x)
-    (λ to. action_reads here (λ done. record { who = subscriber; domain = observed; from = from; to = to; element = done.0; action = done.1 }) valid))))))))
+rule_reads here version valid =
+    keyword_step here (codes "for") (who ∷ keyword ∷ domain ∷ keyword ∷ network ∷ keyword ∷ network ∷ action version ∷ []) (λ q a. rule_who version q a)
+    (class_step here (or_star name) who (keyword ∷ domain ∷ keyword ∷ network ∷ keyword ∷ network ∷ action version ∷ []) (λ word. refl) who_kind star None (or_star-star name) (λ q x. rule_behind_who version q x)
+    (λ subscriber. keyword_step here (codes "in") (domain ∷ keyword ∷ network ∷ keyword ∷ network ∷ action version ∷ []) (λ q b. rule_domain version q subscriber b)
+    (class_step here (or_star (number 4294967295)) domain (keyword ∷ network ∷ keyword ∷ network ∷ action version ∷ []) (λ word. refl) domain_kind star None (or_star-star (number 4294967295)) (λ q x. rule_behind_domain version q subscriber x)
+    (λ observed. keyword_step here (codes "from") (network ∷ keyword ∷ network ∷ action version ∷ []) (λ q c. rule_from version q subscriber observed c)
+    (class_step here (or_star prefix) network (keyword ∷ network ∷ action version ∷ []) (λ word. refl) network_kind star None (or_star-star prefix) (λ q x. rule_behind_from version q subscriber observed x)
+    (λ from. keyword_step here (codes "to") (network ∷ action version ∷ []) (λ q d. rule_to version q subscriber observed from d)
+    (class_step here (or_star prefix) network (action version ∷ []) (λ word. refl) network_kind star None (or_star-star prefix) (λ q x. rule_action version q subscriber observed from x)
+    (λ to. action_reads here version (λ done. record { who = subscriber; domain = observed; from = from; to = to; element = done.0; action = done.1 }) valid))))))))
 
 -- the words behind `aggregate` at the start of a line
 example_key : key_of (key_text example.key) ≡ Ok example.key

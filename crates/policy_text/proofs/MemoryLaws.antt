@@ -1,10 +1,11 @@
 -- Which texts take memory to be read.
-use Rattle.std.proofs.Common.{◌≡◌, ◌⊎◌, inl, inr, ⊎_elim, ℕ, Bool, true, false, List, [], ◌∷◌, ◌++◌, Some, None, Result, Ok, Err, sym, subst, ap, refl}
+use Rattle.std.proofs.Common.{◌≡◌, ◌⊎◌, inl, inr, ⊎_elim, ℕ, Bool, true, false, List, [], ◌∷◌, ◌++◌, Option, Some, None, Result, Ok, Err, sym, subst, ap, refl}
 use Rattle.std.proofs.lemmas.Bool.{cases_Bool, false≢true}
 use Rattle.flow_prefix.specs.Reading.{cut_at}
 use Rattle.flow_prefix.proofs.PartsLaws.{slice_split-cut, slice_split-whole}
+use Rattle.policy_text.specs.declared.version.Version.{Version}
 use Rattle.policy_text.specs.Words.{words_of, lines_of, is_skipped}
-use Rattle.policy_text.specs.Policies.{Meaning, nothing}
+use Rattle.policy_text.specs.Policies.{Meaning, without_lines}
 use Rattle.policy_text.specs.Parsing.{line_step}
 use Rattle.policy_text.specs.Printing.{header}
 use Rattle.policy_text.specs.Spelling.{AreLines, AreAllLines}
@@ -12,18 +13,18 @@ use Rattle.policy_text.specs.Results.{is_memory}
 use Rattle.policy_text.specs.Memory.{line_takes, step_takes, TakesMemory}
 use Rattle.policy_text.specs.declared.fault.FaultKind.{FaultKind}
 use Rattle.policy_text.specs.declared.fault.PolicyFault.{PolicyFault}
-use Rattle.policy_text.proofs.SpellLaws.{line_step-found, line_step-only, header-found, header-only, skip-only}
+use Rattle.policy_text.proofs.RoundLaws.{header_step}
+use Rattle.policy_text.proofs.SpellLaws.{line_step-found, line_step-only, header-found, skip-only}
 
 -- what is so behind a line that could be read
-abbrev pub Behind : Result (Bool × Meaning) FaultKind → (Bool → Meaning → Type 0) → Type 0
-Behind (Ok x) P = P x.0 x.1
+abbrev pub Behind : Result (Option Meaning) FaultKind → (Option Meaning → Type 0) → Type 0
+Behind (Ok so_far) P = P so_far
 Behind (Err kind) P = ⊥
 
 -- one of these lines takes memory, the first faulty one or one before it
-abbrev pub SomeTakes : Bool → Meaning → List (List ℕ) → Type 0
-SomeTakes started policy [] = ⊥
-SomeTakes started policy (line ∷ others) =
-    (step_takes started policy line ≡ true) ⊎ Behind (line_step started policy line) (λ next policy. SomeTakes next policy others)
+abbrev pub SomeTakes : Option Meaning → List (List ℕ) → Type 0
+SomeTakes so_far [] = ⊥
+SomeTakes so_far (line ∷ others) = (step_takes so_far line ≡ true) ⊎ Behind (line_step so_far line) (λ next. SomeTakes next others)
 
 -- such a line, where those before it spell what S says
 record TakenIn (S : List (List ℕ) → Meaning → Type 0) (lines : List (List ℕ)) : Type 0 where
@@ -49,7 +50,7 @@ later_taken S T line lines onto t =
       takes = t.takes;
     }
 
-this_taken : (p : Meaning) (line : List ℕ) (lines : List (List ℕ)) → step_takes true p line ≡ true → TakenIn (AreLines p) (line ∷ lines)
+this_taken : (p : Meaning) (line : List ℕ) (lines : List (List ℕ)) → step_takes (Some p) line ≡ true → TakenIn (AreLines p) (line ∷ lines)
 unfolding step_takes
 this_taken p line lines h =
     ⊎_elim (λ (skip : is_skipped (words_of line) ≡ true). absurd (false≢true (rw skip at h)))
@@ -66,45 +67,45 @@ this_taken p line lines h =
     })
     (cases_Bool (is_skipped (words_of line)))
 
-lines_taken_by : (p : Meaning) (line : List ℕ) (lines : List (List ℕ)) → ((q : Meaning) → SomeTakes true q lines → TakenIn (AreLines q) lines) → (r : Result (Bool × Meaning) FaultKind) → line_step true p line ≡ r → Behind r (λ next q. SomeTakes next q lines) → TakenIn (AreLines p) (line ∷ lines)
+lines_taken_by : (p : Meaning) (line : List ℕ) (lines : List (List ℕ)) → ((q : Meaning) → SomeTakes (Some q) lines → TakenIn (AreLines q) lines) → (r : Result (Option Meaning) FaultKind) → line_step (Some p) line ≡ r → Behind r (λ next. SomeTakes next lines) → TakenIn (AreLines p) (line ∷ lines)
 lines_taken_by p line lines later (Ok x) stepped h =
     let read = line_step-found p line x stepped in
-    let S : Bool → Type 0 = λ b. SomeTakes b x.1 lines in
-    later_taken (AreLines x.1) (AreLines p) line lines (λ before q lead. (x.1, read.line_is, lead)) (later x.1 (subst S (sym read.started_is) h))
+    let S : Option Meaning → Type 0 = λ y. SomeTakes y lines in
+    later_taken (AreLines read.mid) (AreLines p) line lines (λ before q lead. (read.mid, read.line_is, lead)) (later read.mid (subst S (sym read.is) h))
 lines_taken_by p line lines later (Err kind) stepped h = absurd h
 
-lines_taken : (p : Meaning) (lines : List (List ℕ)) → SomeTakes true p lines → TakenIn (AreLines p) lines
+lines_taken : (p : Meaning) (lines : List (List ℕ)) → SomeTakes (Some p) lines → TakenIn (AreLines p) lines
 lines_taken p [] h = absurd h
 lines_taken p (line ∷ lines) h =
-    ⊎_elim (λ (here : step_takes true p line ≡ true). this_taken p line lines here)
-    (λ (later : Behind (line_step true p line) (λ next q. SomeTakes next q lines)).
-    lines_taken_by p line lines (λ q t. lines_taken q lines t) (line_step true p line) refl later)
+    ⊎_elim (λ (here : step_takes (Some p) line ≡ true). this_taken p line lines here)
+    (λ (later : Behind (line_step (Some p) line) (λ next. SomeTakes next lines)).
+    lines_taken_by p line lines (λ q t. lines_taken q lines t) (line_step (Some p) line) refl later)
     h
 
-none_before : (line : List ℕ) → step_takes false nothing line ≡ true → ⊥
+none_before : (line : List ℕ) → step_takes None line ≡ true → ⊥
 unfolding step_takes
 none_before line h = false≢true h
 
-all_taken_by : (line : List ℕ) (lines : List (List ℕ)) → (SomeTakes false nothing lines → TakenIn AreAllLines lines) → (r : Result (Bool × Meaning) FaultKind) → line_step false nothing line ≡ r → Behind r (λ next q. SomeTakes next q lines) → TakenIn AreAllLines (line ∷ lines)
+all_taken_by : (line : List ℕ) (lines : List (List ℕ)) → (SomeTakes None lines → TakenIn AreAllLines lines) → (r : Result (Option Meaning) FaultKind) → line_step None line ≡ r → Behind r (λ next. SomeTakes next lines) → TakenIn AreAllLines (line ∷ lines)
 all_taken_by line lines later (Ok x) stepped h =
     let read = header-found line x stepped in
-    let S : Bool × Meaning → Type 0 = λ y. SomeTakes y.0 y.1 lines in
-    ⊎_elim (λ (skip : (is_skipped (words_of line) ≡ true) × ((false, nothing) ≡ x)).
+    let S : Option Meaning → Type 0 = λ y. SomeTakes y lines in
+    ⊎_elim (λ (skip : (is_skipped (words_of line) ≡ true) × (None ≡ x)).
     later_taken AreAllLines AreAllLines line lines (λ before q lead. inl (skip.0, lead)) (later (subst S (sym skip.1) h)))
-    (λ (kept : (is_skipped (words_of line) ≡ false) × (words_of line ≡ header) × ((true, nothing) ≡ x)).
-    later_taken (AreLines nothing) AreAllLines line lines (λ before q lead. inr (kept.0, kept.1, lead)) (lines_taken nothing lines (subst S (sym kept.2) h)))
+    (λ (kept : (is_skipped (words_of line) ≡ false) × (version : Version) × (words_of line ≡ header version) × (Some (without_lines version) ≡ x)).
+    later_taken (AreLines (without_lines kept.1)) AreAllLines line lines (λ before q lead. inr (kept.0, kept.1, kept.2, lead)) (lines_taken (without_lines kept.1) lines (subst S (sym kept.3) h)))
     read.how
 all_taken_by line lines later (Err kind) stepped h = absurd h
 
-all_taken : (lines : List (List ℕ)) → SomeTakes false nothing lines → TakenIn AreAllLines lines
+all_taken : (lines : List (List ℕ)) → SomeTakes None lines → TakenIn AreAllLines lines
 all_taken [] h = absurd h
 all_taken (line ∷ lines) h =
-    ⊎_elim (λ (here : step_takes false nothing line ≡ true). absurd (none_before line here))
-    (λ (later : Behind (line_step false nothing line) (λ next q. SomeTakes next q lines)).
-    all_taken_by line lines (λ t. all_taken lines t) (line_step false nothing line) refl later)
+    ⊎_elim (λ (here : step_takes None line ≡ true). absurd (none_before line here))
+    (λ (later : Behind (line_step None line) (λ next. SomeTakes next lines)).
+    all_taken_by line lines (λ t. all_taken lines t) (line_step None line) refl later)
     h
 
-pub text_taken : (text : List ℕ) → SomeTakes false nothing (lines_of text) → TakesMemory text
+pub text_taken : (text : List ℕ) → SomeTakes None (lines_of text) → TakesMemory text
 text_taken text h =
     let t = all_taken (lines_of text) h in
     record {
@@ -119,45 +120,45 @@ text_taken text h =
     }
 
 -- the other way round: such a line is one of those that the walk over the lines finds
-step_taken : (p : Meaning) (line : List ℕ) → is_skipped (words_of line) ≡ false → line_takes p (words_of line) ≡ true → step_takes true p line ≡ true
+step_taken : (p : Meaning) (line : List ℕ) → is_skipped (words_of line) ≡ false → line_takes p (words_of line) ≡ true → step_takes (Some p) line ≡ true
 unfolding step_takes
 step_taken p line counts takes = rw (counts, takes) refl
 
-found_in_lines : (p so_far : Meaning) (before others : List (List ℕ)) (line : List ℕ) → AreLines p before so_far → is_skipped (words_of line) ≡ false → line_takes so_far (words_of line) ≡ true → SomeTakes true p (before ++ line ∷ others)
+found_in_lines : (p so_far : Meaning) (before others : List (List ℕ)) (line : List ℕ) → AreLines p before so_far → is_skipped (words_of line) ≡ false → line_takes so_far (words_of line) ≡ true → SomeTakes (Some p) (before ++ line ∷ others)
 found_in_lines p so_far [] others line same counts takes =
     let P : Meaning → Type 0 = λ q. line_takes q (words_of line) ≡ true in
     inl (step_taken p line counts (subst P (sym same) takes))
 found_in_lines p so_far (first ∷ before) others line h counts takes =
-    let S : Result (Bool × Meaning) FaultKind → Type 0 = λ r. Behind r (λ next q. SomeTakes next q (before ++ line ∷ others)) in
+    let S : Result (Option Meaning) FaultKind → Type 0 = λ r. Behind r (λ next. SomeTakes next (before ++ line ∷ others)) in
     inr (subst S (sym (line_step-only p h.0 first h.1)) (found_in_lines h.0 so_far before others line h.2 counts takes))
 
-found_in_all : (so_far : Meaning) (before others : List (List ℕ)) (line : List ℕ) → AreAllLines before so_far → is_skipped (words_of line) ≡ false → line_takes so_far (words_of line) ≡ true → SomeTakes false nothing (before ++ line ∷ others)
+found_in_all : (so_far : Meaning) (before others : List (List ℕ)) (line : List ℕ) → AreAllLines before so_far → is_skipped (words_of line) ≡ false → line_takes so_far (words_of line) ≡ true → SomeTakes None (before ++ line ∷ others)
 found_in_all so_far [] others line h counts takes = absurd h
 found_in_all so_far (first ∷ before) others line h counts takes =
-    let S : Result (Bool × Meaning) FaultKind → Type 0 = λ r. Behind r (λ next q. SomeTakes next q (before ++ line ∷ others)) in
+    let S : Result (Option Meaning) FaultKind → Type 0 = λ r. Behind r (λ next. SomeTakes next (before ++ line ∷ others)) in
     ⊎_elim (λ (skip : (is_skipped (words_of first) ≡ true) × AreAllLines before so_far).
     inr (subst S (sym (skip-only first skip.0)) (found_in_all so_far before others line skip.1 counts takes)))
-    (λ (kept : (is_skipped (words_of first) ≡ false) × (words_of first ≡ header) × AreLines nothing before so_far).
-    inr (subst S (sym (header-only first kept.0 kept.1)) (found_in_lines nothing so_far before others line kept.2 counts takes)))
+    (λ (kept : (is_skipped (words_of first) ≡ false) × (version : Version) × (words_of first ≡ header version) × AreLines (without_lines version) before so_far).
+    inr (subst S (sym (header_step kept.1 first kept.2)) (found_in_lines (without_lines kept.1) so_far before others line kept.3 counts takes)))
     h
 
-pub taken_text : (text : List ℕ) → TakesMemory text → SomeTakes false nothing (lines_of text)
-taken_text text t = subst (SomeTakes false nothing) (sym t.lines_are) (found_in_all t.so_far t.before t.others t.line t.spelled t.counts t.takes)
+pub taken_text : (text : List ℕ) → TakesMemory text → SomeTakes None (lines_of text)
+taken_text text t = subst (SomeTakes None) (sym t.lines_are) (found_in_all t.so_far t.before t.others t.line t.spelled t.counts t.takes)
 
 -- a turn of the loop over the lines
-pub takes-turn : (started next : Bool) (p q : Meaning) (text line after : List ℕ) → cut_at 10 text ≡ Some (line, after) → line_step started p line ≡ Ok (next, q)
-    → SomeTakes next q (lines_of after) → SomeTakes started p (lines_of text)
-takes-turn started next p q text line after e h later =
-    subst (SomeTakes started p) (sym (slice_split-cut 10 text line after e))
-    (inr (subst (λ r. Behind r (λ b m. SomeTakes b m (lines_of after))) (sym h) later))
+pub takes-turn : (so_far next : Option Meaning) (text line after : List ℕ) → cut_at 10 text ≡ Some (line, after) → line_step so_far line ≡ Ok next
+    → SomeTakes next (lines_of after) → SomeTakes so_far (lines_of text)
+takes-turn so_far next text line after e h later =
+    subst (SomeTakes so_far) (sym (slice_split-cut 10 text line after e))
+    (inr (subst (λ r. Behind r (λ x. SomeTakes x (lines_of after))) (sym h) later))
 
 -- this line
-pub takes-cut : (started : Bool) (p : Meaning) (text line after : List ℕ) → cut_at 10 text ≡ Some (line, after) → step_takes started p line ≡ true → SomeTakes started p (lines_of text)
-takes-cut started p text line after e h = subst (SomeTakes started p) (sym (slice_split-cut 10 text line after e)) (inl h)
+pub takes-cut : (so_far : Option Meaning) (text line after : List ℕ) → cut_at 10 text ≡ Some (line, after) → step_takes so_far line ≡ true → SomeTakes so_far (lines_of text)
+takes-cut so_far text line after e h = subst (SomeTakes so_far) (sym (slice_split-cut 10 text line after e)) (inl h)
 
 -- the last line
-pub takes-whole : (started : Bool) (p : Meaning) (text : List ℕ) → cut_at 10 text ≡ None → step_takes started p text ≡ true → SomeTakes started p (lines_of text)
-takes-whole started p text e h = subst (SomeTakes started p) (sym (slice_split-whole 10 text e)) (inl h)
+pub takes-whole : (so_far : Option Meaning) (text : List ℕ) → cut_at 10 text ≡ None → step_takes so_far text ≡ true → SomeTakes so_far (lines_of text)
+takes-whole so_far text e h = subst (SomeTakes so_far) (sym (slice_split-whole 10 text e)) (inl h)
 
 -- what reading says of a fault that is want of memory
 abbrev pub TakesIfMemory : List ℕ → PolicyFault → Type 0

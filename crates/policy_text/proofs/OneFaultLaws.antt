@@ -9,12 +9,13 @@ use Rattle.sequences.specs.Results.{◌>>=◌}
 use Rattle.policy_text.specs.declared.fault.FaultKind.{FaultKind}
 use Rattle.policy_text.specs.declared.fault.FaultKind.TheVariants.{NoHeader, BadName, BadKey}
 use Rattle.policy_text.specs.declared.fault.PolicyFault.{PolicyFault}
+use Rattle.policy_text.specs.declared.version.Version.{Version}
 use Rattle.policy_text.specs.Words.{Word, words_of, lines_of, is_skipped}
-use Rattle.policy_text.specs.Policies.{Meaning, nothing}
+use Rattle.policy_text.specs.Policies.{Meaning, without_lines}
 use Rattle.policy_text.specs.Results.{at_line, then_read, Parses, is_memory}
 use Rattle.policy_text.specs.Classes.{element, with_key, add_piece, add_pieces, key_of}
 use Rattle.policy_text.specs.Lines.{line_of}
-use Rattle.policy_text.specs.Parsing.{is_header, step, line_step, read_lines, policy_of}
+use Rattle.policy_text.specs.Parsing.{version_of, step, line_step, read_lines, policy_of}
 use Rattle.policy_text.specs.Grammar.{IsKey, IsPolicy}
 use Rattle.policy_text.specs.Printing.{header}
 use Rattle.policy_text.specs.Spelling.{AreLines, AreAllLines, Spells}
@@ -22,10 +23,11 @@ use Rattle.policy_text.specs.LineParts.{Part, part_behind, IsKeyFault, IsKindOf}
 use Rattle.policy_text.specs.FirstFault.{MayStand, AwaitsAggregate, Begins, IsKind, IsFaulty, IsLineFault, SpellSoFar, IsFaultAt, IsFirstFault, FirstFault, PolicyOrFault}
 use Rattle.policy_text.specs.LineParts.Part.{first_word, keyword, who, domain, network, action, known_name, element_or_star, treatment, bits, unused_name, key_list, seconds, line_end}
 use Rattle.policy_text.proofs.ParsingLaws.{read_lines-cons, read_lines-empty}
-use Rattle.policy_text.proofs.KeptLaws.{IsPolicy-nothing}
+use Rattle.policy_text.proofs.KeptLaws.{IsPolicy-without_lines}
 use Rattle.policy_text.proofs.KeyStepLaws.{IsKeyAfter, as_key, step_by_step}
 use Rattle.policy_text.proofs.SoundLaws.{key_push, with_key-sound}
-use Rattle.policy_text.proofs.SpellLaws.{line_step-only, header-only, skip-only, is_header-is, policy_of-found, policy_of-only}
+use Rattle.policy_text.proofs.RoundLaws.{header_step}
+use Rattle.policy_text.proofs.SpellLaws.{line_step-only, skip-only, version_of-is, policy_of-found, policy_of-only}
 use Rattle.policy_text.proofs.KindLaws.{element_here, element_word, element_kind, with_key_kind}
 use Rattle.policy_text.proofs.FirstFaultLaws.{read_stands, line_fault, adds_kept, fault_found, front_word}
 
@@ -68,15 +70,15 @@ key_fault_read word kind f =
 
 -- a faulty word has one kind
 one_kind_of : (part : Part) (word : Word) (k l : FaultKind) → IsKindOf part word k → IsKindOf part word l → k ≡ l
-one_kind_of first_word word k l f g = f ∙ sym g
+one_kind_of (first_word version) word k l f g = f ∙ sym g
 one_kind_of keyword word k l f g = f ∙ sym g
 one_kind_of who word k l f g = f ∙ sym g
 one_kind_of domain word k l f g = f ∙ sym g
 one_kind_of network word k l f g = f ∙ sym g
-one_kind_of action word k l f g = f ∙ sym g
+one_kind_of (action version) word k l f g = f ∙ sym g
 one_kind_of known_name word k l f g = f ∙ sym g
 one_kind_of element_or_star word k l f g = f ∙ sym g
-one_kind_of treatment word k l f g = f ∙ sym g
+one_kind_of (treatment version) word k l f g = f ∙ sym g
 one_kind_of bits word k l f g = f ∙ sym g
 one_kind_of unused_name word k l f g = f ∙ sym g
 one_kind_of key_list word k l f g = same_Err k l (sym (key_fault_read word k f) ∙ key_fault_read word l g)
@@ -86,7 +88,7 @@ one_kind_of line_end word k l f g = f ∙ sym g
 one_kind : (so_far : Option Meaning) (front rest : List Word) (k l : FaultKind) → IsKind so_far front rest k → IsKind so_far front rest l → k ≡ l
 one_kind None front rest k l f g = f ∙ sym g
 one_kind (Some policy) front [] k l f g = f ∙ sym g
-one_kind (Some policy) front (word ∷ rest) k l f g = one_kind_of (part_behind (first_word ∷ []) front) word k l f g
+one_kind (Some policy) front (word ∷ rest) k l f g = one_kind_of (part_behind (first_word policy.version ∷ []) front) word k l f g
 
 -- a line has one place of a first fault
 record Longer (long front rest : List Word) : Type 0 where
@@ -176,39 +178,40 @@ line_refused : (policy : Meaning) (words : List Word) (kind : FaultKind) → IsP
 line_refused policy words kind valid counts f (Ok new) e = absurd (faulty_line (Some policy) words kind f (read_stands policy new words e))
 line_refused policy words kind valid counts f (Err k) e = e ∙ ap (λ (l : FaultKind). Err l) (one_line_fault (Some policy) words k kind (line_fault policy words k valid counts e) f)
 
-header_refused : (words : List Word) (kind : FaultKind) → IsLineFault None words kind → is_header words ≡ false
-header_refused words kind f =
-    ⊎_elim (λ (t : is_header words ≡ true). absurd (faulty_line None words kind f (is_header-is words t)))
-    (λ (other : is_header words ≡ false). other)
-    (cases_Bool (is_header words))
+header_refused : (words : List Word) (kind : FaultKind) → IsLineFault None words kind → version_of words ≡ None
+header_refused words kind f = by_answer (version_of words) refl
+  where
+    by_answer : (o : Option Version) → version_of words ≡ o → version_of words ≡ None
+    by_answer None e = e
+    by_answer (Some version) e = absurd (faulty_line None words kind f (version, version_of-is words version e))
 
 -- the lines before the faulty one are read
-line_read : (started next : Bool) (p q : Meaning) (n : ℕ) (line : List ℕ) (lines : List (List ℕ)) → line_step started p line ≡ Ok (next, q) → read_lines started p n (line ∷ lines) ≡ read_lines next q (n + 1) lines
-line_read started next p q n line lines e = read_lines-cons started p n line lines ∙ ap (λ r. then_read (at_line n r) (λ x. read_lines x.0 x.1 (n + 1) lines)) e
+line_read : (so_far next : Option Meaning) (n : ℕ) (line : List ℕ) (lines : List (List ℕ)) → line_step so_far line ≡ Ok next → read_lines so_far n (line ∷ lines) ≡ read_lines next (n + 1) lines
+line_read so_far next n line lines e = read_lines-cons so_far n line lines ∙ ap (λ r. then_read (at_line n r) (λ x. read_lines x (n + 1) lines)) e
 
-counted_on : (started : Bool) (p : Meaning) (n : ℕ) (line : List ℕ) (before rest : List (List ℕ)) → read_lines started p ((n + 1) + length before) rest ≡ read_lines started p (n + length (line ∷ before)) rest
-counted_on started p n line before rest = let same : (n + 1) + length before ≡ n + length (line ∷ before) = omega arith in ap (λ m. read_lines started p m rest) same
+counted_on : (so_far : Option Meaning) (n : ℕ) (line : List ℕ) (before rest : List (List ℕ)) → read_lines so_far ((n + 1) + length before) rest ≡ read_lines so_far (n + length (line ∷ before)) rest
+counted_on so_far n line before rest = let same : (n + 1) + length before ≡ n + length (line ∷ before) = omega arith in ap (λ m. read_lines so_far m rest) same
 
-none_on : (started : Bool) (p : Meaning) (n : ℕ) (rest : List (List ℕ)) → read_lines started p n rest ≡ read_lines started p (n + 0) rest
-none_on started p n rest = let same : n ≡ n + 0 = omega arith in ap (λ m. read_lines started p m rest) same
+none_on : (so_far : Option Meaning) (n : ℕ) (rest : List (List ℕ)) → read_lines so_far n rest ≡ read_lines so_far (n + 0) rest
+none_on so_far n rest = let same : n ≡ n + 0 = omega arith in ap (λ m. read_lines so_far m rest) same
 
-skipped_read : (n : ℕ) (before rest : List (List ℕ)) → SpellSoFar before None → read_lines false nothing n (before ++ rest) ≡ read_lines false nothing (n + length before) rest
-skipped_read n [] rest h = none_on false nothing n rest
+skipped_read : (n : ℕ) (before rest : List (List ℕ)) → SpellSoFar before None → read_lines None n (before ++ rest) ≡ read_lines None (n + length before) rest
+skipped_read n [] rest h = none_on None n rest
 skipped_read n (line ∷ before) rest h =
-    line_read false false nothing nothing n line (before ++ rest) (skip-only line h.0) ∙ skipped_read (n + 1) before rest h.1 ∙ counted_on false nothing n line before rest
+    line_read None None n line (before ++ rest) (skip-only line h.0) ∙ skipped_read (n + 1) before rest h.1 ∙ counted_on None n line before rest
 
-lead_read : (p q : Meaning) (n : ℕ) (before rest : List (List ℕ)) → AreLines p before q → read_lines true p n (before ++ rest) ≡ read_lines true q (n + length before) rest
-lead_read p q n [] rest h = ap (λ m. read_lines true m n rest) h ∙ none_on true q n rest
+lead_read : (p q : Meaning) (n : ℕ) (before rest : List (List ℕ)) → AreLines p before q → read_lines (Some p) n (before ++ rest) ≡ read_lines (Some q) (n + length before) rest
+lead_read p q n [] rest h = ap (λ m. read_lines (Some m) n rest) h ∙ none_on (Some q) n rest
 lead_read p q n (line ∷ before) rest h =
-    line_read true true p h.0 n line (before ++ rest) (line_step-only p h.0 line h.1) ∙ lead_read h.0 q (n + 1) before rest h.2 ∙ counted_on true q n line before rest
+    line_read (Some p) (Some h.0) n line (before ++ rest) (line_step-only p h.0 line h.1) ∙ lead_read h.0 q (n + 1) before rest h.2 ∙ counted_on (Some q) n line before rest
 
-spelled_read : (q : Meaning) (n : ℕ) (before rest : List (List ℕ)) → AreAllLines before q → read_lines false nothing n (before ++ rest) ≡ read_lines true q (n + length before) rest
+spelled_read : (q : Meaning) (n : ℕ) (before rest : List (List ℕ)) → AreAllLines before q → read_lines None n (before ++ rest) ≡ read_lines (Some q) (n + length before) rest
 spelled_read q n [] rest h = absurd h
 spelled_read q n (line ∷ before) rest h =
     ⊎_elim (λ (skip : (is_skipped (words_of line) ≡ true) × AreAllLines before q).
-    line_read false false nothing nothing n line (before ++ rest) (skip-only line skip.0) ∙ spelled_read q (n + 1) before rest skip.1 ∙ counted_on true q n line before rest)
-    (λ (kept : (is_skipped (words_of line) ≡ false) × (words_of line ≡ header) × AreLines nothing before q).
-    line_read false true nothing nothing n line (before ++ rest) (header-only line kept.0 kept.1) ∙ lead_read nothing q (n + 1) before rest kept.2 ∙ counted_on true q n line before rest)
+    line_read None None n line (before ++ rest) (skip-only line skip.0) ∙ spelled_read q (n + 1) before rest skip.1 ∙ counted_on (Some q) n line before rest)
+    (λ (kept : (is_skipped (words_of line) ≡ false) × (version : Version) × (words_of line ≡ header version) × AreLines (without_lines version) before q).
+    line_read None (Some (without_lines kept.1)) n line (before ++ rest) (header_step kept.1 line kept.2) ∙ lead_read (without_lines kept.1) q (n + 1) before rest kept.3 ∙ counted_on (Some q) n line before rest)
     h
 
 lead_kept : (p q : Meaning) (lines : List (List ℕ)) → IsPolicy p → AreLines p lines q → IsPolicy q
@@ -219,38 +222,39 @@ spelled_kept : (q : Meaning) (lines : List (List ℕ)) → AreAllLines lines q �
 spelled_kept q [] h = absurd h
 spelled_kept q (line ∷ lines) h =
     ⊎_elim (λ (skip : (is_skipped (words_of line) ≡ true) × AreAllLines lines q). spelled_kept q lines skip.1)
-    (λ (kept : (is_skipped (words_of line) ≡ false) × (words_of line ≡ header) × AreLines nothing lines q). lead_kept nothing q lines IsPolicy-nothing kept.2)
+    (λ (kept : (is_skipped (words_of line) ≡ false) × (version : Version) × (words_of line ≡ header version) × AreLines (without_lines version) lines q).
+    lead_kept (without_lines kept.1) q lines (IsPolicy-without_lines kept.1) kept.3)
     h
 
 -- the faulty line is refused
-step_refused : (p : Meaning) (line : List ℕ) (kind : FaultKind) → is_skipped (words_of line) ≡ false → line_of p (words_of line) ≡ Err kind → line_step true p line ≡ Err kind
+step_refused : (p : Meaning) (line : List ℕ) (kind : FaultKind) → is_skipped (words_of line) ≡ false → line_of p (words_of line) ≡ Err kind → line_step (Some p) line ≡ Err kind
 unfolding line_step step
 step_refused p line kind counts e = rw (counts, e) refl
 
-header_step_refused : (line : List ℕ) → is_skipped (words_of line) ≡ false → is_header (words_of line) ≡ false → line_step false nothing line ≡ Err NoHeader
+header_step_refused : (line : List ℕ) → is_skipped (words_of line) ≡ false → version_of (words_of line) ≡ None → line_step None line ≡ Err NoHeader
 unfolding line_step step
 header_step_refused line counts e = rw (counts, e) refl
 
-fault_line : (started : Bool) (p : Meaning) (n m : ℕ) (line : List ℕ) (lines : List (List ℕ)) (kind : FaultKind) → line_step started p line ≡ Err kind → m ≡ n → read_lines started p n (line ∷ lines) ≡ Err (record { line = m; kind = kind })
-fault_line started p n m line lines kind e same =
-    read_lines-cons started p n line lines ∙ ap (λ r. then_read (at_line n r) (λ x. read_lines x.0 x.1 (n + 1) lines)) e ∙ ap (λ (k : ℕ). Err (record { line = k; kind = kind })) (sym same)
+fault_line : (so_far : Option Meaning) (n m : ℕ) (line : List ℕ) (lines : List (List ℕ)) (kind : FaultKind) → line_step so_far line ≡ Err kind → m ≡ n → read_lines so_far n (line ∷ lines) ≡ Err (record { line = m; kind = kind })
+fault_line so_far n m line lines kind e same =
+    read_lines-cons so_far n line lines ∙ ap (λ r. then_read (at_line n r) (λ x. read_lines x (n + 1) lines)) e ∙ ap (λ (k : ℕ). Err (record { line = k; kind = kind })) (sym same)
 
-fault_by : (so_far : Option Meaning) (before others : List (List ℕ)) (line : List ℕ) (n : ℕ) (kind : FaultKind) → n ≡ 1 + length before → SpellSoFar before so_far → is_skipped (words_of line) ≡ false → IsLineFault so_far (words_of line) kind → read_lines false nothing 1 (before ++ line ∷ others) ≡ Err (record { line = n; kind = kind })
+fault_by : (so_far : Option Meaning) (before others : List (List ℕ)) (line : List ℕ) (n : ℕ) (kind : FaultKind) → n ≡ 1 + length before → SpellSoFar before so_far → is_skipped (words_of line) ≡ false → IsLineFault so_far (words_of line) kind → read_lines None 1 (before ++ line ∷ others) ≡ Err (record { line = n; kind = kind })
 fault_by None before others line n kind number spelled counts f =
     let e = header_step_refused line counts (header_refused (words_of line) kind f) ∙ ap (λ (k : FaultKind). Err k) (sym f.kind_is) in
-    skipped_read 1 before (line ∷ others) spelled ∙ fault_line false nothing (1 + length before) n line others kind e number
+    skipped_read 1 before (line ∷ others) spelled ∙ fault_line None (1 + length before) n line others kind e number
 fault_by (Some q) before others line n kind number spelled counts f =
     let e = step_refused q line kind counts (line_refused q (words_of line) kind (spelled_kept q before spelled) counts f (line_of q (words_of line)) refl) in
-    spelled_read q 1 before (line ∷ others) spelled ∙ fault_line true q (1 + length before) n line others kind e number
+    spelled_read q 1 before (line ∷ others) spelled ∙ fault_line (Some q) (1 + length before) n line others kind e number
 
 fault_only : (text : List ℕ) (fault : PolicyFault) → IsFirstFault text fault → policy_of text ≡ Err fault
 unfolding policy_of
 fault_only text fault h =
     ⊎_elim (λ (f : IsFaultAt (lines_of text) fault.line fault.kind).
     let number = f.number_is in
-    ap (read_lines false nothing 1) f.lines_are ∙ fault_by f.so_far f.before f.others f.line fault.line fault.kind (omega (arith, number)) f.spelled f.counts f.fault)
+    ap (read_lines None 1) f.lines_are ∙ fault_by f.so_far f.before f.others f.line fault.line fault.kind (omega (arith, number)) f.spelled f.counts f.fault)
     (λ (none : SpellSoFar (lines_of text) None × (fault ≡ record { line = 1; kind = NoHeader })).
-    ap (read_lines false nothing 1) (sym (append-nil (lines_of text))) ∙ skipped_read 1 (lines_of text) [] none.0 ∙ read_lines-empty nothing (1 + length (lines_of text)) ∙ ap (λ (x : PolicyFault). Err x) (sym none.1))
+    ap (read_lines None 1) (sym (append-nil (lines_of text))) ∙ skipped_read 1 (lines_of text) [] none.0 ∙ read_lines-empty (1 + length (lines_of text)) ∙ ap (λ (x : PolicyFault). Err x) (sym none.1))
     h
 
 -- the fault that a call answers

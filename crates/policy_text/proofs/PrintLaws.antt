@@ -5,11 +5,11 @@ use Rattle.std.proofs.lemmas.List.{take_more, map_push}
 use Rattle.std.proofs.lemmas.List.Concat.{flat_map-append}
 use Rattle.ipfix_element.specs.Element.{Element}
 use Rattle.policy_text.specs.declared.rule.Action.{Action}
-use Rattle.policy_text.specs.declared.rule.Action.TheVariants.{Pass, Withhold, Aggregate, Keep, Remove, Truncate}
+use Rattle.policy_text.specs.declared.rule.Action.TheVariants.{Pass, Withhold, Aggregate, Keep, Remove, Truncate, Degrade}
 use Rattle.policy_text.specs.Words.{Word}
-use Rattle.policy_text.specs.Policies.{Aggregate as Definition}
+use Rattle.policy_text.specs.Policies.{Meaning, Aggregate as Definition}
 use Rattle.policy_text.specs.Grammar.{name_at}
-use Rattle.policy_text.specs.Printing.{action_words, line_text, rule_words, word_or_star, itself}
+use Rattle.policy_text.specs.Printing.{action_words, header, policy_text, aggregate_words, line_text, rule_words, word_or_star, itself}
 use Rattle.flow_prefix.specs.Printing.{prefix_text}
 use Rattle.std.specs.Fmt.{decimal}
 use Rattle.policy_text.specs.declared.rule.Rule.{Rule}
@@ -22,6 +22,7 @@ action_join aggregates element (Aggregate place) word = refl
 action_join aggregates element Keep word = refl
 action_join aggregates element Remove word = refl
 action_join aggregates element (Truncate bits) word = refl
+action_join aggregates element (Degrade seconds) word = refl
 
 pub name_at_read : (aggregates : List Definition) (place : ℕ) (a : Definition) → place < length aggregates → a ≡ get_or aggregates place a → name_at aggregates place ≡ a.name
 name_at_read [] place a low e = absurd (omega arith)
@@ -59,3 +60,15 @@ pub rule_row : (aggregates : List Definition) (r : Rule) (old : List ℕ) → in
 rule_row aggregates r old =
     row_is old (word_or_star itself r.who) (word_or_star decimal r.domain) (word_or_star prefix_text r.from) (word_or_star prefix_text r.to) (join_with_byte 32 (action_words aggregates r.element r.action)) (join_with_byte 32 (word_or_star prefix_text r.to ∷ action_words aggregates r.element r.action)) (action_join aggregates r.element r.action (word_or_star prefix_text r.to))
     ∙ append_assoc old (codes "rule for " ++ (word_or_star itself r.who ++ (codes " in " ++ (word_or_star decimal r.domain ++ (codes " from " ++ (word_or_star prefix_text r.from ++ (codes " to " ++ join_with_byte 32 (word_or_star prefix_text r.to ∷ action_words aggregates r.element r.action)))))))) (10 ∷ [])
+
+-- the lines of a policy
+pub policy_rows : (policy : Meaning) →
+    (line_text (header policy.version) ++ flat_map line_text (map aggregate_words policy.aggregates)) ++ flat_map line_text (map (rule_words policy.aggregates) policy.rules)
+    ≡ policy_text policy
+unfolding policy_text
+policy_rows policy =
+    let first = line_text (header policy.version) in
+    let aggregates = map aggregate_words policy.aggregates in
+    let rules = map (rule_words policy.aggregates) policy.rules in
+    append_assoc first (flat_map line_text aggregates) (flat_map line_text rules)
+    ∙ ap (λ t. first ++ t) (sym (flat_map-append line_text aggregates rules))

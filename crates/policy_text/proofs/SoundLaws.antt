@@ -22,16 +22,17 @@ use Rattle.sequences.specs.Results.{◌>>=◌}
 use Rattle.policy_text.specs.declared.fault.FaultKind.{FaultKind}
 use Rattle.policy_text.specs.declared.rule.Rule.{Rule}
 use Rattle.policy_text.specs.declared.rule.Action.{Action}
-use Rattle.policy_text.specs.declared.rule.Action.TheVariants.{Pass, Withhold, Aggregate, Keep, Remove, Truncate}
+use Rattle.policy_text.specs.declared.rule.Action.TheVariants.{Pass, Withhold, Aggregate, Keep, Remove, Truncate, Degrade}
+use Rattle.policy_text.specs.declared.version.Version.{Version}
 use Rattle.policy_text.specs.Words.{Word}
 use Rattle.policy_text.specs.Naming.{is_name}
 use Rattle.policy_text.specs.Elements.{element_of}
-use Rattle.policy_text.specs.Policies.{IsKeyLength, Aggregate as Definition}
+use Rattle.policy_text.specs.Policies.{has_degrade, IsKeyLength, Aggregate as Definition}
 use Rattle.policy_text.specs.Results.{or_fault}
-use Rattle.policy_text.specs.Classes.{name, number, element, prefix, prefix_or_fault, star, some_of, or_star, is_key_kind, width_at, with_key, add_piece, add_pieces, key_of, place_of, aggregate_place, new_name, interval, bits_within}
-use Rattle.policy_text.specs.Lines.{next_of, next, after, ended, truncate_of, element_action, aggregate_action, on_element, action_of, rule_of, aggregate_of}
+use Rattle.policy_text.specs.Classes.{name, number, element, prefix, prefix_or_fault, star, some_of, or_star, is_key_kind, width_at, is_time_at, with_key, add_piece, add_pieces, key_of, place_of, aggregate_place, new_name, interval, bits_within}
+use Rattle.policy_text.specs.Lines.{next_of, next, after, ended, truncate_of, degrade_of, element_action, aggregate_action, on_element, action_of, rule_of, aggregate_of}
 use Rattle.policy_text.specs.Grammar.{name_at, IsAction, IsRule, IsKey, IsAggregate}
-use Rattle.policy_text.specs.declared.fault.FaultKind.TheVariants.{UnknownWord, BadName, BadNumber, BadPrefix, BadTruncate, UnknownAggregate, DoubleAggregate, BadKey}
+use Rattle.policy_text.specs.declared.fault.FaultKind.TheVariants.{UnknownWord, BadName, BadNumber, BadPrefix, BadTruncate, UnknownAggregate, DoubleAggregate, BadKey, BadDegrade}
 use Rattle.policy_text.proofs.ElementLaws.{element_of-found}
 use Rattle.policy_text.proofs.KeyStepLaws.{IsKeyAfter, as_key}
 use Rattle.policy_text.proofs.WordLaws.{position-place}
@@ -127,10 +128,22 @@ place-sound aggregates w place e =
     (λ (other : is_name w ≡ false). absurd (Err-Ok BadName place (rw other at e)))
     (cases_Bool (is_name w))
 
+interval-sound : (w : Word) (n : ℕ) → interval w ≡ Ok n → (1 ≤ n) × (n ≤ 86400)
+unfolding interval
+interval-sound w n e =
+    let read = bind_Ok (number 86400 w) (λ seconds. cond (ltb seconds 1) (Err BadNumber) (Ok seconds)) n e in
+    let high = number-sound 86400 (omega arith) w read.0 read.1 in
+    ⊎_elim (λ (low : ltb read.0 1 ≡ true). absurd (Err-Ok BadNumber n (rw low at read.2)))
+    (λ (good : ltb read.0 1 ≡ false).
+    let same = same_Ok read.0 n (rw good at read.2) in
+    let low = ltb-false read.0 1 good in
+    (omega (arith, same), omega (arith, same)))
+    (cases_Bool (ltb read.0 1))
+
 -- actions
-record ActionSound (aggregates : List Definition) (e : Option Element) (what : Action) : Type 0 where
+record ActionSound (version : Version) (aggregates : List Definition) (e : Option Element) (what : Action) : Type 0 where
   element_is : IfSome e IsElement
-  action_is : IsAction aggregates e what
+  action_is : IsAction version aggregates e what
 
 record Truncates (width : Option ℕ) (what : Action) : Type 0 where
   w : ℕ
@@ -158,121 +171,163 @@ truncate-sound (Some width) words x e =
     let h = bits-sound width word.0 read.0.0 word.1 in
     record { w = width; bits = read.0.0; width_is = refl; what_is = ap (λ (y : Action × List Word). y.0) (same_Ok (Truncate read.0.0, read.0.1) x read.2); within = h.0; short = h.1 }
 
-element_action-sound : (aggregates : List Definition) (e : Option Element) (words : List Word) (x : Action × List Word) → element_action (width_at e) words ≡ Ok x → IsAction aggregates e x.0
+record Degrades (is_time : Bool) (what : Action) : Type 0 where
+  seconds : ℕ
+  time : is_time ≡ true
+  what_is : Degrade seconds ≡ what
+  low : 1 ≤ seconds
+  high : seconds ≤ 86400
+
+degrade-sound : (is_time : Bool) (words : List Word) (x : Action × List Word) → degrade_of is_time words ≡ Ok x → Degrades is_time x.0
+unfolding degrade_of
+degrade-sound false words x e = absurd (Err-Ok BadDegrade x e)
+degrade-sound true words x e =
+    let read = bind_Ok (next interval words) (λ seconds. Ok (Degrade seconds.0, seconds.1)) x e in
+    let word = next_word interval words read.0 read.1 in
+    let h = interval-sound word.0 read.0.0 word.1 in
+    record { seconds = read.0.0; time = refl; what_is = ap (λ (y : Action × List Word). y.0) (same_Ok (Degrade read.0.0, read.0.1) x read.2); low = h.0; high = h.1 }
+
+-- behind `element ELEM`, word by word
+abbrev pub degrade_word : Version → Word → Bool
+degrade_word version word = has_degrade version && bytes_eq word (codes "degrade")
+
+abbrev pub or_degrade : Version → Option Element → Word × List Word → Result (Action × List Word) FaultKind
+or_degrade version e w = cond (degrade_word version w.0) (degrade_of (is_time_at e) w.1) (Err UnknownWord)
+
+abbrev pub or_truncate : Version → Option Element → Word × List Word → Result (Action × List Word) FaultKind
+or_truncate version e w = cond (bytes_eq w.0 (codes "truncate")) (truncate_of (width_at e) w.1) (or_degrade version e w)
+
+abbrev pub or_remove : Version → Option Element → Word × List Word → Result (Action × List Word) FaultKind
+or_remove version e w = cond (bytes_eq w.0 (codes "remove")) (Ok (Remove, w.1)) (or_truncate version e w)
+
+abbrev pub on_treatment : Version → Option Element → Word × List Word → Result (Action × List Word) FaultKind
+on_treatment version e w = cond (bytes_eq w.0 (codes "keep")) (Ok (Keep, w.1)) (or_remove version e w)
+
+degraded-sound : (version : Version) (aggregates : List Definition) (e : Option Element) (w : Word × List Word) (x : Action × List Word) → or_degrade version e w ≡ Ok x → IsAction version aggregates e x.0
+degraded-sound version aggregates e w x h =
+    ⊎_elim (λ (t : degrade_word version w.0 ≡ true).
+    let d = degrade-sound (is_time_at e) w.1 x (rw t at h) in
+    let known = and_parts (has_degrade version) (bytes_eq w.0 (codes "degrade")) t in
+    let P : Action → Type 0 = λ what. IsAction version aggregates e what in
+    subst P d.what_is (known.0, d.time, d.low, d.high))
+    (λ (f : degrade_word version w.0 ≡ false). absurd (Err-Ok UnknownWord x (rw f at h)))
+    (cases_Bool (degrade_word version w.0))
+
+element_action-sound : (version : Version) (aggregates : List Definition) (e : Option Element) (words : List Word) (x : Action × List Word) → element_action version e words ≡ Ok x → IsAction version aggregates e x.0
 unfolding element_action
-element_action-sound aggregates e words x h =
-    let first = bind_Ok (next_of words) (λ w. cond (bytes_eq w.0 (codes "keep")) (Ok (Keep, w.1)) (cond (bytes_eq w.0 (codes "remove")) (Ok (Remove, w.1)) (cond (bytes_eq w.0 (codes "truncate")) (truncate_of (width_at e) w.1) (Err UnknownWord)))) x h in
+element_action-sound version aggregates e words x h =
+    let first = bind_Ok (next_of words) (λ w. on_treatment version e w) x h in
     let w = first.0 in
-    let P : Action × List Word → Type 0 = λ y. IsAction aggregates e y.0 in
-    either (IsAction aggregates e x.0) (bytes_eq w.0 (codes "keep")) (Ok (Keep, w.1)) (cond (bytes_eq w.0 (codes "remove")) (Ok (Remove, w.1)) (cond (bytes_eq w.0 (codes "truncate")) (truncate_of (width_at e) w.1) (Err UnknownWord))) x first.2
+    let P : Action × List Word → Type 0 = λ y. IsAction version aggregates e y.0 in
+    either (IsAction version aggregates e x.0) (bytes_eq w.0 (codes "keep")) (Ok (Keep, w.1)) (or_remove version e w) x first.2
     (λ keep. subst P (same_Ok (Keep, w.1) x keep) tt)
-    (λ others. either (IsAction aggregates e x.0) (bytes_eq w.0 (codes "remove")) (Ok (Remove, w.1)) (cond (bytes_eq w.0 (codes "truncate")) (truncate_of (width_at e) w.1) (Err UnknownWord)) x others
+    (λ others. either (IsAction version aggregates e x.0) (bytes_eq w.0 (codes "remove")) (Ok (Remove, w.1)) (or_truncate version e w) x others
     (λ gone. subst P (same_Ok (Remove, w.1) x gone) tt)
-    (λ last. either (IsAction aggregates e x.0) (bytes_eq w.0 (codes "truncate")) (truncate_of (width_at e) w.1) (Err UnknownWord) x last
+    (λ last. either (IsAction version aggregates e x.0) (bytes_eq w.0 (codes "truncate")) (truncate_of (width_at e) w.1) (or_degrade version e w) x last
     (λ cut. let t = truncate-sound (width_at e) w.1 x cut in
-    let Q : Action → Type 0 = λ what. IsAction aggregates e what in
+    let Q : Action → Type 0 = λ what. IsAction version aggregates e what in
     subst Q t.what_is (t.w, t.width_is, t.within, t.short))
-    (λ none. absurd (Err-Ok UnknownWord x none))))
+    (λ none. degraded-sound version aggregates e w x none)))
 
-on_element-sound : (aggregates : List Definition) (words : List Word) (x : (Option Element × Action) × List Word) → on_element words ≡ Ok x → ActionSound aggregates x.0.0 x.0.1
+on_element-sound : (version : Version) (aggregates : List Definition) (words : List Word) (x : (Option Element × Action) × List Word) → on_element version words ≡ Ok x → ActionSound version aggregates x.0.0 x.0.1
 unfolding on_element
-on_element-sound aggregates words x h =
-    let first = bind_Ok (next (or_star element) words) (λ e. element_action (width_at e.0) e.1 >>= λ action. Ok ((e.0, action.0), action.1)) x h in
-    let second = bind_Ok (element_action (width_at first.0.0) first.0.1) (λ action. Ok ((first.0.0, action.0), action.1)) x first.2 in
-    let P : (Option Element × Action) × List Word → Type 0 = λ y. ActionSound aggregates y.0.0 y.0.1 in
+on_element-sound version aggregates words x h =
+    let first = bind_Ok (next (or_star element) words) (λ e. element_action version e.0 e.1 >>= λ action. Ok ((e.0, action.0), action.1)) x h in
+    let second = bind_Ok (element_action version first.0.0 first.0.1) (λ action. Ok ((first.0.0, action.0), action.1)) x first.2 in
+    let P : (Option Element × Action) × List Word → Type 0 = λ y. ActionSound version aggregates y.0.0 y.0.1 in
     subst P (same_Ok ((first.0.0, second.0.0), second.0.1) x second.2)
-    (record { element_is = next_given IsElement element element-sound words first.0 first.1; action_is = element_action-sound aggregates first.0.0 first.0.1 second.0 second.1 })
+    (record { element_is = next_given IsElement element element-sound words first.0 first.1; action_is = element_action-sound version aggregates first.0.0 first.0.1 second.0 second.1 })
 
-aggregate_action-sound : (aggregates : List Definition) (words : List Word) (x : (Option Element × Action) × List Word) → aggregate_action aggregates words ≡ Ok x → ActionSound aggregates x.0.0 x.0.1
+aggregate_action-sound : (version : Version) (aggregates : List Definition) (words : List Word) (x : (Option Element × Action) × List Word) → aggregate_action aggregates words ≡ Ok x → ActionSound version aggregates x.0.0 x.0.1
 unfolding aggregate_action
-aggregate_action-sound aggregates words x h =
+aggregate_action-sound version aggregates words x h =
     let read = bind_Ok (next (aggregate_place aggregates) words) (λ place. Ok ((None, Aggregate place.0), place.1)) x h in
     let word = next_word (aggregate_place aggregates) words read.0 read.1 in
     let at = place-sound aggregates word.0 read.0.0 word.1 in
-    let P : (Option Element × Action) × List Word → Type 0 = λ y. ActionSound aggregates y.0.0 y.0.1 in
+    let P : (Option Element × Action) × List Word → Type 0 = λ y. ActionSound version aggregates y.0.0 y.0.1 in
     subst P (same_Ok ((None, Aggregate read.0.0), read.0.1) x read.2) (record { element_is = tt; action_is = (refl, at.0, at.1) })
 
-action_of-sound : (aggregates : List Definition) (words : List Word) (x : (Option Element × Action) × List Word) → action_of aggregates words ≡ Ok x → ActionSound aggregates x.0.0 x.0.1
+action_of-sound : (version : Version) (aggregates : List Definition) (words : List Word) (x : (Option Element × Action) × List Word) → action_of version aggregates words ≡ Ok x → ActionSound version aggregates x.0.0 x.0.1
 unfolding action_of
-action_of-sound aggregates words x h =
-    let first = bind_Ok (next_of words) (λ w. cond (bytes_eq w.0 (codes "pass")) (Ok ((None, Pass), w.1)) (cond (bytes_eq w.0 (codes "withhold")) (Ok ((None, Withhold), w.1)) (cond (bytes_eq w.0 (codes "aggregate")) (aggregate_action aggregates w.1) (cond (bytes_eq w.0 (codes "element")) (on_element w.1) (Err UnknownWord))))) x h in
+action_of-sound version aggregates words x h =
+    let first = bind_Ok (next_of words) (λ w. cond (bytes_eq w.0 (codes "pass")) (Ok ((None, Pass), w.1)) (cond (bytes_eq w.0 (codes "withhold")) (Ok ((None, Withhold), w.1)) (cond (bytes_eq w.0 (codes "aggregate")) (aggregate_action aggregates w.1) (cond (bytes_eq w.0 (codes "element")) (on_element version w.1) (Err UnknownWord))))) x h in
     let w = first.0 in
-    let P : (Option Element × Action) × List Word → Type 0 = λ y. ActionSound aggregates y.0.0 y.0.1 in
-    either (ActionSound aggregates x.0.0 x.0.1) (bytes_eq w.0 (codes "pass")) (Ok ((None, Pass), w.1)) (cond (bytes_eq w.0 (codes "withhold")) (Ok ((None, Withhold), w.1)) (cond (bytes_eq w.0 (codes "aggregate")) (aggregate_action aggregates w.1) (cond (bytes_eq w.0 (codes "element")) (on_element w.1) (Err UnknownWord)))) x first.2
+    let P : (Option Element × Action) × List Word → Type 0 = λ y. ActionSound version aggregates y.0.0 y.0.1 in
+    either (ActionSound version aggregates x.0.0 x.0.1) (bytes_eq w.0 (codes "pass")) (Ok ((None, Pass), w.1)) (cond (bytes_eq w.0 (codes "withhold")) (Ok ((None, Withhold), w.1)) (cond (bytes_eq w.0 (codes "aggregate")) (aggregate_action aggregates w.1) (cond (bytes_eq w.0 (codes "element")) (on_element version w.1) (Err UnknownWord)))) x first.2
     (λ pass. subst P (same_Ok ((None, Pass), w.1) x pass) (record { element_is = tt; action_is = refl }))
-    (λ others. either (ActionSound aggregates x.0.0 x.0.1) (bytes_eq w.0 (codes "withhold")) (Ok ((None, Withhold), w.1)) (cond (bytes_eq w.0 (codes "aggregate")) (aggregate_action aggregates w.1) (cond (bytes_eq w.0 (codes "element")) (on_element w.1) (Err UnknownWord))) x others
+    (λ others. either (ActionSound version aggregates x.0.0 x.0.1) (bytes_eq w.0 (codes "withhold")) (Ok ((None, Withhold), w.1)) (cond (bytes_eq w.0 (codes "aggregate")) (aggregate_action aggregates w.1) (cond (bytes_eq w.0 (codes "element")) (on_element version w.1) (Err UnknownWord))) x others
     (λ held. subst P (same_Ok ((None, Withhold), w.1) x held) (record { element_is = tt; action_is = refl }))
-    (λ more. either (ActionSound aggregates x.0.0 x.0.1) (bytes_eq w.0 (codes "aggregate")) (aggregate_action aggregates w.1) (cond (bytes_eq w.0 (codes "element")) (on_element w.1) (Err UnknownWord)) x more
-    (λ counted. aggregate_action-sound aggregates w.1 x counted)
-    (λ last. either (ActionSound aggregates x.0.0 x.0.1) (bytes_eq w.0 (codes "element")) (on_element w.1) (Err UnknownWord) x last
-    (λ on. on_element-sound aggregates w.1 x on)
+    (λ more. either (ActionSound version aggregates x.0.0 x.0.1) (bytes_eq w.0 (codes "aggregate")) (aggregate_action aggregates w.1) (cond (bytes_eq w.0 (codes "element")) (on_element version w.1) (Err UnknownWord)) x more
+    (λ counted. aggregate_action-sound version aggregates w.1 x counted)
+    (λ last. either (ActionSound version aggregates x.0.0 x.0.1) (bytes_eq w.0 (codes "element")) (on_element version w.1) (Err UnknownWord) x last
+    (λ on. on_element-sound version aggregates w.1 x on)
     (λ none. absurd (Err-Ok UnknownWord x none)))))
 
 -- a rule, word by word
 abbrev pub rule_end : Option Word → Option ℕ → Option Prefix → Option Prefix → (Option Element × Action) × List Word → Result Rule FaultKind
 rule_end who domain from to done = ended done.1 >>= λ nothing_more. Ok (record { who = who; domain = domain; from = from; to = to; element = done.0.0; action = done.0.1 })
 
-abbrev pub rule_action : List Definition → Option Word → Option ℕ → Option Prefix → Option Prefix × List Word → Result Rule FaultKind
-rule_action aggregates who domain from to = action_of aggregates to.1 >>= λ done. rule_end who domain from to.0 done
+abbrev pub rule_action : Version → List Definition → Option Word → Option ℕ → Option Prefix → Option Prefix × List Word → Result Rule FaultKind
+rule_action version aggregates who domain from to = action_of version aggregates to.1 >>= λ done. rule_end who domain from to.0 done
 
-abbrev pub rule_to : List Definition → Option Word → Option ℕ → Option Prefix → List Word → Result Rule FaultKind
-rule_to aggregates who domain from d = next (or_star prefix) d >>= λ to. rule_action aggregates who domain from to
+abbrev pub rule_to : Version → List Definition → Option Word → Option ℕ → Option Prefix → List Word → Result Rule FaultKind
+rule_to version aggregates who domain from d = next (or_star prefix) d >>= λ to. rule_action version aggregates who domain from to
 
-abbrev pub rule_behind_from : List Definition → Option Word → Option ℕ → Option Prefix × List Word → Result Rule FaultKind
-rule_behind_from aggregates who domain from = after (codes "to") from.1 >>= λ d. rule_to aggregates who domain from.0 d
+abbrev pub rule_behind_from : Version → List Definition → Option Word → Option ℕ → Option Prefix × List Word → Result Rule FaultKind
+rule_behind_from version aggregates who domain from = after (codes "to") from.1 >>= λ d. rule_to version aggregates who domain from.0 d
 
-abbrev pub rule_from : List Definition → Option Word → Option ℕ → List Word → Result Rule FaultKind
-rule_from aggregates who domain c = next (or_star prefix) c >>= λ from. rule_behind_from aggregates who domain from
+abbrev pub rule_from : Version → List Definition → Option Word → Option ℕ → List Word → Result Rule FaultKind
+rule_from version aggregates who domain c = next (or_star prefix) c >>= λ from. rule_behind_from version aggregates who domain from
 
-abbrev pub rule_behind_domain : List Definition → Option Word → Option ℕ × List Word → Result Rule FaultKind
-rule_behind_domain aggregates who domain = after (codes "from") domain.1 >>= λ c. rule_from aggregates who domain.0 c
+abbrev pub rule_behind_domain : Version → List Definition → Option Word → Option ℕ × List Word → Result Rule FaultKind
+rule_behind_domain version aggregates who domain = after (codes "from") domain.1 >>= λ c. rule_from version aggregates who domain.0 c
 
-abbrev pub rule_domain : List Definition → Option Word → List Word → Result Rule FaultKind
-rule_domain aggregates who b = next (or_star (number 4294967295)) b >>= λ domain. rule_behind_domain aggregates who domain
+abbrev pub rule_domain : Version → List Definition → Option Word → List Word → Result Rule FaultKind
+rule_domain version aggregates who b = next (or_star (number 4294967295)) b >>= λ domain. rule_behind_domain version aggregates who domain
 
-abbrev pub rule_behind_who : List Definition → Option Word × List Word → Result Rule FaultKind
-rule_behind_who aggregates who = after (codes "in") who.1 >>= λ b. rule_domain aggregates who.0 b
+abbrev pub rule_behind_who : Version → List Definition → Option Word × List Word → Result Rule FaultKind
+rule_behind_who version aggregates who = after (codes "in") who.1 >>= λ b. rule_domain version aggregates who.0 b
 
-abbrev pub rule_who : List Definition → List Word → Result Rule FaultKind
-rule_who aggregates a = next (or_star name) a >>= λ who. rule_behind_who aggregates who
+abbrev pub rule_who : Version → List Definition → List Word → Result Rule FaultKind
+rule_who version aggregates a = next (or_star name) a >>= λ who. rule_behind_who version aggregates who
 
 abbrev pub the_rule : Option Word → Option ℕ → Option Prefix → Option Prefix → Option Element × Action → Rule
 the_rule who domain from to what = record { who = who; domain = domain; from = from; to = to; element = what.0; action = what.1 }
 
 -- the steps in which a rule is read
-pub record RuleSteps (aggregates : List Definition) (words : List Word) (r : Rule) : Type 0 where
-  pub behind_for : (a : List Word) × (after (codes "for") words ≡ Ok a) × (rule_who aggregates a ≡ Ok r)
-  pub who : (x : Option Word × List Word) × (next (or_star name) behind_for.0 ≡ Ok x) × (rule_behind_who aggregates x ≡ Ok r)
-  pub behind_in : (b : List Word) × (after (codes "in") who.0.1 ≡ Ok b) × (rule_domain aggregates who.0.0 b ≡ Ok r)
-  pub domain : (x : Option ℕ × List Word) × (next (or_star (number 4294967295)) behind_in.0 ≡ Ok x) × (rule_behind_domain aggregates who.0.0 x ≡ Ok r)
-  pub behind_from : (c : List Word) × (after (codes "from") domain.0.1 ≡ Ok c) × (rule_from aggregates who.0.0 domain.0.0 c ≡ Ok r)
-  pub from : (x : Option Prefix × List Word) × (next (or_star prefix) behind_from.0 ≡ Ok x) × (rule_behind_from aggregates who.0.0 domain.0.0 x ≡ Ok r)
-  pub behind_to : (d : List Word) × (after (codes "to") from.0.1 ≡ Ok d) × (rule_to aggregates who.0.0 domain.0.0 from.0.0 d ≡ Ok r)
-  pub to : (x : Option Prefix × List Word) × (next (or_star prefix) behind_to.0 ≡ Ok x) × (rule_action aggregates who.0.0 domain.0.0 from.0.0 x ≡ Ok r)
-  pub action : (x : (Option Element × Action) × List Word) × (action_of aggregates to.0.1 ≡ Ok x) × (rule_end who.0.0 domain.0.0 from.0.0 to.0.0 x ≡ Ok r)
+pub record RuleSteps (version : Version) (aggregates : List Definition) (words : List Word) (r : Rule) : Type 0 where
+  pub behind_for : (a : List Word) × (after (codes "for") words ≡ Ok a) × (rule_who version aggregates a ≡ Ok r)
+  pub who : (x : Option Word × List Word) × (next (or_star name) behind_for.0 ≡ Ok x) × (rule_behind_who version aggregates x ≡ Ok r)
+  pub behind_in : (b : List Word) × (after (codes "in") who.0.1 ≡ Ok b) × (rule_domain version aggregates who.0.0 b ≡ Ok r)
+  pub domain : (x : Option ℕ × List Word) × (next (or_star (number 4294967295)) behind_in.0 ≡ Ok x) × (rule_behind_domain version aggregates who.0.0 x ≡ Ok r)
+  pub behind_from : (c : List Word) × (after (codes "from") domain.0.1 ≡ Ok c) × (rule_from version aggregates who.0.0 domain.0.0 c ≡ Ok r)
+  pub from : (x : Option Prefix × List Word) × (next (or_star prefix) behind_from.0 ≡ Ok x) × (rule_behind_from version aggregates who.0.0 domain.0.0 x ≡ Ok r)
+  pub behind_to : (d : List Word) × (after (codes "to") from.0.1 ≡ Ok d) × (rule_to version aggregates who.0.0 domain.0.0 from.0.0 d ≡ Ok r)
+  pub to : (x : Option Prefix × List Word) × (next (or_star prefix) behind_to.0 ≡ Ok x) × (rule_action version aggregates who.0.0 domain.0.0 from.0.0 x ≡ Ok r)
+  pub action : (x : (Option Element × Action) × List Word) × (action_of version aggregates to.0.1 ≡ Ok x) × (rule_end who.0.0 domain.0.0 from.0.0 to.0.0 x ≡ Ok r)
   pub end : (nothing_more : Unit {0}) × (ended action.0.1 ≡ Ok nothing_more)
   pub made : the_rule who.0.0 domain.0.0 from.0.0 to.0.0 action.0.0 ≡ r
 
-pub rule_steps : (aggregates : List Definition) (words : List Word) (r : Rule) → rule_of aggregates words ≡ Ok r → RuleSteps aggregates words r
+pub rule_steps : (version : Version) (aggregates : List Definition) (words : List Word) (r : Rule) → rule_of version aggregates words ≡ Ok r → RuleSteps version aggregates words r
 unfolding rule_of
-rule_steps aggregates words r h =
-    let s0 = bind_Ok (after (codes "for") words) (λ a. rule_who aggregates a) r h in
-    let who = bind_Ok (next (or_star name) s0.0) (λ x. rule_behind_who aggregates x) r s0.2 in
-    let s1 = bind_Ok (after (codes "in") who.0.1) (λ b. rule_domain aggregates who.0.0 b) r who.2 in
-    let domain = bind_Ok (next (or_star (number 4294967295)) s1.0) (λ x. rule_behind_domain aggregates who.0.0 x) r s1.2 in
-    let s2 = bind_Ok (after (codes "from") domain.0.1) (λ c. rule_from aggregates who.0.0 domain.0.0 c) r domain.2 in
-    let from = bind_Ok (next (or_star prefix) s2.0) (λ x. rule_behind_from aggregates who.0.0 domain.0.0 x) r s2.2 in
-    let s3 = bind_Ok (after (codes "to") from.0.1) (λ d. rule_to aggregates who.0.0 domain.0.0 from.0.0 d) r from.2 in
-    let to = bind_Ok (next (or_star prefix) s3.0) (λ x. rule_action aggregates who.0.0 domain.0.0 from.0.0 x) r s3.2 in
-    let done = bind_Ok (action_of aggregates to.0.1) (λ x. rule_end who.0.0 domain.0.0 from.0.0 to.0.0 x) r to.2 in
+rule_steps version aggregates words r h =
+    let s0 = bind_Ok (after (codes "for") words) (λ a. rule_who version aggregates a) r h in
+    let who = bind_Ok (next (or_star name) s0.0) (λ x. rule_behind_who version aggregates x) r s0.2 in
+    let s1 = bind_Ok (after (codes "in") who.0.1) (λ b. rule_domain version aggregates who.0.0 b) r who.2 in
+    let domain = bind_Ok (next (or_star (number 4294967295)) s1.0) (λ x. rule_behind_domain version aggregates who.0.0 x) r s1.2 in
+    let s2 = bind_Ok (after (codes "from") domain.0.1) (λ c. rule_from version aggregates who.0.0 domain.0.0 c) r domain.2 in
+    let from = bind_Ok (next (or_star prefix) s2.0) (λ x. rule_behind_from version aggregates who.0.0 domain.0.0 x) r s2.2 in
+    let s3 = bind_Ok (after (codes "to") from.0.1) (λ d. rule_to version aggregates who.0.0 domain.0.0 from.0.0 d) r from.2 in
+    let to = bind_Ok (next (or_star prefix) s3.0) (λ x. rule_action version aggregates who.0.0 domain.0.0 from.0.0 x) r s3.2 in
+    let done = bind_Ok (action_of version aggregates to.0.1) (λ x. rule_end who.0.0 domain.0.0 from.0.0 to.0.0 x) r to.2 in
     let end = bind_Ok (ended done.0.1) (λ nothing_more. Ok (record { who = who.0.0; domain = domain.0.0; from = from.0.0; to = to.0.0; element = done.0.0.0; action = done.0.0.1 })) r done.2 in
     record { behind_for = s0; who = who; behind_in = s1; domain = domain; behind_from = s2; from = from; behind_to = s3; to = to; action = done; end = (end.0, end.1); made = same_Ok (the_rule who.0.0 domain.0.0 from.0.0 to.0.0 done.0.0) r end.2 }
 
-pub rule_of-sound : (aggregates : List Definition) (words : List Word) (r : Rule) → rule_of aggregates words ≡ Ok r → IsRule aggregates r
-rule_of-sound aggregates words r h =
-    let steps = rule_steps aggregates words r h in
-    let action = action_of-sound aggregates steps.to.0.1 steps.action.0 steps.action.1 in
-    let P : Rule → Type 0 = λ x. IsRule aggregates x in
+pub rule_of-sound : (version : Version) (aggregates : List Definition) (words : List Word) (r : Rule) → rule_of version aggregates words ≡ Ok r → IsRule version aggregates r
+rule_of-sound version aggregates words r h =
+    let steps = rule_steps version aggregates words r h in
+    let action = action_of-sound version aggregates steps.to.0.1 steps.action.0 steps.action.1 in
+    let P : Rule → Type 0 = λ x. IsRule version aggregates x in
     subst P steps.made
     (record {
       who = next_given (λ w. is_name w ≡ true) name name-sound steps.behind_for.0 steps.who.0 steps.who.1;
@@ -336,18 +391,6 @@ key-sound w key e =
     let h = pieces-sound [] (slice_split (λ c. eqb c 44) w) key tt (omega arith) e in
     let longer = h.longer in
     (as_key key h.elements, (omega arith, h.few))
-
-interval-sound : (w : Word) (n : ℕ) → interval w ≡ Ok n → (1 ≤ n) × (n ≤ 86400)
-unfolding interval
-interval-sound w n e =
-    let read = bind_Ok (number 86400 w) (λ seconds. cond (ltb seconds 1) (Err BadNumber) (Ok seconds)) n e in
-    let high = number-sound 86400 (omega arith) w read.0 read.1 in
-    ⊎_elim (λ (low : ltb read.0 1 ≡ true). absurd (Err-Ok BadNumber n (rw low at read.2)))
-    (λ (good : ltb read.0 1 ≡ false).
-    let same = same_Ok read.0 n (rw good at read.2) in
-    let low = ltb-false read.0 1 good in
-    (omega (arith, same), omega (arith, same)))
-    (cases_Bool (ltb read.0 1))
 
 new_name-sound : (aggregates : List Definition) (w n : Word) → new_name aggregates w ≡ Ok n → (is_name n ≡ true) × (place_of aggregates n ≡ None)
 unfolding new_name

@@ -5,6 +5,7 @@ use Rattle.std.specs.Str.{bytes_eq}
 use Rattle.std.specs.Fmt.{decimal}
 use Rattle.std.proofs.lemmas.Slice.Eq.{bytes_eq-Decides}
 use Rattle.std.proofs.lemmas.List.Splits.{join_with_byte-slice_split}
+use Rattle.std.proofs.lemmas.Option.{same_Some, none-some}
 use Rattle.std.proofs.lemmas.Bool.{cases_Bool, leb-false, lt-leb, and_parts, false≢true}
 use Rattle.ipfix_element.specs.Element.{Element}
 use Rattle.ipfix_element.specs.Names.{element_name}
@@ -18,27 +19,29 @@ use Rattle.flow_prefix.proofs.PrefixLaws.{prefix_of-found, prefix_of-only}
 use Rattle.sequences.proofs.ResultLaws.{Err-Ok, same_Ok, bind_Ok}
 use Rattle.sequences.specs.Results.{◌>>=◌}
 use Rattle.policy_text.specs.declared.fault.FaultKind.{FaultKind}
-use Rattle.policy_text.specs.declared.fault.FaultKind.TheVariants.{UnknownAggregate, DoubleAggregate, UnknownWord, NoHeader, BadName, BadNumber, BadPrefix, BadTruncate, TooMany}
+use Rattle.policy_text.specs.declared.fault.FaultKind.TheVariants.{UnknownAggregate, DoubleAggregate, UnknownWord, NoHeader, BadName, BadNumber, BadPrefix, BadTruncate, TooMany, BadDegrade}
 use Rattle.policy_text.specs.declared.fault.PolicyFault.{PolicyFault}
 use Rattle.policy_text.specs.declared.rule.Rule.{Rule}
 use Rattle.policy_text.specs.declared.rule.Action.{Action}
-use Rattle.policy_text.specs.declared.rule.Action.TheVariants.{Pass, Withhold, Aggregate, Keep, Remove, Truncate}
+use Rattle.policy_text.specs.declared.rule.Action.TheVariants.{Pass, Withhold, Aggregate, Keep, Remove, Truncate, Degrade}
+use Rattle.policy_text.specs.declared.version.Version.{Version}
+use Rattle.policy_text.specs.declared.version.Version.TheVariants.{One, Two}
 use Rattle.policy_text.specs.Words.{Word, words_of, lines_of, is_skipped}
 use Rattle.policy_text.specs.Naming.{is_name}
 use Rattle.policy_text.specs.Elements.{element_of}
-use Rattle.policy_text.specs.Policies.{Meaning, nothing, with_rule, with_aggregate, Aggregate as Definition}
+use Rattle.policy_text.specs.Policies.{Meaning, has_degrade, without_lines, with_rule, with_aggregate, Aggregate as Definition}
 use Rattle.policy_text.specs.Results.{at_line, then_read, Parses}
-use Rattle.policy_text.specs.Classes.{name, number, element, prefix, prefix_or_fault, star, some_of, or_star, with_key, add_piece, add_pieces, key_of, place_of, width_at, aggregate_place, new_name, interval, bits_within}
-use Rattle.policy_text.specs.Lines.{next_of, next, after, ended, truncate_of, element_action, aggregate_action, on_element, action_of, rule_of, aggregate_of, rule_line, aggregate_line, line_of}
-use Rattle.policy_text.specs.Parsing.{is_header, step, line_step, read_lines, policy_of}
+use Rattle.policy_text.specs.Classes.{name, number, element, prefix, prefix_or_fault, star, some_of, or_star, with_key, add_piece, add_pieces, key_of, place_of, width_at, is_time_at, aggregate_place, new_name, interval, bits_within}
+use Rattle.policy_text.specs.Lines.{next_of, next, after, ended, truncate_of, degrade_of, element_action, aggregate_action, on_element, action_of, rule_of, aggregate_of, rule_line, aggregate_line, line_of}
+use Rattle.policy_text.specs.Parsing.{numbered_version, version_of, after_header, step, line_step, read_lines, policy_of}
 use Rattle.policy_text.specs.Grammar.{name_at}
-use Rattle.policy_text.specs.Printing.{word_or_star, itself, action_words, key_text, aggregate_words, header}
+use Rattle.policy_text.specs.Printing.{word_or_star, itself, action_words, key_text, aggregate_words, version_word, header}
 use Rattle.policy_text.specs.Spelling.{IsPrefixWord, rule_tail, SpellsRule, AddsRule, AddsAggregate, AfterLine, AreLines, AreAllLines, Spells, OnePolicy}
 use Rattle.policy_text.proofs.ElementLaws.{element_of-found}
 use Rattle.policy_text.proofs.ParsingLaws.{read_lines-cons, read_lines-done, read_lines-empty}
 use Rattle.policy_text.proofs.PrintedClassLaws.{name-printed, or_star-word, or_star-star, or_star-printed, name-star, number-star, prefix-star}
-use Rattle.policy_text.proofs.SoundLaws.{guarded, or_fault-Ok, place_name, with_key-sound, rule_steps, aggregate_steps, rule_of-sound, aggregate_of-sound}
-use Rattle.policy_text.proofs.RoundLaws.{domain_back, action_back, aggregate_back}
+use Rattle.policy_text.proofs.SoundLaws.{guarded, or_fault-Ok, place_name, with_key-sound, degrade_word, or_degrade, or_truncate, or_remove, on_treatment, rule_steps, aggregate_steps, rule_of-sound, aggregate_of-sound}
+use Rattle.policy_text.proofs.RoundLaws.{domain_back, action_back, aggregate_back, header_step}
 
 next_of-text : (words : List Word) (x : Word × List Word) → next_of words ≡ Ok x → words ≡ x.0 ∷ x.1
 unfolding next_of
@@ -191,6 +194,25 @@ truncate-text (Some width) words x e =
       words_are = word.1 ∙ ap (λ w. w ∷ read.0.1) (bits-text width word.0 read.0.0 word.2) ∙ ap (λ ws. decimal read.0.0 ∷ ws) rest;
     }
 
+record SpellsDegrade (words : List Word) (x : Action × List Word) : Type 0 where
+  pub seconds : ℕ
+  pub what_is : (Degrade seconds, x.1) ≡ x
+  pub words_are : words ≡ decimal seconds ∷ x.1
+
+degrade-text : (is_time : Bool) (words : List Word) (x : Action × List Word) → degrade_of is_time words ≡ Ok x → SpellsDegrade words x
+unfolding degrade_of
+degrade-text false words x e = absurd (Err-Ok BadDegrade x e)
+degrade-text true words x e =
+    let read = bind_Ok (next interval words) (λ seconds. Ok (Degrade seconds.0, seconds.1)) x e in
+    let word = next-text interval words read.0 read.1 in
+    let same = same_Ok (Degrade read.0.0, read.0.1) x read.2 in
+    let rest : read.0.1 ≡ x.1 = ap (λ (y : Action × List Word). y.1) same in
+    record {
+      seconds = read.0.0;
+      what_is = ap (λ (ws : List Word). (Degrade read.0.0, ws)) (sym rest) ∙ same;
+      words_are = word.1 ∙ ap (λ w. w ∷ read.0.1) (interval-text word.0 read.0.0 word.2) ∙ ap (λ ws. decimal read.0.0 ∷ ws) rest;
+    }
+
 -- the words of an action on an element
 abbrev behind_element : Action → List Word
 behind_element Pass = []
@@ -199,6 +221,7 @@ behind_element (Aggregate place) = []
 behind_element Keep = codes "keep" ∷ []
 behind_element Remove = codes "remove" ∷ []
 behind_element (Truncate bits) = codes "truncate" ∷ decimal bits ∷ []
+behind_element (Degrade seconds) = codes "degrade" ∷ decimal seconds ∷ []
 
 on_fields : Action → Type 0
 on_fields Pass = ⊥
@@ -207,30 +230,42 @@ on_fields (Aggregate place) = ⊥
 on_fields Keep = Unit {0}
 on_fields Remove = Unit {0}
 on_fields (Truncate bits) = Unit {0}
+on_fields (Degrade seconds) = Unit {0}
 
 abbrev SpellsElementAction : List Word → Action × List Word → Type 0
 SpellsElementAction words x = on_fields x.0 × (words ≡ behind_element x.0 ++ x.1)
 
-element_action-text : (width : Option ℕ) (words : List Word) (x : Action × List Word) → element_action width words ≡ Ok x → SpellsElementAction words x
+degraded-text : (version : Version) (e : Option Element) (w : Word × List Word) (words : List Word) (x : Action × List Word) → words ≡ w.0 ∷ w.1 → or_degrade version e w ≡ Ok x → SpellsElementAction words x
+unfolding on_fields
+degraded-text version e w words x whole h =
+    ⊎_elim (λ (t : degrade_word version w.0 ≡ true).
+    let known = and_parts (has_degrade version) (bytes_eq w.0 (codes "degrade")) t in
+    let d = degrade-text (is_time_at e) w.1 x (rw t at h) in
+    let Q : Action × List Word → Type 0 = λ y. on_fields y.0 × (words ≡ behind_element y.0 ++ x.1) in
+    subst Q d.what_is (tt, whole ∙ ap (λ k. k ∷ w.1) ((bytes_eq-Decides w.0 (codes "degrade")).0 known.1) ∙ ap (λ ws. codes "degrade" ∷ ws) d.words_are))
+    (λ (none : degrade_word version w.0 ≡ false). absurd (Err-Ok UnknownWord x (rw none at h)))
+    (cases_Bool (degrade_word version w.0))
+
+element_action-text : (version : Version) (e : Option Element) (words : List Word) (x : Action × List Word) → element_action version e words ≡ Ok x → SpellsElementAction words x
 unfolding element_action on_fields
-element_action-text width words x h =
-    let first = bind_Ok (next_of words) (λ w. cond (bytes_eq w.0 (codes "keep")) (Ok (Keep, w.1)) (cond (bytes_eq w.0 (codes "remove")) (Ok (Remove, w.1)) (cond (bytes_eq w.0 (codes "truncate")) (truncate_of width w.1) (Err UnknownWord)))) x h in
+element_action-text version e words x h =
+    let first = bind_Ok (next_of words) (λ w. on_treatment version e w) x h in
     let w = first.0 in
     let whole = next_of-text words first.0 first.1 in
     let P : Action × List Word → Type 0 = λ y. SpellsElementAction words y in
     ⊎_elim (λ (t : bytes_eq w.0 (codes "keep") ≡ true).
     subst P (same_Ok (Keep, w.1) x (rw t at first.2)) (tt, whole ∙ ap (λ k. k ∷ w.1) ((bytes_eq-Decides w.0 (codes "keep")).0 t)))
     (λ (f : bytes_eq w.0 (codes "keep") ≡ false).
-    let others = rw f at first.2 in
+    let others : or_remove version e w ≡ Ok x = rw f at first.2 in
     ⊎_elim (λ (t : bytes_eq w.0 (codes "remove") ≡ true).
     subst P (same_Ok (Remove, w.1) x (rw t at others)) (tt, whole ∙ ap (λ k. k ∷ w.1) ((bytes_eq-Decides w.0 (codes "remove")).0 t)))
     (λ (g : bytes_eq w.0 (codes "remove") ≡ false).
-    let last = rw g at others in
+    let last : or_truncate version e w ≡ Ok x = rw g at others in
     ⊎_elim (λ (t : bytes_eq w.0 (codes "truncate") ≡ true).
-    let cut = truncate-text width w.1 x (rw t at last) in
+    let cut = truncate-text (width_at e) w.1 x (rw t at last) in
     let Q : Action × List Word → Type 0 = λ y. on_fields y.0 × (words ≡ behind_element y.0 ++ x.1) in
     subst Q cut.what_is (tt, whole ∙ ap (λ k. k ∷ w.1) ((bytes_eq-Decides w.0 (codes "truncate")).0 t) ∙ ap (λ ws. codes "truncate" ∷ ws) cut.words_are))
-    (λ (none : bytes_eq w.0 (codes "truncate") ≡ false). absurd (Err-Ok UnknownWord x (rw none at last)))
+    (λ (none : bytes_eq w.0 (codes "truncate") ≡ false). degraded-text version e w words x whole (rw none at last))
     (cases_Bool (bytes_eq w.0 (codes "truncate"))))
     (cases_Bool (bytes_eq w.0 (codes "remove"))))
     (cases_Bool (bytes_eq w.0 (codes "keep")))
@@ -243,18 +278,19 @@ element_row aggregates e (Aggregate place) rest h = absurd h
 element_row aggregates e Keep rest h = refl
 element_row aggregates e Remove rest h = refl
 element_row aggregates e (Truncate bits) rest h = refl
+element_row aggregates e (Degrade seconds) rest h = refl
 
 abbrev SpellsAction : List Definition → List Word → (Option Element × Action) × List Word → Type 0
 SpellsAction aggregates words x = words ≡ action_words aggregates x.0.0 x.0.1 ++ x.1
 
-on_element-text : (aggregates : List Definition) (words : List Word) (x : (Option Element × Action) × List Word) → on_element words ≡ Ok x → SpellsAction aggregates (codes "element" ∷ words) x
+on_element-text : (version : Version) (aggregates : List Definition) (words : List Word) (x : (Option Element × Action) × List Word) → on_element version words ≡ Ok x → SpellsAction aggregates (codes "element" ∷ words) x
 unfolding on_element
-on_element-text aggregates words x h =
-    let first = bind_Ok (next (or_star element) words) (λ e. element_action (width_at e.0) e.1 >>= λ action. Ok ((e.0, action.0), action.1)) x h in
-    let second = bind_Ok (element_action (width_at first.0.0) first.0.1) (λ action. Ok ((first.0.0, action.0), action.1)) x first.2 in
+on_element-text version aggregates words x h =
+    let first = bind_Ok (next (or_star element) words) (λ e. element_action version e.0 e.1 >>= λ action. Ok ((e.0, action.0), action.1)) x h in
+    let second = bind_Ok (element_action version first.0.0 first.0.1) (λ action. Ok ((first.0.0, action.0), action.1)) x first.2 in
     let word = next-text (or_star element) words first.0 first.1 in
     let named = or_star-text element element_name element-text word.0 first.0.0 word.2 in
-    let action = element_action-text (width_at first.0.0) first.0.1 second.0 second.1 in
+    let action = element_action-text version first.0.0 first.0.1 second.0 second.1 in
     let P : (Option Element × Action) × List Word → Type 0 = λ y. SpellsAction aggregates (codes "element" ∷ words) y in
     subst P (same_Ok ((first.0.0, second.0.0), second.0.1) x second.2)
     (ap (λ ws. codes "element" ∷ ws) (word.1 ∙ ap (λ w. w ∷ first.0.1) named ∙ ap (λ ws. word_or_star element_name first.0.0 ∷ ws) action.1)
@@ -269,10 +305,10 @@ aggregate_action-text aggregates words x h =
     subst P (same_Ok ((None, Aggregate read.0.0), read.0.1) x read.2)
     (ap (λ ws. codes "aggregate" ∷ ws) (word.1 ∙ ap (λ w. w ∷ read.0.1) (place-text aggregates word.0 read.0.0 word.2)))
 
-action_of-text : (aggregates : List Definition) (words : List Word) (x : (Option Element × Action) × List Word) → action_of aggregates words ≡ Ok x → SpellsAction aggregates words x
+action_of-text : (version : Version) (aggregates : List Definition) (words : List Word) (x : (Option Element × Action) × List Word) → action_of version aggregates words ≡ Ok x → SpellsAction aggregates words x
 unfolding action_of
-action_of-text aggregates words x h =
-    let first = bind_Ok (next_of words) (λ w. cond (bytes_eq w.0 (codes "pass")) (Ok ((None, Pass), w.1)) (cond (bytes_eq w.0 (codes "withhold")) (Ok ((None, Withhold), w.1)) (cond (bytes_eq w.0 (codes "aggregate")) (aggregate_action aggregates w.1) (cond (bytes_eq w.0 (codes "element")) (on_element w.1) (Err UnknownWord))))) x h in
+action_of-text version aggregates words x h =
+    let first = bind_Ok (next_of words) (λ w. cond (bytes_eq w.0 (codes "pass")) (Ok ((None, Pass), w.1)) (cond (bytes_eq w.0 (codes "withhold")) (Ok ((None, Withhold), w.1)) (cond (bytes_eq w.0 (codes "aggregate")) (aggregate_action aggregates w.1) (cond (bytes_eq w.0 (codes "element")) (on_element version w.1) (Err UnknownWord))))) x h in
     let w = first.0 in
     let whole = next_of-text words first.0 first.1 in
     let P : (Option Element × Action) × List Word → Type 0 = λ y. SpellsAction aggregates words y in
@@ -289,7 +325,7 @@ action_of-text aggregates words x h =
     (λ (i : bytes_eq w.0 (codes "aggregate") ≡ false).
     let last = rw i at more in
     ⊎_elim (λ (t : bytes_eq w.0 (codes "element") ≡ true).
-    whole ∙ ap (λ k. k ∷ w.1) ((bytes_eq-Decides w.0 (codes "element")).0 t) ∙ on_element-text aggregates w.1 x (rw t at last))
+    whole ∙ ap (λ k. k ∷ w.1) ((bytes_eq-Decides w.0 (codes "element")).0 t) ∙ on_element-text version aggregates w.1 x (rw t at last))
     (λ (none : bytes_eq w.0 (codes "element") ≡ false). absurd (Err-Ok UnknownWord x (rw none at last)))
     (cases_Bool (bytes_eq w.0 (codes "element"))))
     (cases_Bool (bytes_eq w.0 (codes "aggregate"))))
@@ -308,15 +344,15 @@ record RuleWords (aggregates : List Definition) (words : List Word) (r : Rule) :
   pub to_is : IsPrefixWord r.to to
   pub words_are : words ≡ rule_tail aggregates r from to
 
-rule_words-found : (aggregates : List Definition) (words : List Word) (r : Rule) → rule_of aggregates words ≡ Ok r → RuleWords aggregates words r
-rule_words-found aggregates words r h =
-    let steps = rule_steps aggregates words r h in
+rule_words-found : (version : Version) (aggregates : List Definition) (words : List Word) (r : Rule) → rule_of version aggregates words ≡ Ok r → RuleWords aggregates words r
+rule_words-found version aggregates words r h =
+    let steps = rule_steps version aggregates words r h in
     let who_word = next-text (or_star name) steps.behind_for.0 steps.who.0 steps.who.1 in
     let domain_word = next-text (or_star (number 4294967295)) steps.behind_in.0 steps.domain.0 steps.domain.1 in
     let from_word = next-text (or_star prefix) steps.behind_from.0 steps.from.0 steps.from.1 in
     let to_word = next-text (or_star prefix) steps.behind_to.0 steps.to.0 steps.to.1 in
     let actions = action_words aggregates steps.action.0.0.0 steps.action.0.0.1 in
-    let t5 : steps.to.0.1 ≡ actions = action_of-text aggregates steps.to.0.1 steps.action.0 steps.action.1 ∙ ap (λ ws. actions ++ ws) (ended-text steps.action.0.1 steps.end.0 steps.end.1) ∙ append-nil actions in
+    let t5 : steps.to.0.1 ≡ actions = action_of-text version aggregates steps.to.0.1 steps.action.0 steps.action.1 ∙ ap (λ ws. actions ++ ws) (ended-text steps.action.0.1 steps.end.0 steps.end.1) ∙ append-nil actions in
     let t4 = after-text (codes "to") steps.from.0.1 steps.behind_to.0 steps.behind_to.1 ∙ ap (λ ws. codes "to" ∷ ws) (onto to_word.0 to_word.0 steps.behind_to.0 steps.to.0.1 actions to_word.1 refl t5) in
     let t3 = after-text (codes "from") steps.domain.0.1 steps.behind_from.0 steps.behind_from.1 ∙ ap (λ ws. codes "from" ∷ ws) (onto from_word.0 from_word.0 steps.behind_from.0 steps.from.0.1 (codes "to" ∷ to_word.0 ∷ actions) from_word.1 refl t4) in
     let t2 = after-text (codes "in") steps.who.0.1 steps.behind_in.0 steps.behind_in.1 ∙ ap (λ ws. codes "in" ∷ ws) (onto domain_word.0 (word_or_star decimal steps.domain.0.0) steps.behind_in.0 steps.domain.0.1 (codes "from" ∷ from_word.0 ∷ codes "to" ∷ to_word.0 ∷ actions) domain_word.1 (or_star-text (number 4294967295) decimal (number-text 4294967295 (omega arith)) domain_word.0 steps.domain.0.0 domain_word.2) t3) in
@@ -347,15 +383,15 @@ unfolding rule_line
 rule_line-found p q words tail e h =
     ⊎_elim (λ (full : leb 4096 (length p.rules) ≡ true). absurd (Err-Ok TooMany q (rw full at h)))
     (λ (room : leb 4096 (length p.rules) ≡ false).
-    let read = bind_Ok (rule_of p.aggregates tail) (λ r. Ok (with_rule p r)) q (rw room at h) in
-    let found = rule_words-found p.aggregates tail read.0 read.1 in
+    let read = bind_Ok (rule_of p.version p.aggregates tail) (λ r. Ok (with_rule p r)) q (rw room at h) in
+    let found = rule_words-found p.version p.aggregates tail read.0 read.1 in
     let low = leb-false 4096 (length p.rules) room in
     record {
       tail = tail;
       rule = read.0;
       words_are = e;
       room = low;
-      spelled = record { from = found.from; to = found.to; sound = rule_of-sound p.aggregates tail read.0 read.1; from_is = found.from_is; to_is = found.to_is; words_are = found.words_are };
+      spelled = record { from = found.from; to = found.to; sound = rule_of-sound p.version p.aggregates tail read.0 read.1; from_is = found.from_is; to_is = found.to_is; words_are = found.words_are };
       added = same_Ok (with_rule p read.0) q read.2;
     })
     (cases_Bool (leb 4096 (length p.rules)))
@@ -397,22 +433,22 @@ unfolding prefix
 prefix_back None w h = ap (or_star prefix) h ∙ or_star-star prefix
 prefix_back (Some p) w h = or_star-word prefix BadPrefix w p (ap prefix_or_fault (prefix_of-only w p h)) prefix-star
 
-rule_only : (aggregates : List Definition) (words : List Word) (r : Rule) → SpellsRule aggregates words r → rule_of aggregates words ≡ Ok r
+rule_only : (version : Version) (aggregates : List Definition) (words : List Word) (r : Rule) → SpellsRule version aggregates words r → rule_of version aggregates words ≡ Ok r
 unfolding rule_of next next_of after ended
-rule_only aggregates words r h =
-    ap (rule_of aggregates) h.words_are
+rule_only version aggregates words r h =
+    ap (rule_of version aggregates) h.words_are
     ∙ rw (
       or_star-printed name BadName itself (λ w. is_name w ≡ true) name-printed name-star r.who h.sound.who,
       or_star-printed (number 4294967295) BadNumber decimal (λ d. d < 2 ^ 32) domain_back (number-star 4294967295) r.domain h.sound.domain,
       prefix_back r.from h.from h.from_is,
       prefix_back r.to h.to h.to_is,
-      action_back aggregates r.element r.action h.sound.element h.sound.action,
+      action_back version aggregates r.element r.action h.sound.element h.sound.action,
     ) refl
 
 pub rule_line-only : (p q : Meaning) (words : List Word) → AddsRule p words q → line_of p words ≡ Ok q
 unfolding line_of rule_line next_of
 rule_line-only p q words h =
-    ap (line_of p) h.words_are ∙ rw (lt-leb 4096 (length p.rules) h.room, rule_only p.aggregates h.tail h.rule h.spelled) (ap (λ (m : Meaning). Ok m) h.added)
+    ap (line_of p) h.words_are ∙ rw (lt-leb 4096 (length p.rules) h.room, rule_only p.version p.aggregates h.tail h.rule h.spelled) (ap (λ (m : Meaning). Ok m) h.added)
 
 aggregate_line-only : (p q : Meaning) (words : List Word) → AddsAggregate p words q → line_of p words ≡ Ok q
 unfolding line_of aggregate_line next_of
@@ -423,74 +459,87 @@ pub line_of-only : (p q : Meaning) (words : List Word) → IsLine p words q → 
 line_of-only p q words h = ⊎_elim (λ (r : AddsRule p words q). rule_line-only p q words r) (λ (a : AddsAggregate p words q). aggregate_line-only p q words a) h
 
 -- steps of reading, where a policy comes out
-record Steps (started : Bool) (p : Meaning) (line : List ℕ) (n : ℕ) (others : List (List ℕ)) (q : Meaning) : Type 0 where
-  pub next_started : Bool
+record Steps (so_far : Option Meaning) (line : List ℕ) (n : ℕ) (others : List (List ℕ)) (q : Meaning) : Type 0 where
+  pub mid : Option Meaning
+  pub stepped : line_step so_far line ≡ Ok mid
+  pub rest : read_lines mid (n + 1) others ≡ Ok q
+
+steps_by : (so_far : Option Meaning) (line : List ℕ) (n : ℕ) (others : List (List ℕ)) (q : Meaning) (r : Result (Option Meaning) FaultKind) → line_step so_far line ≡ r → then_read (at_line n r) (λ x. read_lines x (n + 1) others) ≡ Ok q → Steps so_far line n others q
+steps_by so_far line n others q (Ok x) e h = record { mid = x; stepped = e; rest = h }
+steps_by so_far line n others q (Err kind) e h = absurd (Err-Ok (record { line = n; kind = kind }) q h)
+
+steps_of : (so_far : Option Meaning) (line : List ℕ) (n : ℕ) (others : List (List ℕ)) (q : Meaning) → read_lines so_far n (line ∷ others) ≡ Ok q → Steps so_far line n others q
+steps_of so_far line n others q h = steps_by so_far line n others q (line_step so_far line) refl (sym (read_lines-cons so_far n line others) ∙ h)
+
+pub record LineRead (p : Meaning) (line : List ℕ) (x : Option Meaning) : Type 0 where
   pub mid : Meaning
-  pub stepped : line_step started p line ≡ Ok (next_started, mid)
-  pub rest : read_lines next_started mid (n + 1) others ≡ Ok q
+  pub is : Some mid ≡ x
+  pub line_is : AfterLine p (words_of line) mid
 
-steps_by : (started : Bool) (p : Meaning) (line : List ℕ) (n : ℕ) (others : List (List ℕ)) (q : Meaning) (r : Result (Bool × Meaning) FaultKind) → line_step started p line ≡ r → then_read (at_line n r) (λ x. read_lines x.0 x.1 (n + 1) others) ≡ Ok q → Steps started p line n others q
-steps_by started p line n others q (Ok x) e h = record { next_started = x.0; mid = x.1; stepped = e; rest = h }
-steps_by started p line n others q (Err kind) e h = absurd (Err-Ok (record { line = n; kind = kind }) q h)
-
-steps_of : (started : Bool) (p : Meaning) (line : List ℕ) (n : ℕ) (others : List (List ℕ)) (q : Meaning) → read_lines started p n (line ∷ others) ≡ Ok q → Steps started p line n others q
-steps_of started p line n others q h = steps_by started p line n others q (line_step started p line) refl (sym (read_lines-cons started p n line others) ∙ h)
-
-pub record LineRead (p : Meaning) (line : List ℕ) (x : Bool × Meaning) : Type 0 where
-  pub started_is : true ≡ x.0
-  pub line_is : AfterLine p (words_of line) x.1
-
-pub line_step-found : (p : Meaning) (line : List ℕ) (x : Bool × Meaning) → line_step true p line ≡ Ok x → LineRead p line x
+pub line_step-found : (p : Meaning) (line : List ℕ) (x : Option Meaning) → line_step (Some p) line ≡ Ok x → LineRead p line x
 unfolding line_step step
 line_step-found p line x h =
-    ⊎_elim (λ (skip : is_skipped (words_of line) ≡ true).
-    let same = same_Ok (true, p) x (rw skip at h) in
-    record { started_is = ap (λ (y : Bool × Meaning). y.0) same; line_is = inl (skip, ap (λ (y : Bool × Meaning). y.1) same) })
+    ⊎_elim (λ (skip : is_skipped (words_of line) ≡ true). record { mid = p; is = same_Ok (Some p) x (rw skip at h); line_is = inl (skip, refl) })
     (λ (kept : is_skipped (words_of line) ≡ false).
-    let read = bind_Ok (line_of p (words_of line)) (λ q. Ok (true, q)) x (rw kept at h) in
-    let same = same_Ok (true, read.0) x read.2 in
-    let P : Meaning → Type 0 = λ m. IsLine p (words_of line) m in
-    record { started_is = ap (λ (y : Bool × Meaning). y.0) same; line_is = inr (kept, subst P (ap (λ (y : Bool × Meaning). y.1) same) (line_of-found p read.0 (words_of line) read.1)) })
+    let read = bind_Ok (line_of p (words_of line)) (λ q. Ok (Some q)) x (rw kept at h) in
+    record { mid = read.0; is = same_Ok (Some read.0) x read.2; line_is = inr (kept, line_of-found p read.0 (words_of line) read.1) })
     (cases_Bool (is_skipped (words_of line)))
 
-lines-found : (p q : Meaning) (n : ℕ) (lines : List (List ℕ)) → read_lines true p n lines ≡ Ok q → AreLines p lines q
+lines-found : (p q : Meaning) (n : ℕ) (lines : List (List ℕ)) → read_lines (Some p) n lines ≡ Ok q → AreLines p lines q
 lines-found p q n [] h = same_Ok p q (sym (read_lines-done p n) ∙ h)
 lines-found p q n (line ∷ lines) h =
-    let s = steps_of true p line n lines q h in
-    let read = line_step-found p line (s.next_started, s.mid) s.stepped in
-    (s.mid, read.line_is, lines-found s.mid q (n + 1) lines (ap (λ b. read_lines b s.mid (n + 1) lines) read.started_is ∙ s.rest))
+    let s = steps_of (Some p) line n lines q h in
+    let read = line_step-found p line s.mid s.stepped in
+    (read.mid, read.line_is, lines-found read.mid q (n + 1) lines (ap (λ x. read_lines x (n + 1) lines) read.is ∙ s.rest))
 
-pub is_header-is : (words : List Word) → is_header words ≡ true → words ≡ header
-unfolding is_header
-is_header-is [] h = absurd (false≢true h)
-is_header-is (w ∷ []) h = absurd (false≢true h)
-is_header-is (w ∷ v ∷ []) h =
-    let both = and_parts (bytes_eq w (codes "policy")) (bytes_eq v (codes "1")) h in
-    ap (λ x. x ∷ v ∷ []) ((bytes_eq-Decides w (codes "policy")).0 both.0) ∙ ap (λ x. codes "policy" ∷ x ∷ []) ((bytes_eq-Decides v (codes "1")).0 both.1)
-is_header-is (w ∷ v ∷ u ∷ words) h = absurd (false≢true h)
+-- the header
+pub numbered-is : (word : Word) (version : Version) → numbered_version word ≡ Some version → word ≡ version_word version
+numbered-is word version e =
+    ⊎_elim (λ (t : bytes_eq word (codes "1") ≡ true). (bytes_eq-Decides word (codes "1")).0 t ∙ ap version_word (same_Some One version (rw t at e)))
+    (λ (f : bytes_eq word (codes "1") ≡ false).
+    let other : cond (bytes_eq word (codes "2")) (Some Two) None ≡ Some version = rw f at e in
+    ⊎_elim (λ (t : bytes_eq word (codes "2") ≡ true). (bytes_eq-Decides word (codes "2")).0 t ∙ ap version_word (same_Some Two version (rw t at other)))
+    (λ (none : bytes_eq word (codes "2") ≡ false). absurd (none-some version (rw none at other)))
+    (cases_Bool (bytes_eq word (codes "2"))))
+    (cases_Bool (bytes_eq word (codes "1")))
 
-pub record HeaderRead (line : List ℕ) (x : Bool × Meaning) : Type 0 where
-  pub how : ((is_skipped (words_of line) ≡ true) × ((false, nothing) ≡ x)) ⊎ ((is_skipped (words_of line) ≡ false) × (words_of line ≡ header) × ((true, nothing) ≡ x))
+pub version_of-is : (words : List Word) (version : Version) → version_of words ≡ Some version → words ≡ header version
+unfolding version_of
+version_of-is [] version h = absurd (none-some version h)
+version_of-is (w ∷ []) version h = absurd (none-some version h)
+version_of-is (w ∷ v ∷ []) version h =
+    ⊎_elim (λ (t : bytes_eq w (codes "policy") ≡ true).
+    ap (λ x. x ∷ v ∷ []) ((bytes_eq-Decides w (codes "policy")).0 t) ∙ ap (λ x. codes "policy" ∷ x ∷ []) (numbered-is v version (rw t at h)))
+    (λ (f : bytes_eq w (codes "policy") ≡ false). absurd (none-some version (rw f at h)))
+    (cases_Bool (bytes_eq w (codes "policy")))
+version_of-is (w ∷ v ∷ u ∷ words) version h = absurd (none-some version h)
 
-pub header-found : (line : List ℕ) (x : Bool × Meaning) → line_step false nothing line ≡ Ok x → HeaderRead line x
+begun_by : (o : Option Version) (m : Meaning) → after_header o ≡ Ok m → (version : Version) × (o ≡ Some version) × (without_lines version ≡ m)
+begun_by None m e = absurd (Err-Ok NoHeader m e)
+begun_by (Some version) m e = (version, refl, same_Ok (without_lines version) m e)
+
+pub record HeaderRead (line : List ℕ) (x : Option Meaning) : Type 0 where
+  pub how : ((is_skipped (words_of line) ≡ true) × (None ≡ x)) ⊎ ((is_skipped (words_of line) ≡ false) × (version : Version) × (words_of line ≡ header version) × (Some (without_lines version) ≡ x))
+
+pub header-found : (line : List ℕ) (x : Option Meaning) → line_step None line ≡ Ok x → HeaderRead line x
 unfolding line_step step
 header-found line x h =
-    ⊎_elim (λ (skip : is_skipped (words_of line) ≡ true). record { how = inl (skip, same_Ok (false, nothing) x (rw skip at h)) })
+    ⊎_elim (λ (skip : is_skipped (words_of line) ≡ true). record { how = inl (skip, same_Ok None x (rw skip at h)) })
     (λ (kept : is_skipped (words_of line) ≡ false).
-    let read = bind_Ok (cond (is_header (words_of line)) (Ok nothing) (Err NoHeader)) (λ q. Ok (true, q)) x (rw kept at h) in
-    let test = guarded (is_header (words_of line)) NoHeader nothing read.0 read.1 in
-    record { how = inr (kept, is_header-is (words_of line) test.0, ap (λ (m : Meaning). (true, m)) test.1 ∙ same_Ok (true, read.0) x read.2) })
+    let read = bind_Ok (after_header (version_of (words_of line))) (λ q. Ok (Some q)) x (rw kept at h) in
+    let b = begun_by (version_of (words_of line)) read.0 read.1 in
+    record { how = inr (kept, b.0, version_of-is (words_of line) b.0 b.1, ap (λ (m : Meaning). Some m) b.2 ∙ same_Ok (Some read.0) x read.2) })
     (cases_Bool (is_skipped (words_of line)))
 
-all-found : (q : Meaning) (n : ℕ) (lines : List (List ℕ)) → read_lines false nothing n lines ≡ Ok q → AreAllLines lines q
-all-found q n [] h = Err-Ok (record { line = 1; kind = NoHeader }) q (sym (read_lines-empty nothing n) ∙ h)
+all-found : (q : Meaning) (n : ℕ) (lines : List (List ℕ)) → read_lines None n lines ≡ Ok q → AreAllLines lines q
+all-found q n [] h = Err-Ok (record { line = 1; kind = NoHeader }) q (sym (read_lines-empty n) ∙ h)
 all-found q n (line ∷ lines) h =
-    let s = steps_of false nothing line n lines q h in
-    let read = header-found line (s.next_started, s.mid) s.stepped in
-    ⊎_elim (λ (skip : (is_skipped (words_of line) ≡ true) × ((false, nothing) ≡ (s.next_started, s.mid))).
-    inl (skip.0, all-found q (n + 1) lines (ap (λ (y : Bool × Meaning). read_lines y.0 y.1 (n + 1) lines) skip.1 ∙ s.rest)))
-    (λ (kept : (is_skipped (words_of line) ≡ false) × (words_of line ≡ header) × ((true, nothing) ≡ (s.next_started, s.mid))).
-    inr (kept.0, kept.1, lines-found nothing q (n + 1) lines (ap (λ (y : Bool × Meaning). read_lines y.0 y.1 (n + 1) lines) kept.2 ∙ s.rest)))
+    let s = steps_of None line n lines q h in
+    let read = header-found line s.mid s.stepped in
+    ⊎_elim (λ (skip : (is_skipped (words_of line) ≡ true) × (None ≡ s.mid)).
+    inl (skip.0, all-found q (n + 1) lines (ap (λ x. read_lines x (n + 1) lines) skip.1 ∙ s.rest)))
+    (λ (kept : (is_skipped (words_of line) ≡ false) × (version : Version) × (words_of line ≡ header version) × (Some (without_lines version) ≡ s.mid)).
+    inr (kept.0, kept.1, kept.2, lines-found (without_lines kept.1) q (n + 1) lines (ap (λ x. read_lines x (n + 1) lines) kept.3 ∙ s.rest)))
     read.how
 
 -- what is read is spelled so
@@ -498,32 +547,28 @@ pub policy_of-found : (text : List ℕ) (q : Meaning) → policy_of text ≡ Ok 
 unfolding policy_of
 policy_of-found text q h = all-found q 1 (lines_of text) h
 
-pub line_step-only : (p m : Meaning) (line : List ℕ) → AfterLine p (words_of line) m → line_step true p line ≡ Ok (true, m)
+pub line_step-only : (p m : Meaning) (line : List ℕ) → AfterLine p (words_of line) m → line_step (Some p) line ≡ Ok (Some m)
 unfolding line_step step
 line_step-only p m line h =
-    ⊎_elim (λ (skip : (is_skipped (words_of line) ≡ true) × (p ≡ m)). rw skip.0 (ap (λ (x : Meaning). Ok (true, x)) skip.1))
+    ⊎_elim (λ (skip : (is_skipped (words_of line) ≡ true) × (p ≡ m)). rw skip.0 (ap (λ (x : Meaning). Ok (Some x)) skip.1))
     (λ (kept : (is_skipped (words_of line) ≡ false) × IsLine p (words_of line) m). rw (kept.0, line_of-only p m (words_of line) kept.1) refl)
     h
 
-lines-only : (p q : Meaning) (n : ℕ) (lines : List (List ℕ)) → AreLines p lines q → read_lines true p n lines ≡ Ok q
+lines-only : (p q : Meaning) (n : ℕ) (lines : List (List ℕ)) → AreLines p lines q → read_lines (Some p) n lines ≡ Ok q
 lines-only p q n [] h = read_lines-done p n ∙ ap (λ (x : Meaning). Ok x) h
-lines-only p q n (line ∷ lines) h = read_lines-cons true p n line lines ∙ rw (line_step-only p h.0 line h.1) (lines-only h.0 q (n + 1) lines h.2)
+lines-only p q n (line ∷ lines) h = read_lines-cons (Some p) n line lines ∙ rw (line_step-only p h.0 line h.1) (lines-only h.0 q (n + 1) lines h.2)
 
-pub header-only : (line : List ℕ) → is_skipped (words_of line) ≡ false → words_of line ≡ header → line_step false nothing line ≡ Ok (true, nothing)
-unfolding line_step step is_header
-header-only line kept e = rw e refl
-
-pub skip-only : (line : List ℕ) → is_skipped (words_of line) ≡ true → line_step false nothing line ≡ Ok (false, nothing)
+pub skip-only : (line : List ℕ) → is_skipped (words_of line) ≡ true → line_step None line ≡ Ok None
 unfolding line_step
 skip-only line skip = rw skip refl
 
-all-only : (q : Meaning) (n : ℕ) (lines : List (List ℕ)) → AreAllLines lines q → read_lines false nothing n lines ≡ Ok q
+all-only : (q : Meaning) (n : ℕ) (lines : List (List ℕ)) → AreAllLines lines q → read_lines None n lines ≡ Ok q
 all-only q n [] h = absurd h
 all-only q n (line ∷ lines) h =
     ⊎_elim (λ (skip : (is_skipped (words_of line) ≡ true) × AreAllLines lines q).
-    read_lines-cons false nothing n line lines ∙ rw (skip-only line skip.0) (all-only q (n + 1) lines skip.1))
-    (λ (kept : (is_skipped (words_of line) ≡ false) × (words_of line ≡ header) × AreLines nothing lines q).
-    read_lines-cons false nothing n line lines ∙ rw (header-only line kept.0 kept.1) (lines-only nothing q (n + 1) lines kept.2))
+    read_lines-cons None n line lines ∙ rw (skip-only line skip.0) (all-only q (n + 1) lines skip.1))
+    (λ (kept : (is_skipped (words_of line) ≡ false) × (version : Version) × (words_of line ≡ header version) × AreLines (without_lines version) lines q).
+    read_lines-cons None n line lines ∙ rw (header_step kept.1 line kept.2) (lines-only (without_lines kept.1) q (n + 1) lines kept.3))
     h
 
 -- what is spelled so is read

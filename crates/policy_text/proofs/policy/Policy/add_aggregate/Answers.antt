@@ -10,4 +10,4 @@ invariant_of-self-2 c =
     let read = ap (λ (list : List Aggregate). aggregate_of list c.args.words.now) (sym c.deref.ensures.value) ∙ c.in_ok-aggregate.ensures.value in
     let sound = aggregate_of-sound c.self.inside.aggregates.items c.args.words.now c.in_ok-aggregate.aggregate read in
     let room : length c.self.inside.aggregates.items < 256 = omega arith in
-    rw c.in_ok-push.ensures.items (with_aggregate-kept (record { aggregates = c.self.inside.aggregates.items; rules = c.self.inside.rules.items }) c.in_ok-aggregate.aggregate c.self.invariant sound room)
+    rw c.in_ok-push.ensures.items (with_aggregate-kept (record { version = c.self.inside.version; aggregates = c.self.inside.aggregates.items; rules = c.self.inside.rules.items }) c.in_ok-aggregate.aggregate c.self.invariant sound room)

@@ -7,8 +7,8 @@ use Rattle.policy_text.proofs.policy.Policy.read.Given as goal
 
 abbrev pub invariant-lines : goal.invariant-lines
 invariant-lines l = record {
-  reading : read_lines l.started l.policy l.number (lines_of l.rest) ≡ policy_of l.text;
-  taken : SomeTakes l.started l.policy (lines_of l.rest) → TakesMemory l.text;
+  reading : read_lines l.policy l.number (lines_of l.rest) ≡ policy_of l.text;
+  taken : SomeTakes l.policy (lines_of l.rest) → TakesMemory l.text;
   count : l.number + length l.rest ≤ length l.text + 1;
 }
 
