@@ -17,7 +17,7 @@ use Rattle.policy_text.specs.declared.version.Version.{Version}
 use Rattle.policy_text.specs.declared.version.Version.TheVariants.{One, Two}
 use Rattle.policy_text.specs.Words.{Word, words_of, is_skipped}
 use Rattle.policy_text.specs.Naming.{is_name}
-use Rattle.policy_text.specs.Policies.{Meaning, has_degrade, without_lines, Aggregate as Definition}
+use Rattle.policy_text.specs.Policies.{Meaning, without_lines, Aggregate as Definition}
 use Rattle.policy_text.specs.Classes.{name, number, element, prefix, or_star, width_at, is_time_at}
 use Rattle.policy_text.specs.Lines.{next_of, next, after, ended, truncate_of, degrade_of, element_action, aggregate_action, on_element, action_of, rule_of, aggregate_of, rule_line, aggregate_line, line_of}
 use Rattle.policy_text.specs.Parsing.{version_of, step, line_step, read_lines, policy_of}
