@@ -36,7 +36,7 @@ class Admin(ServeTest):
         exporter.send(flow_message(1, port=2))
         exporter.end_sending()
         self.assertEqual(exporter.take_end(), b"")
-        self.assertEqual(admin.edit("policy 2\n"), "err Policy 1 NoHeader")
+        self.assertEqual(admin.edit("policy 3\n"), "err Policy 1 NoHeader")
         # The policy, a subscription and a session stand before the first message, and the edit before the second.
         self.assertEqual(admin.audit(), ["5 0 1 withheld 0 rule"])
         self.assertEqual(admin.ask("status 1"), "ok 0 1 live")

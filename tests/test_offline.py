@@ -261,7 +261,7 @@ WORKED = [
     Worked("a name that is none, of an empty input", PASS, "", errors="ipmd: BadName\n", status=1, subscriber="Acme"),
     Worked(
         "a policy is judged before the name",
-        "policy 2\n",
+        "policy 3\n",
         FLOW,
         errors="ipmd: policy line 1: NoHeader\n",
         status=1,

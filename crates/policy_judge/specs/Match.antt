@@ -9,7 +9,7 @@ use Rattle.flow_prefix.specs.declared.prefix.Prefix.{Prefix}
 use Rattle.flow_prefix.specs.Prefixes.{contains}
 use Rattle.policy_text.specs.declared.rule.Rule.{Rule}
 use Rattle.policy_text.specs.declared.rule.Action.{Action}
-use Rattle.policy_text.specs.declared.rule.Action.TheVariants.{Pass, Withhold, Aggregate, Keep, Remove, Truncate}
+use Rattle.policy_text.specs.declared.rule.Action.TheVariants.{Pass, Withhold, Aggregate, Keep, Remove, Truncate, Degrade}
 use Rattle.policy_judge.specs.Occurrences.{sources, destinations}
 
 -- `*` is no condition
@@ -25,6 +25,7 @@ is_on_records (Aggregate place) = true
 is_on_records Keep = false
 is_on_records Remove = false
 is_on_records (Truncate bits) = false
+is_on_records (Degrade seconds) = false
 
 -- whether a rule of this action denies, or else permits
 abbrev pub denies : Action → Bool
@@ -34,6 +35,7 @@ denies (Aggregate place) = false
 denies Keep = false
 denies Remove = true
 denies (Truncate bits) = false
+denies (Degrade seconds) = false
 
 -- a rule that denies needs some occurrence inside; one that permits needs an occurrence, and each of them inside
 abbrev pub are_inside : Bool → List (List ℕ) → Prefix → Bool

@@ -4,7 +4,7 @@ use Rattle.std.specs.List.{find, enumerate_from}
 use Rattle.ipfix_template.specs.DataRecord.{DataRecord}
 use Rattle.policy_text.specs.declared.rule.Rule.{Rule}
 use Rattle.policy_text.specs.declared.rule.Action.{Action}
-use Rattle.policy_text.specs.declared.rule.Action.TheVariants.{Pass, Withhold, Aggregate, Keep, Remove, Truncate}
+use Rattle.policy_text.specs.declared.rule.Action.TheVariants.{Pass, Withhold, Aggregate, Keep, Remove, Truncate, Degrade}
 use Rattle.policy_judge.specs.declared.verdict.RecordAction.{RecordAction}
 use Rattle.policy_judge.specs.declared.verdict.RecordAction.TheVariants as on_record
 use Rattle.policy_judge.specs.declared.verdict.RecordVerdict.{RecordVerdict}
@@ -25,6 +25,7 @@ record_action (Aggregate place) = on_record.Aggregate place
 record_action Keep = on_record.Withhold
 record_action Remove = on_record.Withhold
 record_action (Truncate bits) = on_record.Withhold
+record_action (Degrade seconds) = on_record.Withhold
 
 -- what a rule on fields does
 abbrev pub element_action : Action → ElementAction
@@ -34,6 +35,7 @@ element_action (Aggregate place) = on_field.Remove
 element_action Keep = on_field.Keep
 element_action Remove = on_field.Remove
 element_action (Truncate bits) = on_field.Truncate bits
+element_action (Degrade seconds) = on_field.Degrade seconds
 
 -- where no rule matches the verdict is rule 0, which withholds
 abbrev pub record_verdict_by : Option (ℕ × Rule) → RecordVerdict

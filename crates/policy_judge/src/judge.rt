@@ -88,9 +88,11 @@ pub fn record_action(action: Action) -> RecordAction
     match action {
         Action::Pass => RecordAction::Pass,
         Action::Aggregate(place) => RecordAction::Aggregate(place),
-        Action::Withhold | Action::Keep | Action::Remove | Action::Truncate(_) => {
-            RecordAction::Withhold
-        }
+        Action::Withhold
+        | Action::Keep
+        | Action::Remove
+        | Action::Truncate(_)
+        | Action::Degrade(_) => RecordAction::Withhold,
     }
 }
 
@@ -101,6 +103,7 @@ pub fn element_action(action: Action) -> ElementAction
     match action {
         Action::Keep => ElementAction::Keep,
         Action::Truncate(bits) => ElementAction::Truncate(bits),
+        Action::Degrade(seconds) => ElementAction::Degrade(seconds),
         Action::Remove | Action::Pass | Action::Withhold | Action::Aggregate(_) => {
             ElementAction::Remove
         }

@@ -36,7 +36,7 @@ fn is_on_records(action: Action) -> bool
 {
     match action {
         Action::Pass | Action::Withhold | Action::Aggregate(_) => true,
-        Action::Keep | Action::Remove | Action::Truncate(_) => false,
+        Action::Keep | Action::Remove | Action::Truncate(_) | Action::Degrade(_) => false,
     }
 }
 
@@ -45,7 +45,11 @@ fn denies(action: Action) -> bool
 {
     match action {
         Action::Withhold | Action::Remove => true,
-        Action::Pass | Action::Aggregate(_) | Action::Keep | Action::Truncate(_) => false,
+        Action::Pass
+        | Action::Aggregate(_)
+        | Action::Keep
+        | Action::Truncate(_)
+        | Action::Degrade(_) => false,
     }
 }
 

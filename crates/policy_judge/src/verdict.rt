@@ -16,6 +16,8 @@ pub enum ElementAction {
     Keep,
     /// Keep this many of the value's most significant bits.
     Truncate(usize),
+    /// Lower the time to a multiple of this many seconds.
+    Degrade(u32),
     /// Leave the field out.
     Remove,
 }

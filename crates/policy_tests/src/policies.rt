@@ -1,11 +1,11 @@
 //! Texts from outside and what they are: the fault of each, or what it prints; and printed texts of faults.
-use policy_text::{FaultKind, Policy, PolicyFault, is_name};
+use policy_text::{FaultKind, Policy, PolicyFault, Version, is_name};
 use std::fmt::Write;
 use std::test::Fail;
 
-/// Texts and their faults, as an independent reading has them; then the worked bad lines, one after `policy 1`, and texts without
-/// that line.
-static FAULTS: [(&str, usize, FaultKind); 31] = [
+/// Texts and their faults, as an independent reading has them; then the worked bad lines, one after `policy 1`; texts without
+/// a header; and what the versions are to times.
+static FAULTS: [(&str, usize, FaultKind); 49] = [
     (
         "policy 1\naggregate web key destinationTransportPort interval 300 grace 60\nrule for * in 0 from 2001:db8::/129 to :::/0 element * keep\nrule\tfor\t*\tin\t0\tfrom\t192.0.2.0/24\tto\t*\tpass\nrule for * in 0 from 192.0.2.0/24 to 192.0.2.0/24 element * truncate 49\n",
         3,
@@ -51,7 +51,6 @@ static FAULTS: [(&str, usize, FaultKind); 31] = [
         2,
         FaultKind::BadName,
     ),
-    ("policy 2", 1, FaultKind::NoHeader),
     (
         "policy 1\naggregate web key destinationTransportPort interval 300 grace 60\naggregate web key destinationTransportPort interval 300 grace 60\n#",
         3,
@@ -143,28 +142,124 @@ static FAULTS: [(&str, usize, FaultKind); 31] = [
         FaultKind::BadKey,
     ),
     ("", 1, FaultKind::NoHeader),
-    ("policy 2\nrule", 1, FaultKind::NoHeader),
+    ("policy 3", 1, FaultKind::NoHeader),
+    ("policy 3\nrule", 1, FaultKind::NoHeader),
+    ("policy 02", 1, FaultKind::NoHeader),
+    ("policy 2 2", 1, FaultKind::NoHeader),
+    ("policy", 1, FaultKind::NoHeader),
     (
         "policy 1\nrule for a in * from 192.0.2.1/24 to * pass",
         2,
         FaultKind::BadPrefix,
     ),
+    ("policy 2\nrule", 2, FaultKind::UnknownWord),
+    ("policy 2\npolicy 2", 2, FaultKind::UnknownWord),
+    (
+        "policy 1\nrule for * in * from * to * element flowStartSeconds degrade 300",
+        2,
+        FaultKind::UnknownWord,
+    ),
+    (
+        "policy 1\nrule for * in * from * to * element flowId degrade 5",
+        2,
+        FaultKind::UnknownWord,
+    ),
+    (
+        "policy 2\nrule for * in * from * to * element flowId degrade 5",
+        2,
+        FaultKind::BadDegrade,
+    ),
+    (
+        "policy 2\nrule for * in * from * to * element * degrade 5",
+        2,
+        FaultKind::BadDegrade,
+    ),
+    (
+        "policy 2\nrule for * in * from * to * element sourceIPv4Address degrade",
+        2,
+        FaultKind::BadDegrade,
+    ),
+    (
+        "policy 2\nrule for * in * from * to * element flowStartSeconds degrade",
+        2,
+        FaultKind::UnknownWord,
+    ),
+    (
+        "policy 2\nrule for * in * from * to * element flowStartSeconds degrade 0",
+        2,
+        FaultKind::BadNumber,
+    ),
+    (
+        "policy 2\nrule for * in * from * to * element flowEndSeconds degrade 86401",
+        2,
+        FaultKind::BadNumber,
+    ),
+    (
+        "policy 2\nrule for * in * from * to * element flowEndMilliseconds degrade 05",
+        2,
+        FaultKind::BadNumber,
+    ),
+    (
+        "policy 2\nrule for * in * from * to * element flowStartMilliseconds degrade 5 5",
+        2,
+        FaultKind::UnknownWord,
+    ),
+    (
+        "policy 2\nrule for * in * from * to * element flowStartSeconds truncate 8",
+        2,
+        FaultKind::BadTruncate,
+    ),
+    (
+        "policy 2\nrule for * in * from x to * element * degrade 0",
+        2,
+        FaultKind::BadPrefix,
+    ),
+    (
+        "policy 2\nrule for * in * from * to * element x degrade 0",
+        2,
+        FaultKind::BadName,
+    ),
 ];
 
-/// Texts, how many rules and aggregates they have, and what they print as.
-static POLICIES: [(&str, usize, usize, &str); 3] = [
+/// Texts, their versions, how many rules and aggregates they have, and what they print as. But for times, a text of either
+/// version is one of the other.
+static POLICIES: [(&str, Version, usize, usize, &str); 7] = [
     (
         "\t# a comment\r\n\r\n policy\t1 \r\naggregate web\tkey vlanId,protocolIdentifier interval 300 grace 60\r\n#\nrule for acme in 7 from 2001:DB8::/32 to 192.0.2.0/24 aggregate web\r\nrule for * in * from * to * element sourceIPv4Address truncate 24",
+        Version::One,
         2,
         1,
         "policy 1\naggregate web key vlanId,protocolIdentifier interval 300 grace 60\nrule for acme in 7 from 2001:db8:0:0:0:0:0:0/32 to 192.0.2.0/24 aggregate web\nrule for * in * from * to * element sourceIPv4Address truncate 24\n",
     ),
-    ("policy 1\n", 0, 0, "policy 1\n"),
+    ("policy 1\n", Version::One, 0, 0, "policy 1\n"),
+    ("policy 2", Version::Two, 0, 0, "policy 2\n"),
     (
         "policy 1\naggregate w2 key destinationTransportPort interval 1 grace 0\nrule for * in 7 from 1:2:3:4:5:6:7::/112 to 192.0.2.0/24 element e1/2 keep\n",
+        Version::One,
         1,
         1,
         "policy 1\naggregate w2 key destinationTransportPort interval 1 grace 0\nrule for * in 7 from 1:2:3:4:5:6:7:0/112 to 192.0.2.0/24 element e1/2 keep\n",
+    ),
+    (
+        "#\n\tpolicy  2\r\naggregate w2 key destinationTransportPort interval 1 grace 0\nrule for * in 7 from * to * element sourceIPv4Address truncate 24",
+        Version::Two,
+        1,
+        1,
+        "policy 2\naggregate w2 key destinationTransportPort interval 1 grace 0\nrule for * in 7 from * to * element sourceIPv4Address truncate 24\n",
+    ),
+    (
+        "policy 2\nrule for * in * from * to * element flowStartSeconds degrade 300\nrule for acme in 7 from * to * element flowEndSeconds\tdegrade 86400",
+        Version::Two,
+        2,
+        0,
+        "policy 2\nrule for * in * from * to * element flowStartSeconds degrade 300\nrule for acme in 7 from * to * element flowEndSeconds degrade 86400\n",
+    ),
+    (
+        "policy 2\nrule for * in * from * to * element flowStartMilliseconds degrade 1\nrule for * in * from 192.0.2.0/24 to * element flowEndMilliseconds degrade 300\nrule for * in * from * to * pass\n",
+        Version::Two,
+        3,
+        0,
+        "policy 2\nrule for * in * from * to * element flowStartMilliseconds degrade 1\nrule for * in * from 192.0.2.0/24 to * element flowEndMilliseconds degrade 300\nrule for * in * from * to * pass\n",
     ),
 ];
 
@@ -182,8 +277,9 @@ fn faults_from_outside(rt: HostRuntime) {
 
 #[test]
 fn policies(rt: HostRuntime) -> Result<(), Fail> {
-    for (text, rules, aggregates, printed) in &POLICIES {
+    for (text, version, rules, aggregates, printed) in &POLICIES {
         let policy = Policy::parse(rt.alloc(), text)?;
+        assert!(rt; policy.version() == *version, "version of {text}");
         assert!(rt; policy.rules().len() == *rules, "rules of {text}");
         assert!(rt;
             policy.aggregates().len() == *aggregates,
@@ -233,7 +329,7 @@ fn names(rt: HostRuntime) {
     }
 }
 
-static KINDS: [(FaultKind, &str); 11] = [
+static KINDS: [(FaultKind, &str); 12] = [
     (FaultKind::NoHeader, "NoHeader"),
     (FaultKind::UnknownWord, "UnknownWord"),
     (FaultKind::BadName, "BadName"),
@@ -245,6 +341,7 @@ static KINDS: [(FaultKind, &str); 11] = [
     (FaultKind::BadKey, "BadKey"),
     (FaultKind::TooMany, "TooMany"),
     (FaultKind::OutOfMemory, "OutOfMemory"),
+    (FaultKind::BadDegrade, "BadDegrade"),
 ];
 
 #[test]

@@ -157,7 +157,7 @@ fn refuse_admin<E: EntryLedger, H: RecordLedger, R: Wait + Abort>(
         line: 1,
         kind: FaultKind::NoHeader,
     };
-    let edited = admin.edit(rt, shared, "policy 2");
+    let edited = admin.edit(rt, shared, "policy 3");
     assert!(rt; edited == Err(Fault::Policy(fault)));
     let again = admin.subscribe(rt, shared, "acme");
     assert!(rt; again == Err(Fault::AlreadySubscribed { sub: 1 }));
