@@ -1,6 +1,6 @@
-//! The policy language of an IPFIX mediator: which texts are policies, and which policy each of them
-//! is. A policy is an ordered list of rules on records and fields, with the aggregates that rules name.
-//! It judges no record.
+//! The policy language of an IPFIX mediator, in two versions: which texts are policies, and which policy
+//! each of them is. A policy is an ordered list of rules on records and fields, with the aggregates that
+//! rules name. Texts of the second version may also degrade times. It judges no record.
 //!
 //! - `policy`: [`Policy`], read by `parse` and written by `print`.
 //! - `version`: [`Version`], which the header of a text names.
