@@ -218,7 +218,8 @@ lead_kept : (p q : Meaning) (lines : List (List ℕ)) → IsPolicy p → AreLine
 lead_kept p q [] valid h = let P : Meaning → Type 0 = λ m. IsPolicy m in subst P h valid
 lead_kept p q (line ∷ lines) valid h = lead_kept h.0 q lines (adds_kept p h.0 (words_of line) valid h.1) h.2
 
-spelled_kept : (q : Meaning) (lines : List (List ℕ)) → AreAllLines lines q → IsPolicy q
+-- what lines spell is a policy
+pub spelled_kept : (q : Meaning) (lines : List (List ℕ)) → AreAllLines lines q → IsPolicy q
 spelled_kept q [] h = absurd h
 spelled_kept q (line ∷ lines) h =
     ⊎_elim (λ (skip : (is_skipped (words_of line) ≡ true) × AreAllLines lines q). spelled_kept q lines skip.1)

@@ -38,7 +38,7 @@ pub record Meaning : Type 0 where
 abbrev pub without_lines : Version → Meaning
 without_lines version = record { version = version; aggregates = []; rules = [] }
 
--- the policy where there is none
+-- the policy where none is given, that of `policy 1` alone
 abbrev pub nothing : Meaning
 nothing = without_lines One
 
