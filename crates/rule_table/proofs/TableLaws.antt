@@ -118,7 +118,7 @@ built policy read rules entries ss ds is same copied each up from to =
     let P2 : List Rule → Type 0 = λ rs. HaveShapes Source rs ss in
     let P3 : List Rule → Type 0 = λ rs. HaveShapes Destination rs ds in
     subst over (sym all) (
-      record { aggregates = policy.aggregates; spelled = is.rules },
+      record { version = policy.version; aggregates = policy.aggregates; spelled = is.rules },
       record {
         few = is.few_rules;
         each = subst P1 same each;

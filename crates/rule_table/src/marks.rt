@@ -147,6 +147,6 @@ fn element_of(rule: &Rule) -> Option<ElementId>
 {
     match rule.action {
         Action::Pass | Action::Withhold | Action::Aggregate(_) => None,
-        Action::Keep | Action::Remove | Action::Truncate(_) => rule.element,
+        Action::Keep | Action::Remove | Action::Truncate(_) | Action::Degrade(_) => rule.element,
     }
 }
