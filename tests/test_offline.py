@@ -209,6 +209,14 @@ WORKED = [
         "000a002c 6553f13c 00000000 00000000  00020010 01000002 00080004 00010004  0100000c c0000200 000005dc\n",
         "3 0 1 removed 1:3\n",
     ),
+    # A start of 1700000399.999 is lowered to 1700000100.000, and the audit says nothing of it.
+    Worked(
+        "times that are degraded",
+        "policy 2;rule for * in * from * to * pass;"
+        "rule for * in * from * to * element flowStartMilliseconds degrade 300;" + KEEP,
+        "000a002d 6553f100 00000000 00000007  00020010 01000002 00980008 00040001  0100000d 0000018bcfeb827f 06",
+        "000a002d 6553f13c 00000000 00000000  00020010 01000002 00980008 00040001  0100000d 0000018bcfe6eea0 06\n",
+    ),
     Worked(
         "a removed field is named",
         policy("rule for * in * from * to * pass", "rule for * in * from * to * element octetDeltaCount remove", KEEP),

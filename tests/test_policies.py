@@ -47,7 +47,21 @@ TEXTS = [
         0,
         "rules 2 aggregates 0\n",
     ),
-    # A byte order mark is no blank: the first line that has words isn't `policy 1`.
+    checked("a header alone", "policy 2", 0, "rules 0 aggregates 0\n"),
+    checked(
+        "times that are degraded",
+        "policy 2;rule for acme in * from * to * element flowStartMilliseconds degrade 300",
+        0,
+        "rules 1 aggregates 0\n",
+    ),
+    checked(
+        "version 1 knows no such rule",
+        "policy 1;rule for acme in * from * to * element flowStartMilliseconds degrade 300",
+        1,
+        "",
+        "ipmd: policy line 2: UnknownWord\n",
+    ),
+    # A byte order mark is no blank: the first line that has words is no header.
     checked("a byte order mark", "\ufeffpolicy 1\n", 1, "", "ipmd: policy line 1: NoHeader\n"),
 ]
 

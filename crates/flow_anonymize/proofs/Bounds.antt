@@ -17,7 +17,8 @@ use Rattle.ipfix_template.specs.DataRecord.{DataRecord, IsSound}
 use Rattle.ipfix_template.proofs.Encoding.{fit_fields-at, fit_fields-length}
 use Rattle.policy_text.specs.declared.rule.Rule.{Rule}
 use Rattle.policy_text.specs.declared.rule.Action.{Action}
-use Rattle.policy_text.specs.declared.rule.Action.TheVariants.{Pass, Withhold, Aggregate, Keep, Remove, Truncate}
+use Rattle.policy_text.specs.declared.rule.Action.TheVariants.{Pass, Withhold, Aggregate, Keep, Remove, Truncate, Degrade}
+use Rattle.policy_text.specs.declared.version.Version.{Version}
 use Rattle.policy_text.specs.Policies.{Aggregate as Definition}
 use Rattle.policy_text.specs.Classes.{width_of_kind, width_at}
 use Rattle.policy_text.specs.Grammar.{IsAction, IsRule, AreRules}
@@ -51,44 +52,45 @@ element_is e f is =
     let parts = and_parts (same_pen e.pen f.pen) (e.number == f.number) is in
     same_element e f (pen_is e.pen f.pen parts.0) (eqb-true e.number f.number parts.1)
 
-fixed_length : (f : FieldSpec) (value : List ℕ) → is_variable f ≡ false → fits_field f value ≡ true → length value ≡ f.length
+pub fixed_length : (f : FieldSpec) (value : List ℕ) → is_variable f ≡ false → fits_field f value ≡ true → length value ≡ f.length
 fixed_length f value fixed fits = eqb-true _ _ (rw fixed at fits)
 
 -- what an action keeps of a value of its element
-one_action : (aggregates : List Definition) (element : Option Element) (action : Action) (f : FieldSpec) (value : List ℕ)
-    → is_met (is_element (Some f.element)) element ≡ true → IsAction aggregates element action → has_allowed_length f ≡ true → fits_field f value ≡ true
+one_action : (version : Version) (aggregates : List Definition) (element : Option Element) (action : Action) (f : FieldSpec) (value : List ℕ)
+    → is_met (is_element (Some f.element)) element ≡ true → IsAction version aggregates element action → has_allowed_length f ≡ true → fits_field f value ≡ true
     → IsWithin value (element_action action)
 unfolding width_at
-one_action aggregates element Pass f value met is allowed fits = tt
-one_action aggregates element Withhold f value met is allowed fits = tt
-one_action aggregates element (Aggregate place) f value met is allowed fits = tt
-one_action aggregates element Keep f value met is allowed fits = tt
-one_action aggregates element Remove f value met is allowed fits = tt
-one_action aggregates None (Truncate bits) f value met is allowed fits = absurd cc
-one_action aggregates (Some e) (Truncate bits) f value met is allowed fits =
+one_action version aggregates element Pass f value met is allowed fits = tt
+one_action version aggregates element Withhold f value met is allowed fits = tt
+one_action version aggregates element (Aggregate place) f value met is allowed fits = tt
+one_action version aggregates element Keep f value met is allowed fits = tt
+one_action version aggregates element Remove f value met is allowed fits = tt
+one_action version aggregates element (Degrade seconds) f value met is allowed fits = tt
+one_action version aggregates None (Truncate bits) f value met is allowed fits = absurd cc
+one_action version aggregates (Some e) (Truncate bits) f value met is allowed fits =
     let same = element_is f.element e met in
     let width : width_of_kind (kind_of f.element) ≡ Some is.0 = rw same is.1 in
     let size = sized (kind_of f.element) f.length is.0 width allowed in
     let long = fixed_length f value size.1 fits in
     omega (arith, long, size.0, is.2)
 
-one_rule : (name : List ℕ) (domain : ℕ) (r : DataRecord) (aggregates : List Definition) (rule : Rule) (f : FieldSpec) (value : List ℕ)
-    → matches_field name domain r (Some f.element) rule ≡ true → IsRule aggregates rule → has_allowed_length f ≡ true → fits_field f value ≡ true
+one_rule : (name : List ℕ) (domain : ℕ) (r : DataRecord) (version : Version) (aggregates : List Definition) (rule : Rule) (f : FieldSpec) (value : List ℕ)
+    → matches_field name domain r (Some f.element) rule ≡ true → IsRule version aggregates rule → has_allowed_length f ≡ true → fits_field f value ≡ true
     → IsWithin value (element_action rule.action)
-one_rule name domain r aggregates rule f value matches is allowed fits =
+one_rule name domain r version aggregates rule f value matches is allowed fits =
     let on_fields = and_parts (not (is_on_records rule.action)) (is_met (is_element (Some f.element)) rule.element && (is_for name domain rule && covers r rule)) matches in
     let met = and_parts (is_met (is_element (Some f.element)) rule.element) (is_for name domain rule && covers r rule) on_fields.1 in
-    one_action aggregates rule.element rule.action f value met.0 is.action allowed fits
+    one_action version aggregates rule.element rule.action f value met.0 is.action allowed fits
 
-first_rule_within : (name : List ℕ) (domain : ℕ) (r : DataRecord) (aggregates : List Definition) (n : ℕ) (rules : List Rule) (f : FieldSpec) (value : List ℕ)
-    → AllByRecursion (λ rule. IsRule aggregates rule) rules → has_allowed_length f ≡ true → fits_field f value ≡ true
+first_rule_within : (name : List ℕ) (domain : ℕ) (r : DataRecord) (version : Version) (aggregates : List Definition) (n : ℕ) (rules : List Rule) (f : FieldSpec) (value : List ℕ)
+    → AllByRecursion (λ rule. IsRule version aggregates rule) rules → has_allowed_length f ≡ true → fits_field f value ≡ true
     → IsWithin value (element_verdict_by (find (λ x. matches_field name domain r (Some f.element) x.1) (enumerate_from n rules))).action
-first_rule_within name domain r aggregates n [] f value all allowed fits = tt
-first_rule_within name domain r aggregates n (rule ∷ rules) f value all allowed fits =
+first_rule_within name domain r version aggregates n [] f value all allowed fits = tt
+first_rule_within name domain r version aggregates n (rule ∷ rules) f value all allowed fits =
     elim (matches_field name domain r (Some f.element) rule) as (λ b. matches_field name domain r (Some f.element) rule ≡ b
     → IsWithin value (element_verdict_by (cond b (Some (n, rule)) (find (λ x. matches_field name domain r (Some f.element) x.1) (enumerate_from (n + 1) rules)))).action) [
-      | true ↦ λ matches. one_rule name domain r aggregates rule f value matches all.0 allowed fits
-      | false ↦ λ _. first_rule_within name domain r aggregates (n + 1) rules f value all.1 allowed fits
+      | true ↦ λ matches. one_rule name domain r version aggregates rule f value matches all.0 allowed fits
+      | false ↦ λ _. first_rule_within name domain r version aggregates (n + 1) rules f value all.1 allowed fits
     ] refl
 
 -- ---- the verdicts on all fields
@@ -124,20 +126,20 @@ within_from (v ∷ vs) (w ∷ ws) each =
 no_field : FieldSpec
 no_field = record { element = record { pen = None; number = 0 }; length = 0 }
 
-verdict_within : (name : List ℕ) (domain : ℕ) (r : DataRecord) (aggregates : List Definition) (rules : List Rule) → IsSound r → AreRules aggregates rules → (i : ℕ) (v : List ℕ)
+verdict_within : (name : List ℕ) (domain : ℕ) (r : DataRecord) (version : Version) (aggregates : List Definition) (rules : List Rule) → IsSound r → AreRules version aggregates rules → (i : ℕ) (v : List ℕ)
     → i < length r.template.fields → IsWithin (get_or r.values i v) (element_verdict_of name domain r i rules).action
-verdict_within name domain r aggregates rules sound are i v lt =
+verdict_within name domain r version aggregates rules sound are i v lt =
     let there = element_there r r.template.fields i no_field refl lt in
     let f = get_or r.template.fields i no_field in
     let value = get_or r.values i v in
     let allowed = list_all-at has_allowed_length r.template.fields i no_field (passes_of r.template sound.accepted).allowed lt in
     let fits = fit_fields-at r.template.fields r.values i no_field v sound.fit lt in
-    let within = first_rule_within name domain r aggregates 1 rules f value are allowed fits in
+    let within = first_rule_within name domain r version aggregates 1 rules f value are allowed fits in
     rw there within
 
-pub verdicts_are_judged : (name : List ℕ) (domain : ℕ) (r : DataRecord) (aggregates : List Definition) (rules : List Rule) (verdicts : List ElementVerdict) → IsSound r → AreRules aggregates rules
+pub verdicts_are_judged : (name : List ℕ) (domain : ℕ) (r : DataRecord) (version : Version) (aggregates : List Definition) (rules : List Rule) (verdicts : List ElementVerdict) → IsSound r → AreRules version aggregates rules
     → length r.template.fields ≤ 65535 → verdicts ≡ verdicts_of name domain r rules → AreJudged r verdicts
-verdicts_are_judged name domain r aggregates rules verdicts sound are few same =
+verdicts_are_judged name domain r version aggregates rules verdicts sound are few same =
     let verdict = λ (place : ℕ). element_verdict_of name domain r place rules in
     let long = length-map-range_with_len verdict 0 (length r.template.fields) in
     let even = fit_fields-length r.template.fields r.values sound.fit in
@@ -145,7 +147,7 @@ verdicts_are_judged name domain r aggregates rules verdicts sound are few same =
     within_from r.values (verdicts_of name domain r rules) (λ i v w lt le.
     let here : i < length r.template.fields = omega (arith, le, long) in
     let at : get_or (verdicts_of name domain r rules) i w ≡ verdict i = get_or-map-range_with_len verdict 0 (length r.template.fields) i i w here (omega arith) in
-    rw at (verdict_within name domain r aggregates rules sound are i v here)) in
+    rw at (verdict_within name domain r version aggregates rules sound are i v here)) in
     let judged : AreJudged r (verdicts_of name domain r rules) = record { sound = sound; few = omega (arith, long, few); each = long; within = within } in
     rw same judged
 

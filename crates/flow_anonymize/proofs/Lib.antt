@@ -1,4 +1,5 @@
 pub mod Bounds
+pub mod TimeLaws
 pub mod Sound
 pub mod Places
 pub mod SecrecyLaws

@@ -13,7 +13,7 @@ use Rattle.policy_text.specs.declared.rule.Rule.{Rule}
 use Rattle.policy_judge.specs.declared.verdict.RecordAction.{RecordAction}
 use Rattle.policy_judge.specs.declared.verdict.RecordAction.TheVariants.{Pass, Withhold, Aggregate}
 use Rattle.policy_judge.specs.declared.verdict.ElementAction.{ElementAction}
-use Rattle.policy_judge.specs.declared.verdict.ElementAction.TheVariants.{Keep, Remove, Truncate}
+use Rattle.policy_judge.specs.declared.verdict.ElementAction.TheVariants.{Keep, Remove, Truncate, Degrade}
 use Rattle.policy_judge.specs.declared.verdict.ElementVerdict.{ElementVerdict}
 use Rattle.policy_judge.specs.Match.{matches_field}
 use Rattle.policy_judge.specs.Verdicts.{first_rule, element_verdict_by, record_verdict_of, element_verdict_of}
@@ -23,7 +23,9 @@ use Rattle.flow_anonymize.specs.declared.disclosure.Reason.TheVariants as becaus
 use Rattle.flow_anonymize.specs.Outcome.{Passes, Withholds}
 use Rattle.flow_anonymize.specs.Remaining.{verdicts_of, keeps, is_kept, shown_value, kept_fields, kept_values, removed_fields}
 use Rattle.flow_anonymize.specs.Disclosed.{remaining, first_lost, first_rule_of, unless_lost, by_action}
+use Rattle.flow_anonymize.specs.Times.{step_of_time}
 use Rattle.flow_anonymize.specs.Permitted.{verdict_on, IsPermitted, OnlyPermittedPasses, PassedIsSound}
+use Rattle.flow_anonymize.proofs.TimeLaws.{degraded_long, degraded_value}
 use Rattle.flow_anonymize.proofs.Sound.{left_is_sound}
 use Rattle.std.proofs.lemmas.List.FromFn.{length-map-range_with_len}
 use Rattle.flow_anonymize.proofs.Places.{range_items}
@@ -36,6 +38,8 @@ permitted_shown Remove v octets stays = absurd cc
 permitted_shown (Truncate bits) v octets stays =
     let kept = KeepsBits-kept_octets bits v octets in
     rw (kept.wide, kept.value) (mul-mod_left (be_value v / 2 ^ (8 * length v - bits)) (2 ^ (8 * length v - bits)))
+permitted_shown (Degrade seconds) v octets stays =
+    rw (degraded_long seconds v, degraded_value seconds v octets) (mul-mod_left (be_value v / step_of_time (length v) seconds) (step_of_time (length v) seconds))
 
 -- ---- the lists, where the verdicts are those on the fields
 

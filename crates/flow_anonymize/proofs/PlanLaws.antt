@@ -16,6 +16,7 @@ use Rattle.ipfix_template.specs.Template.{specifier, specifier_of}
 use Rattle.ipfix_template.specs.DataRecord.{DataRecord, IsSound}
 use Rattle.ipfix_template.proofs.Encoding.{octets_of_record}
 use Rattle.policy_text.specs.declared.rule.Rule.{Rule}
+use Rattle.policy_text.specs.declared.version.Version.{Version}
 use Rattle.policy_text.specs.Policies.{Aggregate as Definition}
 use Rattle.policy_text.specs.Grammar.{AreRules}
 use Rattle.policy_judge.specs.Occurrences.{sources, destinations}
@@ -61,15 +62,15 @@ inside_alike : (cuts : List ℕ) (prefix : Option Prefix) (vs ws : List (List �
 inside_alike cuts None vs ws k few is has one other = tt
 inside_alike cuts (Some prefix) vs ws k few is has one other = same_key cuts prefix vs ws k few is has one other
 
-covered_alike : (cuts : List ℕ) (aggregates : List Definition) (rules : List Rule) (r s : DataRecord) (classes : RecordClasses) → length cuts ≤ most_cuts → AreRules aggregates rules
+covered_alike : (cuts : List ℕ) (version : Version) (aggregates : List Definition) (rules : List Rule) (r s : DataRecord) (classes : RecordClasses) → length cuts ≤ most_cuts → AreRules version aggregates rules
     → HaveCuts cuts rules → HasKeys cuts r classes → HasKeys cuts s classes → AllByRecursion (AreCoveredAlike r s) rules
-covered_alike cuts aggregates [] r s classes few are have one other = tt
-covered_alike cuts aggregates (rule ∷ rules) r s classes few are have one other = (
+covered_alike cuts version aggregates [] r s classes few are have one other = tt
+covered_alike cuts version aggregates (rule ∷ rules) r s classes few are have one other = (
   (
     inside_alike cuts rule.from (sources r) (sources s) classes.sources few are.0.from have.0.from one.from other.from,
     inside_alike cuts rule.to (destinations r) (destinations s) classes.destinations few are.0.to have.0.to one.to other.to,
   ),
-  covered_alike cuts aggregates rules r s classes few are.1 have.1 one other,
+  covered_alike cuts version aggregates rules r s classes few are.1 have.1 one other,
 )
 
 -- ---- a record has few fields
@@ -89,29 +90,29 @@ few_fields r sound = omega (arith, octets_of_record 256 r.template, fewer r.temp
 
 -- ---- the plan of one record is that of all that are alike
 
-discloses : (for : PlansFor) (aggregates : List Definition) (r s : DataRecord) (plan : Plan) → AreRules aggregates for.rules
+discloses : (for : PlansFor) (version : Version) (aggregates : List Definition) (r s : DataRecord) (plan : Plan) → AreRules version aggregates for.rules
     → IsPlan r.template (record_verdict_of for.name for.domain r for.rules) (verdicts_of for.name for.domain r for.rules) plan
     → IsSound s → s.template ≡ r.template → AllByRecursion (AreCoveredAlike s r) for.rules
     → (planned plan s.values ≡ disclosure_of for.name for.domain s for.rules) × IsShowable plan s
-discloses for aggregates r s plan are is sound template alike =
+discloses for version aggregates r s plan are is sound template alike =
     let on_record = record_alike for.name for.domain s r for.rules alike in
     let on_fields = verdicts_alike for.name for.domain s r for.rules template alike in
     let P1 : List ElementVerdict → Type 0 = λ ws. IsPlan r.template (record_verdict_of for.name for.domain r for.rules) ws plan in
     let P2 : RecordVerdict → Type 0 = λ v. IsPlan r.template v (verdicts_of for.name for.domain s for.rules) plan in
     let P3 : Template → Type 0 = λ t. IsPlan t (record_verdict_of for.name for.domain s for.rules) (verdicts_of for.name for.domain s for.rules) plan in
     let is' = subst P3 (sym template) (subst P2 (sym on_record) (subst P1 (sym on_fields) is)) in
-    let judged = verdicts_are_judged for.name for.domain s aggregates for.rules (verdicts_of for.name for.domain s for.rules) sound are (few_fields s sound) refl in
+    let judged = verdicts_are_judged for.name for.domain s version aggregates for.rules (verdicts_of for.name for.domain s for.rules) sound are (few_fields s sound) refl in
     (is'.leaves s.values, showable s (record_verdict_of for.name for.domain s for.rules) (verdicts_of for.name for.domain s for.rules) plan judged is')
 
 some_is : {A : Type 0} (x y : A) → Some x ≡ Some y → x ≡ y
 some_is x y e = cc
 
-pub slot_is : (for : PlansFor) (aggregates : List Definition) (r : DataRecord) (slot : Slot) → HaveCuts for.cuts for.rules → length for.cuts ≤ most_cuts → AreRules aggregates for.rules
+pub slot_is : (for : PlansFor) (version : Version) (aggregates : List Definition) (r : DataRecord) (slot : Slot) → HaveCuts for.cuts for.rules → length for.cuts ≤ most_cuts → AreRules version aggregates for.rules
     → for.template ≡ Some r.template → Some slot.classes ≡ classes_of for.cuts r
     → IsPlan r.template (record_verdict_of for.name for.domain r for.rules) (verdicts_of for.name for.domain r for.rules) slot.plan → IsSlot for slot
-slot_is for aggregates r slot cut few are template classes is = λ s sound same keys.
-    let alike = covered_alike for.cuts aggregates for.rules s r slot.classes few are cut (keys_of for.cuts s slot.classes keys) (keys_of for.cuts r slot.classes (sym classes)) in
-    let shown = discloses for aggregates r s slot.plan are is sound (some_is s.template r.template (sym same ∙ template)) alike in
+slot_is for version aggregates r slot cut few are template classes is = λ s sound same keys.
+    let alike = covered_alike for.cuts version aggregates for.rules s r slot.classes few are cut (keys_of for.cuts s slot.classes keys) (keys_of for.cuts r slot.classes (sym classes)) in
+    let shown = discloses for version aggregates r s slot.plan are is sound (some_is s.template r.template (sym same ∙ template)) alike in
     record { exact = shown.0; showable = shown.1 }
 
 -- ---- the plan at a place
@@ -191,7 +192,7 @@ planned_slot for value slots r slot same kept are template classes is =
     let P : PlansFor → Type 0 = λ f. IsSlot f slot in
     let keys : Some slot.classes ≡ classes_of for.cuts r = classes ∙ ap (λ (f : PlansFor). classes_of f.cuts r) (sym same) in
     let own : for.template ≡ Some r.template = ap (λ (f : PlansFor). f.template) same ∙ template in
-    subst P same (slot_is for are.aggregates r slot kept.cut kept.few are.spelled own keys is)
+    subst P same (slot_is for are.version are.aggregates r slot kept.cut kept.few are.spelled own keys is)
 
 -- there is a plan at a place
 pub there_is : {T : Type 0} (slots : List Slot) (k : ℕ) → k < length slots → ((slot : Slot) → slice_get slots k ≡ Some slot → T) → T

@@ -9,13 +9,14 @@ use Rattle.ipfix_template.specs.declared.template.Template.{Template}
 use Rattle.ipfix_template.specs.DataRecord.{DataRecord}
 use Rattle.policy_text.specs.declared.rule.Rule.{Rule}
 use Rattle.policy_judge.specs.declared.verdict.ElementAction.{ElementAction}
-use Rattle.policy_judge.specs.declared.verdict.ElementAction.TheVariants.{Keep, Remove, Truncate}
+use Rattle.policy_judge.specs.declared.verdict.ElementAction.TheVariants.{Keep, Remove, Truncate, Degrade}
 use Rattle.policy_judge.specs.declared.verdict.ElementVerdict.{ElementVerdict}
 use Rattle.policy_judge.specs.Occurrences.{sources, destinations}
 use Rattle.policy_judge.specs.Match.{is_met, is_on_records, denies, are_inside, is_for, covers, is_element, element_at, matches_record, matches_field}
 use Rattle.policy_judge.specs.Verdicts.{first_rule, record_verdict_by, element_verdict_by, record_verdict_of, element_verdict_of}
 use Rattle.std.proofs.lemmas.List.{length-map}
 use Rattle.flow_anonymize.specs.Outcome.{Outcome}
+use Rattle.flow_anonymize.specs.Times.{step_of_time}
 use Rattle.flow_anonymize.specs.Remaining.{verdicts_of, keeps, is_kept, shown_value, kept_values, removed_fields}
 use Rattle.flow_anonymize.specs.Disclosed.{remaining_template, first_lost, unless_lost, transformed, by_verdict}
 use Rattle.flow_anonymize.specs.Secrecy.{AreValuesAlike, AreInsideAlike, AreCoveredAlike, DeniedIsSecret}
@@ -77,6 +78,9 @@ shown_alike Remove v w stays same = absurd cc
 shown_alike (Truncate bits) v w stays same =
     ap (λ n. be_octets n (be_value v / 2 ^ (8 * length v - bits) * 2 ^ (8 * n - bits))) same.0
     ∙ ap (λ q. be_octets (length w) (q * 2 ^ (8 * length w - bits))) same.1
+shown_alike (Degrade seconds) v w stays same =
+    ap (λ n. be_octets n (be_value v / step_of_time (length v) seconds * step_of_time n seconds)) same.0
+    ∙ ap (λ q. be_octets (length w) (q * step_of_time (length w) seconds)) same.1
 
 values_alike : (vs us : List (List ℕ)) (ws : List ElementVerdict) → length vs ≡ length us
     → ((place : ℕ) (v u : List ℕ) (w : ElementVerdict) → slice_get ws place ≡ Some w → slice_get vs place ≡ Some v → slice_get us place ≡ Some u → AreValuesAlike w.action v u)

@@ -14,7 +14,7 @@ use Rattle.ipfix_template.specs.Values.{fits_field, fit_fields, value_text, reco
 use Rattle.ipfix_template.specs.DataRecord.{DataRecord, IsSound}
 use Rattle.ipfix_template.proofs.Encoding.{octets_of_record}
 use Rattle.policy_judge.specs.declared.verdict.ElementAction.{ElementAction}
-use Rattle.policy_judge.specs.declared.verdict.ElementAction.TheVariants.{Keep, Remove, Truncate}
+use Rattle.policy_judge.specs.declared.verdict.ElementAction.TheVariants.{Keep, Remove, Truncate, Degrade}
 use Rattle.policy_judge.specs.declared.verdict.ElementVerdict.{ElementVerdict}
 use Rattle.disclosure_audit.specs.declared.entry.RemovedField.{RemovedField}
 use Rattle.flow_anonymize.specs.Remaining.{keeps, is_kept, shown_value, kept_fields, kept_values, removed_fields}
@@ -28,6 +28,7 @@ shown_long : (a : ElementAction) (v : List ℕ) → keeps a ≡ true → length 
 shown_long Keep v stays = refl
 shown_long Remove v stays = absurd cc
 shown_long (Truncate bits) v stays = length-be_octets (length v) _
+shown_long (Degrade seconds) v stays = length-be_octets (length v) _
 
 long_fits : (f : FieldSpec) (s v : List ℕ) → length s ≡ length v → fits_field f v ≡ true → fits_field f s ≡ true
 long_fits f s v same fits = ap (λ n. cond (is_variable f) (leb n 65535) (eqb n f.length)) same ∙ fits

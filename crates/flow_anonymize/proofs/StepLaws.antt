@@ -18,11 +18,13 @@ use Rattle.ipfix_template.proofs.Encoding.{fit_fields-length}
 use Rattle.policy_judge.specs.declared.verdict.ElementAction.{ElementAction}
 use Rattle.policy_judge.specs.declared.verdict.ElementAction.TheVariants as on_field
 use Rattle.policy_judge.specs.declared.verdict.ElementVerdict.{ElementVerdict}
-use Rattle.flow_prefix.specs.Bits.{kept_octets}
+use Rattle.flow_anonymize.specs.declared.change.Change.{Change}
+use Rattle.flow_anonymize.specs.declared.change.Change.TheVariants as on_value
+use Rattle.flow_anonymize.specs.Changes.{changed}
 use Rattle.flow_anonymize.specs.declared.steps.Step.{Step}
 use Rattle.flow_anonymize.specs.declared.steps.Step.TheVariants.{Show, Skip, SkipVariable}
 use Rattle.flow_anonymize.specs.Texts.{shown_text, shown_texts}
-use Rattle.flow_anonymize.specs.Steps.{variable_span, variable_octets, truncated_text, shown_at, behind, shown_by, step_of, AreAlike, AreSteps}
+use Rattle.flow_anonymize.specs.Steps.{variable_span, variable_octets, changed_text, shown_at, behind, shown_by, step_of, AreAlike, AreSteps}
 use Rattle.flow_anonymize.proofs.TextLaws.{texts_are}
 
 -- ---- one step in place of two
@@ -85,11 +87,15 @@ stands f v rest variable fits =
       sum_of : ℕ × ℕ → ℕ
       sum_of span = span.0 + span.1
 
-truncated_front : (bits : ℕ) (head v rest : List ℕ) → truncated_text bits (length head, length v) ((head ++ v) ++ rest) ≡ head ++ kept_octets bits v
-truncated_front bits head v rest = rw (append_assoc head v rest, take_at head (v ++ rest) (length head) refl, drop_at head (v ++ rest) (length head) refl, take_at v rest (length v) refl) refl
+changed_long : (change : Change) (v : List ℕ) → length (changed change v) ≡ length v
+changed_long (on_value.Truncate bits) v = length-be_octets (length v) _
+changed_long (on_value.Degrade seconds) v = length-be_octets (length v) _
 
-kept_text : (bits : ℕ) (v : List ℕ) → shortest_text (kept_octets bits v) ≡ head_of (length v) ++ kept_octets bits v
-kept_text bits v = has_head (kept_octets bits v) ∙ ap (λ n. head_of n ++ kept_octets bits v) (length-be_octets (length v) _)
+changed_front : (change : Change) (head v rest : List ℕ) → changed_text change (length head, length v) ((head ++ v) ++ rest) ≡ head ++ changed change v
+changed_front change head v rest = rw (append_assoc head v rest, take_at head (v ++ rest) (length head) refl, drop_at head (v ++ rest) (length head) refl, take_at v rest (length v) refl) refl
+
+text_of_changed : (change : Change) (v : List ℕ) → shortest_text (changed change v) ≡ head_of (length v) ++ changed change v
+text_of_changed change v = has_head (changed change v) ∙ ap (λ n. head_of n ++ changed change v) (changed_long change v)
 
 -- the step for a field, at its value's text, shows what is to be shown of the value, and goes behind it
 record Writes (f : FieldSpec) (v : List ℕ) (a : ElementAction) (rest : List ℕ) : Type 0 where
@@ -99,7 +105,8 @@ record Writes (f : FieldSpec) (v : List ℕ) (a : ElementAction) (rest : List �
 fixed_writes : (f : FieldSpec) (v : List ℕ) (a : ElementAction) (rest : List ℕ) → is_variable f ≡ false → length v ≡ f.length → Writes f v a rest
 fixed_writes f v on_field.Keep rest is long = record { shown = rw is (take_at v rest f.length long); next = rw is (drop_at v rest f.length long) }
 fixed_writes f v on_field.Remove rest is long = record { shown = rw is refl; next = rw is (drop_at v rest f.length long) }
-fixed_writes f v (on_field.Truncate bits) rest is long = record { shown = rw is (ap (kept_octets bits) (take_at v rest f.length long)); next = rw is (drop_at v rest f.length long) }
+fixed_writes f v (on_field.Truncate bits) rest is long = record { shown = rw is (ap (changed (on_value.Truncate bits)) (take_at v rest f.length long)); next = rw is (drop_at v rest f.length long) }
+fixed_writes f v (on_field.Degrade seconds) rest is long = record { shown = rw is (ap (changed (on_value.Degrade seconds)) (take_at v rest f.length long)); next = rw is (drop_at v rest f.length long) }
 
 variable_shown : (v : List ℕ) (rest : List ℕ) → Stands v rest → take (variable_octets (shortest_text v ++ rest)) (shortest_text v ++ rest) ≡ shortest_text v
 variable_shown v rest at = take_at (shortest_text v) rest _ (sym at.octets)
@@ -107,15 +114,16 @@ variable_shown v rest at = take_at (shortest_text v) rest _ (sym at.octets)
 variable_next : (v : List ℕ) (rest : List ℕ) → Stands v rest → drop (variable_octets (shortest_text v ++ rest)) (shortest_text v ++ rest) ≡ rest
 variable_next v rest at = drop_at (shortest_text v) rest _ (sym at.octets)
 
-variable_truncated : (bits : ℕ) (v : List ℕ) (rest : List ℕ) → Stands v rest → truncated_text bits (variable_span (shortest_text v ++ rest)) (shortest_text v ++ rest) ≡ shortest_text (kept_octets bits v)
-variable_truncated bits v rest at =
-    ap (λ s. truncated_text bits s (shortest_text v ++ rest)) at.span ∙ ap (λ t. truncated_text bits (length (head_of (length v)), length v) (t ++ rest)) (has_head v)
-    ∙ truncated_front bits (head_of (length v)) v rest ∙ sym (kept_text bits v)
+variable_changed : (change : Change) (v : List ℕ) (rest : List ℕ) → Stands v rest → changed_text change (variable_span (shortest_text v ++ rest)) (shortest_text v ++ rest) ≡ shortest_text (changed change v)
+variable_changed change v rest at =
+    ap (λ s. changed_text change s (shortest_text v ++ rest)) at.span ∙ ap (λ t. changed_text change (length (head_of (length v)), length v) (t ++ rest)) (has_head v)
+    ∙ changed_front change (head_of (length v)) v rest ∙ sym (text_of_changed change v)
 
 variable_writes : (f : FieldSpec) (v : List ℕ) (a : ElementAction) (rest : List ℕ) → is_variable f ≡ true → Stands v rest → Writes f v a rest
 variable_writes f v on_field.Keep rest is at = record { shown = rw is (variable_shown v rest at); next = rw is (variable_next v rest at) }
 variable_writes f v on_field.Remove rest is at = record { shown = rw is refl; next = rw is (variable_next v rest at) }
-variable_writes f v (on_field.Truncate bits) rest is at = record { shown = rw is (variable_truncated bits v rest at); next = rw is (variable_next v rest at) }
+variable_writes f v (on_field.Truncate bits) rest is at = record { shown = rw is (variable_changed (on_value.Truncate bits) v rest at); next = rw is (variable_next v rest at) }
+variable_writes f v (on_field.Degrade seconds) rest is at = record { shown = rw is (variable_changed (on_value.Degrade seconds) v rest at); next = rw is (variable_next v rest at) }
 
 writes : (f : FieldSpec) (v : List ℕ) (a : ElementAction) (rest : List ℕ) → fits_field f v ≡ true → Writes f v a rest
 writes f v a rest fits = by (is_variable f) refl where

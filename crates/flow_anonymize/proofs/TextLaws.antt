@@ -5,9 +5,10 @@ use Rattle.std.proofs.lemmas.Bool.{and_parts}
 use Rattle.ipfix_template.specs.declared.field.FieldSpec.{FieldSpec}
 use Rattle.ipfix_template.specs.Values.{value_text, record_text}
 use Rattle.policy_judge.specs.declared.verdict.ElementAction.{ElementAction}
-use Rattle.policy_judge.specs.declared.verdict.ElementAction.TheVariants.{Keep, Remove, Truncate}
+use Rattle.policy_judge.specs.declared.verdict.ElementAction.TheVariants.{Keep, Remove, Truncate, Degrade}
 use Rattle.policy_judge.specs.declared.verdict.ElementVerdict.{ElementVerdict}
 use Rattle.flow_prefix.specs.Bits.{kept_octets}
+use Rattle.flow_anonymize.specs.Times.{degraded_octets}
 use Rattle.flow_anonymize.specs.Remaining.{kept_fields, kept_values}
 use Rattle.flow_anonymize.specs.Within.{stays_whole, is_whole}
 use Rattle.flow_anonymize.specs.Texts.{shown_text, shown_texts}
@@ -25,12 +26,14 @@ texts_are (f ∷ fs) (v ∷ vs) (w ∷ ws) e = one_more f v w.action fs vs ws w 
   one_more f v Keep fs vs ws w is rest = rw is (ap (λ t. value_text f v ++ t) rest)
   one_more f v Remove fs vs ws w is rest = rw is rest
   one_more f v (Truncate bits) fs vs ws w is rest = rw is (ap (λ t. value_text f (kept_octets bits v) ++ t) rest)
+  one_more f v (Degrade seconds) fs vs ws w is rest = rw is (ap (λ t. value_text f (degraded_octets seconds v) ++ t) rest)
 
 -- where all fields stay as they are
 whole_one : (a : ElementAction) → stays_whole a ≡ true → a ≡ Keep
 whole_one Keep e = refl
 whole_one Remove e = absurd cc
 whole_one (Truncate bits) e = absurd cc
+whole_one (Degrade seconds) e = absurd cc
 
 whole_fields : (fs : List FieldSpec) (ws : List ElementVerdict) → length ws ≡ length fs → list_all is_whole ws ≡ true → kept_fields fs ws ≡ fs
 whole_fields [] ws e all = refl

@@ -14,6 +14,8 @@ pub use Rattle.rule_table.specs.Candidates
 pub use Rattle.address_classes.specs.Cuts
 pub use Rattle.address_classes.specs.Classes as AddressClasses
 pub mod Outcome
+pub mod Times
+pub mod Changes
 pub mod Remaining
 pub mod Disclosed
 pub mod Within

@@ -7,12 +7,13 @@ use Rattle.ipfix_template.specs.declared.field.FieldSpec.{FieldSpec}
 use Rattle.ipfix_template.specs.DataRecord.{DataRecord, IsSound}
 use Rattle.policy_text.specs.declared.rule.Rule.{Rule}
 use Rattle.policy_judge.specs.declared.verdict.ElementAction.{ElementAction}
-use Rattle.policy_judge.specs.declared.verdict.ElementAction.TheVariants.{Keep, Remove, Truncate}
+use Rattle.policy_judge.specs.declared.verdict.ElementAction.TheVariants.{Keep, Remove, Truncate, Degrade}
 use Rattle.policy_judge.specs.declared.verdict.ElementVerdict.{ElementVerdict}
 use Rattle.policy_judge.specs.Match.{matches_field}
 use Rattle.policy_judge.specs.Verdicts.{first_rule, element_verdict_by}
 use Rattle.disclosure_audit.specs.declared.entry.RemovedField.{RemovedField}
 use Rattle.flow_anonymize.specs.Outcome.{Passes}
+use Rattle.flow_anonymize.specs.Times.{step_of_time}
 use Rattle.flow_anonymize.specs.Remaining.{is_kept}
 use Rattle.flow_anonymize.specs.Disclosed.{disclosure_of}
 
@@ -20,11 +21,13 @@ use Rattle.flow_anonymize.specs.Disclosed.{disclosure_of}
 abbrev pub verdict_on : List ℕ → ℕ → DataRecord → List Rule → Element → ElementVerdict
 verdict_on name domain r rules element = element_verdict_by (first_rule (matches_field name domain r (Some element)) rules)
 
--- a value that may be shown: of a field that is kept; of one that is truncated, with no bit set behind the first ones
+-- a value that may be shown: of a field that is kept; of one that is truncated, with no bit set behind the first ones; of one that
+-- is degraded, a multiple of so many seconds
 abbrev pub IsPermitted : ElementAction → List ℕ → Type 0
 IsPermitted Keep value = Unit {0}
 IsPermitted Remove value = ⊥
 IsPermitted (Truncate bits) value = be_value value % 2 ^ (8 * length value - bits) ≡ 0
+IsPermitted (Degrade seconds) value = be_value value % step_of_time (length value) seconds ≡ 0
 
 -- what is so of a record that passes, and of the fields that are said to be removed from it
 pub record ShowsPermitted (name : List ℕ) (domain : ℕ) (r : DataRecord) (rules : List Rule) (kept : DataRecord) (removed : List RemovedField) : Type 0 where

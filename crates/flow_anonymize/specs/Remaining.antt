@@ -1,5 +1,5 @@
--- What is left of a record's fields, by the verdict on each (RFC 6235: truncation, in sections 4.1.1 and 4.2.1, and
--- black-marker anonymization, which removes a field).
+-- What is left of a record's fields, by the verdict on each (RFC 6235: truncation, in sections 4.1.1 and 4.2.1, precision
+-- degradation, in section 4.3.1, and black-marker anonymization, which removes a field).
 use Rattle.std.specs.Prelude.{ℕ, Bool, true, false, not, List, [], length, map, filter}
 use Rattle.std.specs.List.{zip, enumerate_from, range_with_len}
 use Rattle.ipfix_template.specs.declared.field.FieldSpec.{FieldSpec}
@@ -7,10 +7,11 @@ use Rattle.ipfix_template.specs.DataRecord.{DataRecord}
 use Rattle.flow_prefix.specs.Bits.{kept_octets}
 use Rattle.policy_text.specs.declared.rule.Rule.{Rule}
 use Rattle.policy_judge.specs.declared.verdict.ElementAction.{ElementAction}
-use Rattle.policy_judge.specs.declared.verdict.ElementAction.TheVariants.{Keep, Remove, Truncate}
+use Rattle.policy_judge.specs.declared.verdict.ElementAction.TheVariants.{Keep, Remove, Truncate, Degrade}
 use Rattle.policy_judge.specs.declared.verdict.ElementVerdict.{ElementVerdict}
 use Rattle.policy_judge.specs.Verdicts.{element_verdict_of}
 use Rattle.disclosure_audit.specs.declared.entry.RemovedField.{RemovedField}
+use Rattle.flow_anonymize.specs.Times.{degraded_octets}
 
 -- the places of a record's fields
 abbrev pub places_of : DataRecord → List ℕ
@@ -20,20 +21,22 @@ places_of r = range_with_len 0 (length r.template.fields)
 abbrev pub verdicts_of : List ℕ → ℕ → DataRecord → List Rule → List ElementVerdict
 verdicts_of name domain r rules = map (λ place. element_verdict_of name domain r place rules) (places_of r)
 
--- the field stays, truncated or not
+-- the field stays: as it is, truncated or degraded
 abbrev pub keeps : ElementAction → Bool
 keeps Keep = true
 keeps Remove = false
 keeps (Truncate bits) = true
+keeps (Degrade seconds) = true
 
 abbrev pub is_kept : ElementVerdict → Bool
 is_kept verdict = keeps verdict.action
 
--- what is shown of a value: all of it, its first bits with the others 0, or nothing
+-- what is shown of a value: all of it, nothing, its first bits with the others 0, or a time that is lowered
 abbrev pub shown_value : ElementAction → List ℕ → List ℕ
 shown_value Keep value = value
 shown_value Remove value = []
 shown_value (Truncate bits) value = kept_octets bits value
+shown_value (Degrade seconds) value = degraded_octets seconds value
 
 -- the fields that stay, in their order
 abbrev pub kept_fields : List FieldSpec → List ElementVerdict → List FieldSpec

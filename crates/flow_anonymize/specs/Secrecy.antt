@@ -7,16 +7,19 @@ use Rattle.flow_prefix.specs.Prefixes.{contains}
 use Rattle.ipfix_template.specs.DataRecord.{DataRecord}
 use Rattle.policy_text.specs.declared.rule.Rule.{Rule}
 use Rattle.policy_judge.specs.declared.verdict.ElementAction.{ElementAction}
-use Rattle.policy_judge.specs.declared.verdict.ElementAction.TheVariants.{Keep, Remove, Truncate}
+use Rattle.policy_judge.specs.declared.verdict.ElementAction.TheVariants.{Keep, Remove, Truncate, Degrade}
 use Rattle.policy_judge.specs.Occurrences.{sources, destinations}
 use Rattle.policy_judge.specs.Verdicts.{element_verdict_of}
+use Rattle.flow_anonymize.specs.Times.{step_of_time}
 use Rattle.flow_anonymize.specs.Disclosed.{disclosure_of}
 
--- two values of a field that differ in what is denied at most: in all where it is removed, and in the bits that are cut off where it is truncated
+-- two values of a field that differ in what is denied at most: in all where it is removed, in the bits that are cut off where it is
+-- truncated, and within one step of so many seconds where it is degraded
 abbrev pub AreValuesAlike : ElementAction → List ℕ → List ℕ → Type 0
 AreValuesAlike Keep v w = v ≡ w
 AreValuesAlike Remove v w = Unit {0}
 AreValuesAlike (Truncate bits) v w = (length v ≡ length w) × (be_value v / 2 ^ (8 * length v - bits) ≡ be_value w / 2 ^ (8 * length w - bits))
+AreValuesAlike (Degrade seconds) v w = (length v ≡ length w) × (be_value v / step_of_time (length v) seconds ≡ be_value w / step_of_time (length w) seconds)
 
 -- addresses of which each is inside the prefix where its other is
 abbrev pub AreInsideAlike : List (List ℕ) → List (List ℕ) → Option Prefix → Type 0

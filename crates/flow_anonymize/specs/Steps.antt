@@ -7,9 +7,11 @@ use Rattle.ipfix_template.specs.Values.{fit_fields, record_text}
 use Rattle.policy_judge.specs.declared.verdict.ElementAction.{ElementAction}
 use Rattle.policy_judge.specs.declared.verdict.ElementAction.TheVariants as on_field
 use Rattle.policy_judge.specs.declared.verdict.ElementVerdict.{ElementVerdict}
-use Rattle.flow_prefix.specs.Bits.{kept_octets}
+use Rattle.flow_anonymize.specs.declared.change.Change.{Change}
+use Rattle.flow_anonymize.specs.declared.change.Change.TheVariants as on_value
 use Rattle.flow_anonymize.specs.declared.steps.Step.{Step}
-use Rattle.flow_anonymize.specs.declared.steps.Step.TheVariants.{Show, Skip, ShowVariable, SkipVariable, Truncate, TruncateVariable}
+use Rattle.flow_anonymize.specs.declared.steps.Step.TheVariants.{Show, Skip, ShowVariable, SkipVariable, Changed, ChangedVariable}
+use Rattle.flow_anonymize.specs.Changes.{changed}
 use Rattle.flow_anonymize.specs.Remaining.{kept_fields, kept_values}
 
 -- where the value of variable length at the front of octets starts, and its length; both are 0 where none stands there
@@ -20,9 +22,9 @@ variable_span octets = unwrap_or (varlen_at octets) (0, 0)
 abbrev pub variable_octets : List ℕ → ℕ
 variable_octets octets = (variable_span octets).0 + (variable_span octets).1
 
--- the first bits of a value of variable length, and the others 0, behind the length that stands before it
-abbrev pub truncated_text : ℕ → ℕ × ℕ → List ℕ → List ℕ
-truncated_text bits span octets = take span.0 octets ++ kept_octets bits (take span.1 (drop span.0 octets))
+-- a value of variable length with a change, behind the length that stands before it
+abbrev pub changed_text : Change → ℕ × ℕ → List ℕ → List ℕ
+changed_text change span octets = take span.0 octets ++ changed change (take span.1 (drop span.0 octets))
 
 -- what a step shows of octets; where they end before it, what is there
 abbrev pub shown_at : Step → List ℕ → List ℕ
@@ -30,8 +32,8 @@ shown_at (Show count) octets = take count octets
 shown_at (Skip count) octets = []
 shown_at ShowVariable octets = take (variable_octets octets) octets
 shown_at SkipVariable octets = []
-shown_at (Truncate count bits) octets = kept_octets bits (take count octets)
-shown_at (TruncateVariable bits) octets = truncated_text bits (variable_span octets) octets
+shown_at (Changed count change) octets = changed change (take count octets)
+shown_at (ChangedVariable change) octets = changed_text change (variable_span octets) octets
 
 -- the octets behind a step
 abbrev pub behind : Step → List ℕ → List ℕ
@@ -39,8 +41,8 @@ behind (Show count) octets = drop count octets
 behind (Skip count) octets = drop count octets
 behind ShowVariable octets = drop (variable_octets octets) octets
 behind SkipVariable octets = drop (variable_octets octets) octets
-behind (Truncate count bits) octets = drop count octets
-behind (TruncateVariable bits) octets = drop (variable_octets octets) octets
+behind (Changed count change) octets = drop count octets
+behind (ChangedVariable change) octets = drop (variable_octets octets) octets
 
 -- what steps show of octets, each of those that are behind the steps before it
 abbrev pub shown_by : List Step → List ℕ → List ℕ
@@ -51,11 +53,16 @@ shown_by (step ∷ steps) octets = shown_at step octets ++ shown_by steps (behin
 abbrev pub AreAlike : List Step → List Step → Type 0
 AreAlike some others = (octets : List ℕ) → shown_by some octets ≡ shown_by others octets
 
+-- the step for a field of which the values are changed
+abbrev pub changed_step : FieldSpec → Change → Step
+changed_step field change = if is_variable field then ChangedVariable change else Changed field.length change
+
 -- the step for a field, by what becomes of it
 abbrev pub step_of : FieldSpec → ElementAction → Step
 step_of field on_field.Keep = if is_variable field then ShowVariable else Show field.length
 step_of field on_field.Remove = if is_variable field then SkipVariable else Skip field.length
-step_of field (on_field.Truncate bits) = if is_variable field then TruncateVariable bits else Truncate field.length bits
+step_of field (on_field.Truncate bits) = changed_step field (on_value.Truncate bits)
+step_of field (on_field.Degrade seconds) = changed_step field (on_value.Degrade seconds)
 
 -- the steps are for records of these fields by these verdicts: of the text of values that fit, they show the text of what is left of them
 abbrev pub AreSteps : List FieldSpec → List ElementVerdict → List Step → Type 0

@@ -3,13 +3,14 @@ use Rattle.std.specs.Prelude.{◌≡◌, ℕ, ◌≤◌, ◌*◌, Bool, true, fa
 use Rattle.std.specs.List.{zip, AllByRecursion}
 use Rattle.ipfix_template.specs.DataRecord.{DataRecord, IsSound}
 use Rattle.policy_judge.specs.declared.verdict.ElementAction.{ElementAction}
-use Rattle.policy_judge.specs.declared.verdict.ElementAction.TheVariants.{Keep, Remove, Truncate}
+use Rattle.policy_judge.specs.declared.verdict.ElementAction.TheVariants.{Keep, Remove, Truncate, Degrade}
 use Rattle.policy_judge.specs.declared.verdict.ElementVerdict.{ElementVerdict}
 
 abbrev pub IsWithin : List ℕ → ElementAction → Type 0
 IsWithin value Keep = Unit {0}
 IsWithin value Remove = Unit {0}
 IsWithin value (Truncate bits) = bits ≤ 8 * length value
+IsWithin value (Degrade seconds) = Unit {0}
 
 abbrev pub AreWithin : List (List ℕ) → List ElementVerdict → Type 0
 AreWithin values verdicts = AllByRecursion (λ p. IsWithin p.0 p.1.action) (zip values verdicts)
@@ -19,6 +20,7 @@ abbrev pub stays_whole : ElementAction → Bool
 stays_whole Keep = true
 stays_whole Remove = false
 stays_whole (Truncate bits) = false
+stays_whole (Degrade seconds) = false
 
 abbrev pub is_whole : ElementVerdict → Bool
 is_whole verdict = stays_whole verdict.action

@@ -53,7 +53,7 @@ fn is_kept(verdict: &ElementVerdict) -> bool
     ensures { result ≡ is_kept verdict.now }
 {
     match verdict.action {
-        ElementAction::Keep | ElementAction::Truncate(_) => true,
+        ElementAction::Keep | ElementAction::Truncate(_) | ElementAction::Degrade(_) => true,
         ElementAction::Remove => false,
     }
 }

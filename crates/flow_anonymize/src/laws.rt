@@ -2,10 +2,12 @@
 ghost use Rattle.flow_anonymize.specs.Permitted.{OnlyPermittedPasses, PassedIsSound};
 ghost use Rattle.flow_anonymize.specs.Secrecy.{DeniedIsSecret};
 ghost use Rattle.flow_anonymize.specs.OtherRules.{OthersNeverMatter, LaterNeverMatter};
+ghost use Rattle.flow_anonymize.specs.Times.{TimesAreDegraded};
 
 /// What passes is what the rules permit: at no place stands a field that its first matching rule removes, or
-/// that no rule matches, and no bit is set that its rule cuts off. All other fields of the record are there,
-/// in their order, and each that is not is named with the first rule that removes it.
+/// that no rule matches, no bit is set that its rule cuts off, and each time that its rule degrades is a multiple
+/// of the rule's seconds. All other fields of the record are there, in their order, and each that is not is named
+/// with the first rule that removes it.
 pub fn only_permitted_passes()
     ensures { OnlyPermittedPasses }
 {}
@@ -15,8 +17,9 @@ pub fn passed_is_sound()
     ensures { PassedIsSound }
 {}
 
-/// What is denied is secret: two records that differ only in values that are removed and in bits that are cut
-/// off, and whose addresses are inside the same prefixes of the rules, look alike in all that is disclosed.
+/// What is denied is secret: two records that differ only in values that are removed, in bits that are cut off and
+/// within one step of times that are degraded, and whose addresses are inside the same prefixes of the rules, look
+/// alike in all that is disclosed.
 pub fn denied_is_secret()
     ensures { DeniedIsSecret }
 {}
@@ -30,4 +33,10 @@ pub fn others_never_matter()
 /// Rules behind those that decide on a record and on its fields never matter.
 pub fn later_rules_never_matter()
     ensures { LaterNeverMatter }
+{}
+
+/// What is shown of a time that is degraded, by the kind of its element: of a time v in seconds, to w seconds, it is
+/// floor(v / w) * w, and of one in milliseconds floor(v / (1000 * w)) * 1000 * w, in as many octets as came in.
+pub fn times_are_degraded()
+    ensures { TimesAreDegraded }
 {}

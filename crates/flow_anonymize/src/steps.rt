@@ -1,10 +1,10 @@
 //! What is shown of a record, by a few steps over its octets that are worked out once for a plan.
 ghost use Rattle.std.specs.Prelude.{◌≡◌, ◌+◌, ◌≤◌, ◌++◌, ◌∷◌, [], List, length, take, drop, IfOk, IfSome, OnOk, OnErr};
-ghost use Rattle.flow_prefix.specs.Bits.{truncated, kept_octets};
 ghost use Rattle.flow_anonymize.specs.declared.steps.Step.{Step};
-ghost use Rattle.flow_anonymize.specs.Steps.{variable_span, shown_at, behind, shown_by, step_of, AreAlike, AreSteps};
+ghost use Rattle.flow_anonymize.specs.Changes.{changed};
+ghost use Rattle.flow_anonymize.specs.Steps.{variable_span, shown_at, behind, shown_by, step_of, changed_step, AreAlike, AreSteps};
 
-use flow_prefix::keep_bits;
+use crate::change::{Change, put_changed};
 use ipfix_octets::read_varlen;
 use ipfix_template::FieldSpec;
 use policy_judge::{ElementAction, ElementVerdict};
@@ -21,10 +21,10 @@ pub(crate) enum Step {
     ShowVariable,
     /// A value of variable length is left out, and its length too.
     SkipVariable,
-    /// Of a value of so many octets the first bits are shown, and the others 0.
-    Truncate { octets: usize, bits: usize },
-    /// Of a value of variable length the first bits are shown, and the others 0, behind its length.
-    TruncateVariable(usize),
+    /// A value of so many octets is shown with a change.
+    Changed { octets: usize, change: Change },
+    /// A value of variable length is shown with a change, behind its length.
+    ChangedVariable(Change),
 }
 
 /// The steps for records of these fields by these verdicts.
@@ -59,8 +59,21 @@ fn step_of(field: &FieldSpec, action: ElementAction) -> Step
         ElementAction::Keep => Step::Show(octets),
         ElementAction::Remove if variable => Step::SkipVariable,
         ElementAction::Remove => Step::Skip(octets),
-        ElementAction::Truncate(bits) if variable => Step::TruncateVariable(bits),
-        ElementAction::Truncate(bits) => Step::Truncate { octets, bits },
+        ElementAction::Truncate(bits) => changed_step(field, Change::Truncate(bits)),
+        ElementAction::Degrade(seconds) => changed_step(field, Change::Degrade(seconds)),
+    }
+}
+
+/// The step for a field of which the values are changed.
+fn changed_step(field: &FieldSpec, change: Change) -> Step
+    ensures { result ≡ changed_step field.now change }
+{
+    if field.is_variable() {
+        return Step::ChangedVariable(change);
+    }
+    Step::Changed {
+        octets: usize::from(field.length),
+        change,
     }
 }
 
@@ -161,17 +174,17 @@ fn put_step<'o>(step: Step, octets: &'o [u8], text: &mut Vec<u8>) -> Result<&'o 
             let (_, rest) = split(octets, start + len);
             Ok(rest)
         }
-        Step::Truncate {
+        Step::Changed {
             octets: count,
-            bits,
+            change,
         } => {
             let (here, rest) = split(octets, count);
-            put_first_bits(here, bits, text)?;
+            put_changed(here, change, text)?;
             Ok(rest)
         }
-        Step::TruncateVariable(bits) => {
+        Step::ChangedVariable(change) => {
             let (start, len) = variable_span(octets);
-            put_truncated(&octets[..start], &octets[start..start + len], bits, text)?;
+            put_behind(&octets[..start], &octets[start..start + len], change, text)?;
             Ok(&octets[start + len..])
         }
     }
@@ -196,46 +209,16 @@ fn variable_span(octets: &[u8]) -> (usize, usize)
     }
 }
 
-/// Appends octets as they stand, and behind them others with their first bits and the others 0.
-fn put_truncated(
+/// Appends octets as they stand, and behind them a value with a change.
+fn put_behind(
     before: &[u8],
-    octets: &[u8],
-    bits: usize,
+    value: &[u8],
+    change: Change,
     text: &mut Vec<u8>,
 ) -> Result<(), AllocError>
-    ensures ok { OnOk result (text.new.items ≡ text.old.items ++ (before.now ++ kept_octets bits octets.now)) }
+    ensures ok { OnOk result (text.new.items ≡ text.old.items ++ (before.now ++ changed change value.now)) }
     ensures err { OnErr result (take (length text.old.items) text.new.items ≡ text.old.items) }
 {
     text.extend_from_slice(before)?;
-    put_first_bits(octets, bits, text)
-}
-
-/// Appends octets with their first bits and the others 0; all of them where they have no more bits.
-fn put_first_bits(octets: &[u8], bits: usize, text: &mut Vec<u8>) -> Result<(), AllocError>
-    ensures ok { OnOk result (text.new.items ≡ text.old.items ++ kept_octets bits octets.now) }
-    ensures err { OnErr result (text.new.items ≡ text.old.items) }
-{
-    if let [a, b, c, d] = octets {
-        return put_bits_of_four([*a, *b, *c, *d], bits, text);
-    }
-    let most = octets.len().saturating_mul(8);
-    keep_bits(octets, bits.min(most), text)
-}
-
-/// The same for four octets, as an IPv4 address has.
-fn put_bits_of_four(octets: [u8; 4], bits: usize, text: &mut Vec<u8>) -> Result<(), AllocError>
-    ensures ok { OnOk result (text.new.items ≡ text.old.items ++ kept_octets bits octets) }
-    ensures err { OnErr result (text.new.items ≡ text.old.items) }
-{
-    let kept = first_bits(u32::from_be_bytes(octets), bits.min(32));
-    text.extend_from_slice(&kept.to_be_bytes())
-}
-
-/// A number with its first bits and the others 0.
-fn first_bits(number: u32, bits: usize) -> u32
-    requires { bits ≤ 32 }
-    ensures { result ≡ truncated 32 bits number }
-{
-    let dropped = 32 - bits;
-    ((u64::from(number) >> dropped) << dropped) as u32
+    put_changed(value, change, text)
 }

@@ -43,7 +43,7 @@ fn is_whole(verdict: &ElementVerdict) -> bool
 {
     match verdict.action {
         ElementAction::Keep => true,
-        ElementAction::Remove | ElementAction::Truncate(_) => false,
+        ElementAction::Remove | ElementAction::Truncate(_) | ElementAction::Degrade(_) => false,
     }
 }
 

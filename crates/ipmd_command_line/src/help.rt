@@ -53,12 +53,13 @@ Example:
 
 It answers `rules N aggregates M`; or `ipmd: policy line N: KIND`, the first line that is at
 fault and what is wrong with the first faulty word in it:
-  NoHeader          the first line that has words is not `policy 1`
+  NoHeader          the first line that has words is neither `policy 1` nor `policy 2`
   UnknownWord       another word is due here, or the line ends early, or goes on too long
   BadName           no name (1 to 32 of a-z, 0-9, - and _, a letter first), or no element's name
   BadNumber         no number, or one out of range
   BadPrefix         no address with a length, or a bit is set past the length
   BadTruncate       the element is no address, or has fewer bits
+  BadDegrade        the element is no time
   UnknownAggregate  no line above defines this aggregate
   DoubleAggregate   a line above defines this aggregate
   BadKey            this element can't be a key, or is named twice, or is the seventeenth
@@ -66,7 +67,8 @@ fault and what is wrong with the first faulty word in it:
 
 A rule's line is, in this order of words, with * for any:
   rule for NAME in DOMAIN from PREFIX to PREFIX ACTION
-ACTION is pass, withhold, aggregate NAME, or element ELEMENT with keep, remove or truncate BITS.
+ACTION is pass, withhold, aggregate NAME, or element ELEMENT with keep, remove or truncate BITS,
+or, in a `policy 2`, with degrade SECONDS.
 
 Exit status: 0 a policy, 1 no policy or out of memory, 2 wrong command line, 3 device.";
 

@@ -82,6 +82,7 @@ policy_fault_of fault kind.BadName = Policy fault
 policy_fault_of fault kind.BadNumber = Policy fault
 policy_fault_of fault kind.BadPrefix = Policy fault
 policy_fault_of fault kind.BadTruncate = Policy fault
+policy_fault_of fault kind.BadDegrade = Policy fault
 policy_fault_of fault kind.UnknownAggregate = Policy fault
 policy_fault_of fault kind.DoubleAggregate = Policy fault
 policy_fault_of fault kind.BadKey = Policy fault

@@ -96,7 +96,8 @@ AreAlikeFrom sub before other (e ∷ h) (f ∷ g) = IsAlikeAt sub before other e
 AreAlikeFrom sub before other [] (f ∷ g) = ⊥
 AreAlikeFrom sub before other (e ∷ h) [] = ⊥
 
--- the same is disclosed where a value that is removed takes another of its length, or one that is truncated other bits where it is
--- cut off, inside the same prefixes of the revision in force, of a record whose first rule names no aggregate
+-- the same is disclosed where a value that is removed takes another of its length, one that is truncated other bits where it is
+-- cut off, or a time that is degraded another within the same step, inside the same prefixes of the revision in force, of a record
+-- whose first rule names no aggregate
 abbrev pub DeniedValuesNeverMatter : Type 0
 DeniedValuesNeverMatter = (sub : ℕ) (h g : List Entry) → AreAlikeFrom sub [] [] h g → disclosed sub h ≡ disclosed sub g

@@ -13,9 +13,10 @@ pub fn entries_of_others_never_matter()
     ensures { EntriesOfOthersNeverMatter }
 {}
 
-/// What is denied never matters: where a value that the first matching rule removes takes another of its length, or one
-/// that it truncates takes other bits where it is cut off, inside the same prefixes of the rules, the same is disclosed. This
-/// is said of records whose first matching rule names no aggregate: what an aggregate shows, its definition says.
+/// What is denied never matters: where a value that the first matching rule removes takes another of its length, one that
+/// it truncates takes other bits where it is cut off, or a time that it degrades another within the same step, inside the
+/// same prefixes of the rules, the same is disclosed. This is said of records whose first matching rule names no aggregate:
+/// what an aggregate shows, its definition says.
 pub fn denied_values_never_matter()
     ensures { DeniedValuesNeverMatter }
 {}

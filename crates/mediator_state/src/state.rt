@@ -398,6 +398,7 @@ fn refusal(fault: PolicyFault) -> Fault
         | FaultKind::BadNumber
         | FaultKind::BadPrefix
         | FaultKind::BadTruncate
+        | FaultKind::BadDegrade
         | FaultKind::UnknownAggregate
         | FaultKind::DoubleAggregate
         | FaultKind::BadKey

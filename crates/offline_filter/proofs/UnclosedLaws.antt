@@ -1,5 +1,5 @@
 -- A run makes no advance of the clock: no group closes, and no record is late.
-use Rattle.std.proofs.Common.{◌≡◌, ℕ, zero, suc, ◌≤◌, ◌^◌, Bool, true, false, cond, List, [], ◌∷◌, ◌++◌, map, Option, Some, None, Result, Ok, Err, refl, sym, ap, ◌∙◌, subst, arith, ⊎_elim}
+use Rattle.std.proofs.Common.{◌≡◌, ℕ, zero, suc, ◌≤◌, ◌^◌, Bool, true, false, cond, List, [], ◌∷◌, ◌++◌, map, Option, Some, None, Result, Ok, Err, refl, sym, ap, ◌∙◌, subst, arith}
 use Rattle.std.specs.Prelude.{◌≢◌, filter, fold, nat_lt, nat_le, unwrap_or}
 use Rattle.std.specs.List.{flat_map, AllByRecursion}
 use Rattle.std.proofs.lemmas.Bool.{leb-true}
@@ -8,15 +8,12 @@ use Rattle.sequences.specs.Before.{each_after, last_of, HasNone}
 use Rattle.sequences.proofs.BeforeLaws.{last_of-none}
 use Rattle.sequences.proofs.ListLaws.{AllByRecursion-append}
 use Rattle.ipfix_template.specs.DataRecord.{DataRecord}
-use Rattle.policy_text.specs.Words.{words_of, lines_of, is_skipped}
+use Rattle.policy_text.specs.Words.{lines_of}
 use Rattle.policy_text.specs.Policies.{Meaning as Policy, Aggregate, nothing as no_policy}
 use Rattle.policy_text.specs.Parsing.{policy_of}
-use Rattle.policy_text.specs.Printing.{header}
-use Rattle.policy_text.specs.Grammar.{AreAggregates, IsPolicy}
-use Rattle.policy_text.specs.Spelling.{AreLines, AreAllLines}
+use Rattle.policy_text.specs.Grammar.{AreAggregates}
 use Rattle.policy_text.specs.declared.fault.PolicyFault.{PolicyFault}
-use Rattle.policy_text.proofs.KeptLaws.{IsPolicy-nothing}
-use Rattle.policy_text.proofs.FirstFaultLaws.{adds_kept}
+use Rattle.policy_text.proofs.OneFaultLaws.{spelled_kept}
 use Rattle.policy_text.proofs.SpellLaws.{policy_of-found}
 use Rattle.disclosure_audit.specs.declared.entry.RemovedField.{RemovedField}
 use Rattle.disclosure_audit.specs.declared.entry.What.{What}
@@ -85,21 +82,10 @@ intervals_of : (before aggregates : List Aggregate) → AreAggregates before agg
 intervals_of before [] are = tt
 intervals_of before (a ∷ aggregates) are = (are.0.ranged.interval_low, intervals_of (before ++ a ∷ []) aggregates are.1)
 
-lines_kept : (p q : Policy) (lines : List (List ℕ)) → IsPolicy p → AreLines p lines q → IsPolicy q
-lines_kept p q [] valid are = let P : Policy → Type 0 = λ m. IsPolicy m in subst P are valid
-lines_kept p q (line ∷ lines) valid are = lines_kept are.0 q lines (adds_kept p are.0 (words_of line) valid are.1) are.2
-
-spelled_is : (q : Policy) (lines : List (List ℕ)) → AreAllLines lines q → IsPolicy q
-spelled_is q [] are = absurd are
-spelled_is q (line ∷ lines) are =
-    ⊎_elim (λ (skip : (is_skipped (words_of line) ≡ true) × AreAllLines lines q). spelled_is q lines skip.1)
-    (λ (kept : (is_skipped (words_of line) ≡ false) × (words_of line ≡ header) × AreLines no_policy lines q). lines_kept no_policy q lines IsPolicy-nothing kept.2)
-    are
-
 edited_lasts : (e : Entry) (policy : Policy) → edited e ≡ Some policy → HaveIntervals policy.aggregates
 edited_lasts (Edit text) policy is = by (policy_of text) refl is where
   by : (r : Result Policy PolicyFault) → policy_of text ≡ r → policy_or_none r ≡ Some policy → HaveIntervals policy.aggregates
-  by (Ok q) read is = subst (λ p. HaveIntervals p.aggregates) same (intervals_of [] q.aggregates (spelled_is q (lines_of text) (policy_of-found text q read)).aggregates) where
+  by (Ok q) read is = subst (λ p. HaveIntervals p.aggregates) same (intervals_of [] q.aggregates (spelled_kept q (lines_of text) (policy_of-found text q read)).aggregates) where
     same : q ≡ policy
     same = cc
   by (Err why) read is = absurd cc

@@ -1,6 +1,6 @@
 //! Worked cases of disclosure.
 use crate::records::{Field, SOURCE_IPV4, SOURCE_PORT, built};
-use crate::tables::policy_of;
+use crate::tables::read_policy;
 use flow_anonymize::{Disclosure, Reason, RemovedField, disclose, disclose_by};
 use ipfix_template::Record;
 use policy_text::Policy;
@@ -26,12 +26,15 @@ const VARIABLE: u16 = 65535;
 const AGGREGATES: &str =
     "aggregate old key vlanId interval 1 grace 0\naggregate web key vlanId interval 1 grace 0\n";
 
-const PASS: &str = "rule for * in * from * to * pass";
+/// The header of a policy.
+const ONE: &str = "policy 1\n";
 
-const KEEP: &str = "rule for * in * from * to * element * keep";
+pub(crate) const PASS: &str = "rule for * in * from * to * pass";
+
+pub(crate) const KEEP: &str = "rule for * in * from * to * element * keep";
 
 /// What is to be disclosed to acme.
-enum Wanted {
+pub(crate) enum Wanted {
     /// Nothing, by this rule, for this reason.
     Withheld(u32, Reason),
     /// These fields, where these places were removed by these rules.
@@ -40,22 +43,22 @@ enum Wanted {
     Aggregated(u32, usize),
 }
 
-/// A policy, a record whose first `scope` fields are scope fields, and what of it is disclosed.
-struct Case {
-    name: &'static str,
-    rules: &'static [&'static str],
-    fields: &'static [Field],
-    scope: u16,
-    wanted: Wanted,
+/// A policy's rules, a record whose first `scope` fields are scope fields, and what of it is disclosed.
+pub(crate) struct Case {
+    pub name: &'static str,
+    pub rules: &'static [&'static str],
+    pub fields: &'static [Field],
+    pub scope: u16,
+    pub wanted: Wanted,
 }
 
 const NEAR: Field = (SOURCE_IPV4, 4, b"\xc0\x00\x02\x01");
 
 const ADDRESS: Field = (SOURCE_IPV4, 4, b"\xc0\x00\x02\x4d");
 
-const SIX: Field = (PROTOCOL, 1, b"\x06");
+pub(crate) const SIX: Field = (PROTOCOL, 1, b"\x06");
 
-const HTTPS: Field = (SOURCE_PORT, 2, b"\x01\xbb");
+pub(crate) const HTTPS: Field = (SOURCE_PORT, 2, b"\x01\xbb");
 
 const SHORT_PORT: Field = (SOURCE_PORT, 1, b"\x35");
 
@@ -191,14 +194,15 @@ const CASES: &[Case] = &[
     },
 ];
 
-/// A policy of these rules, which may name the aggregates `old` and `web`.
-fn policy_of_rules(alloc: Global, rules: &[&str]) -> Result<Policy, Fail> {
-    let mut lines = String::from_str(alloc, AGGREGATES)?;
+/// A policy of these rules under a header, which may name the aggregates `old` and `web`.
+fn policy_of_rules(alloc: Global, header: &str, rules: &[&str]) -> Result<Policy, Fail> {
+    let mut lines = String::from_str(alloc, header)?;
+    lines.push_str(AGGREGATES)?;
     for rule in rules {
         lines.push_str(rule)?;
         lines.push_str("\n")?;
     }
-    policy_of(alloc, lines.as_str())
+    read_policy(alloc, lines.as_str())
 }
 
 /// Whether two records have the same scope, fields and values.
@@ -252,28 +256,34 @@ fn table_discloses(
 }
 
 /// Whether both do.
-fn both_disclose(alloc: Global, case: &Case) -> Result<bool, Fail> {
-    let policy = policy_of_rules(alloc, case.rules)?;
+fn both_disclose(alloc: Global, header: &str, case: &Case) -> Result<bool, Fail> {
+    let policy = policy_of_rules(alloc, header, case.rules)?;
     let flow_record = built(alloc, case.fields, case.scope)?;
     let by_policy = policy_discloses(alloc, case, &policy, &flow_record)?;
     Ok(by_policy && table_discloses(alloc, case, &policy, &flow_record)?)
 }
 
-fn expect_disclosed(rt: &impl Abort, alloc: Global, cases: &[Case]) -> Result<(), Fail> {
+/// What each case wants is disclosed, by a policy with this header.
+pub(crate) fn expect_disclosed(
+    rt: &impl Abort,
+    alloc: Global,
+    header: &str,
+    cases: &[Case],
+) -> Result<(), Fail> {
     for case in cases {
-        assert!(rt; both_disclose(alloc, case)?, "{}", case.name);
+        assert!(rt; both_disclose(alloc, header, case)?, "{}", case.name);
     }
     Ok(())
 }
 
 #[test]
 fn disclosures(rt: HostRuntime) -> Result<(), Fail> {
-    expect_disclosed(&rt, rt.alloc(), CASES)
+    expect_disclosed(&rt, rt.alloc(), ONE, CASES)
 }
 
 /// How many hold the template of a record while it is disclosed by these rules.
 fn holders(alloc: Global, rules: &[&str]) -> Result<usize, Fail> {
-    let policy = policy_of_rules(alloc, rules)?;
+    let policy = policy_of_rules(alloc, ONE, rules)?;
     let flow_record = built(alloc, &[SIX, HTTPS], 0)?;
     let disclosure = disclose(alloc, &policy, "acme", 7, &flow_record)?;
     let count = Arc::strong_count(flow_record.shared_template());

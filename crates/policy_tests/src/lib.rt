@@ -5,7 +5,7 @@
 //! - `prefixes`: of `flow_prefix`.
 //! - `policies`: of `policy_text`.
 //! - `tables`: of `rule_table` and `address_classes`, by worked rows. `random`: of `rule_table`, against the walk over all rules.
-//! - `disclosures`: of `flow_anonymize`.
+//! - `disclosures`: of `flow_anonymize`. `times`: of the same, where times are degraded, and of where such records count.
 //! - `audits`: of `disclosure_audit`.
 //! - `sharing`: of `record_sharing`.
 //! - `groups`: of `running_groups`. `second_opinion`: on what they add up to, by a plain list of records.
@@ -31,3 +31,5 @@ mod second_opinion;
 mod sharing;
 #[cfg(test)]
 mod tables;
+#[cfg(test)]
+mod times;

@@ -94,7 +94,12 @@ static DECIDING: [(&str, &[Field], u32); 12] = [
 /// A policy of these lines.
 pub(crate) fn policy_of(alloc: Global, lines: &str) -> Result<Policy, Fail> {
     let text = format!(in alloc; "policy 1\n{lines}")?;
-    match Policy::parse(alloc, text.as_str()) {
+    read_policy(alloc, text.as_str())
+}
+
+/// The policy of a text with its header.
+pub(crate) fn read_policy(alloc: Global, text: &str) -> Result<Policy, Fail> {
+    match Policy::parse(alloc, text) {
         Ok(policy) => Ok(policy),
         Err(_) => Err(Fail::new("no policy")),
     }
