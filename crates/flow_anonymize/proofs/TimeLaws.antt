@@ -12,7 +12,7 @@ use Rattle.ipfix_element.specs.Kinds.{kind_of, is_allowed_length}
 use Rattle.ipfix_template.specs.declared.field.FieldSpec.{FieldSpec}
 use Rattle.ipfix_template.specs.Template.{is_variable}
 use Rattle.ipfix_template.specs.Values.{fits_field}
-use Rattle.flow_anonymize.specs.Times.{units_in_second, step_of_time, lowered, degraded_octets, TimesAreDegraded}
+use Rattle.flow_anonymize.specs.Times.{step_of_time, lowered, degraded_octets, TimesAreDegraded}
 use Rattle.flow_anonymize.proofs.Bounds.{fixed_length}
 
 -- ---- its length and its number
@@ -75,8 +75,16 @@ none_kept k n below =
 none_lowered : (step n : ℕ) → step ≡ 0 → lowered step n ≡ 0
 none_lowered step n none = let nothing : n / 0 * 0 ≡ 0 = omega arith in rw none nothing
 
-pub no_time : (seconds : ℕ) (v : List ℕ) → AreOctets v → units_in_second (length v) ≡ 0 → kept_octets 0 v ≡ degraded_octets seconds v
-no_time seconds v octets none =
-    let nothing : 0 * seconds ≡ 0 = omega arith in
+pub no_time : (seconds width : ℕ) (v : List ℕ) → AreOctets v → width ≡ length v → step_of_time width seconds ≡ 0 → kept_octets 0 v ≡ degraded_octets seconds v
+no_time seconds width v octets long none =
+    let nothing : step_of_time (length v) seconds ≡ 0 = ap (λ (w : ℕ). step_of_time w seconds) (sym long) ∙ none in
     ap (be_octets (length v)) (none_kept (length v) (be_value v) (be_value-below v octets))
-    ∙ ap (be_octets (length v)) (sym (none_lowered (step_of_time (length v) seconds) (be_value v) (ap (λ (u : ℕ). u * seconds) none ∙ nothing)))
+    ∙ ap (be_octets (length v)) (sym (none_lowered (step_of_time (length v) seconds) (be_value v) nothing))
+
+-- ---- for the call
+
+pub time_lowered : (seconds width step number kept : ℕ) (v : List ℕ) → width ≡ length v → step ≡ step_of_time width seconds → number ≡ be_value v → kept ≡ lowered step number
+    → be_octets width kept ≡ degraded_octets seconds v
+time_lowered seconds width step number kept v long is at shown =
+    ap (be_octets width) (shown ∙ ap (lowered step) at ∙ ap (λ (s : ℕ). lowered s (be_value v)) is)
+    ∙ ap (λ (w : ℕ). be_octets w (lowered (step_of_time w seconds) (be_value v))) long

@@ -1,11 +1,18 @@
 //! What is shown of a value that is changed.
-ghost use Rattle.std.specs.Prelude.{◌≡◌, ◌≤◌, ◌++◌, OnOk, OnErr};
+ghost use Rattle.std.specs.Prelude.{◌≡◌, ◌≤◌, ◌++◌, OnOk, OnErr, IfSome, IfNone};
 ghost use Rattle.flow_prefix.specs.Bits.{truncated, kept_octets};
-ghost use Rattle.flow_anonymize.specs.Times.{lowered, degraded_octets};
+ghost use Rattle.flow_anonymize.specs.Times.{step_of_time, lowered, degraded_octets};
 ghost use Rattle.flow_anonymize.specs.Changes.{changed};
 
 use flow_prefix::keep_bits;
+use ipfix_octets::{be_number, write_be};
 use std::alloc::AllocError;
+
+/// The octets of a time in seconds (RFC 7011, section 6.1.7).
+const SECONDS_OCTETS: usize = 4;
+
+/// The octets of a time in milliseconds (RFC 7011, section 6.1.8).
+const MILLIS_OCTETS: usize = 8;
 
 /// The milliseconds of a second.
 const MILLIS: u64 = 1000;
@@ -67,37 +74,32 @@ fn first_bits(number: u32, bits: usize) -> u32
     ((u64::from(number) >> dropped) << dropped) as u32
 }
 
-/// Appends a time that is lowered to a multiple of so many seconds since 1970: of 4 octets one in seconds, of 8 octets one
-/// in milliseconds. No time has another length, and of such a value zeros are shown.
+/// Appends a time that is lowered to a multiple of so many seconds since 1970. No time has another length than 4 octets, in
+/// seconds, or 8, in milliseconds; of such a value zeros are shown.
 fn put_degraded(octets: &[u8], seconds: u32, text: &mut Vec<u8>) -> Result<(), AllocError>
     ensures ok { OnOk result (text.new.items ≡ text.old.items ++ degraded_octets seconds octets.now) }
     ensures err { OnErr result (text.new.items ≡ text.old.items) }
 {
+    let width = octets.len();
+    let Some(step) = step_of_time(width, seconds) else {
+        return put_first_bits(octets, 0, text);
+    };
+    let time = lowered(be_number(octets), step);
+    write_be(time, width, text)
+}
+
+/// So many seconds, in the units of a time of so many octets; `None` where no time has so many.
+fn step_of_time(octets: usize, seconds: u32) -> Option<u64>
+    ensures value { IfSome result (λ step. step ≡ step_of_time octets seconds) }
+    ensures width { IfSome result (λ step. (1 ≤ octets) × (octets ≤ 8)) }
+    ensures none { IfNone result (step_of_time octets seconds ≡ 0) }
+{
+    let seconds = u64::from(seconds);
     match octets {
-        [a, b, c, d] => put_seconds([*a, *b, *c, *d], seconds, text),
-        [a, b, c, d, e, f, g, h] => put_millis([*a, *b, *c, *d, *e, *f, *g, *h], seconds, text),
-        _ => put_first_bits(octets, 0, text),
+        SECONDS_OCTETS => Some(seconds),
+        MILLIS_OCTETS => Some(seconds * MILLIS),
+        _ => None,
     }
-}
-
-/// The same for a time in seconds.
-fn put_seconds(octets: [u8; 4], seconds: u32, text: &mut Vec<u8>) -> Result<(), AllocError>
-    ensures ok { OnOk result (text.new.items ≡ text.old.items ++ degraded_octets seconds octets) }
-    ensures err { OnErr result (text.new.items ≡ text.old.items) }
-{
-    let time = u64::from(u32::from_be_bytes(octets));
-    let kept = lowered(time, u64::from(seconds)) as u32;
-    text.extend_from_slice(&kept.to_be_bytes())
-}
-
-/// The same for a time in milliseconds.
-fn put_millis(octets: [u8; 8], seconds: u32, text: &mut Vec<u8>) -> Result<(), AllocError>
-    ensures ok { OnOk result (text.new.items ≡ text.old.items ++ degraded_octets seconds octets) }
-    ensures err { OnErr result (text.new.items ≡ text.old.items) }
-{
-    let step = u64::from(seconds) * MILLIS;
-    let kept = lowered(u64::from_be_bytes(octets), step);
-    text.extend_from_slice(&kept.to_be_bytes())
 }
 
 /// The greatest multiple of a step that is no greater than the number; 0 where the step is 0.
