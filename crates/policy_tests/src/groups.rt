@@ -1,4 +1,4 @@
-//! Many groups, which one advance of the clock closes.
+//! Many groups, which one advance of the clock closes; and many messages that are refused, which leave none.
 use ipfix_session::Session;
 use live_subscriptions::Served;
 use policy_text::Policy;
@@ -17,21 +17,37 @@ rule for * in * from * to * aggregate ports
 const BEFORE_RECORDS: &[u8] =
     b"\x00\x0a\xf4\x48\x65\x53\xf1\x00\x00\x00\x00\x00\x00\x00\x00\x07\x00\x02\x00\x10\x01\x00\x00\x02\x00\x98\x00\x08\x00\x07\x00\x02\x01\x00\xf4\x28";
 
+/// The same before a Data Set with one record.
+const BEFORE_ONE: &[u8] =
+    b"\x00\x0a\x00\x2e\x65\x53\xf1\x00\x00\x00\x00\x00\x00\x00\x00\x07\x00\x02\x00\x10\x01\x00\x00\x02\x00\x98\x00\x08\x00\x07\x00\x02\x01\x00\x00\x0e";
+
 /// A message of 6,250 records that start in this minute, each from a port of its own.
-fn message(alloc: Global, minute: u8) -> Result<Vec<u8>, AllocError> {
+fn message(alloc: Global, minute: u32) -> Result<Vec<u8>, AllocError> {
     let mut octets = Vec::new(alloc);
     octets.extend_from_slice(BEFORE_RECORDS)?;
-    let start = u64::from(minute) * 60_000;
     for port in 0..6250_u16 {
-        octets.extend_from_slice(&start.to_be_bytes())?;
-        octets.extend_from_slice(&port.to_be_bytes())?;
+        put_record(minute, port, &mut octets)?;
     }
     Ok(octets)
 }
 
-/// What the records of such a message add to the aggregates of one subscription.
-fn shared(alloc: Global, in_force: &mut InForce, minute: u8) -> Result<Shares, Fail> {
-    let read = Session::new(alloc).apply(&message(alloc, minute)?)?;
+/// A message of one record that starts in this minute.
+fn one_record(alloc: Global, minute: u32) -> Result<Vec<u8>, AllocError> {
+    let mut octets = Vec::new(alloc);
+    octets.extend_from_slice(BEFORE_ONE)?;
+    put_record(minute, 443, &mut octets)?;
+    Ok(octets)
+}
+
+fn put_record(minute: u32, port: u16, out: &mut Vec<u8>) -> Result<(), AllocError> {
+    let start = u64::from(minute) * 60_000;
+    out.extend_from_slice(&start.to_be_bytes())?;
+    out.extend_from_slice(&port.to_be_bytes())
+}
+
+/// What the records of a message add to the aggregates of one subscription.
+fn shared(alloc: Global, in_force: &mut InForce, message: &[u8]) -> Result<Shares, Fail> {
+    let read = Session::new(alloc).apply(message)?;
     if read.records.len() > 6250 {
         return Err(Fail::new("too many records"));
     }
@@ -44,8 +60,8 @@ fn shared(alloc: Global, in_force: &mut InForce, minute: u8) -> Result<Shares, F
 
 fn add(groups: &mut RunningGroups, tally: Tally) -> Result<(), AllocError> {
     let Tally { sub, counts } = tally;
-    groups.reserve(sub, &counts)?;
-    groups.add_reserved(sub, counts);
+    let additions = groups.reserve(sub, &counts)?;
+    groups.add_reserved(sub, additions);
     Ok(())
 }
 
@@ -60,8 +76,9 @@ fn add_all(groups: &mut RunningGroups, found: Shares) -> Result<(), AllocError> 
 fn one_advance_closes_a_hundred_thousand_groups(rt: HostRuntime) -> Result<(), Fail> {
     let mut in_force = InForce::since(rt.alloc(), Policy::parse(rt.alloc(), POLICY)?, 0)?;
     let mut groups = RunningGroups::new(rt.alloc());
-    for minute in 0..16_u8 {
-        add_all(&mut groups, shared(rt.alloc(), &mut in_force, minute)?)?;
+    for minute in 0..16 {
+        let message = message(rt.alloc(), minute)?;
+        add_all(&mut groups, shared(rt.alloc(), &mut in_force, &message)?)?;
     }
     assert_eq!(rt; groups.closing(1, 64_999)?.len(), 0);
     assert_eq!(rt; groups.closing(1, 965_000)?.len(), 100_000);
@@ -69,5 +86,54 @@ fn one_advance_closes_a_hundred_thousand_groups(rt: HostRuntime) -> Result<(), F
     assert_eq!(rt; groups.closing(1, 965_000)?.len(), 6250);
     groups.remove(1);
     assert_eq!(rt; groups.closing(1, 965_000)?.len(), 0);
+    Ok(())
+}
+
+/// Makes ready for what a message adds, and adds nothing.
+fn refuse_all(groups: &mut RunningGroups, found: Shares) -> Result<(), AllocError> {
+    for tally in found.tallies {
+        let _additions = groups.reserve(tally.sub, &tally.counts)?;
+    }
+    Ok(())
+}
+
+/// Refuses so many messages, each with a record of a minute of its own.
+fn refuse_many(
+    alloc: Global,
+    groups: &mut RunningGroups,
+    in_force: &mut InForce,
+    count: u32,
+) -> Result<(), Fail> {
+    for minute in 0..count {
+        let message = one_record(alloc, minute)?;
+        refuse_all(groups, shared(alloc, in_force, &message)?)?;
+    }
+    Ok(())
+}
+
+#[test]
+fn a_hundred_thousand_refused_messages_leave_no_group(rt: HostRuntime) -> Result<(), Fail> {
+    let mut in_force = InForce::since(rt.alloc(), Policy::parse(rt.alloc(), POLICY)?, 0)?;
+    let mut groups = RunningGroups::new(rt.alloc());
+    refuse_many(rt.alloc(), &mut groups, &mut in_force, 100_000)?;
+    // Those of the last one go with the next.
+    assert_eq!(rt; groups.len(1), 1);
+    groups.release();
+    assert_eq!(rt; groups.len(1), 0);
+    Ok(())
+}
+
+#[test]
+fn what_was_refused_is_dropped_and_what_was_added_stays(rt: HostRuntime) -> Result<(), Fail> {
+    let mut in_force = InForce::since(rt.alloc(), Policy::parse(rt.alloc(), POLICY)?, 0)?;
+    let mut groups = RunningGroups::new(rt.alloc());
+    let accepted = message(rt.alloc(), 7)?;
+    add_all(&mut groups, shared(rt.alloc(), &mut in_force, &accepted)?)?;
+    let refused = message(rt.alloc(), 8)?;
+    refuse_all(&mut groups, shared(rt.alloc(), &mut in_force, &refused)?)?;
+    assert_eq!(rt; groups.len(1), 12_500);
+    groups.close(0);
+    assert_eq!(rt; groups.len(1), 6250);
+    assert_eq!(rt; groups.closing(1, 545_000)?.len(), 6250);
     Ok(())
 }

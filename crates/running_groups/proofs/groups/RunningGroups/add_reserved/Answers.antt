@@ -4,10 +4,10 @@ use Rattle.running_groups.proofs.groups.RunningGroups.add_reserved.Goals.{in-Som
 use Rattle.running_groups.proofs.groups.RunningGroups.add_reserved.Goals as goal
 
 pub returns-clause-adds : goal.returns-clause-adds
-returns-clause-adds c before more stands of = elim c.match-get_mut.branch [
+returns-clause-adds c before more stands ready = elim c.match-get_mut.branch [
   | in-Some w ↦ rw w.self-inside-is
-      (added_there c.args.self.now c.self.inside.by_number.entries _ c.args.sub w.in-Some.groups.now w.add_reserved.new.self before more c.self.view_is (search rules) (search rules)
-      (λ stood. w.add_reserved.ensures before more stood of) stands)
+      (added_there c.args.self.now c.self.inside.by_number.entries _ c.args.sub w.in-Some.groups.now w.add_reserved.new.self c.args.additions.items before more c.self.view_is (search rules) (search rules)
+      (λ stood made. w.add_reserved.ensures.adds before more stood made) stands ready)
   | in_default w ↦ rw w.self-inside-is
-      (added_nowhere c.args.self.now c.self.inside.by_number.entries _ c.args.sub c.args.counts.items before more c.self.view_is (search rules) (search rules) c.requires of stands)
+      (added_nowhere c.args.self.now c.self.inside.by_number.entries _ c.args.sub c.args.additions.items before more c.self.view_is (search rules) (search rules) stands ready)
 ]
