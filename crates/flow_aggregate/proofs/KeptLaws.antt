@@ -1,19 +1,21 @@
 -- What stays kept where groups are made, counted or dropped.
-use Rattle.std.proofs.Common.{◌≡◌, ℕ, zero, suc, ◌≤◌, length, take, drop, Bool, false, List, [], ◌∷◌, ◌++◌, map, filter, refl, sym, ap, ◌∙◌, subst, arith, length-append, min}
+use Rattle.std.proofs.Common.{◌≡◌, ℕ, zero, suc, ◌+◌, ◌≤◌, length, take, drop, Bool, false, List, [], ◌∷◌, ◌++◌, map, filter, refl, sym, ap, ◌∙◌, subst, arith, length-append, min, true, cond, Some, is_some}
 use Rattle.std.specs.List.{AllByRecursion, IsDistinct}
-use Rattle.std.specs.Map.{keys_of}
+use Rattle.std.specs.Map.{lookup, keys_of}
+use Rattle.std.proofs.lemmas.Map.Made.{is_some-lookup}
+use Rattle.std.proofs.lemmas.Map.Steps.{length-le_from_keys}
 use Rattle.std.proofs.lemmas.List.{take_all, drop_all, drop-append-le, map-append, length-take, length-map}
 use Rattle.flow_aggregate.specs.declared.sums.Sums.{Sums}
 use Rattle.flow_aggregate.specs.declared.addition.Addition.{Addition}
 use Rattle.flow_aggregate.specs.Sums.{no_sums}
 use Rattle.flow_aggregate.specs.Placing.{closes_at}
-use Rattle.flow_aggregate.specs.Groups.{Group, Counted}
-use Rattle.flow_aggregate.specs.GroupOrder.{same_group}
-use Rattle.flow_aggregate.specs.Running.{Entries, Held, held_of, places, StandsFor, NoneDueBefore, AreKept}
+use Rattle.flow_aggregate.specs.Groups.{Group, Counted, group_of}
+use Rattle.flow_aggregate.specs.GroupOrder.{same_group, same_group-whole}
+use Rattle.flow_aggregate.specs.Running.{Entries, Held, held_of, places, of_group, sums_over, StandsFor, NoneDueBefore, AreKept}
 use Rattle.flow_aggregate.specs.Counts.{count_of}
 use Rattle.flow_aggregate.specs.Additions.{AreReady, with_additions}
 use Rattle.flow_aggregate.proofs.DueLaws.{with_one, of_first, of_some}
-use Rattle.flow_aggregate.proofs.PlaceLaws.{places_kept}
+use Rattle.flow_aggregate.proofs.PlaceLaws.{places_kept, length_places}
 use Rattle.flow_aggregate.proofs.AdditionLaws.{keys_added, additions_stand}
 
 abbrev AreEmpty : Entries → Type 0
@@ -109,3 +111,31 @@ kept_until n time later es held kept same before = record {
 
 pub counted_later : (n time : ℕ) (es : Entries) (held : Held) → AreKept n time es → held_of n es ≡ held → NoneDueBefore time (keys_of held.groups)
 counted_later n time es held kept same = subst (λ (h : Held). NoneDueBefore time (keys_of h.groups)) same (of_first time n es kept.later)
+
+-- ---- how many are kept
+
+abbrev by_group : Counted → Group × Counted
+by_group c = (group_of c, c)
+
+some_there : (g : Group) (cs : List Counted) → is_some (sums_over (of_group g cs)) ≡ true → is_some (lookup (same_group g) (map by_group cs)) ≡ true
+some_there g [] is = absurd cc
+some_there g (c ∷ cs) is = by (same_group g (group_of c)) is (some_there g cs) where
+  by : (b : Bool) → is_some (sums_over (cond b (c ∷ of_group g cs) (of_group g cs))) ≡ true
+      → (is_some (sums_over (of_group g cs)) ≡ true → is_some (lookup (same_group g) (map by_group cs)) ≡ true)
+      → is_some (cond b (Some c) (lookup (same_group g) (map by_group cs))) ≡ true
+  by true is rest = refl
+  by false is rest = rest is
+
+-- no more groups count than records do
+few_counted : (es : Entries) (cs : List Counted) → IsDistinct same_group (keys_of es) → StandsFor es cs → length es ≤ length cs
+few_counted es cs once stands =
+    let few : length (keys_of es) ≤ length (map by_group cs) =
+    length-le_from_keys same_group-whole (keys_of es) (map by_group cs) once
+    (λ g there. some_there g cs (ap is_some (sym (stands g)) ∙ is_some-lookup (same_group g) es ∙ there)) in
+    omega (arith, few, length-map es (λ (e : Group × Sums). e.0), length-map cs by_group)
+
+pub few_kept : (n time : ℕ) (es : Entries) (held : Held) (cs : List Counted) → AreKept n time es → held_of n es ≡ held → StandsFor held.groups cs
+    → length es ≤ length cs + length held.ready
+few_kept n time es held cs kept same stands =
+    let few = few_counted held.groups cs (counted_once n es held same kept.once) stands in
+    omega (arith, few, length_places n es held same, length-append (keys_of held.groups) held.ready, length-map held.groups (λ (e : Group × Sums). e.0))

@@ -1,5 +1,5 @@
 //! Groups that are still open, with their sums.
-ghost use Rattle.std.specs.Prelude.{◌≡◌, ◌≤◌, ◌++◌, ◌∷◌, List, [], length, map, filter, not, slice_get, true, false, Some, IfOk, OnErr, OnOk};
+ghost use Rattle.std.specs.Prelude.{◌≡◌, ◌≤◌, ◌+◌, ◌++◌, ◌∷◌, List, [], length, map, filter, not, slice_get, true, false, Some, IfOk, OnErr, OnOk};
 ghost use Rattle.std.specs.List.{IsDistinct};
 ghost use Rattle.std.specs.Map.{keys_of};
 ghost use Rattle.flow_aggregate.specs.Groups.{Group as OneGroup, Counted};
@@ -71,9 +71,11 @@ impl Running {
         }
     }
 
-    /// How many groups are kept, with those that were made for what is yet to be added.
+    /// How many groups are kept, with those that were made for what is yet to be added. There are no more than records that
+    /// count or are to be added.
     pub fn len(&self) -> usize
-        ensures { result ≡ length (places self.now) }
+        ensures value { result ≡ length (places self.now) }
+        ensures few { (counted : List Counted) → StandsFor self.now.groups counted → result ≤ length counted + length self.now.ready }
     {
         self.groups.len()
     }

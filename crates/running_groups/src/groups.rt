@@ -1,5 +1,5 @@
 //! The table of the groups that are still open.
-ghost use Rattle.std.specs.Prelude.{◌≡◌, ◌≢◌, ◌++◌, ℕ, List, [], true, length, map, IfOk, OnOk};
+ghost use Rattle.std.specs.Prelude.{◌≡◌, ◌≢◌, ◌≤◌, ◌+◌, ◌++◌, ℕ, List, [], true, length, map, IfOk, OnOk};
 ghost use Rattle.flow_aggregate.specs.Groups.{Counted};
 ghost use Rattle.flow_aggregate.specs.Running.{places, nothing_held, StandsFor, staying};
 ghost use Rattle.flow_aggregate.specs.Counts.{Count as OneCount, count_of};
@@ -49,9 +49,11 @@ impl RunningGroups {
         }
     }
 
-    /// How many groups are kept for a subscription, with those that were made for what is yet to be added.
+    /// How many groups are kept for a subscription, with those that were made for what is yet to be added. There are no more
+    /// than records that count or are to be added.
     pub fn len(&self, sub: u64) -> usize
-        ensures { result ≡ length (places (held_at self.now sub)) }
+        ensures value { result ≡ length (places (held_at self.now sub)) }
+        ensures few { (counted : List Counted) → StandsFor (groups_at self.now sub) counted → result ≤ length counted + length (held_at self.now sub).ready }
     {
         match self.by_number.get(&sub) {
             Some(groups) => groups.len(),
