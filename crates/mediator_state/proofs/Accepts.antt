@@ -169,10 +169,9 @@ groups_ready d e h x cuts reserved tallies so row are made =
     let g : ℕ → List Count = λ n. map count_of (counted_at n (after_cuts h cuts) x) in
     let left : List ℕ = served (after_cuts h cuts) in
     let apart : AreApart tallies =
-    subst AreApart (sym are) (all_apart g left (distinct_filter (λ s. is_served s (after_cuts h cuts)) (flat_map subscribed_in (after_cuts h cuts)) so.numbered.distinct)) in
-    (
+    subst AreApart (sym are) (all_apart g left (distinct_filter (λ s. is_served s (after_cuts h cuts)) (flat_map subscribed_in (after_cuts h cuts)) so.numbered.distinct)) in (
       subst (AllReady e.groups reserved) (sym are)
-        (left_ready d e cuts g reserved left row (left_uncut h cuts left (all_served (after_cuts h cuts))) (subst (AllReady d.groups reserved) are (made apart))),
+          (left_ready d e cuts g reserved left row (left_uncut h cuts left (all_served (after_cuts h cuts))) (subst (AllReady d.groups reserved) are (made apart))),
       apart,
     )
 

@@ -14,8 +14,8 @@ use Rattle.ipfix_session.specs.Keeping.{at_key}
 use Rattle.flow_aggregate.specs.declared.addition.Addition.{Addition}
 use Rattle.flow_aggregate.specs.Groups.{Group, Counted, group_of}
 use Rattle.flow_aggregate.specs.GroupOrder.{same_group, same_group-itself}
-use Rattle.flow_aggregate.specs.Running.{Entries, Held, nothing_held, StandsFor, sums_over, of_group}
-use Rattle.flow_aggregate.specs.Counts.{Count, count_of}
+use Rattle.flow_aggregate.specs.Running.{Held, nothing_held, StandsFor, sums_over, of_group}
+use Rattle.flow_aggregate.specs.Counts.{count_of}
 use Rattle.flow_aggregate.specs.Additions.{AreReady}
 use Rattle.flow_aggregate.specs.Closing.{closed_by}
 use Rattle.running_groups.specs.Table.{held_at, groups_at}
