@@ -17,32 +17,16 @@ rule for * in * from * to * aggregate ports
 const BEFORE_RECORDS: &[u8] =
     b"\x00\x0a\xf4\x48\x65\x53\xf1\x00\x00\x00\x00\x00\x00\x00\x00\x07\x00\x02\x00\x10\x01\x00\x00\x02\x00\x98\x00\x08\x00\x07\x00\x02\x01\x00\xf4\x28";
 
-/// The same before a Data Set with one record.
-const BEFORE_ONE: &[u8] =
-    b"\x00\x0a\x00\x2e\x65\x53\xf1\x00\x00\x00\x00\x00\x00\x00\x00\x07\x00\x02\x00\x10\x01\x00\x00\x02\x00\x98\x00\x08\x00\x07\x00\x02\x01\x00\x00\x0e";
-
 /// A message of 6,250 records that start in this minute, each from a port of its own.
-fn message(alloc: Global, minute: u32) -> Result<Vec<u8>, AllocError> {
+fn message(alloc: Global, minute: u8) -> Result<Vec<u8>, AllocError> {
     let mut octets = Vec::new(alloc);
     octets.extend_from_slice(BEFORE_RECORDS)?;
+    let start = u64::from(minute) * 60_000;
     for port in 0..6250_u16 {
-        put_record(minute, port, &mut octets)?;
+        octets.extend_from_slice(&start.to_be_bytes())?;
+        octets.extend_from_slice(&port.to_be_bytes())?;
     }
     Ok(octets)
-}
-
-/// A message of one record that starts in this minute.
-fn one_record(alloc: Global, minute: u32) -> Result<Vec<u8>, AllocError> {
-    let mut octets = Vec::new(alloc);
-    octets.extend_from_slice(BEFORE_ONE)?;
-    put_record(minute, 443, &mut octets)?;
-    Ok(octets)
-}
-
-fn put_record(minute: u32, port: u16, out: &mut Vec<u8>) -> Result<(), AllocError> {
-    let start = u64::from(minute) * 60_000;
-    out.extend_from_slice(&start.to_be_bytes())?;
-    out.extend_from_slice(&port.to_be_bytes())
 }
 
 /// What the records of a message add to the aggregates of one subscription.
@@ -97,16 +81,17 @@ fn refuse_all(groups: &mut RunningGroups, found: Shares) -> Result<(), AllocErro
     Ok(())
 }
 
-/// Refuses so many messages, each with a record of a minute of its own.
-fn refuse_many(
-    alloc: Global,
-    groups: &mut RunningGroups,
-    in_force: &mut InForce,
-    count: u32,
-) -> Result<(), Fail> {
-    for minute in 0..count {
-        let message = one_record(alloc, minute)?;
-        refuse_all(groups, shared(alloc, in_force, &message)?)?;
+/// The same, with a message for each of its records.
+fn refuse_each(groups: &mut RunningGroups, tally: &Tally) -> Result<(), AllocError> {
+    for one in tally.counts.chunks(1) {
+        let _additions = groups.reserve(tally.sub, one)?;
+    }
+    Ok(())
+}
+
+fn refuse_one_by_one(groups: &mut RunningGroups, found: Shares) -> Result<(), AllocError> {
+    for tally in found.tallies {
+        refuse_each(groups, &tally)?;
     }
     Ok(())
 }
@@ -115,8 +100,11 @@ fn refuse_many(
 fn a_hundred_thousand_refused_messages_leave_no_group(rt: HostRuntime) -> Result<(), Fail> {
     let mut in_force = InForce::since(rt.alloc(), Policy::parse(rt.alloc(), POLICY)?, 0)?;
     let mut groups = RunningGroups::new(rt.alloc());
-    refuse_many(rt.alloc(), &mut groups, &mut in_force, 100_000)?;
-    // Those of the last one go with the next.
+    for minute in 0..16 {
+        let message = message(rt.alloc(), minute)?;
+        refuse_one_by_one(&mut groups, shared(rt.alloc(), &mut in_force, &message)?)?;
+    }
+    // That of the last one goes with the next.
     assert_eq!(rt; groups.len(1), 1);
     groups.release();
     assert_eq!(rt; groups.len(1), 0);
