@@ -1,17 +1,14 @@
 -- Look-ups by group in entries of distinct groups.
-use Rattle.std.proofs.Common.{◌≡◌, ℕ, Bool, true, false, cond, not, List, [], ◌∷◌, ◌++◌, filter, Option, Some, None, refl, sym, ap, ◌∙◌, is_some}
+use Rattle.std.proofs.Common.{◌≡◌, ℕ, zero, suc, Bool, true, false, cond, not, List, [], ◌∷◌, filter, slice_get, Some, None, refl, ap, ◌∙◌}
 use Rattle.std.specs.Prelude.{unwrap_or}
-use Rattle.std.specs.List.{AllByRecursion, list_any}
-use Rattle.std.specs.Map.{lookup, keys_of, set_value}
-use Rattle.std.proofs.lemmas.Map.{lookup-set_value, keys-set_value}
-use Rattle.std.proofs.lemmas.Map.Made.{is_some-lookup}
-use Rattle.sequences.proofs.OptionLaws.{none_from_is_some}
+use Rattle.std.specs.List.{AllByRecursion, IsDistinct}
+use Rattle.std.specs.Map.{lookup, keys_of, values_of}
+use Rattle.indexmap.specs.IndexMap.{set_value_at}
 use Rattle.flow_aggregate.specs.declared.sums.Sums.{Sums}
-use Rattle.flow_aggregate.specs.Sums.{no_sums, plus}
+use Rattle.flow_aggregate.specs.Sums.{no_sums}
 use Rattle.flow_aggregate.specs.Groups.{Group}
 use Rattle.flow_aggregate.specs.GroupOrder.{same_group, same_group-is, same_group-itself, same_group-whole}
-use Rattle.flow_aggregate.specs.Running.{Entries, joined, sums_at, is_due}
-use Rattle.flow_aggregate.specs.Counts.{Count, has_place, HavePlaces, with_count}
+use Rattle.flow_aggregate.specs.Running.{Entries, is_due}
 
 -- ---- look-ups
 
@@ -24,77 +21,56 @@ pub same_both : {A : Type 0} (b : Bool) (x : A) → x ≡ cond b x x
 same_both true x = refl
 same_both false x = refl
 
--- ---- what is counted
+-- ---- what stands at a place
 
--- the test of a group finds what is that group
-one_group : (g x y : Group) → same_group g x ≡ true → same_group g y ≡ same_group x y
-one_group g x y is = ap (λ h. same_group h y) (same_group-is g x is)
+one_of : (x y : Group) → Some x ≡ Some y → x ≡ y
+one_of x y is = cc
 
-pub look_counted : (es : Entries) (k : Count) (g : Group) → has_place es k.group ≡ true
-    → lookup (same_group g) (with_count es k) ≡ cond (same_group g k.group) (Some (Some (plus (unwrap_or (sums_at es k.group) no_sums) k.counters))) (lookup (same_group g) es)
-look_counted es k g there =
-    let w : Option Sums = Some (plus (unwrap_or (sums_at es k.group) no_sums) k.counters) in
-    lookup-set_value same_group-whole (same_group k.group) (one_group k.group) g w es there
-    ∙ ap (λ b. cond b (Some w) (lookup (same_group g) es)) (same_group-whole.symm k.group g)
+all_at : (P : Group → Type 0) (gs : List Group) (i : ℕ) (g : Group) → AllByRecursion P gs → slice_get gs i ≡ Some g → P g
+all_at P [] i g all at = absurd cc
+all_at P (h ∷ gs) zero g all at = let one = one_of h g at in rw (← one) all.0
+all_at P (h ∷ gs) (suc i) g all at = all_at P gs i g all.1 at
 
-pub place_counted : (es : Entries) (k : Count) (g : Group) → has_place (with_count es k) g ≡ has_place es g
-place_counted es k g =
-    let w : Option Sums = Some (plus (unwrap_or (sums_at es k.group) no_sums) k.counters) in
-    is_some-lookup (same_group g) (with_count es k) ∙ ap (λ ks. list_any (same_group g) ks) (keys-set_value (same_group k.group) es w) ∙ sym (is_some-lookup (same_group g) es)
-
--- of a group that is wanting nothing is written
-set_none : {K X : Type 0} (test : K → Bool) (es : List (K × X)) (w : X) → lookup test es ≡ None → set_value test es w ≡ es
-set_none test [] w none = refl
-set_none test (e ∷ es) w none = by (test e.0) none (set_none test es w) where
-  by : (b : Bool) → cond b (Some e.1) (lookup test es) ≡ None → (lookup test es ≡ None → set_value test es w ≡ es) → cond b ((e.0, w) ∷ es) (e ∷ set_value test es w) ≡ e ∷ es
-  by true none rest = absurd cc
-  by false none rest = ap (λ ds. e ∷ ds) (rest none)
-
--- what is written of one more, and where its group is wanting
-pub one_written : (es fs gs : Entries) (k : Count) (sums : Option Sums) (after : Sums) → es ≡ fs → Some sums ≡ lookup (same_group k.group) es
-    → gs ≡ set_value (same_group k.group) es (Some after) → after ≡ plus (unwrap_or sums no_sums) k.counters → gs ≡ with_count fs k
-one_written es fs gs k sums after same there written is = written ∙ rw (← same, ← there, is) refl
-
-pub none_written : (es fs gs : Entries) (k : Count) → es ≡ fs → None ≡ lookup (same_group k.group) es → gs ≡ es → gs ≡ with_count fs k
-none_written es fs gs k same none kept = kept ∙ rw (← same) (sym (set_none (same_group k.group) es _ (sym none)))
-
--- ---- a new group, without records
-
-pub look_new : (es : Entries) (k g : Group) → sums_at (es ++ (k, None) ∷ []) g ≡ sums_at es g
-look_new [] k g = by (same_group g k) where
-  by : (b : Bool) → joined (cond b (Some None) None) ≡ None
+-- what is written at a group's place is found there, and nothing else changes
+pub look_written : (es : Entries) (i : ℕ) (k g : Group) (w : Sums) → IsDistinct same_group (keys_of es) → slice_get (keys_of es) i ≡ Some k
+    → lookup (same_group g) (set_value_at es i w) ≡ cond (same_group g k) (Some w) (lookup (same_group g) es)
+unfolding IsDistinct
+look_written [] i k g w distinct at = absurd cc
+look_written (e ∷ es) zero k g w distinct at = let one = one_of e.0 k at in rw (← one) (by (same_group g e.0)) where
+  by : (b : Bool) → cond b (Some w) (lookup (same_group g) es) ≡ cond b (Some w) (cond b (Some e.1) (lookup (same_group g) es))
   by true = refl
   by false = refl
-look_new (e ∷ es) k g = by (same_group g e.0) (look_new es k g) where
-  by : (b : Bool) → joined (lookup (same_group g) (es ++ (k, None) ∷ [])) ≡ joined (lookup (same_group g) es)
-      → joined (cond b (Some e.1) (lookup (same_group g) (es ++ (k, None) ∷ []))) ≡ joined (cond b (Some e.1) (lookup (same_group g) es))
-  by true rest = refl
-  by false rest = rest
+look_written (e ∷ es) (suc i) k g w distinct at = by (same_group g e.0) refl (look_written es i k g w distinct.1 at) where
+  by : (b : Bool) → same_group g e.0 ≡ b → lookup (same_group g) (set_value_at es i w) ≡ cond (same_group g k) (Some w) (lookup (same_group g) es)
+      → cond b (Some e.1) (lookup (same_group g) (set_value_at es i w)) ≡ cond (same_group g k) (Some w) (cond b (Some e.1) (lookup (same_group g) es))
+  by true is rest =
+      let other : same_group g k ≡ false = ap (λ h. same_group h k) (same_group-is g e.0 is) ∙ all_at (λ y. same_group e.0 y ≡ false) (keys_of es) i k distinct.0 at in
+      rw other refl
+  by false is rest = rest
 
-pub place_new : (es : Entries) (k g : Group) → has_place es g ≡ true → has_place (es ++ (k, None) ∷ []) g ≡ true
-place_new [] k g there = absurd cc
-place_new (e ∷ es) k g there = by (same_group g e.0) there (place_new es k g) where
-  by : (b : Bool) → is_some (cond b (Some e.1) (lookup (same_group g) es)) ≡ true → (has_place es g ≡ true → has_place (es ++ (k, None) ∷ []) g ≡ true)
-      → is_some (cond b (Some e.1) (lookup (same_group g) (es ++ (k, None) ∷ []))) ≡ true
-  by true there rest = refl
-  by false there rest = rest there
+-- so is what stands there
+pub look_there : (es : Entries) (i : ℕ) (k : Group) → IsDistinct same_group (keys_of es) → slice_get (keys_of es) i ≡ Some k
+    → unwrap_or (slice_get (values_of es) i) no_sums ≡ unwrap_or (lookup (same_group k) es) no_sums
+unfolding IsDistinct
+look_there [] i k distinct at = absurd cc
+look_there (e ∷ es) zero k distinct at =
+    let one = one_of e.0 k at in
+    let itself = same_group-itself e.0 in
+    rw (← one, itself) refl
+look_there (e ∷ es) (suc i) k distinct at =
+    let other : same_group k e.0 ≡ false = same_group-whole.symm k e.0 ∙ all_at (λ y. same_group e.0 y ≡ false) (keys_of es) i k distinct.0 at in
+    rw other (look_there es i k distinct.1 at)
 
-pub place_made : (es : Entries) (k : Group) → has_place (es ++ (k, None) ∷ []) k ≡ true
-place_made [] k = rw (same_group-itself k) refl
-place_made (e ∷ es) k = by (same_group k e.0) (place_made es k) where
-  by : (b : Bool) → has_place (es ++ (k, None) ∷ []) k ≡ true → is_some (cond b (Some e.1) (lookup (same_group k) (es ++ (k, None) ∷ []))) ≡ true
-  by true rest = refl
-  by false rest = rest
+pub keys_written : (es : Entries) (i : ℕ) (w : Sums) → keys_of (set_value_at es i w) ≡ keys_of es
+keys_written [] i w = refl
+keys_written (e ∷ es) zero w = refl
+keys_written (e ∷ es) (suc i) w = ap (λ (gs : List Group). e.0 ∷ gs) (keys_written es i w)
 
--- more groups have places where each that had one has one
-pub places_kept : (es fs : Entries) (counts : List Count) → ((g : Group) → has_place es g ≡ true → has_place fs g ≡ true) → HavePlaces es counts → HavePlaces fs counts
-places_kept es fs [] kept have = tt
-places_kept es fs (k ∷ counts) kept have = (kept k.group have.0, places_kept es fs counts kept have.1)
-
--- a group that a test didn't find is wanting
-pub wanting : (es : Entries) (k g : Group) (is_there : Bool) → g ≡ k → is_there ≡ false → is_there ≡ has_place es k → lookup (same_group g) es ≡ None
-wanting es k g is_there is not_there there =
-    ap (λ h. lookup (same_group h) es) is ∙ none_from_is_some (lookup (same_group k) es) (sym there ∙ not_there)
+-- past the last place nothing is written
+pub none_written : (es : Entries) (i : ℕ) (w : Sums) → None ≡ slice_get (values_of es) i → set_value_at es i w ≡ es
+none_written [] i w none = refl
+none_written (e ∷ es) zero w none = absurd cc
+none_written (e ∷ es) (suc i) w none = ap (λ (ds : Entries). e ∷ ds) (none_written es i w none)
 
 -- ---- the groups that stay
 

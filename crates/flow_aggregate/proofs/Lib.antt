@@ -4,6 +4,9 @@ pub mod PlacingLaws
 pub mod SumLaws
 pub mod EntryLaws
 pub mod RunningLaws
+pub mod PlaceLaws
+pub mod AdditionLaws
 pub mod DueLaws
+pub mod KeptLaws
 pub mod ClosingLaws
 pub mod OrderLaws

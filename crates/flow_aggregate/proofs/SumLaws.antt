@@ -1,8 +1,7 @@
 -- Sums of one record more.
-use Rattle.std.proofs.Common.{◌≡◌, ℕ, ◌+◌, List, [], ◌∷◌, ◌++◌, Some, refl, sym, ap, ◌∙◌, arith}
+use Rattle.std.proofs.Common.{◌≡◌, ℕ, ◌+◌, List, [], ◌∷◌, ◌++◌, refl, sym, ap, ◌∙◌, arith}
 use Rattle.std.specs.Prelude.{unwrap_or}
 use Rattle.std.specs.List.{sum_by}
-use Rattle.std.proofs.lemmas.List.{map_push}
 use Rattle.std.proofs.lemmas.List.Sums.{sum_by-append, sum_by-cons}
 use Rattle.ipfix_template.specs.DataRecord.{DataRecord}
 use Rattle.flow_aggregate.specs.declared.sums.Sums.{Sums}
@@ -24,7 +23,7 @@ from_parts : (s t : Sums) → s.octets ≡ t.octets → s.packets ≡ t.packets 
 from_parts s t octets packets flows =
     ap (λ n. sums_from n s.packets s.flows) octets ∙ ap (λ n. sums_from t.octets n s.flows) packets ∙ ap (λ n. sums_from t.octets t.packets n) flows
 
-totals_more : (rs : List DataRecord) (r : DataRecord) → totals (rs ++ r ∷ []) ≡ plus (totals rs) (counters_of r)
+pub totals_more : (rs : List DataRecord) (r : DataRecord) → totals (rs ++ r ∷ []) ≡ plus (totals rs) (counters_of r)
 unfolding totals counters_of
 totals_more rs r =
     from_parts (totals (rs ++ r ∷ [])) (plus (totals rs) (counters_of r)) (one_more octets_in rs r) (one_more packets_in rs r) (one_more flows_in rs r)
@@ -34,17 +33,6 @@ unfolding totals
 totals_none = refl
 
 -- the sums so far, as those of the records
-so_far : (cs : List Counted) → unwrap_or (sums_over cs) no_sums ≡ totals (flows_of cs)
+pub so_far : (cs : List Counted) → unwrap_or (sums_over cs) no_sums ≡ totals (flows_of cs)
 so_far [] = sym totals_none
 so_far (c ∷ cs) = refl
-
-some_over : (cs : List Counted) (c : Counted) → sums_over (cs ++ c ∷ []) ≡ Some (totals (flows_of (cs ++ c ∷ [])))
-some_over [] c = refl
-some_over (d ∷ cs) c = refl
-
-pub sums_over_more : (cs : List Counted) (c : Counted) → sums_over (cs ++ c ∷ []) ≡ Some (plus (unwrap_or (sums_over cs) no_sums) (counters_of c.flow))
-sums_over_more cs c =
-    some_over cs c
-    ∙ ap (λ rs. Some (totals rs)) (map_push (λ (d : Counted). d.flow) cs c)
-    ∙ ap (λ s. Some s) (totals_more (flows_of cs) c.flow)
-    ∙ ap (λ s. Some (plus s (counters_of c.flow))) (sym (so_far cs))

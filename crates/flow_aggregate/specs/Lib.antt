@@ -14,4 +14,5 @@ pub mod GroupOrder
 pub mod Closed
 pub mod Running
 pub mod Counts
+pub mod Additions
 pub mod Closing

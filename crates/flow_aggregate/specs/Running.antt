@@ -1,6 +1,6 @@
 -- What running groups stand for, and what an advance of the clock closes. Both are said of the records that were counted, and
 -- not of the groups that are kept (RFC 7015, section 5.1; the grace and the order are this project's own).
-use Rattle.std.specs.Prelude.{◌≡◌, ◌≤◌, ℕ, Bool, List, [], ◌∷◌, ◌++◌, map, filter, not, Option, Some, None, nat_le, if◌then◌else◌}
+use Rattle.std.specs.Prelude.{◌≡◌, ◌≤◌, ℕ, Bool, List, [], ◌∷◌, ◌++◌, map, filter, not, take, drop, length, Option, Some, None, nat_le, if◌then◌else◌}
 use Rattle.std.specs.List.{IsDistinct, AllByRecursion}
 use Rattle.std.specs.List.Sorted.{IsSortedByKey}
 use Rattle.std.specs.Map.{lookup, keys_of}
@@ -10,21 +10,29 @@ use Rattle.flow_aggregate.specs.declared.timing.Timing.TheVariants.{Placed}
 use Rattle.flow_aggregate.specs.declared.sums.Sums.{Sums}
 use Rattle.flow_aggregate.specs.declared.closed.ClosedAggregate.{ClosedAggregate}
 use Rattle.flow_aggregate.specs.Placing.{timing_of, closes_at}
-use Rattle.flow_aggregate.specs.Sums.{totals}
+use Rattle.flow_aggregate.specs.Sums.{no_sums, totals}
 use Rattle.flow_aggregate.specs.Groups.{Group, Counted, group_of}
 use Rattle.flow_aggregate.specs.GroupOrder.{same_group, group_cmp}
 
--- groups with their sums; a group in which no record counts yet has none
+-- groups with their sums
 abbrev pub Entries : Type 0
-Entries = List (Group × Option Sums)
-
-abbrev pub joined : Option (Option Sums) → Option Sums
-joined None = None
-joined (Some found) = found
+Entries = List (Group × Sums)
 
 -- the sums of a group, where records count in it
 abbrev pub sums_at : Entries → Group → Option Sums
-sums_at entries g = joined (lookup (same_group g) entries)
+sums_at entries g = lookup (same_group g) entries
+
+-- the groups in which records count, with their sums; and those that were made for records that are yet to be added
+pub record Held : Type 0 where
+  pub groups : Entries
+  pub ready : List Group
+
+abbrev pub nothing_held : Held
+nothing_held = record { groups = []; ready = [] }
+
+-- all of them, by their places
+abbrev pub places : Held → List Group
+places held = keys_of held.groups ++ held.ready
 
 -- ---- the records that were counted
 
@@ -80,17 +88,29 @@ pub record AreClosed (t : ℕ) (counted : List Counted) (closed : List ClosedAgg
 
 -- ---- what is closed of the entries
 
--- no group is due before this time
-abbrev pub NoneDueBefore : ℕ → Entries → Type 0
-NoneDueBefore time entries = AllByRecursion (λ g. time ≤ closes_at g.definition g.start) (keys_of entries)
+-- none of the groups is due before this time
+abbrev pub NoneDueBefore : ℕ → List Group → Type 0
+NoneDueBefore time groups = AllByRecursion (λ g. time ≤ closes_at g.definition g.start) groups
 
 abbrev pub closed_one : Group → Sums → ClosedAggregate
 closed_one g s = record { group = g; sums = s }
 
-abbrev pub due_one : ℕ → Group → Option Sums → List ClosedAggregate
-due_one t g None = []
-due_one t g (Some s) = if is_due t g then closed_one g s ∷ [] else []
+abbrev pub due_one : ℕ → Group → Sums → List ClosedAggregate
+due_one t g s = if is_due t g then closed_one g s ∷ [] else []
 
 abbrev pub due_of : ℕ → Entries → List ClosedAggregate
 due_of t [] = []
 due_of t (e ∷ entries) = due_one t e.0 e.1 ++ due_of t entries
+
+-- ---- how they are kept
+
+-- in the first so many entries records count
+abbrev pub held_of : ℕ → Entries → Held
+held_of counted entries = record { groups = take counted entries; ready = keys_of (drop counted entries) }
+
+-- each group is kept once, the others have no sums yet, and no group is due before the time that is kept
+pub record AreKept (counted earliest : ℕ) (entries : Entries) : Type 0 where
+  pub within : counted ≤ length entries
+  pub once : IsDistinct same_group (keys_of entries)
+  pub empty : AllByRecursion (λ e. e.1 ≡ no_sums) (drop counted entries)
+  pub later : NoneDueBefore earliest (keys_of entries)

@@ -6,18 +6,21 @@
 //! - `running`: [`Running`], the groups that are still open; it adds records and closes groups.
 //! - `definition`: [`Definition`], an aggregate's definition, made ready for records to be counted in it.
 //! - `count`: [`Count`], what a record adds, and to which group.
+//! - `addition`: [`Addition`], the same at the place of the group, once that was made ready.
 //! - `closed`, `closed_template`: [`ClosedAggregate`], a closed group with its sums, and its record.
 //! - `group`, `group_order`: what groups are, which are one, and their order.
 //! - `sums`, `values`: the counters, and the first value of an element in a record.
 //!
 //! Proved: `judge_time` answers the interval in which a record counts, or the first reason why it counts in none.
-//! `Running::reserve` changes no sum, and what was reserved before stays so; `add_reserved`, which can't fail, makes groups
-//! that stand for some records stand for these and the records that the counts are of; `closing` answers the groups of those
-//! records that the advance comes to, each once, in their order, with the sums of their records, capped at 2^64-1
+//! `Running::reserve` leaves the groups and their sums as they were, and keeps at most a group more for each record that is to
+//! be added; `add_reserved`, which can't fail, makes groups that stand for some records stand for these and the records that
+//! were reserved for; after a refusal the next `reserve`, or a `close`, drops what was reserved. `closing` answers the groups of
+//! those records that the advance comes to, each once, in their order, with the sums of their records, capped at 2^64-1
 //! (`closed_by`, which looks at the records that were added and at no group); after `close` they stand for the others.
 //! `ClosedAggregate::record` is the record of the group and its sums, each value at full width.
 #![tactic(auto)]
 
+mod addition;
 mod closed;
 mod closed_template;
 mod count;
@@ -29,6 +32,7 @@ mod sums;
 mod timing;
 mod values;
 
+pub use addition::Addition;
 pub use closed::ClosedAggregate;
 pub use count::Count;
 pub use definition::Definition;

@@ -1,13 +1,18 @@
 //! Groups that are still open, with their sums.
-ghost use Rattle.std.specs.Prelude.{◌≡◌, ◌++◌, List, [], true, map, filter, not, IfOk, OnOk};
+ghost use Rattle.std.specs.Prelude.{◌≡◌, ◌≤◌, ◌+◌, ◌++◌, ◌∷◌, List, [], length, map, filter, not, slice_get, true, false, Some, IfOk, OnErr, OnOk};
 ghost use Rattle.std.specs.List.{IsDistinct};
 ghost use Rattle.std.specs.Map.{keys_of};
 ghost use Rattle.flow_aggregate.specs.Groups.{Group as OneGroup, Counted};
 ghost use Rattle.flow_aggregate.specs.GroupOrder.{same_group, group_cmp};
-ghost use Rattle.flow_aggregate.specs.Running.{sums_at, StandsFor, is_due, staying, NoneDueBefore, due_one, due_of};
+ghost use Rattle.flow_aggregate.specs.Running.{Held, nothing_held, places, StandsFor, is_due, staying, NoneDueBefore, due_one, due_of};
 ghost use Rattle.flow_aggregate.specs.Closing.{record_of, closed_by};
-ghost use Rattle.flow_aggregate.specs.Counts.{Count as OneCount, count_of, has_place, HavePlaces, with_count};
+ghost use Rattle.flow_aggregate.specs.Counts.{Count as OneCount, count_of};
+ghost use Rattle.flow_aggregate.specs.Additions.{AreReady, MakesAtMost, is_among};
 
+#[cfg(test)]
+mod tests;
+
+use crate::addition::Addition;
 use crate::closed::ClosedAggregate;
 use crate::count::Count;
 use crate::group::Group;
@@ -21,11 +26,12 @@ use std::marker::Model;
 /// not with the traffic.
 ///
 /// Records are counted in two steps: `reserve` makes what takes memory and changes no sum; `add_reserved` takes no memory
-/// and can't fail.
+/// and can't fail. What was reserved and isn't added goes with the next `reserve` or `close`.
 pub struct Running {
     alloc: Global,
-    // A group without sums was made for what is yet to be added.
-    groups: IndexMap<Group, Option<Sums>>,
+    // Those from `counted` on were made for what is yet to be added, and have no sums.
+    groups: IndexMap<Group, Sums>,
+    counted: usize,
     // No group is due before this time, so that until then none is looked at.
     earliest: u64,
 }
@@ -36,62 +42,86 @@ impl Drop for Running {
         let Running {
             alloc: _,
             groups: _,
+            counted: _,
             earliest: _,
         } = self;
     }
 }
 
 impl Model for Running {
-    ghost use Rattle.flow_aggregate.specs.Running.{Entries, NoneDueBefore};
+    ghost use Rattle.flow_aggregate.specs.Running.{Held, held_of, AreKept};
 
-    ghost Value = { Entries };
+    ghost Value = { Held };
 
-    ghost view = { λ r. r.groups.entries };
+    ghost view = { λ r. held_of r.counted r.groups.entries };
 
-    ghost invariant = { λ r. NoneDueBefore r.earliest r.groups.entries };
+    ghost invariant = { λ r. AreKept r.counted r.earliest r.groups.entries };
 }
 
 impl Running {
     /// No group.
     pub fn new(alloc: Global) -> Running
-        ensures { result ≡ [] }
+        ensures { result ≡ nothing_held }
     {
         Running {
             alloc,
             groups: IndexMap::new(alloc),
+            counted: 0,
             earliest: u64::MAX,
         }
     }
 
-    /// Makes ready for these to be added: their groups are made where they are wanting.
-    ///
-    /// # Errors
-    /// Want of memory; no sum changes, and what was reserved before stays so.
-    pub fn reserve(&mut self, counts: &[Count]) -> Result<(), AllocError>
-        ensures same { (g : OneGroup) → sums_at self.new g ≡ sums_at self.old g }
-        ensures kept { (more : List OneCount) → HavePlaces self.old more → HavePlaces self.new more }
-        ensures ok { OnOk result (HavePlaces self.new counts.now) }
+    /// How many groups are kept, with those that were made for what is yet to be added. There are no more than records that
+    /// count or are to be added.
+    pub fn len(&self) -> usize
+        ensures value { result ≡ length (places self.now) }
+        ensures few { (counted : List Counted) → StandsFor self.now.groups counted → result ≤ length counted + length self.now.ready }
     {
-        for count in counts {
-            self.make_place(&count.group)?;
-        }
-        Ok(())
+        self.groups.len()
     }
 
-    /// Adds what records count, for which places were reserved since groups were last closed. It takes no memory.
-    pub fn add_reserved(&mut self, counts: Vec<Count>)
-        requires { HavePlaces self.old counts.items }
-        ensures { (before more : List Counted) → StandsFor self.old before → counts.items ≡ map count_of more → StandsFor self.new (before ++ more) }
+    /// Makes ready for all of these to be added: finds the places of their groups, and makes those that are wanting. What
+    /// was reserved before is so no more.
+    ///
+    /// # Errors
+    /// Want of memory; then nothing is reserved.
+    pub fn reserve(&mut self, counts: &[Count]) -> Result<Vec<Addition>, AllocError>
+        ensures same { self.new.groups ≡ self.old.groups }
+        ensures ok { IfOk result (λ additions. AreReady self.new additions.items counts.now) }
+        ensures few { length self.new.ready ≤ length counts.now }
+        ensures err { OnErr result (self.new.ready ≡ []) }
     {
-        for count in counts {
-            self.add_one(&count);
+        self.release();
+        let additions = self.make_ready(counts);
+        if additions.is_err() {
+            self.release();
         }
+        additions
+    }
+
+    /// Takes out the groups that were made for what wasn't added. What was reserved before is so no more.
+    pub fn release(&mut self)
+        ensures { self.new ≡ record { groups = self.old.groups; ready = [] } }
+    {
+        self.groups.truncate(self.counted);
+    }
+
+    /// Adds what the last `reserve` made ready. It takes no memory and looks for no group.
+    pub fn add_reserved(&mut self, additions: Vec<Addition>)
+        requires { (counts : List OneCount) × AreReady self.old additions.items counts }
+        ensures adds { (before more : List Counted) → StandsFor self.old.groups before → AreReady self.old additions.items (map count_of more) → StandsFor self.new.groups (before ++ more) }
+        ensures ready { self.new.ready ≡ [] }
+    {
+        self.counted = self.groups.len();
+        add_all(&mut self.groups, additions);
     }
 
     /// Drops the groups that an advance of the clock to `t` closes. What was reserved before is so no more.
     pub fn close(&mut self, t: u64)
-        ensures { (counted : List Counted) → StandsFor self.old counted → StandsFor self.new (staying t counted) }
+        ensures stays { (counted : List Counted) → StandsFor self.old.groups counted → StandsFor self.new.groups (staying t counted) }
+        ensures ready { self.new.ready ≡ [] }
     {
+        self.release();
         if self.earliest <= t {
             self.keep_open(t);
             self.earliest = self.first_due();
@@ -104,7 +134,7 @@ impl Running {
     /// # Errors
     /// Want of memory.
     pub fn closing(&self, t: u64) -> Result<Vec<ClosedAggregate>, AllocError>
-        ensures { IfOk result (λ closed. (counted : List Counted) → StandsFor self.now counted → map record_of closed.items ≡ closed_by t counted) }
+        ensures { IfOk result (λ closed. (counted : List Counted) → StandsFor self.now.groups counted → map record_of closed.items ≡ closed_by t counted) }
     {
         let mut closed = self.due(t)?;
         closed.sort_unstable_by(
@@ -117,26 +147,25 @@ impl Running {
 
     /// These groups in some order.
     fn due(&self, t: u64) -> Result<Vec<ClosedAggregate>, AllocError>
-        ensures items { IfOk result (λ due. due.items ≡ due_of t self.now) }
-        ensures unique { IsDistinct same_group (keys_of self.now) }
+        ensures items { IfOk result (λ due. due.items ≡ due_of t self.now.groups) }
+        ensures unique { IsDistinct same_group (keys_of self.now.groups) }
     {
         let mut due = Vec::new(self.alloc);
-        let count = self.groups.len();
         if t < self.earliest {
             return Ok(due);
         }
-        for place in 0..count {
+        for place in 0..self.counted {
             let Some((group, sums)) = self.groups.get_index(place) else {
                 unreachable!()
             };
-            put_due(t, group, sums, &mut due)?;
+            put_due(t, group, *sums, &mut due)?;
         }
         Ok(due)
     }
 
     /// When the first group is due.
     fn first_due(&self) -> u64
-        ensures { NoneDueBefore result self.now }
+        ensures { NoneDueBefore result (places self.now) }
     {
         let mut first = u64::MAX;
         for place in 0..self.groups.len() {
@@ -149,71 +178,90 @@ impl Running {
     }
 
     fn keep_open(&mut self, t: u64)
-        ensures { self.new ≡ filter (λ e. not (is_due t e.0)) self.old }
+        requires { self.old.ready ≡ [] }
+        ensures { self.new ≡ record { groups = filter (λ e. not (is_due t e.0)) self.old.groups; ready = [] } }
     {
         self.groups.retain(
-            |group: &Group, sums: &mut Option<Sums>| -> bool
+            |group: &Group, sums: &mut Sums| -> bool
                 ensures { (result ≡ not (is_due t group.now)) × (sums.new ≡ sums.old) }
             { !group.is_due(t) },
         );
+        self.counted = self.groups.len();
     }
 
-    /// Makes the group where it is wanting.
-    fn make_place(&mut self, group: &Group) -> Result<(), AllocError>
-        ensures same { (g : OneGroup) → sums_at self.new g ≡ sums_at self.old g }
-        ensures kept { (g : OneGroup) → has_place self.old g ≡ true → has_place self.new g ≡ true }
-        ensures ok { OnOk result (has_place self.new group.now ≡ true) }
+    /// Makes ready for all of these to be added, where nothing is reserved.
+    fn make_ready(&mut self, counts: &[Count]) -> Result<Vec<Addition>, AllocError>
+        requires { self.old.ready ≡ [] }
+        ensures same { self.new.groups ≡ self.old.groups }
+        ensures ok { IfOk result (λ additions. AreReady self.new additions.items counts.now) }
+        ensures few { length self.new.ready ≤ length counts.now }
     {
-        if !self.groups.contains_key(group) {
-            self.groups.insert(group.share()?, None)?;
-            self.earliest = self.earliest.min(group.closes_at());
+        let mut additions = Vec::with_capacity(self.alloc, counts.len())?;
+        for count in counts {
+            let place = self.place_of(&count.group)?;
+            additions.push_reserved(Addition {
+                place,
+                counters: count.counters,
+            });
         }
-        Ok(())
+        Ok(additions)
     }
 
-    fn add_one(&mut self, count: &Count)
-        ensures { self.new ≡ with_count self.old count.now }
+    /// The place of a group, which is made where it is wanting.
+    fn place_of(&mut self, group: &Group) -> Result<usize, AllocError>
+        ensures same { self.new.groups ≡ self.old.groups }
+        ensures place { IfOk result (λ place. slice_get (places self.new) place ≡ Some group.now) }
+        ensures ready { MakesAtMost group.now self.old.ready self.new.ready }
     {
-        if let Some(sums) = self.groups.get_mut(&count.group) {
-            *sums = Some(with_counters(*sums, count.counters));
+        match self.groups.get_index_of(group) {
+            Some(place) => Ok(place),
+            None => self.make(group),
         }
+    }
+
+    /// Makes a group that is wanting, and answers its place.
+    fn make(&mut self, group: &Group) -> Result<usize, AllocError>
+        requires { is_among (places self.old) group.now ≡ false }
+        ensures ok { IfOk result (λ place. (place ≡ length (places self.old)) × (self.new ≡ record { groups = self.old.groups; ready = self.old.ready ++ group.now ∷ [] })) }
+        ensures err { OnErr result (self.new ≡ self.old) }
+    {
+        let place = self.groups.len();
+        self.groups.insert(group.share()?, Sums::none())?;
+        self.earliest = self.earliest.min(group.closes_at());
+        Ok(place)
     }
 }
 
-ghost use Rattle.std.specs.Prelude.{unwrap_or};
-ghost use Rattle.flow_aggregate.specs.Sums.{no_sums, plus};
+ghost use Rattle.flow_aggregate.specs.Additions.{with_addition, with_additions};
 
-/// The sums of a group with one record more.
-fn with_counters(sums: Option<Sums>, counters: Sums) -> Sums
-    ensures { result ≡ plus (unwrap_or sums no_sums) counters }
+/// Adds at the places of groups.
+fn add_all(groups: &mut IndexMap<Group, Sums>, additions: Vec<Addition>)
+    ensures { groups.new.entries ≡ with_additions groups.old.entries additions.items }
 {
-    let before = match sums {
-        Some(sums) => sums,
-        None => Sums {
-            octets: 0,
-            packets: 0,
-            flows: 0,
-        },
-    };
-    before.plus(counters)
+    for addition in additions {
+        add_one(groups, &addition);
+    }
 }
 
-/// Appends the group, if records count in it and an advance of the clock to `t` closes it.
+fn add_one(groups: &mut IndexMap<Group, Sums>, addition: &Addition)
+    ensures { groups.new.entries ≡ with_addition groups.old.entries addition.now }
+{
+    if let Some(sums) = groups.get_index_mut(addition.place) {
+        *sums = sums.plus(addition.counters);
+    }
+}
+
+/// Appends the group, if an advance of the clock to `t` closes it.
 fn put_due(
     t: u64,
     group: &Group,
-    sums: &Option<Sums>,
+    sums: Sums,
     due: &mut Vec<ClosedAggregate>,
 ) -> Result<(), AllocError>
-    ensures { OnOk result (due.new.items ≡ due.old.items ++ due_one t group.now sums.now) }
+    ensures { OnOk result (due.new.items ≡ due.old.items ++ due_one t group.now sums) }
 {
-    match *sums {
-        Some(sums) => {
-            if group.is_due(t) {
-                due.push(ClosedAggregate::new(group.share()?, sums))?;
-            }
-            Ok(())
-        }
-        None => Ok(()),
+    if group.is_due(t) {
+        due.push(ClosedAggregate::new(group.share()?, sums))?;
     }
+    Ok(())
 }

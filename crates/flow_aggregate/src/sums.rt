@@ -1,7 +1,7 @@
 //! The sums of a group's counters.
 ghost use Rattle.std.specs.Prelude.{◌≡◌, ◌<◌, ◌≤◌, ◌^◌, unwrap_or};
 ghost use Rattle.flow_aggregate.specs.Values.{registered, first_number, full_width};
-ghost use Rattle.flow_aggregate.specs.Sums.{counters_of, plus};
+ghost use Rattle.flow_aggregate.specs.Sums.{no_sums, counters_of, plus};
 
 use crate::values::{DELTA_FLOW_COUNT, OCTET_DELTA_COUNT, PACKET_DELTA_COUNT, first_number};
 use ipfix_template::Record;
@@ -15,6 +15,17 @@ pub(crate) struct Sums {
 }
 
 impl Sums {
+    /// What no record counts.
+    pub(crate) fn none() -> Sums
+        ensures { result ≡ no_sums }
+    {
+        Sums {
+            octets: 0,
+            packets: 0,
+            flows: 0,
+        }
+    }
+
     /// What one record counts: without octets or packets none, and without flows one.
     #[tactic(auto, unfolding(crate::specs::Sums::counters_of))]
     pub(crate) fn of_record(flow_record: &Record) -> Sums

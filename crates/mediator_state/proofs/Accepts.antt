@@ -25,9 +25,11 @@ use Rattle.mediator_history.specs.Cuts.{after_cuts}
 use Rattle.mediator_history.proofs.ListFilters.{distinct_filter}
 use Rattle.mediator_history.proofs.EntryLaws.{messages_few, all_served}
 use Rattle.mediator_history.proofs.CutLaws.{is_open-cuts, messages-cuts, length-cuts, is_served-cuts}
-use Rattle.flow_aggregate.specs.Counts.{Count, count_of, HavePlaces}
-use Rattle.flow_aggregate.specs.Running.{Entries}
-use Rattle.running_groups.specs.Table.{groups_at}
+use Rattle.flow_aggregate.specs.declared.addition.Addition.{Addition}
+use Rattle.flow_aggregate.specs.Counts.{Count, count_of}
+use Rattle.flow_aggregate.specs.Additions.{AreReady}
+use Rattle.flow_aggregate.specs.Running.{Held, nothing_held}
+use Rattle.running_groups.specs.Table.{held_at}
 use Rattle.live_subscriptions.specs.Table.{shown}
 use Rattle.record_sharing.specs.Sharing.{tallied}
 use Rattle.open_sessions.specs.declared.open_session.OpenSession.{OpenSession}
@@ -38,7 +40,7 @@ use Rattle.mediator_state.specs.declared.closing.Closing.{Closing}
 use Rattle.mediator_state.specs.declared.plan.Plan.{Plan}
 use Rattle.mediator_state.specs.Standing.{Stands, place, IsSession, IsLiveAs, AreInRange}
 use Rattle.mediator_state.specs.Steps.{CutsInARow, HasAuditRoom}
-use Rattle.mediator_state.specs.Counting.{HaveGroups, AreCountable}
+use Rattle.mediator_state.specs.Counting.{AllReady, AreApart}
 use Rattle.mediator_state.specs.Planning.{share_at, tally_at, AreTallied, HasRoomIn, AreStreamed, IsJudged, IsPlan}
 use Rattle.mediator_state.specs.Accepting.{HasRoomForPlan, IsPlannedFor, IsReadyToTake, IsMessage}
 use Rattle.mediator_state.specs.Advancing.{HasRoomToClose, IsClosingFor, IsReadyToClose, AreClosings}
@@ -145,30 +147,40 @@ tallies_apart : (g : ℕ → List Count) (n : ℕ) (ns : List ℕ) → AllByRecu
 tallies_apart g n [] apart = tt
 tallies_apart g n (m ∷ ns) apart = (apart.0, tallies_apart g n ns apart.1)
 
-countable_all : (d e : Engine) (cuts : List ℕ) (g : ℕ → List Count) (ns : List ℕ) → CutsInARow cuts d e → AreDistinct ns → AllByRecursion (λ n. is_in n cuts ≡ false) ns
-    → AllByRecursion (HaveGroups d.groups) (map (λ n. (n, g n)) ns) → AreCountable e.groups (map (λ n. (n, g n)) ns)
-countable_all d e cuts g [] row distinct uncut has = tt
-countable_all d e cuts g (n ∷ ns) row distinct uncut has = (
-  subst (λ (es : Entries). HavePlaces es (g n)) (sym (row.groups n ∙ ap (λ (b : Bool). cond b [] (groups_at d.groups n)) uncut.0)) has.0,
-  tallies_apart g n ns distinct.0,
-  countable_all d e cuts g ns row distinct.1 uncut.1 has.1,
+all_apart : (g : ℕ → List Count) (ns : List ℕ) → AreDistinct ns → AreApart (map (λ n. (n, g n)) ns)
+all_apart g [] distinct = tt
+all_apart g (n ∷ ns) distinct = (tallies_apart g n ns distinct.0, all_apart g ns distinct.1)
+
+-- what is ready for those that are left stays so
+left_ready : (d e : Engine) (cuts : List ℕ) (g : ℕ → List Count) (reserved : List (ℕ × List Addition)) (ns : List ℕ) → CutsInARow cuts d e → AllByRecursion (λ n. is_in n cuts ≡ false) ns
+    → AllReady d.groups reserved (map (λ n. (n, g n)) ns) → AllReady e.groups reserved (map (λ n. (n, g n)) ns)
+left_ready d e cuts g [] [] row uncut made = tt
+left_ready d e cuts g [] (n ∷ ns) row uncut made = absurd made
+left_ready d e cuts g (r ∷ rs) [] row uncut made = absurd made
+left_ready d e cuts g (r ∷ rs) (n ∷ ns) row uncut made = (
+  (made.0.0, subst (λ (h : Held). AreReady h r.1 (g n)) (sym (row.groups n ∙ ap (λ (b : Bool). cond b nothing_held (held_at d.groups n)) uncut.0)) made.0.1),
+  left_ready d e cuts g rs ns row uncut.1 made.1,
 )
 
-groups_ready : (d e : Engine) (h : List Entry) (x : Entry) (cuts : List ℕ) (tallies : List (ℕ × List Count))
-    → Stands e (after_cuts h cuts) → CutsInARow cuts d e → AreTallied (after_cuts h cuts) x tallies → AllByRecursion (HaveGroups d.groups) tallies → AreCountable e.groups tallies
-groups_ready d e h x cuts tallies so row are has =
-    subst (AreCountable e.groups) (sym are)
-    (countable_all d e cuts (λ n. map count_of (counted_at n (after_cuts h cuts) x)) (served (after_cuts h cuts)) row
-    (distinct_filter (λ s. is_served s (after_cuts h cuts)) (flat_map subscribed_in (after_cuts h cuts)) so.numbered.distinct)
-    (left_uncut h cuts (served (after_cuts h cuts)) (all_served (after_cuts h cuts)))
-    (subst (AllByRecursion (HaveGroups d.groups)) are has))
+pub groups_ready : (d e : Engine) (h : List Entry) (x : Entry) (cuts : List ℕ) (reserved : List (ℕ × List Addition)) (tallies : List (ℕ × List Count))
+    → Stands e (after_cuts h cuts) → CutsInARow cuts d e → AreTallied (after_cuts h cuts) x tallies → (AreApart tallies → AllReady d.groups reserved tallies)
+    → AllReady e.groups reserved tallies × AreApart tallies
+groups_ready d e h x cuts reserved tallies so row are made =
+    let g : ℕ → List Count = λ n. map count_of (counted_at n (after_cuts h cuts) x) in
+    let left : List ℕ = served (after_cuts h cuts) in
+    let apart : AreApart tallies =
+    subst AreApart (sym are) (all_apart g left (distinct_filter (λ s. is_served s (after_cuts h cuts)) (flat_map subscribed_in (after_cuts h cuts)) so.numbered.distinct)) in (
+      subst (AllReady e.groups reserved) (sym are)
+          (left_ready d e cuts g reserved left row (left_uncut h cuts left (all_served (after_cuts h cuts))) (subst (AllReady d.groups reserved) are (made apart))),
+      apart,
+    )
 
 -- ---- a plan
 
 -- behind the cuts the message is what the plan says
-pub is_message : (d e : Engine) (h : List Entry) (number : ℕ) (octets : List ℕ) (p : Plan) → IsPlan d h number octets p → HasRoomForPlan d p → CutsInARow p.cuts.items d e
+pub is_message : (d e : Engine) (h : List Entry) (number : ℕ) (octets : List ℕ) (p : Plan) (reserved : List (ℕ × List Addition)) → IsPlan d h number octets p → HasRoomForPlan d p reserved → CutsInARow p.cuts.items d e
     → IsMessage e (after_cuts h p.cuts.items) p.session number octets p.reading (map shown p.shares.items) (map tallied p.tallies.items) p.entries.items
-is_message d e h number octets p plan room row = record {
+is_message d e h number octets p reserved plan room row = record {
   opened = is_open-cuts p.session h p.cuts.items ∙ plan.opened;
   read = subst (λ ms. IsReadingOf ms octets p.reading) (sym (messages-cuts p.session h p.cuts.items)) plan.read;
   shares_are = plan.judged.shares_are;
@@ -180,17 +192,17 @@ is_message d e h number octets p plan room row = record {
 }
 
 -- there is room for the cuts
-pub cuts_room : (d : Engine) (position : ℕ) (p : Plan) → IsPlannedFor d position p → HasRoomForPlan d p → HasAuditRoom d.audit (length p.cuts.items)
-cuts_room d position p planned room = record {
+pub cuts_room : (d : Engine) (position : ℕ) (p : Plan) (reserved : List (ℕ × List Addition)) → IsPlannedFor d position p → HasRoomForPlan d p reserved → HasAuditRoom d.audit (length p.cuts.items)
+cuts_room d position p reserved planned room = record {
   room = omega (arith, room.audit);
   reserved = omega (arith, room.reserved);
   count = omega (arith, audit_count d planned.history planned.stands, planned.counted, planned.short, room.audit, room.limit);
 }
 
 -- and behind them for the message
-pub ready : (d e : Engine) (position : ℕ) (p : Plan) → IsPlannedFor d position p → HasRoomForPlan d p → CutsInARow p.cuts.items d e
-    → ((h : List Entry) → Stands d h → length h ≡ position → Stands e (after_cuts h p.cuts.items)) → IsReadyToTake e p.session p.reading (map shown p.shares.items) (map tallied p.tallies.items) (length p.entries.items)
-ready d e position p planned room row stands =
+pub ready : (d e : Engine) (position : ℕ) (p : Plan) (reserved : List (ℕ × List Addition)) → IsPlannedFor d position p → HasRoomForPlan d p reserved → CutsInARow p.cuts.items d e
+    → ((h : List Entry) → Stands d h → length h ≡ position → Stands e (after_cuts h p.cuts.items)) → IsReadyToTake e p.session p.reading (map shown p.shares.items) reserved (length p.entries.items)
+ready d e position p reserved planned room row stands =
     let h = planned.history in
     let cuts = p.cuts.items in
     let so : Stands e (after_cuts h cuts) = stands h planned.stands planned.counted in
@@ -202,7 +214,7 @@ ready d e position p planned room row stands =
       session_room = subst (λ ss. IsSomeAnd (at_key p.session ss) (λ o. HasRoomFor o.session p.reading)) (sym row.rest.sessions) (session_room h p.session p.reading (at_key p.session d.sessions) (planned.stands.sessions p.session) planned.plan.opened room.session);
       session_count = subst (λ ss. IfSome (at_key p.session ss) (λ o. o.accepted + 1 < 2 ^ 64)) (sym row.rest.sessions) (session_count h p.session (at_key p.session d.sessions) (omega (arith, planned.counted, planned.short)) (planned.stands.sessions p.session));
       streams = streams_ready d e h E cuts (map shown p.shares.items) so long row planned.plan.judged.shares_are planned.plan.judged.room room.streams;
-      groups = groups_ready d e h E cuts (map tallied p.tallies.items) so row planned.plan.tallied_are room.groups;
+      groups = let made = groups_ready d e h E cuts reserved (map tallied p.tallies.items) so row planned.plan.tallied_are room.groups in (map tallied p.tallies.items, made.0, made.1);
       audit = omega (arith, row.entries, row.rest.audit_limit, room.audit);
       reserved = omega (arith, row.spare, room.reserved);
       count = omega (arith, audit_count e (after_cuts h cuts) so, long, room.audit, room.limit);

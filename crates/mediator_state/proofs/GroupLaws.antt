@@ -1,22 +1,25 @@
 -- What an entry leaves of the clock and of running groups; and what is added to groups, one subscription after another.
-use Rattle.std.proofs.Common.{◌≡◌, ◌≢◌, ℕ, ◌+◌, ◌<◌, Bool, true, false, cond, eqb, List, [], ◌∷◌, ◌++◌, length, map, take, Option, Some, None, refl, sym, ap, ◌∙◌, subst, append_assoc, append-nil}
+use Rattle.std.proofs.Common.{◌≡◌, ◌≢◌, ℕ, ◌+◌, ◌<◌, ◌≤◌, Bool, true, false, cond, eqb, List, [], ◌∷◌, ◌++◌, length, map, take, Option, Some, None, refl, sym, ap, ◌∙◌, subst, arith, append_assoc, append-nil, length-append}
 use Rattle.std.specs.Prelude.{get_or, unwrap_or, ◌==◌, if◌then◌else◌}
 use Rattle.std.specs.List.{AllByRecursion, flat_map}
-use Rattle.std.proofs.lemmas.Bool.{eqb-true, eqb-false, eq-eqb, ne_eqb}
+use Rattle.std.proofs.lemmas.Bool.{eqb-true, eqb-false, ne_eqb}
 use Rattle.std.proofs.lemmas.Grind.{flat_map-append}
 use Rattle.std.proofs.lemmas.List.{map-append, take_more}
 use Rattle.std.proofs.lemmas.List.Concat.{flat_map-cons}
+use Rattle.std.proofs.lemmas.Slice.Zip.{all_zipped_more}
 use Rattle.sequences.proofs.BeforeLaws.{last_of-push}
-use Rattle.flow_aggregate.specs.Counts.{Count, count_of, HavePlaces}
-use Rattle.flow_aggregate.specs.Groups.{Group, Counted}
-use Rattle.flow_aggregate.specs.Running.{Entries, sums_at, StandsFor, staying}
+use Rattle.flow_aggregate.specs.declared.addition.Addition.{Addition}
+use Rattle.flow_aggregate.specs.Counts.{Count, count_of}
+use Rattle.flow_aggregate.specs.Groups.{Counted}
+use Rattle.flow_aggregate.specs.Additions.{AreReady}
+use Rattle.flow_aggregate.specs.Running.{Entries, Held, nothing_held, StandsFor}
 use Rattle.event_journal.specs.declared.entry.Entry.{Entry}
 use Rattle.mediator_history.specs.Counting.{clock_in, clock_of, running}
 use Rattle.record_sharing.specs.InForce.{InForce}
-use Rattle.running_groups.specs.Table.{groups_at}
+use Rattle.running_groups.specs.Table.{held_at, groups_at}
 use Rattle.mediator_state.specs.declared.engine.Engine.{Engine}
 use Rattle.mediator_state.specs.Standing.{Stands}
-use Rattle.mediator_state.specs.Counting.{HaveGroups, AreCountable, added_to}
+use Rattle.mediator_state.specs.Counting.{IsReadyFor, AllReady, AreApart, AreCountable, added_to}
 
 -- ---- the clock
 
@@ -35,7 +38,7 @@ none_stand g = refl
 pub groups_kept : (d e : Engine) (h : List Entry) (x : Entry) → Stands d h → e.groups ≡ d.groups → ((sub : ℕ) → running sub (h ++ x ∷ []) ≡ running sub h)
     → (sub : ℕ) → StandsFor (groups_at e.groups sub) (running sub (h ++ x ∷ []))
 groups_kept d e h x so same still sub =
-    subst (λ (t : List (ℕ × Entries)). StandsFor (groups_at t sub) (running sub (h ++ x ∷ []))) (sym same)
+    subst (λ (t : List (ℕ × Held)). StandsFor (groups_at t sub) (running sub (h ++ x ∷ []))) (sym same)
     (subst (StandsFor (groups_at d.groups sub)) (sym (still sub)) (so.groups sub))
 
 -- one that ends what runs for one subscription
@@ -53,32 +56,36 @@ groups_ended d e h x n so gone others ended still sub = by_number (sub == n) ref
       subst (λ (es : Entries). StandsFor es (running sub (h ++ x ∷ []))) (sym (others sub apart)) (subst (StandsFor (groups_at d.groups sub)) (sym (still sub apart)) (so.groups sub))
 
 -- the same table, one of whose numbers is taken out
-pub removed_at : (old new : List (ℕ × Entries)) (n : ℕ) → groups_at new n ≡ [] → ((q : ℕ) → q ≢ n → groups_at new q ≡ groups_at old q)
-    → (q : ℕ) → groups_at new q ≡ (if q == n then [] else groups_at old q)
+pub removed_at : (old new : List (ℕ × Held)) (n : ℕ) → held_at new n ≡ nothing_held → ((q : ℕ) → q ≢ n → held_at new q ≡ held_at old q)
+    → (q : ℕ) → held_at new q ≡ (if q == n then nothing_held else held_at old q)
 removed_at old new n gone others q = by_number (q == n) refl where
-  by_number : (same : Bool) → (q == n) ≡ same → groups_at new q ≡ cond same [] (groups_at old q)
-  by_number true is = ap (groups_at new) (eqb-true q n is) ∙ gone
+  by_number : (same : Bool) → (q == n) ≡ same → held_at new q ≡ cond same nothing_held (held_at old q)
+  by_number true is = ap (held_at new) (eqb-true q n is) ∙ gone
   by_number false is = others q (eqb-false q n is)
-
--- what contracts see of groups is enough to stand for records
-pub sums_same : (old new : Entries) (counted : List Counted) → ((g : Group) → sums_at new g ≡ sums_at old g) → StandsFor old counted → StandsFor new counted
-sums_same old new counted same so g = same g ∙ so g
 
 -- ---- adding, one subscription after another
 
--- some were added to, and the rest can be
-pub record IsCounting (old now : List (ℕ × Entries)) (all rest : List (ℕ × List Count)) : Type 0 where
+-- some were added to, and the rest is ready
+pub record IsCounting (old now : List (ℕ × Held)) (left : List (ℕ × List Addition)) (all : List (ℕ × List Count)) : Type 0 where
   pub done : List (ℕ × List Count)
+  pub rest : List (ℕ × List Count)
   pub split : all ≡ done ++ rest
   pub each : (q : ℕ) (before more : List Counted) → StandsFor (groups_at old q) before → added_to q done ≡ map count_of more → StandsFor (groups_at now q) (before ++ more)
-  pub apart : AllByRecursion (λ r. AllByRecursion (λ o. o.0 ≢ r.0) done) rest
-  pub ready : AreCountable now rest
+  pub behind : AllByRecursion (λ r. AllByRecursion (λ o. o.0 ≢ r.0) done) rest
+  pub apart : AreApart rest
+  pub ready : AllReady now left rest
 
-countable_stays : (sub : ℕ) (es es2 : List (ℕ × Entries)) (ts : List (ℕ × List Count)) → ((q : ℕ) → q ≢ sub → groups_at es2 q ≡ groups_at es q)
-    → AllByRecursion (λ o. o.0 ≢ sub) ts → AreCountable es ts → AreCountable es2 ts
-countable_stays sub es es2 [] others apart ready = tt
-countable_stays sub es es2 (t ∷ ts) others apart ready =
-    (subst (λ (x : Entries). HavePlaces x t.1) (sym (others t.0 apart.0)) ready.0, ready.1, countable_stays sub es es2 ts others apart.1 ready.2)
+-- so it is whatever they are
+abbrev pub CountsOn : List (ℕ × Held) → List (ℕ × Held) → List (ℕ × List Addition) → List (ℕ × List Addition) → Type 0
+CountsOn old now all left = (tallies : List (ℕ × List Count)) → AllReady old all tallies → AreApart tallies → IsCounting old now left tallies
+
+ready_stays : (sub : ℕ) (es es2 : List (ℕ × Held)) (rs : List (ℕ × List Addition)) (ts : List (ℕ × List Count)) → ((q : ℕ) → q ≢ sub → held_at es2 q ≡ held_at es q)
+    → AllByRecursion (λ o. o.0 ≢ sub) ts → AllReady es rs ts → AllReady es2 rs ts
+ready_stays sub es es2 [] [] others apart ready = tt
+ready_stays sub es es2 [] (t ∷ ts) others apart ready = absurd ready
+ready_stays sub es es2 (r ∷ rs) [] others apart ready = absurd ready
+ready_stays sub es es2 (r ∷ rs) (t ∷ ts) others apart ready =
+    ((ready.0.0, subst (λ (h : Held). AreReady h r.1 t.1) (sym (others t.0 apart.0)) ready.0.1), ready_stays sub es es2 rs ts others apart.1 ready.1)
 
 none_added : (q : ℕ) (ts : List (ℕ × List Count)) → AllByRecursion (λ o. o.0 ≢ q) ts → added_to q ts ≡ []
 none_added q [] apart = refl
@@ -104,65 +111,129 @@ none_of : (more : List Counted) → [] ≡ map count_of more → more ≡ []
 none_of [] is = refl
 none_of (c ∷ cs) is = absurd cc
 
-pub counting_start : (groups : List (ℕ × Entries)) (all rest : List (ℕ × List Count)) → all ≡ rest → AreCountable groups all → IsCounting groups groups all rest
-counting_start groups all rest is ready = record {
+pub counting_start : (groups : List (ℕ × Held)) (all left : List (ℕ × List Addition)) → all ≡ left → CountsOn groups groups all left
+counting_start groups all left is tallies ready apart = record {
   done = [];
-  split = is;
+  rest = tallies;
+  split = refl;
   each = λ q before more so adds. subst (StandsFor (groups_at groups q)) (sym (ap (λ (l : List Counted). before ++ l) (none_of more adds) ∙ append-nil before)) so;
-  apart = apart_none rest;
-  ready = subst (AreCountable groups) is ready;
+  behind = apart_none tallies;
+  apart = apart;
+  ready = subst (λ (rs : List (ℕ × List Addition)). AllReady groups rs tallies) is ready;
 }
 
-pub counting_next : (old now now2 : List (ℕ × Entries)) (all rest rest2 : List (ℕ × List Count)) (t : ℕ × List Count) → rest ≡ t ∷ rest2
-    → ((before more : List Counted) → StandsFor (groups_at now t.0) before → t.1 ≡ map count_of more → StandsFor (groups_at now2 t.0) (before ++ more))
-    → ((q : ℕ) → q ≢ t.0 → groups_at now2 q ≡ groups_at now q)
-    → IsCounting old now all rest → IsCounting old now2 all rest2
-counting_next old now now2 all rest rest2 t is adds others so =
-    let ready : AreCountable now (t ∷ rest2) = subst (AreCountable now) is so.ready in
-    let apart : AllByRecursion (λ r. AllByRecursion (λ o. o.0 ≢ r.0) so.done) (t ∷ rest2) = subst (AllByRecursion (λ r. AllByRecursion (λ o. o.0 ≢ r.0) so.done)) is so.apart in
-    record {
-      done = so.done ++ t ∷ [];
-      split = so.split ∙ ap (λ (l : List (ℕ × List Count)). so.done ++ l) is ∙ sym (append_assoc so.done (t ∷ []) rest2);
-      each = λ q before more stands counts. by_number q before more stands (sym (pushed q) ∙ counts) apart.0 (t.0 == q) refl;
-      apart = apart_more so.done t rest2 apart.1 ready.1;
-      ready = countable_stays t.0 now now2 rest2 others ready.1 ready.2;
-    }
+-- what is ready for the next one
+pub counts_next : (old now : List (ℕ × Held)) (all left left2 : List (ℕ × List Addition)) (r : ℕ × List Addition) → left ≡ r ∷ left2 → AreCountable old all → CountsOn old now all left
+    → (counts : List Count) × AreReady (held_at now r.0) r.1 counts
+counts_next old now all left left2 r is countable so =
+    let here = so countable.0 countable.1 countable.2 in
+    by here.rest (subst (λ (rs : List (ℕ × List Addition)). AllReady now rs here.rest) is here.ready)
   where
-    pushed : (q : ℕ) → added_to q (so.done ++ t ∷ []) ≡ added_to q so.done ++ (if t.0 == q then t.1 else [])
-    pushed q = flat_map-append (λ (s : ℕ × List Count). cond (eqb s.0 q) s.1 []) so.done (t ∷ []) ∙ ap (λ (l : List Count). added_to q so.done ++ l) (append-nil (cond (eqb t.0 q) t.1 []))
+    by : (rest : List (ℕ × List Count)) → AllReady now (r ∷ left2) rest → (counts : List Count) × AreReady (held_at now r.0) r.1 counts
+    by [] ready = absurd ready
+    by (t ∷ ts) ready = (t.1, subst (λ (n : ℕ). AreReady (held_at now n) r.1 t.1) (sym ready.0.0) ready.0.1)
 
-    by_number : (q : ℕ) (before more : List Counted) → StandsFor (groups_at old q) before → (added_to q so.done ++ (if t.0 == q then t.1 else [])) ≡ map count_of more
-        → AllByRecursion (λ o. o.0 ≢ t.0) so.done → (same : Bool) → (t.0 == q) ≡ same → StandsFor (groups_at now2 q) (before ++ more)
-    by_number q before more stands counts apart true is =
+-- one more of the tallies
+one_counted : (old now now2 : List (ℕ × Held)) (left : List (ℕ × List Addition)) (all done rest : List (ℕ × List Count)) (r : ℕ × List Addition) (t : ℕ × List Count)
+    → all ≡ done ++ t ∷ rest
+    → ((q : ℕ) (before more : List Counted) → StandsFor (groups_at old q) before → added_to q done ≡ map count_of more → StandsFor (groups_at now q) (before ++ more))
+    → AllByRecursion (λ o. AllByRecursion (λ d. d.0 ≢ o.0) done) (t ∷ rest) → AreApart (t ∷ rest) → AllReady now (r ∷ left) (t ∷ rest)
+    → ((before more : List Counted) → StandsFor (groups_at now r.0) before → AreReady (held_at now r.0) r.1 (map count_of more) → StandsFor (groups_at now2 r.0) (before ++ more))
+    → ((q : ℕ) → q ≢ r.0 → held_at now2 q ≡ held_at now q)
+    → IsCounting old now2 left all
+one_counted old now now2 left all done rest r t split each behind apart ready adds others = record {
+  done = done ++ t ∷ [];
+  rest = rest;
+  split = split ∙ sym (append_assoc done (t ∷ []) rest);
+  each = λ q before more stands counts. by_number q before more stands (sym (pushed q) ∙ counts) behind.0 (t.0 == q) refl;
+  behind = apart_more done t rest behind.1 apart.0;
+  apart = apart.1;
+  ready = ready_stays t.0 now now2 left rest (λ q other. others q (λ e. other (e ∙ ready.0.0))) apart.0 ready.1;
+}
+  where
+    pushed : (q : ℕ) → added_to q (done ++ t ∷ []) ≡ added_to q done ++ (if t.0 == q then t.1 else [])
+    pushed q = flat_map-append (λ (s : ℕ × List Count). cond (eqb s.0 q) s.1 []) done (t ∷ []) ∙ ap (λ (l : List Count). added_to q done ++ l) (append-nil (cond (eqb t.0 q) t.1 []))
+
+    by_number : (q : ℕ) (before more : List Counted) → StandsFor (groups_at old q) before → (added_to q done ++ (if t.0 == q then t.1 else [])) ≡ map count_of more
+        → AllByRecursion (λ o. o.0 ≢ t.0) done → (same : Bool) → (t.0 == q) ≡ same → StandsFor (groups_at now2 q) (before ++ more)
+    by_number q before more stands counts first true is =
         let same : t.0 ≡ q = eqb-true t.0 q is in
-        let first : added_to q so.done ≡ [] = none_added q so.done (subst (λ (n : ℕ). AllByRecursion (λ o. o.0 ≢ n) so.done) same apart) in
+        let own : r.0 ≡ q = ready.0.0 ∙ same in
+        let none : added_to q done ≡ [] = none_added q done (subst (λ (n : ℕ). AllByRecursion (λ o. o.0 ≢ n) done) same first) in
         let here : t.1 ≡ map count_of more =
-        sym (ap (λ (l : List Count). l ++ (if t.0 == q then t.1 else [])) first ∙ ap (λ (b : Bool). cond b t.1 []) is) ∙ counts in
-        subst (λ (n : ℕ). StandsFor (groups_at now2 n) (before ++ more)) same
-        (adds before more (subst (λ (n : ℕ). StandsFor (groups_at now n) before) (sym same)
-        (subst (StandsFor (groups_at now q)) (append-nil before) (so.each q before [] stands first))) here)
-    by_number q before more stands counts apart false is =
-        let other : q ≢ t.0 = λ e. eqb-false t.0 q is (sym e) in
-        subst (λ (x : Entries). StandsFor x (before ++ more)) (sym (others q other))
-        (so.each q before more stands (sym (append-nil (added_to q so.done)) ∙ ap (λ (b : Bool). added_to q so.done ++ cond b t.1 []) (sym is) ∙ counts))
+        sym (ap (λ (l : List Count). l ++ (if t.0 == q then t.1 else [])) none ∙ ap (λ (b : Bool). cond b t.1 []) is) ∙ counts in
+        let made : AreReady (held_at now r.0) r.1 (map count_of more) =
+        subst (λ (ks : List Count). AreReady (held_at now r.0) r.1 ks) here (subst (λ (n : ℕ). AreReady (held_at now n) r.1 t.1) (sym ready.0.0) ready.0.1) in
+        subst (λ (n : ℕ). StandsFor (groups_at now2 n) (before ++ more)) own
+        (adds before more (subst (λ (n : ℕ). StandsFor (groups_at now n) before) (sym own) (subst (StandsFor (groups_at now q)) (append-nil before) (each q before [] stands none))) made)
+    by_number q before more stands counts first false is =
+        let other : q ≢ r.0 = λ e. eqb-false t.0 q is (sym (e ∙ ready.0.0)) in
+        subst (λ (h : Held). StandsFor h.groups (before ++ more)) (sym (others q other))
+        (each q before more stands (sym (append-nil (added_to q done)) ∙ ap (λ (b : Bool). added_to q done ++ cond b t.1 []) (sym is) ∙ counts))
+
+pub counting_next : (old now now2 : List (ℕ × Held)) (all left left2 : List (ℕ × List Addition)) (r : ℕ × List Addition) → left ≡ r ∷ left2
+    → ((before more : List Counted) → StandsFor (groups_at now r.0) before → AreReady (held_at now r.0) r.1 (map count_of more) → StandsFor (groups_at now2 r.0) (before ++ more))
+    → ((q : ℕ) → q ≢ r.0 → held_at now2 q ≡ held_at now q)
+    → CountsOn old now all left → CountsOn old now2 all left2
+counting_next old now now2 all left left2 r is adds others so tallies ready apart =
+    let here = so tallies ready apart in
+    by here.rest here.split here.behind here.apart (subst (λ (rs : List (ℕ × List Addition)). AllReady now rs here.rest) is here.ready)
+  where
+    by : (rest : List (ℕ × List Count)) → tallies ≡ (so tallies ready apart).done ++ rest → AllByRecursion (λ o. AllByRecursion (λ d. d.0 ≢ o.0) (so tallies ready apart).done) rest → AreApart rest
+        → AllReady now (r ∷ left2) rest → IsCounting old now2 left2 tallies
+    by [] split behind alone made = absurd made
+    by (t ∷ ts) split behind alone made =
+        one_counted old now now2 left2 tallies (so tallies ready apart).done ts r t split (so tallies ready apart).each behind alone made adds others
 
 -- all were added to
-pub counting_end : (old now : List (ℕ × Entries)) (all rest : List (ℕ × List Count)) → IsCounting old now all rest → rest ≡ []
-    → (q : ℕ) (before more : List Counted) → StandsFor (groups_at old q) before → added_to q all ≡ map count_of more → StandsFor (groups_at now q) (before ++ more)
-counting_end old now all rest so none q before more stands adds =
-    so.each q before more stands (ap (added_to q) (sym (so.split ∙ ap (λ (l : List (ℕ × List Count)). so.done ++ l) none ∙ append-nil so.done)) ∙ adds)
+pub counting_end : (old now : List (ℕ × Held)) (all left : List (ℕ × List Addition)) → CountsOn old now all left → left ≡ []
+    → (tallies : List (ℕ × List Count)) → AllReady old all tallies → AreApart tallies
+    → (q : ℕ) (before more : List Counted) → StandsFor (groups_at old q) before → added_to q tallies ≡ map count_of more → StandsFor (groups_at now q) (before ++ more)
+counting_end old now all left so none tallies ready apart q before more stands adds =
+    let here = so tallies ready apart in
+    let last : here.rest ≡ [] = by here.rest (subst (λ (rs : List (ℕ × List Addition)). AllReady now rs here.rest) none here.ready) in
+    here.each q before more stands (ap (added_to q) (sym (here.split ∙ ap (λ (l : List (ℕ × List Count)). here.done ++ l) last ∙ append-nil here.done)) ∙ adds)
+  where
+    by : (rest : List (ℕ × List Count)) → AllReady now [] rest → rest ≡ []
+    by [] made = refl
+    by (t ∷ ts) made = absurd made
 
--- ---- places that are reserved, one subscription after another
+-- ---- what is made ready, one subscription after another
 
-pub have_groups_stay : (es es2 : List (ℕ × Entries)) → ((q : ℕ) (more : List Count) → HavePlaces (groups_at es q) more → HavePlaces (groups_at es2 q) more)
-    → (ts : List (ℕ × List Count)) → AllByRecursion (HaveGroups es) ts → AllByRecursion (HaveGroups es2) ts
-have_groups_stay es es2 keeps [] has = tt
-have_groups_stay es es2 keeps (t ∷ ts) has = (keeps t.0 t.1 has.0, have_groups_stay es es2 keeps ts has.1)
+-- so many tallies are ready, where no subscription stands twice
+pub record IsReserving (old now : List (ℕ × Held)) (reserved : List (ℕ × List Addition)) (tallies : List (ℕ × List Count)) (count capacity all : ℕ) : Type 0 where
+  pub same : (q : ℕ) → groups_at now q ≡ groups_at old q
+  pub ready : AreApart tallies → AllReady now reserved tallies
+  pub long : length reserved ≡ count
+  pub room : all ≤ capacity
 
-pub have_groups_more : {X : Type 0} (f : X → ℕ × List Count) (es es2 : List (ℕ × Entries)) (xs : List X) (i : ℕ) (x d : X) → i < length xs → x ≡ get_or xs i d
-    → ((q : ℕ) (more : List Count) → HavePlaces (groups_at es q) more → HavePlaces (groups_at es2 q) more) → HaveGroups es2 (f x)
-    → AllByRecursion (HaveGroups es) (map f (take i xs)) → AllByRecursion (HaveGroups es2) (map f (take (i + 1) xs))
-have_groups_more f es es2 xs i x d within is keeps here before =
-    subst (AllByRecursion (HaveGroups es2))
-    (sym (ap (map f) (take_more xs i d within) ∙ map-append f (take i xs) (get_or xs i d ∷ []) ∙ ap (λ y. map f (take i xs) ++ f y ∷ []) (sym is)))
-    (all_push (HaveGroups es2) (map f (take i xs)) (f x) (have_groups_stay es es2 keeps (map f (take i xs)) before) here)
+-- of tallies that are apart the first ones are, and the last one is apart from them
+apart_front : (ts : List (ℕ × List Count)) (t : ℕ × List Count) → AreApart (ts ++ t ∷ []) → AreApart ts × AllByRecursion (λ o. o.0 ≢ t.0) ts
+apart_front [] t apart = (tt, tt)
+apart_front (u ∷ ts) t apart =
+    let rest = apart_front ts t apart.1 in
+    let ends = front_of u ts apart.0 in
+    ((ends.0, rest.0), (λ same. ends.1 (sym same), rest.1))
+  where
+    front_of : (u : ℕ × List Count) (us : List (ℕ × List Count)) → AllByRecursion (λ o. o.0 ≢ u.0) (us ++ t ∷ []) → AllByRecursion (λ o. o.0 ≢ u.0) us × (t.0 ≢ u.0)
+    front_of u [] all = (tt, all.0)
+    front_of u (o ∷ us) all = let more = front_of u us all.1 in ((all.0, more.0), more.1)
+
+pub reserving_next : {X : Type 0} (f : X → ℕ × List Count) (old now now2 : List (ℕ × Held)) (reserved reserved2 : List (ℕ × List Addition)) (xs : List X) (i capacity capacity2 : ℕ) (x d : X) (r : ℕ × List Addition)
+    → i < length xs → x ≡ get_or xs i d → ((q : ℕ) → groups_at now2 q ≡ groups_at now q) → ((q : ℕ) → q ≢ (f x).0 → held_at now2 q ≡ held_at now q) → IsReadyFor now2 r (f x)
+    → reserved2 ≡ reserved ++ r ∷ [] → capacity2 ≡ capacity
+    → IsReserving old now reserved (map f (take i xs)) i capacity (length xs) → IsReserving old now2 reserved2 (map f (take (i + 1) xs)) (i + 1) capacity2 (length xs)
+reserving_next f old now now2 reserved reserved2 xs i capacity capacity2 x d r within is same others here pushed kept so =
+    let ts : List (ℕ × List Count) = map f (take i xs) in
+    let more : map f (take (i + 1) xs) ≡ ts ++ f x ∷ [] =
+    ap (map f) (take_more xs i d within) ∙ map-append f (take i xs) (get_or xs i d ∷ []) ∙ ap (λ y. ts ++ f y ∷ []) (sym is) in
+    record {
+      same = λ q. same q ∙ so.same q;
+      ready = λ apart.
+          let ends = apart_front ts (f x) (subst AreApart more apart) in
+          subst (λ (us : List (ℕ × List Count)). AllReady now2 reserved2 us) (sym more)
+          (subst (λ (rs : List (ℕ × List Addition)). AllReady now2 rs (ts ++ f x ∷ [])) (sym pushed)
+          (all_zipped_more (IsReadyFor now2) reserved ts r (f x) (ready_stays (f x).0 now now2 reserved ts others ends.1 (so.ready ends.0)) here));
+      long = omega (arith, ap length pushed ∙ length-append reserved (r ∷ []), so.long);
+      room = omega (arith, so.room, kept);
+    }

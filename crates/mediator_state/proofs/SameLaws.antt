@@ -25,13 +25,13 @@ use Rattle.open_sessions.specs.Table.{Seen as SeenSession, seen as session_seen}
 use Rattle.live_subscriptions.specs.declared.subscription.Subscription.{Subscription}
 use Rattle.live_subscriptions.specs.Table.{Seen, seen, at}
 use Rattle.record_sharing.specs.InForce.{InForce}
+use Rattle.flow_aggregate.specs.Running.{Entries, StandsFor as StandsForRecords}
 use Rattle.running_groups.specs.Table.{groups_at}
 use Rattle.mediator_state.specs.declared.engine.Engine.{Engine}
 use Rattle.mediator_state.specs.declared.plan.Plan.{Plan}
 use Rattle.mediator_state.specs.Standing.{place, IsSession, IsLiveAs, AreInRange, Stands}
 use Rattle.mediator_state.specs.Seen.{place_in, waiting_in, waiting_of, IsUntouched, IsSameEngine}
 use Rattle.mediator_state.specs.Planning.{HasRoomIn, IsJudged, IsPlan}
-use Rattle.mediator_state.proofs.GroupLaws.{sums_same}
 
 some_same : {A : Type 0} (x y : A) → Some x ≡ Some y → x ≡ y
 some_same x y e = cc
@@ -88,7 +88,7 @@ pub stands_same : (d e : Engine) (h : List Entry) → IsSameEngine d e → Stand
 stands_same d e h same s = record {
   policy = ap (λ (f : InForce). f.policy) same.in_force ∙ s.policy;
   clock = ap (λ (f : InForce). f.clock) same.in_force ∙ s.clock;
-  groups = λ n. sums_same (groups_at d.groups n) (groups_at e.groups n) (running n h) (same.groups n) (s.groups n);
+  groups = λ n. subst (λ (es : Entries). StandsForRecords es (running n h)) (sym (same.groups n)) (s.groups n);
   edits = same.edits ∙ s.edits;
   opened = same.opened ∙ s.opened;
   begun = same.begun ∙ s.begun;

@@ -13,6 +13,7 @@ use Rattle.event_journal.specs.declared.entry.Entry.TheVariants.{Message}
 use Rattle.mediator_history.specs.Sessions.{is_open, messages_of}
 use Rattle.mediator_history.specs.Subscriptions.{served}
 use Rattle.mediator_history.specs.Auditing.{audit_at}
+use Rattle.flow_aggregate.specs.declared.addition.Addition.{Addition}
 use Rattle.flow_aggregate.specs.Counts.{Count}
 use Rattle.live_subscriptions.specs.Table.{shown}
 use Rattle.record_sharing.specs.Sharing.{tallied}
@@ -23,7 +24,7 @@ use Rattle.mediator_state.specs.declared.fault.Fault.TheVariants as fault
 use Rattle.mediator_state.specs.declared.plan.Plan.{Plan}
 use Rattle.mediator_state.specs.declared.receipt.Receipt.{Receipt}
 use Rattle.mediator_state.specs.Standing.{Stands}
-use Rattle.mediator_state.specs.Counting.{HaveGroups, AreCountable}
+use Rattle.mediator_state.specs.Counting.{AllReady, AreApart, AreCountable}
 use Rattle.mediator_state.specs.Planning.{share_at, AreTallied, HasRoomIn, AreStreamed, IsPlan}
 
 -- the audit has no room for so many entries, and this is its room
@@ -38,14 +39,14 @@ pub record HasAuditFor (audit : Kept) (more : ℕ) : Type 0 where
   pub limit : audit.limit ≤ 10000000
   pub reserved : more ≤ audit.spare
 
--- room was made for what a plan does
-pub record HasRoomForPlan (e : Engine) (p : Plan) : Type 0 where
+-- room was made for what a plan does, and what it counts is ready so
+pub record HasRoomForPlan (e : Engine) (p : Plan) (reserved : List (ℕ × List Addition)) : Type 0 where
   pub audit : length e.audit.standing.entries + (length p.cuts.items + length p.entries.items) ≤ e.audit.limit
   pub limit : e.audit.limit ≤ 10000000
   pub reserved : length p.cuts.items + length p.entries.items ≤ e.audit.spare
   pub session : IfSome (at_key p.session e.sessions) (λ o. HasRoomFor o.session p.reading)
   pub streams : AllByRecursion (HasSpare e.subscriptions.live) (map shown p.shares.items)
-  pub groups : AllByRecursion (HaveGroups e.groups) (map tallied p.tallies.items)
+  pub groups : AreApart (map tallied p.tallies.items) → AllReady e.groups reserved (map tallied p.tallies.items)
 
 -- it is the plan for a message behind some history of so many entries
 pub record IsPlannedFor (e : Engine) (position : ℕ) (p : Plan) : Type 0 where
@@ -62,13 +63,13 @@ abbrev pub receipt_of : ℕ → ℕ → Meaning → Receipt
 receipt_of position cuts m = record { position = position + cuts; records = length m.records; cut = cuts; skips = m.skips; gap = m.gap }
 
 -- sessions, streams, groups and audit have room for what a message brings, gives, counts and keeps back
-pub record IsReadyToTake (e : Engine) (session : ℕ) (reading : Ahead) (shares : List (ℕ × List DataRecord)) (tallies : List (ℕ × List Count)) (entries : ℕ) : Type 0 where
+pub record IsReadyToTake (e : Engine) (session : ℕ) (reading : Ahead) (shares : List (ℕ × List DataRecord)) (reserved : List (ℕ × List Addition)) (entries : ℕ) : Type 0 where
   pub history : List Entry
   pub stands : Stands e history
   pub session_room : IsSomeAnd (at_key session e.sessions) (λ o. HasRoomFor o.session reading)
   pub session_count : IfSome (at_key session e.sessions) (λ o. o.accepted + 1 < 2 ^ 64)
   pub streams : AreReady e.subscriptions shares
-  pub groups : AreCountable e.groups tallies
+  pub groups : AreCountable e.groups reserved
   pub audit : length e.audit.standing.entries + entries ≤ e.audit.limit
   pub reserved : entries ≤ e.audit.spare
   pub count : e.audit.standing.drained + length e.audit.standing.entries + entries < 2 ^ 64

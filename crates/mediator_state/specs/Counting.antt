@@ -1,18 +1,33 @@
 -- What a message adds to running groups.
-use Rattle.std.specs.Prelude.{◌≢◌, ℕ, List, [], ◌∷◌, if◌then◌else◌, ◌==◌}
-use Rattle.std.specs.List.{AllByRecursion, flat_map}
-use Rattle.flow_aggregate.specs.Counts.{Count, HavePlaces}
-use Rattle.flow_aggregate.specs.Running.{Entries}
-use Rattle.running_groups.specs.Table.{groups_at}
+use Rattle.std.specs.Prelude.{◌≡◌, ◌≢◌, ℕ, List, [], ◌∷◌, if◌then◌else◌, ◌==◌}
+use Rattle.std.specs.List.{AllByRecursion, AllZip, flat_map}
+use Rattle.flow_aggregate.specs.declared.addition.Addition.{Addition}
+use Rattle.flow_aggregate.specs.Running.{Held}
+use Rattle.flow_aggregate.specs.Counts.{Count}
+use Rattle.flow_aggregate.specs.Additions.{AreReady}
+use Rattle.running_groups.specs.Table.{held_at}
+use Rattle.mediator_state.specs.declared.tallies.Reserved.{Reserved}
 
--- the groups that something is added to are there, for one subscription
-abbrev pub HaveGroups : List (ℕ × Entries) → ℕ × List Count → Type 0
-HaveGroups groups tally = HavePlaces (groups_at groups tally.0) tally.1
+-- what was made ready for a subscription
+abbrev pub reserved_for : Reserved → ℕ × List Addition
+reserved_for r = (r.sub, r.additions.items)
 
--- so they are for each, and none stands twice
-abbrev pub AreCountable : List (ℕ × Entries) → List (ℕ × List Count) → Type 0
-AreCountable groups [] = Unit {0}
-AreCountable groups (t ∷ ts) = HaveGroups groups t × AllByRecursion (λ o. o.0 ≢ t.0) ts × AreCountable groups ts
+-- that is what is added to its groups
+abbrev pub IsReadyFor : List (ℕ × Held) → ℕ × List Addition → ℕ × List Count → Type 0
+IsReadyFor groups reserved tally = (reserved.0 ≡ tally.0) × AreReady (held_at groups tally.0) reserved.1 tally.1
+
+-- so it is for each
+abbrev pub AllReady : List (ℕ × Held) → List (ℕ × List Addition) → List (ℕ × List Count) → Type 0
+AllReady groups reserved tallies = AllZip (IsReadyFor groups) reserved tallies
+
+-- no subscription stands twice
+abbrev pub AreApart : List (ℕ × List Count) → Type 0
+AreApart [] = Unit {0}
+AreApart (t ∷ ts) = AllByRecursion (λ o. o.0 ≢ t.0) ts × AreApart ts
+
+-- for some records it is what is added
+abbrev pub AreCountable : List (ℕ × Held) → List (ℕ × List Addition) → Type 0
+AreCountable groups reserved = (tallies : List (ℕ × List Count)) × AllReady groups reserved tallies × AreApart tallies
 
 -- all that is added for a subscription
 abbrev pub added_to : ℕ → List (ℕ × List Count) → List Count

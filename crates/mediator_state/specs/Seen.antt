@@ -3,8 +3,6 @@ use Rattle.std.specs.Prelude.{◌≡◌, ℕ, List, Option, Some, None}
 use Rattle.std.specs.Option.{option_map}
 use Rattle.ipfix_session.specs.Keeping.{at_key}
 use Rattle.subscriber_stream.specs.Standing.{queued}
-use Rattle.flow_aggregate.specs.Groups.{Group}
-use Rattle.flow_aggregate.specs.Running.{sums_at}
 use Rattle.running_groups.specs.Table.{groups_at}
 use Rattle.open_sessions.specs.Table.{seen}
 use Rattle.live_subscriptions.specs.declared.subscription.Subscription.{Subscription}
@@ -43,7 +41,7 @@ pub record IsSameEngine (old new : Engine) : Type 0 where
   pub begun : new.begun ≡ old.begun
   pub sessions : (session : ℕ) → option_map seen (at_key session new.sessions) ≡ option_map seen (at_key session old.sessions)
   pub subscriptions : SameTable old.subscriptions new.subscriptions
-  pub groups : (sub : ℕ) (g : Group) → sums_at (groups_at new.groups sub) g ≡ sums_at (groups_at old.groups sub) g
+  pub groups : (sub : ℕ) → groups_at new.groups sub ≡ groups_at old.groups sub
   pub audit : new.audit.standing ≡ old.audit.standing
   pub audit_limit : new.audit.limit ≡ old.audit.limit
   pub limits : new.limits ≡ old.limits

@@ -1,9 +1,10 @@
 -- What the steps of an engine leave as it was.
-use Rattle.std.specs.Prelude.{◌≡◌, ◌≢◌, ℕ, ◌+◌, ◌≤◌, ◌<◌, ◌^◌, List, [], length, if◌then◌else◌, ◌==◌}
+use Rattle.std.specs.Prelude.{◌≡◌, ◌≢◌, ℕ, ◌+◌, ◌≤◌, ◌<◌, ◌^◌, List, length, if◌then◌else◌, ◌==◌}
 use Rattle.std.specs.Option.{option_map}
 use Rattle.disclosure_audit.specs.Queue.{Kept}
 use Rattle.mediator_history.specs.Numbers.{is_in}
-use Rattle.running_groups.specs.Table.{groups_at}
+use Rattle.flow_aggregate.specs.Running.{nothing_held}
+use Rattle.running_groups.specs.Table.{held_at}
 use Rattle.live_subscriptions.specs.Table.{at, cut_off}
 use Rattle.mediator_state.specs.declared.engine.Engine.{Engine}
 
@@ -28,7 +29,7 @@ pub record KeepsRest (old new : Engine) : Type 0 where
 pub record IsCutOnce (number : ℕ) (old new : Engine) : Type 0 where
   pub rest : KeepsRest old new
   pub table : (q : ℕ) → at new.subscriptions q ≡ (if q == number then option_map cut_off (at old.subscriptions q) else at old.subscriptions q)
-  pub groups : (q : ℕ) → groups_at new.groups q ≡ (if q == number then [] else groups_at old.groups q)
+  pub groups : (q : ℕ) → held_at new.groups q ≡ (if q == number then nothing_held else held_at old.groups q)
   pub entries : length new.audit.standing.entries ≡ length old.audit.standing.entries + 1
   pub spare : new.audit.spare + 1 ≡ old.audit.spare
 
@@ -36,6 +37,6 @@ pub record IsCutOnce (number : ℕ) (old new : Engine) : Type 0 where
 pub record CutsInARow (numbers : List ℕ) (old new : Engine) : Type 0 where
   pub rest : KeepsRest old new
   pub table : (q : ℕ) → at new.subscriptions q ≡ (if is_in q numbers then option_map cut_off (at old.subscriptions q) else at old.subscriptions q)
-  pub groups : (q : ℕ) → groups_at new.groups q ≡ (if is_in q numbers then [] else groups_at old.groups q)
+  pub groups : (q : ℕ) → held_at new.groups q ≡ (if is_in q numbers then nothing_held else held_at old.groups q)
   pub entries : length new.audit.standing.entries ≡ length old.audit.standing.entries + length numbers
   pub spare : new.audit.spare + length numbers ≡ old.audit.spare

@@ -16,13 +16,13 @@ use crate::closing::Closing;
 use crate::fault::Fault;
 use crate::plan::Plan;
 use crate::receipt::Receipt;
-use crate::tallies::{count_all, reserve_all};
+use crate::tallies::{Reserved, count_all, reserve_all};
 use disclosure_audit::{Audit, AuditEntry, What};
 use ipfix_session::Reading;
 use live_subscriptions::{Share, Subscriptions};
 use open_sessions::Sessions;
 use policy_text::Policy;
-use record_sharing::{InForce, Tally};
+use record_sharing::InForce;
 use running_groups::RunningGroups;
 use std::alloc::{AllocError, Global};
 use subscriber_stream::{Limits, Stream};
@@ -262,7 +262,8 @@ impl Engine {
     ghost use Rattle.ipfix_session.specs.ReadAhead.{HasRoomFor};
     ghost use Rattle.live_subscriptions.specs.Table.{HasSpare};
     ghost use Rattle.live_subscriptions.specs.Table.{shown};
-    ghost use Rattle.record_sharing.specs.Sharing.{tallied};
+    ghost use Rattle.flow_aggregate.specs.Counts.{Count};
+    ghost use Rattle.mediator_state.specs.Counting.{reserved_for, AllReady, AreApart};
     ghost use Rattle.mediator_state.specs.Planning.{IsPlan};
     ghost use Rattle.mediator_state.specs.Accepting.{HasRoomForPlan, HasAuditFor, IsPlannedFor, LacksAudit, IsReadyToTake, IsMessage, receipt_of};
     ghost use Rattle.std.specs.Prelude.{map, IfErr};
@@ -288,25 +289,24 @@ impl Engine {
         Ok(())
     }
 
-    /// Makes room for what a plan does.
+    /// Makes room for what a plan does, and makes ready what it counts.
     ///
     /// # Errors
     /// The audit has no room, or memory ran out.
-    pub(crate) fn make_room(&mut self, plan: &Plan) -> Result<(), Fault>
+    pub(crate) fn make_room(&mut self, plan: &Plan) -> Result<Vec<Reserved>, Fault>
         ensures same { IsSameEngine self.old self.new }
-        ensures ok { OnOk result (HasRoomForPlan self.new plan.now) }
+        ensures ok { IfOk result (λ reserved. HasRoomForPlan self.new plan.now (map reserved_for reserved.items)) }
         ensures err { IfErr result (λ e. LacksAudit e self.old.audit (length plan.now.cuts.items + length plan.now.entries.items)) }
     {
         self.make_audit_room(plan.cuts.len() + plan.entries.len())?;
         self.sessions.make_room(plan.session, &plan.reading)?;
         self.subscriptions.reserve(&plan.shares)?;
-        reserve_all(&mut self.groups, &plan.tallies)?;
-        Ok(())
+        Ok(reserve_all(self.alloc, &mut self.groups, &plan.tallies)?)
     }
 
     /// Does what a plan says, in room that was made for it. It takes no memory.
-    pub(crate) fn accept(&mut self, position: u64, plan: Plan) -> Receipt
-        requires room { HasRoomForPlan self.old plan }
+    pub(crate) fn accept(&mut self, position: u64, plan: Plan, reserved: Vec<Reserved>) -> Receipt
+        requires room { HasRoomForPlan self.old plan (map reserved_for reserved.items) }
         requires planned { IsPlannedFor self.old position plan }
         ensures stands { (h : List Entry) (number : ℕ) (octets : List ℕ) → Stands self.old h → length h ≡ position → IsPlan self.old h number octets plan
             → Stands self.new (after_cuts h plan.cuts.items ++ Message plan.session number octets ∷ []) }
@@ -325,7 +325,7 @@ impl Engine {
             plan.session,
             plan.reading,
             plan.shares,
-            plan.tallies,
+            reserved,
             plan.entries,
         );
         receipt
@@ -337,17 +337,19 @@ impl Engine {
         session: u64,
         reading: Reading,
         shares: Vec<Share>,
-        tallies: Vec<Tally>,
+        reserved: Vec<Reserved>,
         entries: Vec<AuditEntry>,
     )
-        requires room { IsReadyToTake self.old session reading (map shown shares.items) (map tallied tallies.items) (length entries.items) }
-        ensures stands { (h : List Entry) (number : ℕ) (octets : List ℕ) → Stands self.old h → IsMessage self.old h session number octets reading (map shown shares.items) (map tallied tallies.items) entries.items
+        requires room { IsReadyToTake self.old session reading (map shown shares.items) (map reserved_for reserved.items) (length entries.items) }
+        ensures stands { (h : List Entry) (number : ℕ) (octets : List ℕ) (tallies : List (ℕ × List Count)) → Stands self.old h
+            → AllReady self.old.groups (map reserved_for reserved.items) tallies → AreApart tallies
+            → IsMessage self.old h session number octets reading (map shown shares.items) tallies entries.items
             → Stands self.new (h ++ Message session number octets ∷ []) }
         ensures untouched { IsUntouched self.old self.new }
     {
         self.sessions.keep(session, reading);
         self.subscriptions.give(shares);
-        count_all(&mut self.groups, tallies);
+        count_all(&mut self.groups, reserved);
         self.audit.extend_reserved(entries);
     }
 }

@@ -164,10 +164,10 @@ impl<C: Chronicle + Drop> State<C> {
         if !self.chronicle.room(&entries) {
             return Err(Fault::JournalFull);
         }
-        self.engine.make_room(&plan)?;
+        let reserved = self.engine.make_room(&plan)?;
         self.chronicle.reserve(entries.len() as u64)?;
         self.append(entries);
-        Ok(self.engine.accept(position, plan))
+        Ok(self.engine.accept(position, plan, reserved))
     }
 
     /// Puts the policy of a text in force, and answers how many edits there were. What was accepted before is judged by the

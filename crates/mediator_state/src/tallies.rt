@@ -1,48 +1,68 @@
 //! What a message adds to running groups, subscription by subscription.
-ghost use Rattle.std.specs.Prelude.{◌≡◌, ◌≢◌, ◌++◌, ℕ, List, map, OnOk};
-ghost use Rattle.std.specs.List.{AllByRecursion};
-ghost use Rattle.flow_aggregate.specs.Groups.{Group, Counted};
-ghost use Rattle.flow_aggregate.specs.Counts.{count_of};
-ghost use Rattle.flow_aggregate.specs.Running.{sums_at, StandsFor};
-ghost use Rattle.running_groups.specs.Table.{groups_at};
+ghost use Rattle.std.specs.Prelude.{◌≡◌, ◌≢◌, ◌++◌, ℕ, List, map, IfOk};
+ghost use Rattle.flow_aggregate.specs.Groups.{Counted};
+ghost use Rattle.flow_aggregate.specs.Counts.{Count, count_of};
+ghost use Rattle.flow_aggregate.specs.Additions.{AreReady};
+ghost use Rattle.flow_aggregate.specs.Running.{StandsFor};
+ghost use Rattle.running_groups.specs.Table.{held_at, groups_at};
 ghost use Rattle.record_sharing.specs.Sharing.{tallied};
-ghost use Rattle.mediator_state.specs.Counting.{HaveGroups, AreCountable, added_to};
 
+use flow_aggregate::Addition;
 use record_sharing::Tally;
 use running_groups::RunningGroups;
-use std::alloc::AllocError;
+use std::alloc::{AllocError, Global};
 
-/// Makes the groups that are wanting for what is to be added.
+/// What was made ready for the groups of a subscription.
+#[derive(Drop)]
+pub(crate) struct Reserved {
+    pub(crate) sub: u64,
+    pub(crate) additions: Vec<Addition>,
+}
+
+ghost use Rattle.mediator_state.specs.Counting.{reserved_for, AllReady, AreApart, AreCountable, added_to};
+
+/// Makes ready for what is to be added, where no subscription stands twice. What was reserved before is so no more.
 ///
 /// # Errors
 /// Want of memory. Nothing that contracts see changes, whatever the answer.
-pub(crate) fn reserve_all(groups: &mut RunningGroups, tallies: &[Tally]) -> Result<(), AllocError>
-    ensures same { (q : ℕ) (g : Group) → sums_at (groups_at groups.new q) g ≡ sums_at (groups_at groups.old q) g }
-    ensures ok { OnOk result (AllByRecursion (HaveGroups groups.new) (map tallied tallies.now)) }
+pub(crate) fn reserve_all(
+    alloc: Global,
+    groups: &mut RunningGroups,
+    tallies: &[Tally],
+) -> Result<Vec<Reserved>, AllocError>
+    ensures same { (q : ℕ) → groups_at groups.new q ≡ groups_at groups.old q }
+    ensures ok { IfOk result (λ reserved. AreApart (map tallied tallies.now) → AllReady groups.new (map reserved_for reserved.items) (map tallied tallies.now)) }
 {
+    groups.release();
+    let mut reserved = Vec::with_capacity(alloc, tallies.len())?;
     'tallies: for tally in tallies {
-        groups.reserve(tally.sub, &tally.counts)?;
+        let additions = groups.reserve(tally.sub, &tally.counts)?;
+        reserved.push_reserved(Reserved {
+            sub: tally.sub,
+            additions,
+        });
     }
-    Ok(())
+    Ok(reserved)
 }
 
-/// Adds to the groups of each subscription. It takes no memory.
-pub(crate) fn count_all(groups: &mut RunningGroups, tallies: Vec<Tally>)
-    requires { AreCountable groups.old (map tallied tallies.items) }
-    ensures { (q : ℕ) (before more : List Counted) → StandsFor (groups_at groups.old q) before → added_to q (map tallied tallies.items) ≡ map count_of more
+/// Adds to the groups of each subscription what was made ready. It takes no memory.
+pub(crate) fn count_all(groups: &mut RunningGroups, reserved: Vec<Reserved>)
+    requires { AreCountable groups.old (map reserved_for reserved.items) }
+    ensures { (tallies : List (ℕ × List Count)) → AllReady groups.old (map reserved_for reserved.items) tallies → AreApart tallies
+        → (q : ℕ) (before more : List Counted) → StandsFor (groups_at groups.old q) before → added_to q tallies ≡ map count_of more
         → StandsFor (groups_at groups.new q) (before ++ more) }
 {
-    'tallies: for tally in tallies {
-        count_one(groups, tally);
+    'reserved: for one in reserved {
+        count_one(groups, one);
     }
 }
 
 /// Adds to the groups of one subscription.
-fn count_one(groups: &mut RunningGroups, tally: Tally)
-    requires { HaveGroups groups.old (tallied tally) }
-    ensures adds { (before more : List Counted) → StandsFor (groups_at groups.old tally.sub) before → tally.counts.items ≡ map count_of more → StandsFor (groups_at groups.new tally.sub) (before ++ more) }
-    ensures others { (q : ℕ) → q ≢ tally.sub → groups_at groups.new q ≡ groups_at groups.old q }
+fn count_one(groups: &mut RunningGroups, reserved: Reserved)
+    requires { (counts : List Count) × AreReady (held_at groups.old reserved.sub) reserved.additions.items counts }
+    ensures adds { (before more : List Counted) → StandsFor (groups_at groups.old reserved.sub) before → AreReady (held_at groups.old reserved.sub) reserved.additions.items (map count_of more) → StandsFor (groups_at groups.new reserved.sub) (before ++ more) }
+    ensures others { (q : ℕ) → q ≢ reserved.sub → held_at groups.new q ≡ held_at groups.old q }
 {
-    let Tally { sub, counts } = tally;
-    groups.add_reserved(sub, counts);
+    let Reserved { sub, additions } = reserved;
+    groups.add_reserved(sub, additions);
 }

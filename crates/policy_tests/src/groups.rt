@@ -1,4 +1,4 @@
-//! Many groups, which one advance of the clock closes.
+//! Many groups, which one advance of the clock closes; and many messages that are refused, which leave none.
 use ipfix_session::Session;
 use live_subscriptions::Served;
 use policy_text::Policy;
@@ -29,9 +29,9 @@ fn message(alloc: Global, minute: u8) -> Result<Vec<u8>, AllocError> {
     Ok(octets)
 }
 
-/// What the records of such a message add to the aggregates of one subscription.
-fn shared(alloc: Global, in_force: &mut InForce, minute: u8) -> Result<Shares, Fail> {
-    let read = Session::new(alloc).apply(&message(alloc, minute)?)?;
+/// What the records of a message add to the aggregates of one subscription.
+fn shared(alloc: Global, in_force: &mut InForce, message: &[u8]) -> Result<Shares, Fail> {
+    let read = Session::new(alloc).apply(message)?;
     if read.records.len() > 6250 {
         return Err(Fail::new("too many records"));
     }
@@ -44,8 +44,8 @@ fn shared(alloc: Global, in_force: &mut InForce, minute: u8) -> Result<Shares, F
 
 fn add(groups: &mut RunningGroups, tally: Tally) -> Result<(), AllocError> {
     let Tally { sub, counts } = tally;
-    groups.reserve(sub, &counts)?;
-    groups.add_reserved(sub, counts);
+    let additions = groups.reserve(sub, &counts)?;
+    groups.add_reserved(sub, additions);
     Ok(())
 }
 
@@ -60,8 +60,9 @@ fn add_all(groups: &mut RunningGroups, found: Shares) -> Result<(), AllocError> 
 fn one_advance_closes_a_hundred_thousand_groups(rt: HostRuntime) -> Result<(), Fail> {
     let mut in_force = InForce::since(rt.alloc(), Policy::parse(rt.alloc(), POLICY)?, 0)?;
     let mut groups = RunningGroups::new(rt.alloc());
-    for minute in 0..16_u8 {
-        add_all(&mut groups, shared(rt.alloc(), &mut in_force, minute)?)?;
+    for minute in 0..16 {
+        let message = message(rt.alloc(), minute)?;
+        add_all(&mut groups, shared(rt.alloc(), &mut in_force, &message)?)?;
     }
     assert_eq!(rt; groups.closing(1, 64_999)?.len(), 0);
     assert_eq!(rt; groups.closing(1, 965_000)?.len(), 100_000);
@@ -69,5 +70,58 @@ fn one_advance_closes_a_hundred_thousand_groups(rt: HostRuntime) -> Result<(), F
     assert_eq!(rt; groups.closing(1, 965_000)?.len(), 6250);
     groups.remove(1);
     assert_eq!(rt; groups.closing(1, 965_000)?.len(), 0);
+    Ok(())
+}
+
+/// Makes ready for what a message adds, and adds nothing.
+fn refuse_all(groups: &mut RunningGroups, found: Shares) -> Result<(), AllocError> {
+    for tally in found.tallies {
+        let _additions = groups.reserve(tally.sub, &tally.counts)?;
+    }
+    Ok(())
+}
+
+/// The same, with a message for each of its records.
+fn refuse_each(groups: &mut RunningGroups, tally: &Tally) -> Result<(), AllocError> {
+    for one in tally.counts.chunks(1) {
+        let _additions = groups.reserve(tally.sub, one)?;
+    }
+    Ok(())
+}
+
+fn refuse_one_by_one(groups: &mut RunningGroups, found: Shares) -> Result<(), AllocError> {
+    for tally in found.tallies {
+        refuse_each(groups, &tally)?;
+    }
+    Ok(())
+}
+
+#[test]
+fn a_hundred_thousand_refused_messages_leave_no_group(rt: HostRuntime) -> Result<(), Fail> {
+    let mut in_force = InForce::since(rt.alloc(), Policy::parse(rt.alloc(), POLICY)?, 0)?;
+    let mut groups = RunningGroups::new(rt.alloc());
+    for minute in 0..16 {
+        let message = message(rt.alloc(), minute)?;
+        refuse_one_by_one(&mut groups, shared(rt.alloc(), &mut in_force, &message)?)?;
+    }
+    // That of the last one goes with the next.
+    assert_eq!(rt; groups.len(1), 1);
+    groups.release();
+    assert_eq!(rt; groups.len(1), 0);
+    Ok(())
+}
+
+#[test]
+fn what_was_refused_is_dropped_and_what_was_added_stays(rt: HostRuntime) -> Result<(), Fail> {
+    let mut in_force = InForce::since(rt.alloc(), Policy::parse(rt.alloc(), POLICY)?, 0)?;
+    let mut groups = RunningGroups::new(rt.alloc());
+    let accepted = message(rt.alloc(), 7)?;
+    add_all(&mut groups, shared(rt.alloc(), &mut in_force, &accepted)?)?;
+    let refused = message(rt.alloc(), 8)?;
+    refuse_all(&mut groups, shared(rt.alloc(), &mut in_force, &refused)?)?;
+    assert_eq!(rt; groups.len(1), 12_500);
+    groups.close(0);
+    assert_eq!(rt; groups.len(1), 6250);
+    assert_eq!(rt; groups.closing(1, 545_000)?.len(), 6250);
     Ok(())
 }

@@ -89,8 +89,8 @@ fn put_record(out: &mut Vec<u8>, closed: &Record) -> Result<(), AllocError> {
 
 fn add(groups: &mut RunningGroups, tally: Tally) -> Result<(), AllocError> {
     let Tally { sub, counts } = tally;
-    groups.reserve(sub, &counts)?;
-    groups.add_reserved(sub, counts);
+    let additions = groups.reserve(sub, &counts)?;
+    groups.add_reserved(sub, additions);
     Ok(())
 }
 

@@ -1,12 +1,13 @@
 //! The table of the groups that are still open.
-ghost use Rattle.std.specs.Prelude.{◌≡◌, ◌≢◌, ◌++◌, ℕ, List, [], true, map, IfOk, OnOk};
-ghost use Rattle.flow_aggregate.specs.Groups.{Group, Counted};
-ghost use Rattle.flow_aggregate.specs.Running.{sums_at, StandsFor, staying};
-ghost use Rattle.flow_aggregate.specs.Counts.{Count as OneCount, count_of, HavePlaces};
+ghost use Rattle.std.specs.Prelude.{◌≡◌, ◌≢◌, ◌≤◌, ◌+◌, ◌++◌, ℕ, List, [], true, length, map, IfOk, OnOk};
+ghost use Rattle.flow_aggregate.specs.Groups.{Counted};
+ghost use Rattle.flow_aggregate.specs.Running.{places, nothing_held, StandsFor, staying};
+ghost use Rattle.flow_aggregate.specs.Counts.{Count as OneCount, count_of};
+ghost use Rattle.flow_aggregate.specs.Additions.{AreReady};
 ghost use Rattle.flow_aggregate.specs.Closing.{record_of, closed_by};
-ghost use Rattle.running_groups.specs.Table.{has_groups, groups_at};
+ghost use Rattle.running_groups.specs.Table.{has_groups, held_at, groups_at};
 
-use flow_aggregate::{ClosedAggregate, Count, Running};
+use flow_aggregate::{Addition, ClosedAggregate, Count, Running};
 use record_runs::Records;
 use std::alloc::{AllocError, Global};
 use std::collections::BTreeMap;
@@ -30,9 +31,9 @@ impl Drop for RunningGroups {
 
 impl Model for RunningGroups {
     ghost use Rattle.std.specs.Prelude.{List, ℕ};
-    ghost use Rattle.flow_aggregate.specs.Running.{Entries};
+    ghost use Rattle.flow_aggregate.specs.Running.{Held};
 
-    ghost Value = { List (ℕ × Entries) };
+    ghost Value = { List (ℕ × Held) };
 
     ghost view = { λ r. r.by_number.entries };
 }
@@ -40,7 +41,7 @@ impl Model for RunningGroups {
 impl RunningGroups {
     /// No group. What it comes to keep is taken from `alloc`.
     pub fn new(alloc: Global) -> RunningGroups
-        ensures { (q : ℕ) → groups_at result q ≡ [] }
+        ensures { (q : ℕ) → held_at result q ≡ nothing_held }
     {
         RunningGroups {
             alloc,
@@ -48,14 +49,26 @@ impl RunningGroups {
         }
     }
 
-    /// Makes ready for these to be added to a subscription's groups.
+    /// How many groups are kept for a subscription, with those that were made for what is yet to be added. There are no more
+    /// than records that count or are to be added.
+    pub fn len(&self, sub: u64) -> usize
+        ensures value { result ≡ length (places (held_at self.now sub)) }
+        ensures few { (counted : List Counted) → StandsFor (groups_at self.now sub) counted → result ≤ length counted + length (held_at self.now sub).ready }
+    {
+        match self.by_number.get(&sub) {
+            Some(groups) => groups.len(),
+            None => 0,
+        }
+    }
+
+    /// Makes ready for all of these to be added to a subscription's groups. What was reserved for it before is so no more.
     ///
     /// # Errors
-    /// Want of memory; no sum changes, and what was reserved before stays so.
-    pub fn reserve(&mut self, sub: u64, counts: &[Count]) -> Result<(), AllocError>
-        ensures same { (q : ℕ) (g : Group) → sums_at (groups_at self.new q) g ≡ sums_at (groups_at self.old q) g }
-        ensures kept { (q : ℕ) (more : List OneCount) → HavePlaces (groups_at self.old q) more → HavePlaces (groups_at self.new q) more }
-        ensures ok { OnOk result (HavePlaces (groups_at self.new sub) counts.now) }
+    /// Want of memory; then nothing is reserved for it.
+    pub fn reserve(&mut self, sub: u64, counts: &[Count]) -> Result<Vec<Addition>, AllocError>
+        ensures same { (q : ℕ) → groups_at self.new q ≡ groups_at self.old q }
+        ensures ok { IfOk result (λ additions. AreReady (held_at self.new sub) additions.items counts.now) }
+        ensures others { (q : ℕ) → q ≢ sub → held_at self.new q ≡ held_at self.old q }
     {
         self.make(sub)?;
         match self.by_number.get_mut(&sub) {
@@ -64,15 +77,28 @@ impl RunningGroups {
         }
     }
 
-    /// Adds what records count to a subscription's groups, for which places were reserved since groups were last closed. It
-    /// takes no memory.
-    pub fn add_reserved(&mut self, sub: u64, counts: Vec<Count>)
-        requires { HavePlaces (groups_at self.old sub) counts.items }
-        ensures adds { (before more : List Counted) → StandsFor (groups_at self.old sub) before → counts.items ≡ map count_of more → StandsFor (groups_at self.new sub) (before ++ more) }
-        ensures others { (q : ℕ) → q ≢ sub → groups_at self.new q ≡ groups_at self.old q }
+    /// Takes out the groups that were made for what wasn't added. It takes no memory. What was reserved before is so no more.
+    pub fn release(&mut self)
+        ensures { (q : ℕ) → held_at self.new q ≡ record { groups = groups_at self.old q; ready = [] } }
+    {
+        self.by_number.retain(
+            |_sub: &u64, groups: &mut Running| -> bool
+                ensures { (result ≡ true) × (groups.new ≡ record { groups = groups.old.groups; ready = [] }) }
+            {
+                groups.release();
+                true
+            },
+        );
+    }
+
+    /// Adds what the last `reserve` made ready for a subscription. It takes no memory.
+    pub fn add_reserved(&mut self, sub: u64, additions: Vec<Addition>)
+        requires { (counts : List OneCount) × AreReady (held_at self.old sub) additions.items counts }
+        ensures adds { (before more : List Counted) → StandsFor (groups_at self.old sub) before → AreReady (held_at self.old sub) additions.items (map count_of more) → StandsFor (groups_at self.new sub) (before ++ more) }
+        ensures others { (q : ℕ) → q ≢ sub → held_at self.new q ≡ held_at self.old q }
     {
         if let Some(groups) = self.by_number.get_mut(&sub) {
-            groups.add_reserved(counts);
+            groups.add_reserved(additions);
         }
     }
 
@@ -92,11 +118,12 @@ impl RunningGroups {
     /// Drops the groups that an advance of the clock to `t` closes. It takes no memory. What was reserved before is so no
     /// more.
     pub fn close(&mut self, t: u64)
-        ensures { (q : ℕ) (counted : List Counted) → StandsFor (groups_at self.old q) counted → StandsFor (groups_at self.new q) (staying t counted) }
+        ensures stays { (q : ℕ) (counted : List Counted) → StandsFor (groups_at self.old q) counted → StandsFor (groups_at self.new q) (staying t counted) }
+        ensures ready { (q : ℕ) → (held_at self.new q).ready ≡ [] }
     {
         self.by_number.retain(
             |_sub: &u64, groups: &mut Running| -> bool
-                ensures { (result ≡ true) × ((counted : List Counted) → StandsFor groups.old counted → StandsFor groups.new (staying t counted)) }
+                ensures { (result ≡ true) × ((counted : List Counted) → StandsFor groups.old.groups counted → StandsFor groups.new.groups (staying t counted)) × (groups.new.ready ≡ []) }
             {
                 groups.close(t);
                 true
@@ -106,15 +133,15 @@ impl RunningGroups {
 
     /// Takes out the groups of a subscription. It takes no memory.
     pub fn remove(&mut self, sub: u64)
-        ensures gone { groups_at self.new sub ≡ [] }
-        ensures others { (q : ℕ) → q ≢ sub → groups_at self.new q ≡ groups_at self.old q }
+        ensures gone { held_at self.new sub ≡ nothing_held }
+        ensures others { (q : ℕ) → q ≢ sub → held_at self.new q ≡ held_at self.old q }
     {
         let _ = self.by_number.remove(&sub);
     }
 
     /// Makes room for a subscription's groups, where it has none yet.
     fn make(&mut self, sub: u64) -> Result<(), AllocError>
-        ensures same { (q : ℕ) → groups_at self.new q ≡ groups_at self.old q }
+        ensures same { (q : ℕ) → held_at self.new q ≡ held_at self.old q }
         ensures ok { OnOk result (has_groups self.new sub ≡ true) }
     {
         if !self.by_number.contains_key(&sub) {

@@ -1,10 +1,16 @@
-use Rattle.std.proofs.Common.{arith}
-use Rattle.std.specs.Vec.Iter.{into_iter_items}
-use Rattle.std.proofs.lemmas.List.{nil_from_length}
-use Rattle.flow_aggregate.proofs.RunningLaws.{counts_added}
+use Rattle.flow_aggregate.proofs.KeptLaws.{kept_added, added_stand, none_ready}
 use Rattle.flow_aggregate.proofs.running.Running.add_reserved.Goals as goal
 
-pub returns : goal.returns
-returns c before more stands of =
-    counts_added c.args.self.now c.loop-count.self c.args.counts.items (into_iter_items c.loop-count.count-iterator) before more
-    (nil_from_length (into_iter_items c.loop-count.count-iterator) (omega (arith, c.in-None.ensures.steps.0))) c.loop-count.invariant stands c.requires of
+pub invariant_of-self : goal.invariant_of-self
+invariant_of-self c =
+    kept_added c.self.inside.counted c.len-self-inside.result c.self.inside.earliest c.self.inside.groups.entries c.add_all.new.groups.entries c.args.additions.items
+    c.self.invariant c.add_all.ensures c.len-self-inside.ensures.len
+
+pub returns-clause-adds : goal.returns-clause-adds
+returns-clause-adds c before more stands ready =
+    added_stand c.self.inside.counted c.len-self-inside.result c.self.inside.earliest c.self.inside.groups.entries c.add_all.new.groups.entries c.args.self.now c.args.additions.items before more
+    c.self.invariant c.self.view_is c.add_all.ensures c.len-self-inside.ensures.len stands ready
+
+pub returns-clause-ready : goal.returns-clause-ready
+returns-clause-ready c =
+    none_ready c.len-self-inside.result c.self.inside.groups.entries c.add_all.new.groups.entries c.args.additions.items c.add_all.ensures c.len-self-inside.ensures.len

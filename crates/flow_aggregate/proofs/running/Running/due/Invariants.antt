@@ -3,4 +3,4 @@ use Rattle.flow_aggregate.specs.Running.{due_of}
 use Rattle.flow_aggregate.proofs.running.Running.due.Given as goal
 
 abbrev pub invariant-loop-place : goal.invariant-loop-place
-invariant-loop-place l = l.due.items ≡ due_of l.t (take l.place l.self)
+invariant-loop-place l = l.due.items ≡ due_of l.t (take l.place l.self.groups)
