@@ -49,7 +49,8 @@ fn add(groups: &mut RunningGroups, tally: Tally) -> Result<(), AllocError> {
     Ok(())
 }
 
-fn add_all(groups: &mut RunningGroups, found: Shares) -> Result<(), AllocError> {
+/// Adds what a message's records add to the sums.
+pub(crate) fn add_all(groups: &mut RunningGroups, found: Shares) -> Result<(), AllocError> {
     for tally in found.tallies {
         add(groups, tally)?;
     }

@@ -1,11 +1,12 @@
 //! Times that are degraded: worked values, and that a record counts where it started, whatever is shown of its start.
 use crate::disclosures::{Case, HTTPS, KEEP, PASS, SIX, Wanted, expect_disclosed};
+use crate::groups::add_all;
 use crate::tables::read_policy;
 use ipfix_session::Session;
 use live_subscriptions::Served;
-use record_sharing::{InForce, Shares, Tally};
+use record_sharing::{InForce, Shares};
 use running_groups::RunningGroups;
-use std::alloc::{AllocError, Global};
+use std::alloc::Global;
 use std::process::Abort;
 use std::test::Fail;
 
@@ -186,19 +187,10 @@ fn shared(alloc: Global, message: &[u8]) -> Result<Shares, Fail> {
     Ok(Shares::of_records(alloc, &mut in_force, 7, &read.records, &served)?)
 }
 
-fn add(groups: &mut RunningGroups, tally: Tally) -> Result<(), AllocError> {
-    let Tally { sub, counts } = tally;
-    groups.reserve(sub, &counts)?;
-    groups.add_reserved(sub, counts);
-    Ok(())
-}
-
 /// The sums of a message's records that close up to this time, in milliseconds since 1970.
 fn closing(alloc: Global, message: &[u8], time: u64) -> Result<Vec<u8>, Fail> {
     let mut groups = RunningGroups::new(alloc);
-    for tally in shared(alloc, message)?.tallies {
-        add(&mut groups, tally)?;
-    }
+    add_all(&mut groups, shared(alloc, message)?)?;
     let mut octets = Vec::new(alloc);
     for closed in &groups.closing(1, time)?.to_vec(alloc)? {
         for (_, value) in closed.entries() {
