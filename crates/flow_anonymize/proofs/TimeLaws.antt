@@ -1,5 +1,5 @@
 -- Times that are degraded.
-use Rattle.std.proofs.Common.{◌≡◌, ℕ, ◌*◌, ◌/◌, ◌-◌, ◌^◌, ◌<◌, ◌≤◌, true, false, eqb, List, length, sym, ap, ◌∙◌, subst, arith}
+use Rattle.std.proofs.Common.{◌≡◌, ℕ, ◌*◌, ◌/◌, ◌-◌, ◌^◌, ◌<◌, ◌≤◌, true, false, eqb, List, length, refl, sym, ap, ◌∙◌, subst, arith}
 use Rattle.std.proofs.Math.Nat.{div-mul-le_self, div-eq_of_lt}
 use Rattle.std.proofs.lemmas.Bool.{eqb-true}
 use Rattle.sequences.specs.Octets.{be_value, be_octets, IsNumber, AreOctets}
@@ -8,9 +8,8 @@ use Rattle.flow_prefix.specs.Bits.{truncated, kept_octets}
 use Rattle.flow_prefix.proofs.PowerLaws.{octet_power}
 use Rattle.ipfix_element.specs.declared.kind.Kind.{Kind}
 use Rattle.ipfix_element.specs.declared.kind.Kind.TheVariants.{Seconds, Millis}
-use Rattle.ipfix_element.specs.Kinds.{kind_of, is_allowed_length}
+use Rattle.ipfix_element.specs.Kinds.{is_allowed_length}
 use Rattle.ipfix_template.specs.declared.field.FieldSpec.{FieldSpec}
-use Rattle.ipfix_template.specs.Template.{is_variable}
 use Rattle.ipfix_template.specs.Values.{fits_field}
 use Rattle.flow_anonymize.specs.Times.{step_of_time, lowered, degraded_octets, TimesAreDegraded}
 use Rattle.flow_anonymize.proofs.Bounds.{fixed_length}
@@ -75,16 +74,7 @@ none_kept k n below =
 none_lowered : (step n : ℕ) → step ≡ 0 → lowered step n ≡ 0
 none_lowered step n none = let nothing : n / 0 * 0 ≡ 0 = omega arith in rw none nothing
 
-pub no_time : (seconds width : ℕ) (v : List ℕ) → AreOctets v → width ≡ length v → step_of_time width seconds ≡ 0 → kept_octets 0 v ≡ degraded_octets seconds v
-no_time seconds width v octets long none =
-    let nothing : step_of_time (length v) seconds ≡ 0 = ap (λ (w : ℕ). step_of_time w seconds) (sym long) ∙ none in
+pub no_time : (seconds : ℕ) (v : List ℕ) → AreOctets v → step_of_time (length v) seconds ≡ 0 → kept_octets 0 v ≡ degraded_octets seconds v
+no_time seconds v octets none =
     ap (be_octets (length v)) (none_kept (length v) (be_value v) (be_value-below v octets))
-    ∙ ap (be_octets (length v)) (sym (none_lowered (step_of_time (length v) seconds) (be_value v) nothing))
-
--- ---- for the call
-
-pub time_lowered : (seconds width step number kept : ℕ) (v : List ℕ) → width ≡ length v → step ≡ step_of_time width seconds → number ≡ be_value v → kept ≡ lowered step number
-    → be_octets width kept ≡ degraded_octets seconds v
-time_lowered seconds width step number kept v long is at shown =
-    ap (be_octets width) (shown ∙ ap (lowered step) at ∙ ap (λ (s : ℕ). lowered s (be_value v)) is)
-    ∙ ap (λ (w : ℕ). be_octets w (lowered (step_of_time w seconds) (be_value v))) long
+    ∙ ap (be_octets (length v)) (sym (none_lowered (step_of_time (length v) seconds) (be_value v) none))
