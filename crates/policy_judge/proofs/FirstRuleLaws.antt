@@ -8,21 +8,24 @@ use Rattle.policy_text.specs.declared.rule.Rule.{Rule}
 use Rattle.ipfix_element.specs.Element.{Element}
 use Rattle.ipfix_template.specs.declared.field.FieldSpec.{FieldSpec}
 use Rattle.ipfix_template.specs.DataRecord.{DataRecord}
-use Rattle.policy_judge.specs.declared.verdict.RecordAction.{RecordAction}
-use Rattle.policy_judge.specs.declared.verdict.ElementAction.{ElementAction}
 use Rattle.policy_judge.specs.Match.{matches_record, matches_field, element_at}
-use Rattle.policy_judge.specs.Verdicts.{first_rule, record_action, element_action, record_verdict_by, element_verdict_by, record_verdict_of, element_verdict_of, numbered, record_verdict_at, element_verdict_at}
+use Rattle.policy_judge.specs.Verdicts.{first_rule, record_verdict_by, element_verdict_by, record_verdict_of, element_verdict_of, numbered, record_verdict_at, element_verdict_at}
+
+abbrev with_number : {A : Type 0} → ℕ → A → ℕ × A
+with_number n a = (n, a)
 
 -- the first that passes, with its number, is the one at its place
 found_at : {A : Type 0} (test : A → Bool) (n : ℕ) (xs : List A)
-    → option_map (λ x. (n + position_or_len test xs, x)) (slice_get xs (position_or_len test xs)) ≡ find (λ x. test x.1) (enumerate_from n xs)
+    → option_map (with_number (n + position_or_len test xs)) (slice_get xs (position_or_len test xs)) ≡ find (λ x. test x.1) (enumerate_from n xs)
 found_at test n [] = refl
 found_at {A} test n (x ∷ xs) =
-    elim (test x) as (λ b. option_map (λ y. (n + cond (not b) (1 + position_or_len test xs) 0, y)) (slice_get (x ∷ xs) (cond (not b) (1 + position_or_len test xs) 0)) ≡ cond b (Some (n, x)) (find (λ y. test y.1) (enumerate_from (n + 1) xs))) [
-      | true ↦ ap (λ i. Some (i, x)) (add-zero n)
+    let place = position_or_len test xs in
+    elim (test x) as (λ b. option_map (with_number (n + cond (not b) (1 + place) 0)) (slice_get (x ∷ xs) (cond (not b) (1 + place) 0)) ≡ cond b (Some (n, x)) (find (λ y. test y.1) (enumerate_from (n + 1) xs))) [
+      | true ↦ ap (λ i. Some (with_number i x)) (add-zero n)
       | false ↦
-          let number : n + suc (position_or_len test xs) ≡ n + 1 + position_or_len test xs = omega arith in
-          ap (λ i. option_map (λ y. (i, y)) (slice_get xs (position_or_len test xs))) number ∙ found_at test (n + 1) xs
+          let next : 1 + place ≡ suc place = omega arith in
+          let number : n + suc place ≡ n + 1 + place = omega arith in
+          ap (λ k. option_map (with_number (n + k)) (slice_get (x ∷ xs) k)) next ∙ ap (λ i. option_map (with_number i) (slice_get xs place)) number ∙ found_at test (n + 1) xs
     ]
 
 -- an answer of `position` is the place of the first rule that matches
@@ -32,23 +35,13 @@ numbered_first matches rules =
     elim (nat_lt place (length rules)) as (λ b. nat_lt place (length rules) ≡ b → numbered rules (cond b (Some place) None) ≡ first_rule matches rules) [
       | true ↦ λ t.
           let number : place + 1 ≡ 1 + place = omega arith in
-          ap (λ i. option_map (λ rule. (i, rule)) (slice_get rules place)) number ∙ found_at matches 1 rules
+          ap (λ i. option_map (with_number i) (slice_get rules place)) number ∙ found_at matches 1 rules
       | false ↦ λ t.
           let past : length rules ≤ place = ltb-false _ _ t in
-          sym (ap (option_map (λ rule. (1 + place, rule))) (slice_get_past rules place past)) ∙ found_at matches 1 rules
+          sym (ap (option_map (with_number (1 + place))) (slice_get_past rules place past)) ∙ found_at matches 1 rules
     ] refl
 
--- ---- the verdict of the rule at a place
-
-pub record_verdict_there : (rules : List Rule) (k : ℕ) (rule : Rule) (action : RecordAction) → k < length rules → action ≡ record_action (get_or rules k rule).action
-    → record { rule = k + 1; action = action } ≡ record_verdict_at rules (Some k)
-record_verdict_there rules k rule action within act =
-    ap (λ a. record { rule = k + 1; action = a }) act ∙ sym (ap (λ o. record_verdict_by (option_map (λ r. (k + 1, r)) o)) (slice_get-get_or rules k rule within))
-
-pub element_verdict_there : (rules : List Rule) (k : ℕ) (rule : Rule) (action : ElementAction) → k < length rules → action ≡ element_action (get_or rules k rule).action
-    → record { rule = k + 1; action = action } ≡ element_verdict_at rules (Some k)
-element_verdict_there rules k rule action within act =
-    ap (λ a. record { rule = k + 1; action = a }) act ∙ sym (ap (λ o. element_verdict_by (option_map (λ r. (k + 1, r)) o)) (slice_get-get_or rules k rule within))
+-- ---- the verdict of that place
 
 pub record_verdict_first : (name : List ℕ) (domain : ℕ) (r : DataRecord) (rules : List Rule) → record_verdict_at rules (position (matches_record name domain r) rules) ≡ record_verdict_of name domain r rules
 record_verdict_first name domain r rules = ap record_verdict_by (numbered_first (matches_record name domain r) rules)
