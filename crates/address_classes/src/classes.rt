@@ -11,15 +11,12 @@ ghost use Rattle.address_classes.specs.Spans.{IsSpan, IsAmong};
 use crate::cuts::sorted_cuts;
 use crate::narrow::NarrowCuts;
 use crate::span::Span;
+use flow_prefix::{IPV4_OCTETS, IPV6_OCTETS};
 use ipfix_template::Record;
 use policy_judge::Side;
 use policy_text::Rule;
 use std::alloc::{AllocError, Global};
 use std::marker::Model;
-
-pub(crate) const OCTETS4: usize = 4;
-
-const OCTETS6: usize = 16;
 
 /// The key of no value.
 pub(crate) const EMPTY_KEY: u64 = 1;
@@ -93,10 +90,10 @@ impl AddressClasses {
     pub(crate) fn digit(&self, octets: &[u8]) -> u16
         ensures { result ≡ digit_of self.now octets.now }
     {
-        if octets.len() == OCTETS4 {
+        if octets.len() == IPV4_OCTETS {
             return self.narrow_class(narrow_number(octets)) * 2 + 1;
         }
-        if octets.len() == OCTETS6 {
+        if octets.len() == IPV6_OCTETS {
             return self.class(wide_number(octets)) * 2 + 2;
         }
         0

@@ -3,15 +3,9 @@ ghost use Rattle.std.specs.List.{flat_map};
 ghost use Rattle.std.specs.List.Sorted.{IsNonDecreasing};
 ghost use Rattle.address_classes.specs.Cuts.{bounds_of, cuts_at, cuts_named, cuts_of, HaveCuts, most_cuts};
 
-use flow_prefix::Prefix;
+use flow_prefix::{IPV4_BITS, IPV6_BITS, Prefix};
 use policy_text::Rule;
 use std::alloc::{AllocError, Global};
-
-/// The bits of an address of IPv4.
-const WIDTH4: u32 = 32;
-
-/// The bits of an address of IPv6.
-const WIDTH6: u32 = 128;
 
 /// The first address and the last one inside a prefix.
 #[derive(Clone, Copy, Debug)]
@@ -77,8 +71,8 @@ fn bounds_of(prefix: &Prefix) -> Bounds
     ensures { result ≡ bounds_of prefix.now }
 {
     match prefix {
-        Prefix::V4(net) => bounds_in(WIDTH4, u128::from(net.address()), net.length()),
-        Prefix::V6(net) => bounds_in(WIDTH6, net.address(), net.length()),
+        Prefix::V4(net) => bounds_in(IPV4_BITS, u128::from(net.address()), net.length()),
+        Prefix::V6(net) => bounds_in(IPV6_BITS, net.address(), net.length()),
     }
 }
 

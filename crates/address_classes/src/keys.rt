@@ -10,10 +10,11 @@ ghost use Rattle.address_classes.specs.Classes.{class_of, digit_of, key_of};
 ghost use Rattle.address_classes.specs.Places.{HasPlace, value_at};
 ghost use Rattle.address_classes.specs.Spans.{IsSpan};
 
-use crate::classes::{AddressClasses, EMPTY_KEY, OCTETS4, narrow_number, with_digit};
+use crate::classes::{AddressClasses, EMPTY_KEY, narrow_number, with_digit};
 use crate::place::{Place, value_at};
 use crate::places::AddressPlaces;
 use crate::span::Span;
+use flow_prefix::IPV4_OCTETS;
 use ipfix_template::RecordView;
 use std::marker::Model;
 use std::sync::Arc;
@@ -119,7 +120,7 @@ fn digit_by(classes: &AddressClasses, span: &mut Span, octets: &[u8]) -> u16
     ensures digit { result ≡ digit_of classes.now octets.now }
     ensures span { IsSpan classes.now span.new }
 {
-    if octets.len() == OCTETS4 {
+    if octets.len() == IPV4_OCTETS {
         return class_by(classes, span, narrow_number(octets)) * 2 + 1;
     }
     classes.digit(octets)

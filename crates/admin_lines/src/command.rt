@@ -1,13 +1,13 @@
 //! The command that a line asks for.
 ghost use Rattle.std.specs.Prelude.{◌≡◌, Some, IfErr, IfOk, IfSome};
 ghost use Rattle.std.specs.Option.{option_map};
-ghost use Rattle.std.specs.Str.{bytes_eq};
 ghost use Rattle.admin_lines.specs.Sayings.{Saying, saying};
 ghost use Rattle.admin_lines.specs.Grammar.{IsCommandLine, IsSubscription};
 ghost use Rattle.admin_lines.specs.Reading.{command_of, command_by, edit_of, subscribe_of, unsubscribe_of, advance_of, status_of, audit_of, NamesSubscriber};
 
 use crate::argument::{is_one_word, read_number};
 use flow_prefix::cut_at;
+use numerals::is_word;
 use std::alloc::{AllocError, Global};
 
 /// The longest line, in octets before its line feed.
@@ -91,13 +91,6 @@ fn read_by(alloc: Global, word: &[u8], argument: &[u8]) -> Result<Option<Command
     } else {
         Ok(None)
     }
-}
-
-/// Whether the word is this one.
-fn is_word(word: &[u8], keyword: &[u8]) -> bool
-    ensures { result ≡ bytes_eq word.now keyword.now }
-{
-    word == keyword
 }
 
 #[tactic(auto, unfolding(crate::specs::Reading::edit_of))]

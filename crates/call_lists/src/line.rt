@@ -8,11 +8,12 @@ ghost use Rattle.call_lists.specs.declared.verb.Verb.TheVariants as Verb;
 ghost use Rattle.call_lists.specs.Lines.{call_of, call_by, receive_of, edit_of, pull_of, limits_of, limits_behind};
 
 use crate::line_ends::with_line_ends;
-use crate::verb::{Verb, is_word, verb_of};
+use crate::verb::{Verb, verb_of};
 use crate::words::Words;
 use bytes::Bytes;
 use hex::FromHexError;
 use mediator_calls::{Call, Limits, SessionId, SubId};
+use numerals::is_word;
 use std::alloc::{AllocError, Global};
 
 /// The greatest number of a session, a message or a subscription, and the latest time of the clock.
@@ -186,7 +187,7 @@ pub(crate) fn read_limits(line: &str) -> Option<Limits>
 {
     let mut words = Words::new(line);
     let word = words.word()?;
-    if is_word(word, "limits") {
+    if is_word(word.as_bytes(), b"limits") {
         limits_behind(&mut words)
     } else {
         None

@@ -1,7 +1,8 @@
 //! The words that name calls.
 ghost use Rattle.std.specs.Prelude.{◌≡◌};
-ghost use Rattle.std.specs.Str.{bytes_eq};
 ghost use Rattle.call_lists.specs.Lines.{verb_of};
+
+use numerals::is_word;
 
 /// Which call a line asks for.
 #[derive(Clone, Copy, Debug)]
@@ -23,34 +24,28 @@ pub(crate) enum Verb {
 pub(crate) fn verb_of(word: &str) -> Option<Verb>
     ensures { result ≡ verb_of word.now }
 {
-    if is_word(word, "open") {
+    let word = word.as_bytes();
+    if is_word(word, b"open") {
         Some(Verb::Open)
-    } else if is_word(word, "close") {
+    } else if is_word(word, b"close") {
         Some(Verb::Close)
-    } else if is_word(word, "receive") {
+    } else if is_word(word, b"receive") {
         Some(Verb::Receive)
-    } else if is_word(word, "edit") {
+    } else if is_word(word, b"edit") {
         Some(Verb::Edit)
-    } else if is_word(word, "subscribe") {
+    } else if is_word(word, b"subscribe") {
         Some(Verb::Subscribe)
-    } else if is_word(word, "unsubscribe") {
+    } else if is_word(word, b"unsubscribe") {
         Some(Verb::Unsubscribe)
-    } else if is_word(word, "advance") {
+    } else if is_word(word, b"advance") {
         Some(Verb::Advance)
-    } else if is_word(word, "pull") {
+    } else if is_word(word, b"pull") {
         Some(Verb::Pull)
-    } else if is_word(word, "status") {
+    } else if is_word(word, b"status") {
         Some(Verb::Status)
-    } else if is_word(word, "audit") {
+    } else if is_word(word, b"audit") {
         Some(Verb::Audit)
     } else {
         None
     }
-}
-
-/// Whether the word is this one.
-pub(crate) fn is_word(word: &str, keyword: &str) -> bool
-    ensures { result ≡ bytes_eq word.now keyword.now }
-{
-    word == keyword
 }

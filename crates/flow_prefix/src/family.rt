@@ -1,5 +1,17 @@
 ghost use Rattle.std.specs.Prelude.{◌≡◌};
 
+/// The octets of an address of IPv4.
+pub const IPV4_OCTETS: usize = 4;
+
+/// The octets of an address of IPv6.
+pub const IPV6_OCTETS: usize = 16;
+
+/// The bits of an address of IPv4.
+pub const IPV4_BITS: u32 = 32;
+
+/// The bits of an address of IPv6.
+pub const IPV6_BITS: u32 = 128;
+
 /// The two families of addresses.
 #[derive(Clone, Copy, Debug, PartialEq, Eq)]
 pub enum Family {
@@ -15,8 +27,8 @@ impl Family {
         ensures { result ≡ width self }
     {
         match self {
-            Family::Ipv4 => 32,
-            Family::Ipv6 => 128,
+            Family::Ipv4 => IPV4_BITS,
+            Family::Ipv6 => IPV6_BITS,
         }
     }
 

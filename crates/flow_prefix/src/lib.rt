@@ -2,7 +2,7 @@
 //! one, and what is left of a value of which only the first bits are kept (RFC 4291, RFC 6235).
 //! Reading takes no memory.
 //!
-//! - `family`: [`Family`], IPv4 or IPv6.
+//! - `family`: [`Family`], IPv4 or IPv6, and how many octets and bits an address of each has.
 //! - `prefix`: [`Prefix`], read by `parse`, asked by `contains`, written by `print`.
 //! - `net`: [`Prefix4`] and [`Prefix6`], what the two kinds of prefix hold.
 //! - `fault`: [`PrefixFault`], why a text is no prefix.
@@ -28,7 +28,7 @@ mod prefix;
 mod scan;
 
 pub use bits::{keep_bits, number};
-pub use family::Family;
+pub use family::{Family, IPV4_BITS, IPV4_OCTETS, IPV6_BITS, IPV6_OCTETS};
 pub use fault::PrefixFault;
 pub use laws::{kept_bits_are_truncated, print_then_parse};
 pub use net::{Prefix4, Prefix6};

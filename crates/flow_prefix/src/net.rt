@@ -4,13 +4,9 @@ ghost use Rattle.flow_prefix.specs.Net.{is_inside, IsNet};
 ghost use Rattle.flow_prefix.specs.Printing.{net_text};
 
 use crate::bits::{first_bits, number};
-use crate::family::Family;
+use crate::family::{Family, IPV4_OCTETS, IPV6_OCTETS};
 use std::alloc::{AllocError, Global};
 use std::marker::Model;
-
-const OCTETS4: usize = 4;
-
-const OCTETS6: usize = 16;
 
 const GROUP_VALUES: u128 = 0x1_0000;
 
@@ -79,7 +75,7 @@ impl Prefix4 {
     pub(crate) fn contains(&self, octets: &[u8]) -> bool
         ensures { result ≡ (length octets.now == 4 && is_inside 32 self.now (be_value octets.now)) }
     {
-        if octets.len() != OCTETS4 {
+        if octets.len() != IPV4_OCTETS {
             return false;
         }
         let width = Family::Ipv4.width();
@@ -124,7 +120,7 @@ impl Prefix6 {
     pub(crate) fn contains(&self, octets: &[u8]) -> bool
         ensures { result ≡ (length octets.now == 16 && is_inside 128 self.now (be_value octets.now)) }
     {
-        if octets.len() != OCTETS6 {
+        if octets.len() != IPV6_OCTETS {
             return false;
         }
         let width = Family::Ipv6.width();

@@ -1,5 +1,5 @@
 -- The verdicts on a record and on a field, by this project's own rule: those of the first rule that matches.
-use Rattle.std.specs.Prelude.{ℕ, Bool, List, Option, Some, None}
+use Rattle.std.specs.Prelude.{ℕ, ◌+◌, Bool, List, Option, Some, None, option_map, slice_get}
 use Rattle.std.specs.List.{find, enumerate_from}
 use Rattle.ipfix_template.specs.DataRecord.{DataRecord}
 use Rattle.policy_text.specs.declared.rule.Rule.{Rule}
@@ -54,3 +54,15 @@ record_verdict_of name domain r rules = record_verdict_by (first_rule (matches_r
 -- the verdict on the field at this place
 abbrev pub element_verdict_of : List ℕ → ℕ → DataRecord → ℕ → List Rule → ElementVerdict
 element_verdict_of name domain r place rules = element_verdict_by (first_rule (matches_field name domain r (element_at r place)) rules)
+
+-- the rule at a place, with its number
+abbrev pub numbered : List Rule → Option ℕ → Option (ℕ × Rule)
+numbered rules None = None
+numbered rules (Some place) = option_map (λ rule. (place + 1, rule)) (slice_get rules place)
+
+-- the verdict of the rule at a place on a record, and on a field; at no place it is that of rule 0
+abbrev pub record_verdict_at : List Rule → Option ℕ → RecordVerdict
+record_verdict_at rules place = record_verdict_by (numbered rules place)
+
+abbrev pub element_verdict_at : List Rule → Option ℕ → ElementVerdict
+element_verdict_at rules place = element_verdict_by (numbered rules place)

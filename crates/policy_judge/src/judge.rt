@@ -1,6 +1,6 @@
-ghost use Rattle.std.specs.Prelude.{◌≡◌, ◌<◌, Some, IfSome, length, position};
+ghost use Rattle.std.specs.Prelude.{◌≡◌, ◌<◌, ◌≤◌, Some, IfSome, length, position};
 ghost use Rattle.policy_judge.specs.Match.{matches_record, matches_field};
-ghost use Rattle.policy_judge.specs.Verdicts.{record_action, element_action, record_verdict_of, element_verdict_of};
+ghost use Rattle.policy_judge.specs.Verdicts.{record_action, element_action, record_verdict_of, element_verdict_of, record_verdict_at, element_verdict_at};
 
 use crate::rule_match::{matches_field, matches_record};
 use crate::verdict::{ElementAction, ElementVerdict, RecordAction, RecordVerdict};
@@ -18,17 +18,7 @@ pub fn record_verdict(
 ) -> RecordVerdict
     ensures { result ≡ record_verdict_of name.now domain flow_record.now policy.now.rules }
 {
-    let rules = policy.rules();
-    match first_on_records(rules, name.as_bytes(), domain, flow_record) {
-        Some(place) => RecordVerdict {
-            rule: place as u32 + 1,
-            action: record_action(rules[place].action),
-        },
-        None => RecordVerdict {
-            rule: 0,
-            action: RecordAction::Withhold,
-        },
-    }
+    record_verdict_of(policy.rules(), name, domain, flow_record)
 }
 
 /// The verdict of a policy on the field of a record at this place, counted from 0, for the subscriber of this
@@ -43,12 +33,68 @@ pub fn element_verdict(
     requires { field < length flow_record.now.template.fields }
     ensures { result ≡ element_verdict_of name.now domain flow_record.now field policy.now.rules }
 {
-    let rules = policy.rules();
+    element_verdict_of(policy.rules(), name, domain, flow_record, field)
+}
+
+/// The same on a record, by a policy's rules.
+pub fn record_verdict_of(
+    rules: &[Rule],
+    name: &str,
+    domain: u32,
+    flow_record: &Record,
+) -> RecordVerdict
+    requires { length rules.now ≤ 4096 }
+    ensures { result ≡ record_verdict_of name.now domain flow_record.now rules.now }
+{
+    let first = first_on_records(rules, name.as_bytes(), domain, flow_record);
+    record_verdict_at(rules, first)
+}
+
+/// The same on a field, by a policy's rules.
+pub fn element_verdict_of(
+    rules: &[Rule],
+    name: &str,
+    domain: u32,
+    flow_record: &Record,
+    field: usize,
+) -> ElementVerdict
+    requires few { length rules.now ≤ 4096 }
+    requires there { field < length flow_record.now.template.fields }
+    ensures { result ≡ element_verdict_of name.now domain flow_record.now field rules.now }
+{
     let element = flow_record.template().fields.as_slice()[field].element;
-    match first_on_fields(rules, name.as_bytes(), domain, flow_record, element) {
-        Some(at) => ElementVerdict {
-            rule: at as u32 + 1,
-            action: element_action(rules[at].action),
+    let first = first_on_fields(rules, name.as_bytes(), domain, flow_record, element);
+    element_verdict_at(rules, first)
+}
+
+/// The verdict of the rule on records at this place, the first that matches; that of rule 0 where none does.
+pub fn record_verdict_at(rules: &[Rule], first: Option<usize>) -> RecordVerdict
+    requires few { length rules.now ≤ 4096 }
+    requires within { IfSome first (λ place. place < length rules.now) }
+    ensures { result ≡ record_verdict_at rules.now first }
+{
+    match first {
+        Some(place) => RecordVerdict {
+            rule: place as u32 + 1,
+            action: record_action(rules[place].action),
+        },
+        None => RecordVerdict {
+            rule: 0,
+            action: RecordAction::Withhold,
+        },
+    }
+}
+
+/// The verdict of the rule on fields at this place, the first that matches; that of rule 0 where none does.
+pub fn element_verdict_at(rules: &[Rule], first: Option<usize>) -> ElementVerdict
+    requires few { length rules.now ≤ 4096 }
+    requires within { IfSome first (λ place. place < length rules.now) }
+    ensures { result ≡ element_verdict_at rules.now first }
+{
+    match first {
+        Some(place) => ElementVerdict {
+            rule: place as u32 + 1,
+            action: element_action(rules[place].action),
         },
         None => ElementVerdict {
             rule: 0,
@@ -82,7 +128,7 @@ fn first_on_fields(
 }
 
 /// What a rule on records does.
-pub fn record_action(action: Action) -> RecordAction
+fn record_action(action: Action) -> RecordAction
     ensures { result ≡ record_action action }
 {
     match action {
@@ -97,7 +143,7 @@ pub fn record_action(action: Action) -> RecordAction
 }
 
 /// What a rule on fields does.
-pub fn element_action(action: Action) -> ElementAction
+fn element_action(action: Action) -> ElementAction
     ensures { result ≡ element_action action }
 {
     match action {

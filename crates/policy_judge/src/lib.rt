@@ -2,7 +2,8 @@
 //! on each of its fields, and what that rule does. It changes no record, and takes no memory.
 //!
 //! - `verdict`: [`RecordVerdict`] with [`RecordAction`], [`ElementVerdict`] with [`ElementAction`].
-//! - `judge`: [`record_verdict`] and [`element_verdict`]; [`record_action`] and [`element_action`], what a rule does.
+//! - `judge`: [`record_verdict`] and [`element_verdict`]; the same by a policy's rules ([`record_verdict_of`],
+//!   [`element_verdict_of`]), and by the place of the first that matches ([`record_verdict_at`], [`element_verdict_at`]).
 //! - `rule_match`: [`matches_record`] and [`matches_field`], whether a rule matches.
 //! - `laws`: [`others_never_matter`] and [`later_rules_never_matter`], proved over the definitions.
 //! - `occurrences`: a record's source and destination addresses, by [`Side`].
@@ -19,7 +20,10 @@ mod occurrences;
 mod rule_match;
 mod verdict;
 
-pub use judge::{element_action, element_verdict, record_action, record_verdict};
+pub use judge::{
+    element_verdict, element_verdict_at, element_verdict_of, record_verdict, record_verdict_at,
+    record_verdict_of,
+};
 pub use laws::{later_rules_never_matter, others_never_matter};
 pub use occurrences::Side;
 pub use rule_match::{matches_field, matches_record};

@@ -162,6 +162,7 @@ pub(crate) fn agreed(
     for field in 0..flow_record.template().fields.as_slice().len() {
         let verdict = candidates.element_verdict(field);
         assert!(rt; verdict == element_verdict(policy, name, domain, flow_record, field));
+        assert!(rt; verdict == table.element_verdict(name, domain, flow_record, field));
         named = named.saturating_add(usize::from(verdict.rule != 0));
     }
     Ok((deciding.rule, named))

@@ -12,10 +12,9 @@ ghost use Rattle.ipfix_element.specs.Kinds.{kind_of};
 use crate::aggregate::AggregateDef;
 use crate::fault::FaultKind;
 use crate::name::{Name, is_name_word};
-use crate::words::is_word;
 use flow_prefix::{Prefix, cut_at};
 use ipfix_element::{ElementId, Kind, by_name, kind_of};
-use numerals::read_number;
+use numerals::{is_word, read_number};
 use std::alloc::Global;
 use std::str::from_utf8;
 

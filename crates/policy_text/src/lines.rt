@@ -15,9 +15,10 @@ use crate::fault::FaultKind;
 use crate::name::Name;
 use crate::rule::{Action, Rule};
 use crate::version::Version;
-use crate::words::{Words, is_word};
+use crate::words::Words;
 use flow_prefix::Prefix;
 use ipfix_element::ElementId;
+use numerals::is_word;
 use std::alloc::Global;
 
 impl Words<'_> {

@@ -16,8 +16,9 @@ use crate::lines::{read_aggregate, read_rule};
 use crate::print::policy_to_text;
 use crate::rule::Rule;
 use crate::version::Version;
-use crate::words::{Words, first_word, is_word};
+use crate::words::{Words, first_word};
 use flow_prefix::cut_at;
+use numerals::is_word;
 use std::alloc::{AllocError, Global};
 use std::marker::Model;
 

@@ -1,11 +1,11 @@
 ghost use Rattle.std.specs.Prelude.{◌≡◌, ◌∷◌, List, ℕ, ◌<◌, ◌≤◌, length, Ok, IfSome, position, not, IfErr, false};
 ghost use Rattle.std.specs.Option.{option_map};
 ghost use Rattle.policy_text.specs.Words.{words_of, first_of, is_blank};
-ghost use Rattle.std.specs.Str.{bytes_eq};
 ghost use Rattle.policy_text.specs.Results.{Gives, is_memory};
 ghost use Rattle.policy_text.specs.Lines.{next_of, after, ended};
 
 use crate::fault::FaultKind;
+use numerals::is_word;
 use std::marker::Model;
 
 /// The words of a line that were not read yet.
@@ -77,13 +77,6 @@ impl<'a> Words<'a> {
             None => Ok(()),
         }
     }
-}
-
-/// Whether the word is this one.
-pub(crate) fn is_word(word: &[u8], keyword: &[u8]) -> bool
-    ensures { result ≡ bytes_eq word.now keyword.now }
-{
-    word == keyword
 }
 
 /// The first word of a line, and what stands behind it.

@@ -4,21 +4,11 @@ ghost use Rattle.flow_prefix.specs.Bits.{truncated};
 ghost use Rattle.rule_table.specs.Addresses.{address_of, addresses_of, shape_of, named};
 ghost use Rattle.rule_table.specs.Index.{HaveShapes};
 
-use flow_prefix::{Prefix, number};
+use flow_prefix::{IPV4_BITS, IPV4_OCTETS, IPV6_BITS, IPV6_OCTETS, Prefix, number};
 use ipfix_template::Record;
 use policy_judge::Side;
 use policy_text::Rule;
 use std::alloc::{AllocError, Global};
-
-const OCTETS4: usize = 4;
-
-const OCTETS6: usize = 16;
-
-/// The bits of an address of IPv4.
-pub(crate) const WIDTH4: u32 = 32;
-
-/// The bits of an address of IPv6.
-pub(crate) const WIDTH6: u32 = 128;
 
 /// An address: how many bits it has, and its number.
 #[derive(Clone, Copy, Debug)]
@@ -58,15 +48,15 @@ pub(crate) fn addresses_of(
 fn address_of(octets: &[u8]) -> Option<Address>
     ensures { result ≡ address_of octets.now }
 {
-    if octets.len() == OCTETS4 {
+    if octets.len() == IPV4_OCTETS {
         return Some(Address {
-            width: WIDTH4,
+            width: IPV4_BITS,
             number: number(octets),
         });
     }
-    if octets.len() == OCTETS6 {
+    if octets.len() == IPV6_OCTETS {
         return Some(Address {
-            width: WIDTH6,
+            width: IPV6_BITS,
             number: number(octets),
         });
     }
@@ -89,11 +79,11 @@ fn shape_of(prefix: &Prefix) -> Shape
 {
     match prefix {
         Prefix::V4(net) => Shape {
-            width: WIDTH4,
+            width: IPV4_BITS,
             length: u32::from(net.length()),
         },
         Prefix::V6(net) => Shape {
-            width: WIDTH6,
+            width: IPV6_BITS,
             length: u32::from(net.length()),
         },
     }

@@ -6,8 +6,8 @@ ghost use Rattle.rule_table.specs.Candidates.{AreCandidates, passes};
 use ipfix_element::ElementId;
 use ipfix_template::Record;
 use policy_judge::{
-    ElementAction, ElementVerdict, RecordAction, RecordVerdict, element_action, matches_field,
-    matches_record, record_action,
+    ElementVerdict, RecordVerdict, element_verdict_at, matches_field, matches_record,
+    record_verdict_at,
 };
 use policy_text::Rule;
 use std::marker::Model;
@@ -57,19 +57,10 @@ impl<'a> Candidates<'a> {
     pub fn record_verdict(&self) -> RecordVerdict
         ensures { result ≡ record_verdict_of self.now.name self.now.domain self.now.flow_record self.now.rules }
     {
-        let rules = self.rules;
         let places = self.places.as_slice();
         let name = self.name.as_bytes();
-        match first_on_records(rules, places, name, self.domain, self.flow_record) {
-            Some(place) => RecordVerdict {
-                rule: place as u32 + 1,
-                action: record_action(rules[place].action),
-            },
-            None => RecordVerdict {
-                rule: 0,
-                action: RecordAction::Withhold,
-            },
-        }
+        let first = first_on_records(self.rules, places, name, self.domain, self.flow_record);
+        record_verdict_at(self.rules, first)
     }
 
     /// The verdict on the field at this place, counted from 0: that of the first matching rule on fields, or rule 0, which
@@ -78,19 +69,17 @@ impl<'a> Candidates<'a> {
         requires { field < length self.now.flow_record.template.fields }
         ensures { result ≡ element_verdict_of self.now.name self.now.domain self.now.flow_record field self.now.rules }
     {
-        let rules = self.rules;
         let places = self.places.as_slice();
         let name = self.name.as_bytes();
-        match first_on_fields(rules, places, name, self.domain, self.flow_record, field) {
-            Some(place) => ElementVerdict {
-                rule: place as u32 + 1,
-                action: element_action(rules[place].action),
-            },
-            None => ElementVerdict {
-                rule: 0,
-                action: ElementAction::Remove,
-            },
-        }
+        let first = first_on_fields(
+            self.rules,
+            places,
+            name,
+            self.domain,
+            self.flow_record,
+            field,
+        );
+        element_verdict_at(self.rules, first)
     }
 }
 

@@ -1,8 +1,7 @@
 ghost use Rattle.std.specs.Prelude.{◌≡◌};
 ghost use Rattle.rule_table.specs.Marks.{mixed, name_mark, side_number, inside_mark, prefix_mark, domain_mark, telling_mark, who_mark, rule_mark, element_mark, pen_number, element_of};
 
-use crate::addresses::{WIDTH4, WIDTH6};
-use flow_prefix::Prefix;
+use flow_prefix::{IPV4_BITS, IPV6_BITS, Prefix};
 use ipfix_element::ElementId;
 use policy_judge::Side;
 use policy_text::{Action, Name, Rule};
@@ -96,11 +95,11 @@ fn prefix_mark(who: u64, side: Side, prefix: &Prefix) -> u64
     match prefix {
         Prefix::V4(net) => {
             let address = u128::from(net.address());
-            inside_mark(who, side, WIDTH4, u32::from(net.length()), address)
+            inside_mark(who, side, IPV4_BITS, u32::from(net.length()), address)
         }
         Prefix::V6(net) => {
             let address = net.address();
-            inside_mark(who, side, WIDTH6, u32::from(net.length()), address)
+            inside_mark(who, side, IPV6_BITS, u32::from(net.length()), address)
         }
     }
 }

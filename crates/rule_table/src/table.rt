@@ -1,6 +1,6 @@
 ghost use Rattle.std.specs.Prelude.{◌≡◌, ◌≤◌, ◌<◌, ℕ, List, length, IfOk};
 ghost use Rattle.ipfix_template.specs.DataRecord.{DataRecord};
-ghost use Rattle.policy_judge.specs.Verdicts.{record_verdict_of};
+ghost use Rattle.policy_judge.specs.Verdicts.{record_verdict_of, element_verdict_of};
 ghost use Rattle.rule_table.specs.OfPolicy.{AreOfPolicy};
 ghost use Rattle.rule_table.specs.Candidates.{AreCandidates};
 
@@ -10,7 +10,7 @@ use crate::candidates::Candidates;
 use crate::copies::copied;
 use crate::index::{entries_of, places_under};
 use ipfix_template::Record;
-use policy_judge::{RecordAction, RecordVerdict, Side, matches_record, record_action};
+use policy_judge::{ElementVerdict, RecordVerdict, Side, element_verdict_of, record_verdict_of};
 use policy_text::{Policy, Rule};
 use std::alloc::{AllocError, Global};
 use std::marker::Model;
@@ -88,17 +88,22 @@ impl RuleTable {
     pub fn record_verdict(&self, name: &str, domain: u32, flow_record: &Record) -> RecordVerdict
         ensures { result ≡ record_verdict_of name.now domain flow_record.now self.now }
     {
-        let rules = self.rules();
-        match first_match(rules, name.as_bytes(), domain, flow_record) {
-            Some(place) => RecordVerdict {
-                rule: place as u32 + 1,
-                action: record_action(rules[place].action),
-            },
-            None => RecordVerdict {
-                rule: 0,
-                action: RecordAction::Withhold,
-            },
-        }
+        record_verdict_of(self.rules(), name, domain, flow_record)
+    }
+
+    /// The verdict on a field, for a program that asks for few of them: the others ask [`candidates`](RuleTable::candidates).
+    /// The field is that at this place, counted from 0. It is found as the verdict on a record is, and takes no memory.
+    pub fn element_verdict(
+        &self,
+        name: &str,
+        domain: u32,
+        flow_record: &Record,
+        field: usize,
+    ) -> ElementVerdict
+        requires { field < length flow_record.now.template.fields }
+        ensures { result ≡ element_verdict_of name.now domain flow_record.now field self.now }
+    {
+        element_verdict_of(self.rules(), name, domain, flow_record, field)
     }
 
     /// The rules that may match a record of this observation domain, for the subscriber of this name: few of them, to be
@@ -151,19 +156,6 @@ impl RuleTable {
         let marks = asked(alloc, sources, destinations, octets, domain, flow_record)?;
         places_under(alloc, &self.entries, &marks)
     }
-}
-
-ghost use Rattle.std.specs.Prelude.{IfSome, position};
-ghost use Rattle.policy_judge.specs.Match.{matches_record};
-
-/// The place of the first rule that matches the record.
-fn first_match(rules: &[Rule], name: &[u8], domain: u32, flow_record: &Record) -> Option<usize>
-    ensures value { result ≡ position (matches_record name.now domain flow_record.now) rules.now }
-    ensures within { IfSome result (λ place. place < length rules.now) }
-{
-    rules
-        .iter()
-        .position(|rule| matches_record(rule, name, domain, flow_record))
 }
 
 /// The places of all rules.

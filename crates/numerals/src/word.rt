@@ -1,0 +1,9 @@
+ghost use Rattle.std.specs.Prelude.{◌≡◌};
+ghost use Rattle.std.specs.Str.{bytes_eq};
+
+/// Whether the word is this one.
+pub fn is_word(word: &[u8], keyword: &[u8]) -> bool
+    ensures { result ≡ bytes_eq word.now keyword.now }
+{
+    word == keyword
+}
