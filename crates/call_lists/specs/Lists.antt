@@ -1,7 +1,9 @@
 -- What a text of calls asks for, line by line, or the first line that asks for nothing.
-use Rattle.std.specs.Prelude.{◌≡◌, ℕ, ◌+◌, ◌^◌, Bool, true, false, List, [], ◌∷◌, ◌++◌, map, Option, Some, None, Result, Ok, Err, if◌then◌else◌, ◌==◌}
+use Rattle.std.specs.Prelude.{◌≡◌, ℕ, ◌+◌, Bool, true, false, List, [], ◌∷◌, ◌++◌, map, Option, Some, None, Result, Ok, Err, if◌then◌else◌, ◌==◌}
 use Rattle.std.specs.List.{slice_split}
 use Rattle.sequences.specs.Options.{◌>>=◌}
+use Rattle.subscriber_stream.specs.declared.limits.TheConstants.{MOST_SHAPES}
+use Rattle.event_journal.specs.declared.limits.TheConstants.{MOST_ENTRIES, MOST_OCTETS}
 use Rattle.mediator_calls.specs.declared.limits.Limits.{Limits}
 use Rattle.call_lists.specs.declared.call_list.CallList.{CallList}
 use Rattle.call_lists.specs.declared.fault.CallsFault.{CallsFault}
@@ -20,7 +22,7 @@ asked list = record { limits = list.limits; calls = map saying list.calls.items 
 
 -- the limits of a list that sets none
 abbrev pub default_limits : Limits
-default_limits = record { queue = 65536; shapes = 65280; audit = 131072; entries = 100000000; octets = 2 ^ 40 }
+default_limits = record { queue = 65536; shapes = MOST_SHAPES; audit = 131072; entries = MOST_ENTRIES; octets = MOST_OCTETS }
 
 -- no call and no limits yet
 abbrev pub nothing : Asked

@@ -10,11 +10,12 @@ use crate::words::cut_at;
 use event_journal::{MOST_ENTRIES, MOST_OCTETS};
 use mediator_calls::{Call, Limits};
 use std::alloc::{AllocError, Global};
+use subscriber_stream::MOST_SHAPES;
 
 /// The limits of a list that sets none: those of `ipmd offline`.
 const DEFAULT_LIMITS: Limits = Limits {
     queue: 65_536,
-    shapes: 65_280,
+    shapes: MOST_SHAPES,
     audit: 131_072,
     entries: MOST_ENTRIES,
     octets: MOST_OCTETS,

@@ -4,7 +4,8 @@
 //!
 //! - `timing`: [`judge_time`], and [`Timing`], what it answers.
 //! - `running`: [`Running`], the groups that are still open; it adds records and closes groups.
-//! - `definition`: [`Definition`], an aggregate's definition, made ready for records to be counted in it.
+//! - `definition`: [`Definition`], an aggregate's definition, made ready for records to be counted in it. [`AggregateDef`] is
+//!   handed on from `policy_text`.
 //! - `count`: [`Count`], what a record adds, and to which group.
 //! - `addition`: [`Addition`], the same at the place of the group, once that was made ready.
 //! - `closed`, `closed_template`: [`ClosedAggregate`], a closed group with its sums, and its record.
@@ -36,5 +37,6 @@ pub use addition::Addition;
 pub use closed::ClosedAggregate;
 pub use count::Count;
 pub use definition::Definition;
+pub use policy_text::AggregateDef;
 pub use running::Running;
 pub use timing::{Timing, judge_time};

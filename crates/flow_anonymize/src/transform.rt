@@ -13,7 +13,8 @@ use policy_judge::record_verdict;
 use policy_text::Policy;
 use std::alloc::{AllocError, Global};
 
-/// What a policy discloses of a record of this observation domain to the subscriber of this name.
+/// For a program of one stream, tests and laws: what a policy discloses of a record of this observation domain to the
+/// subscriber of this name.
 ///
 /// A record that passes keeps, in their order, the fields that no rule removes; a truncated value keeps its
 /// first bits, and the others are 0 (RFC 6235, section 4.1.1). It is withheld where a scope field is removed,

@@ -1,6 +1,6 @@
 //! The header of a message.
 ghost use Rattle.std.specs.Prelude.{◌≡◌, ◌≤◌, length, OnOk};
-ghost use Rattle.ipfix_octets.specs.MessageFormat.{header_octets};
+ghost use Rattle.ipfix_octets.specs.MessageFormat.{longest_message, header_octets};
 ghost use Rattle.ipfix_message.specs.Reading as reading;
 
 use crate::decode_error::DecodeError;
@@ -27,7 +27,7 @@ pub struct Header {
 pub fn read_header(octets: &[u8]) -> Result<Header, DecodeError>
     ensures exact { result ≡ reading.read_header octets.now }
     ensures least { OnOk result (header_octets ≤ length octets.now) }
-    ensures most { OnOk result (length octets.now ≤ 65535) }
+    ensures most { OnOk result (length octets.now ≤ longest_message) }
 {
     if octets.len() < HEADER_OCTETS {
         return Err(DecodeError::ShortHeader);

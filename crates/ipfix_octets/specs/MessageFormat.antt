@@ -5,6 +5,10 @@ use Rattle.std.specs.Prelude.{ℕ}
 abbrev pub ipfix_version : ℕ
 ipfix_version = 10
 
+-- the most octets of a message, since its Length stands in two octets (section 3.1)
+abbrev pub longest_message : ℕ
+longest_message = 65535
+
 -- the octets of a message header (section 3.1)
 abbrev pub header_octets : ℕ
 header_octets = 16
@@ -23,6 +27,10 @@ template_set_id = 2
 
 abbrev pub options_template_set_id : ℕ
 options_template_set_id = 3
+
+-- the Field Length that marks values of variable length (section 7)
+abbrev pub variable_length : ℕ
+variable_length = 65535
 
 -- the least ID of a template, and so of a Data Set (sections 3.3.2 and 3.4.1)
 abbrev pub least_template_id : ℕ

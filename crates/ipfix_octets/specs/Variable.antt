@@ -2,6 +2,10 @@
 use Rattle.std.specs.Prelude.{◌≡◌, ◌⊎◌, ℕ, ◌+◌, ◌<◌, List, [], ◌∷◌, ◌++◌, length, take, Option, Some, None, nat_lt, nat_le, ◌==◌, if◌then◌else◌}
 use Rattle.sequences.specs.Octets.{be_value, be_octets, IsNumber}
 
+-- the longest value that a length of two octets can announce
+abbrev pub longest_value : ℕ
+longest_value = 65535
+
 -- one octet of length, and the value
 abbrev pub IsShortText : List ℕ → List ℕ → Type 0
 IsShortText text value = (length value < 255) × (text ≡ length value ∷ value)

@@ -3,6 +3,9 @@
 /// The Version Number of IPFIX (RFC 7011, section 3.1).
 pub const IPFIX_VERSION: u16 = 10;
 
+/// The most octets of a message: its Length stands in two octets (RFC 7011, section 3.1).
+pub const LONGEST_MESSAGE: usize = 65535;
+
 /// The octets of a message header (RFC 7011, section 3.1).
 pub const HEADER_OCTETS: usize = 16;
 

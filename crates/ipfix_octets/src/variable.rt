@@ -1,5 +1,5 @@
 ghost use Rattle.std.specs.Prelude.{◌≡◌, ◌+◌, ◌-◌, ◌<◌, ◌≤◌, ◌++◌, List, ℕ, length, take, drop, Some, IfSome, OnOk, OnErr, vec_len, vec_capacity};
-ghost use Rattle.ipfix_octets.specs.Variable.{IsVarText, shortest_text, varlen_at};
+ghost use Rattle.ipfix_octets.specs.Variable.{IsVarText, longest_value, shortest_text, varlen_at};
 
 use crate::number::be_number;
 use std::alloc::AllocError;
@@ -51,7 +51,7 @@ fn find_value(octets: &[u8]) -> Option<(usize, usize)>
 /// # Errors
 /// Want of memory, only where `out` had no room for the two, and then nothing is appended.
 pub fn write_varlen(value: &[u8], out: &mut Vec<u8>) -> Result<(), AllocError>
-    requires { length value.now ≤ 65535 }
+    requires { length value.now ≤ longest_value }
     ensures ok { OnOk result (out.new.items ≡ out.old.items ++ shortest_text value.now) }
     ensures err { OnErr result (out.new.items ≡ out.old.items) }
     ensures full { OnErr result (vec_capacity out.old < vec_len out.old + length (shortest_text value.now)) }

@@ -1,6 +1,7 @@
 //! A session: the messages of one exporter, one after another.
 ghost use Rattle.std.specs.Prelude.{◌≡◌, ◌+◌, ◌≤◌, ◌++◌, ℕ, List, [], ◌∷◌, length, reverse, IfOk, OnOk, OnErr};
 ghost use Rattle.std.specs.Option.{option_copied};
+ghost use Rattle.ipfix_octets.specs.MessageFormat.{longest_message};
 ghost use Rattle.ipfix_message.specs.declared.item.Item.{Item};
 ghost use Rattle.ipfix_session.specs.InForce.{template_in_force};
 ghost use Rattle.ipfix_session.specs.Contents.{contents_after};
@@ -68,8 +69,8 @@ impl Session {
         }
     }
 
-    /// Reads the next message: [`read`](Session::read), [`make_room`](Session::make_room) and
-    /// [`keep`](Session::keep) of a copy of it.
+    /// For a program that reads one message after another, and for tests: reads the next message, which is
+    /// [`read`](Session::read), [`make_room`](Session::make_room) and [`keep`](Session::keep) of a copy of it.
     ///
     /// # Errors
     /// The first fault: Malformed with its cause, RecordOverrun, or want of memory. A refused message
@@ -153,7 +154,8 @@ impl Session {
         }
     }
 
-    /// A session that stands for the same messages, and from then on goes its own way.
+    /// For a program that reads ahead, and for tests: a session that stands for the same messages, and from then on
+    /// goes its own way.
     ///
     /// # Errors
     /// Want of memory.
@@ -173,7 +175,7 @@ impl Session {
         message: &Bytes,
         said: Vec<Item>,
     ) -> Result<Reading, ReadError>
-        requires few { length message.now ≤ 65535 }
+        requires few { length message.now ≤ longest_message }
         requires stand { StandIn (length message.now) said.items }
         ensures reads { (older : List Item) → Keeps (kept_of header.domain self.now.standing).templates older
             → Gives contents_read result (contents_after older message.now said.items) }

@@ -1,6 +1,6 @@
 //! The items of a message, one after another.
 ghost use Rattle.std.specs.Prelude.{◌≡◌, ◌+◌, ◌-◌, ◌≤◌, ◌<◌, ◌^◌, ◌++◌, ℕ, List, ◌∷◌, length, take, drop, reverse, IfOk, OnOk, None, Some, IsTrue, if◌then◌else◌, ◌==◌};
-ghost use Rattle.ipfix_octets.specs.MessageFormat.{header_octets, set_header_octets};
+ghost use Rattle.ipfix_octets.specs.MessageFormat.{longest_message, header_octets, set_header_octets};
 ghost use Rattle.ipfix_message.specs.declared.item.Item.{Item};
 ghost use Rattle.ipfix_session.specs.Contents.{set_contents, item_contents, contents_after};
 ghost use Rattle.ipfix_session.specs.Keeping.{Keeps, AreInForce, StandsIn, StandIn};
@@ -38,7 +38,7 @@ pub(crate) fn walk_items(
     message: &Bytes,
     said: Vec<Item>,
 ) -> Result<Walk, ReadError>
-    requires few { length message.now ≤ 65535 }
+    requires few { length message.now ≤ longest_message }
     requires stand { StandIn (length message.now) said.items }
     ensures reads { (older : List Item) → Keeps base.now.templates older
         → Gives contents_in result (contents_after older message.now said.items) }
@@ -70,7 +70,7 @@ fn read_item(
     item: Item,
     state: &mut Walk,
 ) -> Result<(), ReadError>
-    requires few { length message.now ≤ 65535 }
+    requires few { length message.now ≤ longest_message }
     requires stands { StandsIn (length message.now) item }
     requires room { IsCounted state.old.skips (2 ^ 64 - 2) }
     ensures reads { (done : List Item) → AreInForce (after state.old.changes base.now.templates) done
@@ -118,7 +118,7 @@ fn read_data_set(
     len: usize,
     state: &mut Walk,
 ) -> Result<(), ReadError>
-    requires few { length message.now ≤ 65535 }
+    requires few { length message.now ≤ longest_message }
     requires stands { (header_octets + set_header_octets ≤ start) × (start + len ≤ length message.now) }
     requires room { IsCounted state.old.skips (2 ^ 64 - 2) }
     ensures reads { Adds (contents_in state.old) (contents_in state.new)
@@ -137,7 +137,7 @@ fn read_data_set(
 /// So many octets at this place of the message, cut from it.
 fn content_of(message: &Bytes, start: usize, len: usize) -> Result<Bytes, AllocError>
     requires within { start + len ≤ length message.now }
-    requires few { length message.now ≤ 65535 }
+    requires few { length message.now ≤ longest_message }
     ensures { IfOk result (λ content. content ≡ take len (drop start message.now)) }
 {
     message.slice(start..start + len)

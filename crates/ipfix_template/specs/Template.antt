@@ -3,16 +3,16 @@
 use Rattle.std.specs.Prelude.{◌≡◌, ◌<◌, ◌^◌, ℕ, ◌+◌, Bool, true, false, List, ◌++◌, length, Option, Some, None, IfSome, nat_lt, ◌==◌, ◌||◌, if◌then◌else◌}
 use Rattle.std.specs.List.{sum_by, list_all, flat_map, AllByRecursion}
 use Rattle.ipfix_octets.specs.Octets.{be_octets}
-use Rattle.ipfix_octets.specs.MessageFormat.{least_template_id}
+use Rattle.ipfix_octets.specs.MessageFormat.{variable_length, least_template_id}
 use Rattle.ipfix_element.specs.Kinds.{kind_of, is_allowed_length}
 use Rattle.ipfix_template.specs.declared.field.FieldSpec.{FieldSpec}
 use Rattle.ipfix_template.specs.declared.template.Template.{Template}
 use Rattle.ipfix_template.specs.declared.template.Refused.{Refused}
 use Rattle.ipfix_template.specs.declared.template.Refused.TheVariants.{BadId, BadLength, BadScope, EmptyRecord}
 
--- length 65535 marks values of variable length
+-- the values bring their own lengths
 abbrev pub is_variable : FieldSpec → Bool
-is_variable f = f.length == 65535
+is_variable f = f.length == variable_length
 
 -- a field takes at least this many octets of a record
 abbrev pub least_octets : FieldSpec → ℕ

@@ -1,6 +1,6 @@
 -- The values of a record, as the octets of a Data Set spell them (RFC 7011, sections 3.3.1, 3.4.3 and 7).
 use Rattle.std.specs.Prelude.{◌≡◌, ℕ, ◌+◌, Bool, true, false, List, [], ◌∷◌, ◌++◌, length, take, drop, Option, Some, None, Result, MatchBool, nat_lt, nat_le, ◌==◌, ◌&&◌, if◌then◌else◌}
-use Rattle.ipfix_octets.specs.Variable.{IsVarText, shortest_text, varlen_at}
+use Rattle.ipfix_octets.specs.Variable.{IsVarText, longest_value, shortest_text, varlen_at}
 use Rattle.ipfix_octets.specs.Sequence.{Front, End, Fault, Next, read_all}
 use Rattle.sequences.specs.Options.{◌>>=◌}
 use Rattle.ipfix_template.specs.declared.field.FieldSpec.{FieldSpec}
@@ -58,7 +58,7 @@ records_in t octets = read_all (record_front t) octets
 
 -- a value that a record can have in this field
 abbrev pub fits_field : FieldSpec → List ℕ → Bool
-fits_field f value = if is_variable f then nat_le (length value) 65535 else length value == f.length
+fits_field f value = if is_variable f then nat_le (length value) longest_value else length value == f.length
 
 -- a value for each field, and each fits its own
 abbrev pub fit_fields : List FieldSpec → List (List ℕ) → Bool

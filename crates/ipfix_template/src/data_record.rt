@@ -14,8 +14,8 @@ use crate::template::Template;
 use bytes::Bytes;
 pub use entries::Entries;
 use ipfix_octets::message_format::{
-    HEADER_OCTETS, LEAST_TEMPLATE_ID, OPTIONS_RECORD_HEADER_OCTETS, RECORD_HEADER_OCTETS,
-    SET_HEADER_OCTETS,
+    HEADER_OCTETS, LEAST_TEMPLATE_ID, LONGEST_MESSAGE, OPTIONS_RECORD_HEADER_OCTETS,
+    RECORD_HEADER_OCTETS, SET_HEADER_OCTETS,
 };
 use ipfix_octets::variable::LONGEST_VALUE;
 use std::alloc::{AllocError, Global};
@@ -23,9 +23,9 @@ use std::marker::Model;
 use std::sync::Arc;
 pub use view::RecordView;
 
-/// The octets that one message has for a template record or a data record: 65,535 without the headers
-/// of the message and of a set (RFC 7011, sections 3.1 and 3.3.2).
-pub const RECORD_ROOM: usize = 65535 - HEADER_OCTETS - SET_HEADER_OCTETS;
+/// The octets that one message has for a template record or a data record: those of the longest one without
+/// the headers of the message and of a set (RFC 7011, sections 3.1 and 3.3.2).
+pub const RECORD_ROOM: usize = LONGEST_MESSAGE - HEADER_OCTETS - SET_HEADER_OCTETS;
 
 /// A record's values, in the order of its template's fields. Contracts see the list.
 #[derive(Debug, Drop)]
@@ -128,7 +128,7 @@ impl Record {
     ghost use Rattle.ipfix_template.specs.DataRecord.{DataRecord, IsSound, IsKept, kept_record};
     ghost use Rattle.ipfix_template.specs.Refusals.{IsWhy};
 
-    /// The record of a template and values.
+    /// For a program that has values of its own, and for tests: the record of a template and values.
     ///
     /// # Errors
     /// Both of them again: as [`NotMade::NoRecord`] exactly where they are no record, else for want of memory.
@@ -189,6 +189,7 @@ impl Record {
     }
 }
 
+ghost use Rattle.ipfix_template.specs.declared.field.TheConstants.{MOST_FIELDS};
 ghost use Rattle.ipfix_template.specs.DataRecord.{IsSound};
 ghost use Rattle.std.specs.List.{flat_map};
 ghost use Rattle.ipfix_octets.specs.MessageFormat.{least_template_id};
@@ -219,9 +220,9 @@ fn is_record(template: &Template, values: &[Bytes]) -> bool
         && record_octets(fields, values) <= RECORD_ROOM
 }
 
-/// The octets of the template's record.
+/// The octets of the template's record, as [`encode_template`](crate::encode_template) appends it.
 #[tactic(auto, using(crate::proofs::Encoding::octets_of_record))]
-fn template_octets(template: &Template) -> usize
+pub fn template_octets(template: &Template) -> usize
     ensures { result ≡ length (template_record least_template_id (is_options template.now) template.now) }
 {
     let specifiers = specifier_octets(template.fields.as_slice());
@@ -232,8 +233,9 @@ fn template_octets(template: &Template) -> usize
     }
 }
 
+/// The octets of the fields' specifiers: one with an enterprise number has four more (RFC 7011, section 3.2).
 fn specifier_octets(fields: &[FieldSpec]) -> usize
-    requires { length fields.now ≤ 65535 }
+    requires { length fields.now ≤ MOST_FIELDS }
     ensures exact { result ≡ length (flat_map specifier fields.now) }
     ensures few { result ≤ 8 * length fields.now }
 {
@@ -271,7 +273,7 @@ fn value_fits(field: &FieldSpec, value: &[u8]) -> bool
 
 /// The octets of the record, each value in its shortest text.
 fn record_octets(fields: &[FieldSpec], values: &[Bytes]) -> usize
-    requires few { length fields.now ≤ 65535 }
+    requires few { length fields.now ≤ MOST_FIELDS }
     requires fit { fit_fields fields.now values.now ≡ true }
     ensures { result ≡ length (record_text fields.now values.now) }
 {

@@ -39,8 +39,8 @@ pub fn encode_template(id: u16, template: &Template, out: &mut Vec<u8>) -> Resul
     put
 }
 
-/// Appends the record's values, each in its shortest text, as they stand in a Data Set (RFC 7011,
-/// sections 3.4.3 and 7): a copy of the octets that it keeps.
+/// For a program that writes records by itself, for tests and for laws: appends the record's values, each in its shortest
+/// text, as they stand in a Data Set (RFC 7011, sections 3.4.3 and 7). It is a copy of the octets that the record keeps.
 ///
 /// # Errors
 /// Want of memory, only where `out` had no room for it, and then nothing is appended.

@@ -67,12 +67,13 @@ pub struct Fields {
 impl Model for Fields {
     ghost use Rattle.std.specs.Prelude.{List, length, ◌≤◌};
     ghost use Rattle.ipfix_template.specs.declared.field.FieldSpec.{FieldSpec};
+    ghost use Rattle.ipfix_template.specs.declared.field.TheConstants.{MOST_FIELDS};
 
     ghost Value = { List FieldSpec };
 
     ghost view = { λ f. f.specs.items };
 
-    ghost invariant = { λ f. length f.specs.items ≤ 65535 };
+    ghost invariant = { λ f. length f.specs.items ≤ MOST_FIELDS };
 }
 
 impl Fields {

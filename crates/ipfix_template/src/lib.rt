@@ -10,7 +10,7 @@
 //! - [`spans`]: what the two answer, `Split` with its `Span`s, and `Extent`.
 //! - [`data_record`]: `Record`, a template and the octets of values that fit it; `Values`, a list of values; `Entries`,
 //!   a record's fields with their values; `RecordView`, a record among octets that others own; `RefusedRecord` and `NotMade`, what was
-//!   made no record, and why.
+//!   made no record, and why; `template_octets`, how long a template's record is.
 //! - [`encode`]: `encode_template`, `encode_record`, and `encode_values` and `encode_value` for values by themselves.
 //! - [`laws`]: what is written is read as what it was, and as nothing else.
 //!
@@ -38,7 +38,9 @@ pub mod spans;
 pub mod template;
 pub mod values;
 
-pub use data_record::{Entries, NotMade, Record, RecordView, RefusedRecord, Values};
+pub use data_record::{
+    Entries, NotMade, Record, RecordView, RefusedRecord, Values, template_octets,
+};
 pub use encode::{encode_record, encode_template, encode_value, encode_values};
 pub use extent::measure;
 pub use field::{FieldSpec, Fields};

@@ -1,6 +1,7 @@
 //! Templates, and why one is refused.
 ghost use Rattle.std.specs.Prelude.{◌≡◌, ◌≤◌, length, Some, None, MatchResult};
 ghost use Rattle.std.specs.List.{list_all, sum_by};
+ghost use Rattle.ipfix_template.specs.declared.field.TheConstants.{MOST_FIELDS};
 
 use crate::field::{FieldSpec, Fields};
 use ipfix_octets::message_format::LEAST_TEMPLATE_ID;
@@ -98,7 +99,7 @@ fn have_allowed_lengths(fields: &[FieldSpec]) -> bool
 }
 
 fn least_octets_of(fields: &[FieldSpec]) -> u32
-    requires { length fields.now ≤ 65535 }
+    requires { length fields.now ≤ MOST_FIELDS }
     ensures { result ≡ sum_by least_octets fields.now }
 {
     let mut octets = 0;

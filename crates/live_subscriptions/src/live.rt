@@ -1,5 +1,5 @@
 //! The live subscriptions by their numbers.
-ghost use Rattle.std.specs.Prelude.{◌≡◌, ◌≢◌, ◌≤◌, ℕ, [], ◌∷◌, Some, None, map, filter, ◌==◌, if◌then◌else◌, IsSome, IfSome, IfOk, OnOk, OnErr};
+ghost use Rattle.std.specs.Prelude.{◌≡◌, ◌≢◌, ◌≤◌, ℕ, [], ◌∷◌, Some, None, map, ◌==◌, if◌then◌else◌, IsSome, IfSome, IfOk, OnOk, OnErr};
 ghost use Rattle.std.specs.Option.{option_map, option_copied};
 ghost use Rattle.std.specs.List.{AllByRecursion};
 ghost use Rattle.ipfix_session.specs.Keeping.{at_key};
@@ -69,26 +69,6 @@ impl Live {
             Some(kept) => !share.given.is_empty() && !kept.stream.room(&share.given),
             None => false,
         }
-    }
-
-    /// The subscriptions whose limits leave no room for what these shares give them.
-    ///
-    /// # Errors
-    /// Want of memory.
-    pub(crate) fn without_room(
-        &self,
-        alloc: Global,
-        shares: &[Share],
-    ) -> Result<Vec<u64>, AllocError>
-        ensures { IfOk result (λ v. v.items ≡ map (λ p. p.0) (filter (lacks_room_among self.now.by_number.entries) (map shown shares.now))) }
-    {
-        let mut found = Vec::new(alloc);
-        'shares: for share in shares {
-            if self.lacks_room(share) {
-                found.push(share.sub)?;
-            }
-        }
-        Ok(found)
     }
 
     /// Makes room in each stream for what a share gives it.

@@ -96,16 +96,6 @@ impl Subscriptions {
         self.live.lacks_room(share)
     }
 
-    /// The subscriptions whose limits leave no room for what these shares give them, where that is any record.
-    ///
-    /// # Errors
-    /// Want of memory.
-    pub fn without_room(&self, shares: &[Share]) -> Result<Vec<u64>, AllocError>
-        ensures { IfOk result (λ v. v.items ≡ map (λ p. p.0) (filter (lacks_room_at self.now) (map shown shares.now))) }
-    {
-        self.live.without_room(self.alloc, shares)
-    }
-
     /// Makes room in each stream for what a share gives it.
     ///
     /// # Errors

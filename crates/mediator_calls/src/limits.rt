@@ -3,15 +3,7 @@ ghost use Rattle.std.specs.Prelude.{◌↔◌, IsTrue};
 ghost use Rattle.mediator_calls.specs.Limited.{AreAllowed};
 
 use event_journal::{MOST_ENTRIES, MOST_OCTETS};
-
-/// The most records that may wait for a subscription.
-const MOST_QUEUE: u32 = 1_000_000;
-
-/// The most distinct templates of a subscription's records: there are Template IDs from 256 to 65,535 (RFC 7011, section 3.4.1).
-const MOST_SHAPES: u32 = 65_280;
-
-/// The most audit entries that may wait.
-const MOST_AUDIT: u32 = 10_000_000;
+use subscriber_stream::{MOST_QUEUE, MOST_SHAPES};
 
 /// How much a mediator may hold. Each limit is at least 1.
 #[derive(Clone, Copy, Debug, PartialEq, Eq)]
@@ -38,7 +30,7 @@ impl Limits {
             && 1 <= self.shapes
             && self.shapes <= MOST_SHAPES
             && 1 <= self.audit
-            && self.audit <= MOST_AUDIT
+            && self.audit <= disclosure_audit::MOST_ENTRIES
             && 1 <= self.entries
             && self.entries <= MOST_ENTRIES
             && 1 <= self.octets

@@ -22,7 +22,7 @@ use Rattle.policy_judge.specs.Verdicts.{record_verdict_of}
 use Rattle.policy_judge.specs.Laws.{concerning}
 use Rattle.disclosure_audit.specs.declared.entry.RemovedField.{RemovedField}
 use Rattle.flow_anonymize.specs.declared.disclosure.Reason.TheVariants as because
-use Rattle.flow_anonymize.specs.Outcome.{Outcome, Passes, Aggregates, Withholds}
+use Rattle.flow_anonymize.specs.Outcome.{Outcome, Passes, Aggregates, Withholds, passed}
 use Rattle.flow_anonymize.specs.Remaining.{verdicts_of, removed_fields}
 use Rattle.flow_anonymize.specs.Disclosed.{remaining_template, remaining, first_lost, first_rule_of, unless_lost, transformed, by_action, disclosure_of}
 use Rattle.flow_anonymize.specs.OtherRules.{unnumbered}
@@ -36,7 +36,7 @@ use Rattle.mediator_history.specs.Sessions.{message_in, messages_of}
 use Rattle.mediator_history.specs.Subscriptions.{policy_or_none, edited, policy_in_force, named, name_of, switched, is_served}
 use Rattle.mediator_history.specs.Accepted.{records_meant, records_at}
 use Rattle.mediator_history.specs.Counting.{clock_in, clock_of, counts, counted_at, counted, running}
-use Rattle.mediator_history.specs.Disclosed.{passed, given_at}
+use Rattle.mediator_history.specs.Disclosed.{given_at}
 use Rattle.mediator_history.proofs.HistoryLaws.{flat_map-push}
 use Rattle.mediator_history.proofs.CountingLaws.{counted-push, running_by}
 use Rattle.mediator_core.specs.Secrecy.{EntryByEntry, LeavesOut, IsSameOrLess, IsCalled, RulesOfOthersNeverMatter, concerns, EntriesOfOthersNeverMatter, IsAlike, AreAllAlike, IsAlikeAt, AreAlikeFrom, DeniedValuesNeverMatter}

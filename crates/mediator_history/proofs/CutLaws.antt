@@ -12,6 +12,7 @@ use Rattle.sequences.proofs.BeforeLaws.{each_with_before-append, last_of-append,
 use Rattle.ipfix_template.specs.DataRecord.{DataRecord}
 use Rattle.ipfix_session.specs.Meaning.{meaning_of, domain_of}
 use Rattle.policy_text.specs.Policies.{Meaning as Policy, nothing as no_policy}
+use Rattle.flow_anonymize.specs.Outcome.{passed}
 use Rattle.flow_anonymize.specs.Disclosed.{disclosure_of}
 use Rattle.event_journal.specs.declared.entry.Entry.{Entry}
 use Rattle.event_journal.specs.declared.entry.Entry.TheVariants.{Message, Cut}
@@ -21,7 +22,7 @@ use Rattle.mediator_history.specs.Sessions.{opens, is_open, message_in, messages
 use Rattle.mediator_history.specs.Subscriptions.{edited, policy_in_force, named, name_of, switched, is_served, subscribed_in, served}
 use Rattle.mediator_history.specs.Accepted.{records_meant}
 use Rattle.mediator_history.specs.Counting.{outcome_for}
-use Rattle.mediator_history.specs.Disclosed.{passed, given_at, disclosed}
+use Rattle.mediator_history.specs.Disclosed.{given_at, disclosed}
 use Rattle.mediator_history.specs.Auditing.{audit_entry, audit_at, audit_list, cut_entries}
 use Rattle.mediator_history.specs.Cuts.{after_cuts}
 use Rattle.mediator_history.proofs.ListFilters.{filter_ext, filter_filter}

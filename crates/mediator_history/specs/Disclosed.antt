@@ -1,22 +1,16 @@
 -- What is disclosed to a subscription.
-use Rattle.std.specs.Prelude.{ℕ, List, [], ◌∷◌, if◌then◌else◌}
+use Rattle.std.specs.Prelude.{ℕ, List, [], if◌then◌else◌}
 use Rattle.std.specs.List.{flat_map}
 use Rattle.sequences.specs.Before.{each_with_before}
 use Rattle.ipfix_template.specs.DataRecord.{DataRecord}
 use Rattle.ipfix_session.specs.Meaning.{domain_of}
-use Rattle.flow_anonymize.specs.Outcome.{Outcome, Passes, Aggregates, Withholds}
+use Rattle.flow_anonymize.specs.Outcome.{passed}
 use Rattle.flow_aggregate.specs.Closing.{closed_by}
 use Rattle.event_journal.specs.declared.entry.Entry.{Entry}
 use Rattle.event_journal.specs.declared.entry.Entry.TheVariants.{Message, Advance}
 use Rattle.mediator_history.specs.Subscriptions.{is_served}
 use Rattle.mediator_history.specs.Accepted.{records_at}
 use Rattle.mediator_history.specs.Counting.{outcome_for, running}
-
--- the record that is handed on, if one is
-abbrev pub passed : Outcome → List DataRecord
-passed (Passes kept removed) = kept ∷ []
-passed (Aggregates rule definition) = []
-passed (Withholds rule reason) = []
 
 -- what an entry gives to a subscription, by what stands before it: a message the records that pass, an advance of the clock the
 -- groups that it closes

@@ -13,8 +13,8 @@ use shared_mediator::{
 };
 use std::sync::Wait;
 
-/// The most octets of a message: its length stands in 16 bits (RFC 7011, section 3.1).
-const LONGEST_MESSAGE: u64 = 65_535;
+/// The most octets of a message.
+const LONGEST_MESSAGE: u64 = ipfix_octets::message_format::LONGEST_MESSAGE as u64;
 
 /// Delivers a subscription: pulls its messages, of at most `target` octets where they can be so short, and writes them, until
 /// nothing is queued and nothing will be; and answers how many octets were sent. Where the writer fails, the subscription is

@@ -7,7 +7,9 @@ use Rattle.ipfix_session.specs.Keeping.{at_key}
 use Rattle.ipfix_session.specs.Meaning.{Meaning}
 use Rattle.ipfix_session.specs.ReadAhead.{Ahead, IsReadingOf, HasRoomFor}
 use Rattle.disclosure_audit.specs.declared.entry.AuditEntry.{AuditEntry}
+use Rattle.disclosure_audit.specs.declared.audit.TheConstants.{MOST_ENTRIES as MOST_AUDITED}
 use Rattle.disclosure_audit.specs.Queue.{Kept}
+use Rattle.event_journal.specs.declared.limits.TheConstants.{MOST_ENTRIES}
 use Rattle.event_journal.specs.declared.entry.Entry.{Entry}
 use Rattle.event_journal.specs.declared.entry.Entry.TheVariants.{Message}
 use Rattle.mediator_history.specs.Sessions.{is_open, messages_of}
@@ -36,13 +38,13 @@ LacksAudit _ audit noted = ⊥
 -- the audit has room for so many entries, in memory too
 pub record HasAuditFor (audit : Kept) (more : ℕ) : Type 0 where
   pub room : length audit.standing.entries + more ≤ audit.limit
-  pub limit : audit.limit ≤ 10000000
+  pub limit : audit.limit ≤ MOST_AUDITED
   pub reserved : more ≤ audit.spare
 
 -- room was made for what a plan does, and what it counts is ready so
 pub record HasRoomForPlan (e : Engine) (p : Plan) (reserved : List (ℕ × List Addition)) : Type 0 where
   pub audit : length e.audit.standing.entries + (length p.cuts.items + length p.entries.items) ≤ e.audit.limit
-  pub limit : e.audit.limit ≤ 10000000
+  pub limit : e.audit.limit ≤ MOST_AUDITED
   pub reserved : length p.cuts.items + length p.entries.items ≤ e.audit.spare
   pub session : IfSome (at_key p.session e.sessions) (λ o. HasRoomFor o.session p.reading)
   pub streams : AllByRecursion (HasSpare e.subscriptions.live) (map shown p.shares.items)
@@ -55,7 +57,7 @@ pub record IsPlannedFor (e : Engine) (position : ℕ) (p : Plan) : Type 0 where
   pub octets : List ℕ
   pub stands : Stands e history
   pub counted : length history ≡ position
-  pub short : position ≤ 100000000
+  pub short : position ≤ MOST_ENTRIES
   pub plan : IsPlan e history number octets p
 
 -- the receipt of a message of this meaning, behind so many entries and cuts
@@ -83,4 +85,4 @@ pub record IsMessage (e : Engine) (h : List Entry) (session number : ℕ) (octet
   pub entries_are : entries ≡ audit_at h (Message session number octets)
   pub room : AllByRecursion (HasRoomIn e.subscriptions) shares
   pub streamable : AllByRecursion AreStreamed shares
-  pub few : length entries ≤ 10000000
+  pub few : length entries ≤ MOST_AUDITED

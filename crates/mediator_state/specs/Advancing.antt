@@ -2,6 +2,7 @@
 use Rattle.std.specs.Prelude.{◌≡◌, ℕ, ◌≤◌, List, [], length, map, filter, not}
 use Rattle.std.specs.List.{AllByRecursion}
 use Rattle.ipfix_template.specs.DataRecord.{DataRecord}
+use Rattle.event_journal.specs.declared.limits.TheConstants.{MOST_ENTRIES}
 use Rattle.event_journal.specs.declared.entry.Entry.{Entry}
 use Rattle.event_journal.specs.declared.entry.Entry.TheVariants.{Advance}
 use Rattle.mediator_history.specs.Subscriptions.{served}
@@ -33,7 +34,7 @@ pub record IsClosingFor (e : Engine) (position t : ℕ) (c : Closing) : Type 0 w
   pub history : List Entry
   pub stands : Stands e history
   pub counted : length history ≡ position
-  pub short : position ≤ 100000000
+  pub short : position ≤ MOST_ENTRIES
   pub judged : IsJudged e history (Advance t) c.cuts.items (map shown c.shares.items) []
 
 -- the streams have room for these shares

@@ -4,9 +4,11 @@ use Rattle.ipfix_session.specs.Meaning.{Meaning, meaning_of}
 use Rattle.policy_text.specs.Policies.{Meaning as Policy}
 use Rattle.policy_text.specs.Parsing.{policy_of}
 use Rattle.policy_text.specs.Naming.{is_name}
+use Rattle.subscriber_stream.specs.declared.limits.TheConstants.{MOST_QUEUE, MOST_SHAPES}
 use Rattle.subscriber_stream.specs.Shapes.{shapes_of}
 use Rattle.subscriber_stream.specs.Parts.{parts, records_in}
 use Rattle.subscriber_stream.specs.Message.{built, place_after}
+use Rattle.disclosure_audit.specs.declared.audit.TheConstants.{MOST_ENTRIES as MOST_AUDITED}
 use Rattle.disclosure_audit.specs.declared.entry.AuditEntry.{AuditEntry}
 use Rattle.event_journal.specs.Sizes.{history_octets}
 use Rattle.event_journal.specs.declared.entry.Entry.{Entry}
@@ -31,10 +33,10 @@ use Rattle.mediator_state.specs.Planning.{IsNext, RefusesMessage}
 use Rattle.mediator_state.specs.Accepting.{receipt_of}
 
 pub record AreLimits (limits : Limits) : Type 0 where
-  pub queue : limits.queue ≤ 1000000
-  pub shapes : limits.shapes ≤ 65280
+  pub queue : limits.queue ≤ MOST_QUEUE
+  pub shapes : limits.shapes ≤ MOST_SHAPES
   pub some_audit : 1 ≤ limits.audit
-  pub audit : limits.audit ≤ 10000000
+  pub audit : limits.audit ≤ MOST_AUDITED
 
 -- the state stands for the history, which what keeps it tells
 pub record StandsFor {C : Type 0} (tells : C → List Entry → Type 0) (s : State C) (h : List Entry) : Type 0 where

@@ -4,9 +4,11 @@ use Rattle.std.specs.List.{flat_map, AllByRecursion}
 use Rattle.ipfix_session.specs.Keeping.{at_key}
 use Rattle.ipfix_session.specs.Standing.{StandsFor}
 use Rattle.subscriber_stream.specs.declared.limits.Limits.{Limits}
+use Rattle.subscriber_stream.specs.declared.limits.TheConstants.{MOST_QUEUE, MOST_SHAPES}
 use Rattle.subscriber_stream.specs.Standing.{Standing, StandsAt, queued}
 use Rattle.stream_meaning.specs.Served.{AreStreamable}
 use Rattle.flow_aggregate.specs.Running.{StandsFor as StandsForRecords}
+use Rattle.disclosure_audit.specs.declared.audit.TheConstants.{MOST_ENTRIES as MOST_AUDITED}
 use Rattle.disclosure_audit.specs.Queue.{StandsIn}
 use Rattle.event_journal.specs.declared.entry.Entry.{Entry}
 use Rattle.mediator_history.specs.Numbers.{AreDistinct}
@@ -64,14 +66,14 @@ pub record AreNumbered (h : List Entry) : Type 0 where
 
 -- no count comes near its end, and what is disclosed can be streamed
 pub record IsSmall (h : List Entry) : Type 0 where
-  pub listed : (sub : ℕ) → length (disclosed sub h) ≤ 1000000 * length h
-  pub audited : length (audit_list h) ≤ 10000000 * length h
+  pub listed : (sub : ℕ) → length (disclosed sub h) ≤ MOST_QUEUE * length h
+  pub audited : length (audit_list h) ≤ MOST_AUDITED * length h
   pub streamable : (sub : ℕ) → AreStreamable (disclosed sub h)
 
 -- the limits are ones that a mediator may have
 pub record AreInRange (limits : Limits) : Type 0 where
-  pub queue : limits.queue ≤ 1000000
-  pub shapes : limits.shapes ≤ 65280
+  pub queue : limits.queue ≤ MOST_QUEUE
+  pub shapes : limits.shapes ≤ MOST_SHAPES
 
 pub record Stands (e : Engine) (h : List Entry) : Type 0 where
   pub policy : e.in_force.policy ≡ policy_in_force h

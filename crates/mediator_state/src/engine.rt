@@ -5,7 +5,8 @@ ghost use Rattle.policy_text.specs.Parsing.{policy_of};
 ghost use Rattle.record_sharing.specs.InForce.{in_force_with};
 ghost use Rattle.policy_text.specs.Naming.{is_name};
 ghost use Rattle.disclosure_audit.specs.Queue as queue;
-ghost use Rattle.disclosure_audit.specs.declared.audit.TheConstants.{MOST_ENTRIES};
+ghost use Rattle.disclosure_audit.specs.declared.audit.TheConstants.{MOST_ENTRIES as MOST_AUDITED};
+ghost use Rattle.event_journal.specs.declared.limits.TheConstants.{MOST_ENTRIES};
 ghost use Rattle.event_journal.specs.declared.entry.Entry.{Entry};
 ghost use Rattle.event_journal.specs.declared.entry.Entry.TheVariants.{Open, Close, Message, Edit, Subscribe, Unsubscribe, Cut};
 ghost use Rattle.mediator_history.specs.Sessions.{is_open, sessions_opened};
@@ -75,7 +76,7 @@ impl Engine {
     pub(crate) fn new(alloc: Global, limits: Limits, audit: u32) -> Result<Engine, AllocError>
         requires range { AreInRange limits }
         requires least { 1 ≤ audit }
-        requires most { audit ≤ MOST_ENTRIES }
+        requires most { audit ≤ MOST_AUDITED }
         ensures stands { IfOk result (λ e. Stands e []) }
         ensures drained { IfOk result (λ e. e.audit.standing.drained ≡ 0) }
         ensures limits { IfOk result (λ e. e.limits ≡ limits) }
@@ -98,7 +99,7 @@ impl Engine {
     /// The number of the next session.
     pub(crate) fn next_session(&self, position: u64) -> u64
         requires somewhere { StandsSomewhere self.now position }
-        requires short { position ≤ 100000000 }
+        requires short { position ≤ MOST_ENTRIES }
         ensures value { result ≡ self.now.opened + 1 }
         ensures next { (h : List Entry) → Stands self.now h → result ≡ sessions_opened h + 1 }
     {
@@ -156,7 +157,7 @@ impl Engine {
     /// Puts a policy in force, and says how many edits there were.
     pub(crate) fn put_in_force(&mut self, in_force: InForce, position: u64) -> u64
         requires somewhere { StandsSomewhere self.old position }
-        requires short { position ≤ 100000000 }
+        requires short { position ≤ MOST_ENTRIES }
         requires same_clock { in_force.clock ≡ self.old.in_force.clock }
         ensures value { (h : List Entry) → Stands self.old h → result ≡ edits_made h + 1 }
         ensures stands { (h : List Entry) (text : List ℕ) → Stands self.old h → policy_of text ≡ Ok in_force.policy → Stands self.new (h ++ Edit text ∷ []) }
@@ -170,7 +171,7 @@ impl Engine {
     /// The number of the next subscription.
     pub(crate) fn next_subscription(&self, position: u64) -> u64
         requires somewhere { StandsSomewhere self.now position }
-        requires short { position ≤ 100000000 }
+        requires short { position ≤ MOST_ENTRIES }
         ensures value { result ≡ self.now.begun + 1 }
         ensures next { (h : List Entry) → Stands self.now h → result ≡ subscriptions_begun h + 1 }
     {

@@ -3,6 +3,7 @@ ghost use Rattle.std.specs.Prelude.{◌≡◌, ◌≤◌, ◌<◌, ◌+◌, ◌^
 ghost use Rattle.sequences.specs.Octets.{AreOctets};
 ghost use Rattle.record_sharing.specs.InForce.{InForce as Force};
 ghost use Rattle.ipfix_template.specs.DataRecord.{DataRecord};
+ghost use Rattle.event_journal.specs.declared.limits.TheConstants.{MOST_ENTRIES};
 ghost use Rattle.event_journal.specs.declared.entry.Entry.{Entry};
 ghost use Rattle.live_subscriptions.specs.Table.{shown};
 ghost use Rattle.record_sharing.specs.Sharing.{tallied, shares_of, tallies_of, notes_of};
@@ -53,7 +54,7 @@ impl Engine {
         message: &Bytes,
     ) -> Result<Plan, Fault>
         requires somewhere { StandsSomewhere self.old position }
-        requires short { position ≤ 100000000 }
+        requires short { position ≤ MOST_ENTRIES }
         ensures ok { IfOk result (λ p. (h : List Entry) → Stands self.old h → length h ≡ position → IsPlan self.old h number message.now p) }
         ensures session { IfOk result (λ p. p.session ≡ session) }
         ensures err { IfErr result (λ e. (h : List Entry) → Stands self.old h → RefusesMessage e h session number message.now) }
@@ -95,7 +96,7 @@ impl Engine {
     /// Want of memory.
     fn judge(&mut self, position: u64, reading: &Reading) -> Result<Judged, AllocError>
         requires few { length reading.now.meaning.records ≤ 2 ^ 32 }
-        requires short { position ≤ 100000000 }
+        requires short { position ≤ MOST_ENTRIES }
         ensures judged { IfOk result (λ j. (h : List Entry) → Stands self.old h → length h ≡ position → IsJudgedFor self.old h reading.now.meaning j) }
         ensures same { self.new ≡ self.old }
     {
@@ -140,7 +141,7 @@ fn judged_at(
     cuts: Vec<u64>,
     left: Shares,
 ) -> Result<Judged, AllocError>
-    requires short { position ≤ 100000000 }
+    requires short { position ≤ MOST_ENTRIES }
     ensures cuts { IfOk result (λ j. j.cuts.items ≡ cuts.items) }
     ensures shares { IfOk result (λ j. j.shares.items ≡ left.shares.items) }
     ensures tallies { IfOk result (λ j. j.tallies.items ≡ left.tallies.items) }

@@ -1,5 +1,6 @@
 //! A mediator's state, over what keeps its history.
 ghost use Rattle.std.specs.Prelude.{◌≡◌, ◌≤◌, ◌<◌, ◌+◌, ◌^◌, ◌++◌, ◌∷◌, ◌↔◌, [], ◌≢◌, ℕ, List, length, map, take, drop, true, false, IfOk, IfErr, IfSome, IfNone, OnOk, OnErr};
+ghost use Rattle.event_journal.specs.declared.limits.TheConstants.{MOST_ENTRIES};
 ghost use Rattle.event_journal.specs.declared.entry.Entry.{Entry};
 ghost use Rattle.event_journal.specs.declared.entry.Entry.TheVariants.{Open, Close, Message, Edit, Subscribe, Unsubscribe, Advance, Cut};
 ghost use Rattle.event_journal.specs.Room.{HasRoom};
@@ -79,7 +80,7 @@ impl<C: Chronicle + Drop> State<C> {
         ensures count { C.count self.new.chronicle ≡ C.count self.old.chronicle }
         ensures octets { C.octets self.new.chronicle ≡ C.octets self.old.chronicle }
         ensures limits { C.limits self.new.chronicle ≡ C.limits self.old.chronicle }
-        ensures short { OnOk result (C.count self.old.chronicle < 100000000) }
+        ensures short { OnOk result (C.count self.old.chronicle < MOST_ENTRIES) }
         ensures reserved { OnOk result (0 < C.spare self.new.chronicle) }
         ensures err { IfErr result (λ e. LacksRoom e (C.limits self.old.chronicle) (C.count self.old.chronicle) (C.octets self.old.chronicle) (entry.now ∷ [])) }
     {

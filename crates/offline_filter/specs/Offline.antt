@@ -1,12 +1,14 @@
 -- The history of a run over one stream, and what is due for it.
-use Rattle.std.specs.Prelude.{ℕ, zero, suc, ◌^◌, List, [], ◌∷◌, ◌++◌, length, fold, Option, Some, None}
+use Rattle.std.specs.Prelude.{ℕ, zero, suc, List, [], ◌∷◌, ◌++◌, length, fold, Option, Some, None}
 use Rattle.sequences.specs.Before.{each_with_before}
 use Rattle.ipfix_template.specs.DataRecord.{DataRecord}
 use Rattle.subscriber_stream.specs.declared.limits.Limits.{Limits}
+use Rattle.subscriber_stream.specs.declared.limits.TheConstants.{MOST_SHAPES}
 use Rattle.subscriber_stream.specs.Parts.{parts}
 use Rattle.subscriber_stream.specs.Message.{built, place_after}
 use Rattle.offline_filter.specs.Lines.{lines_for}
 use Rattle.offline_filter.specs.declared.job.OfflineJob.{OfflineJob}
+use Rattle.event_journal.specs.declared.limits.TheConstants.{MOST_ENTRIES, MOST_OCTETS}
 use Rattle.event_journal.specs.declared.entry.Entry.{Entry}
 use Rattle.event_journal.specs.declared.entry.Entry.TheVariants.{Open, Message, Edit, Subscribe}
 use Rattle.event_journal.specs.Room.{Limits as Journaled}
@@ -17,15 +19,15 @@ use Rattle.mediator_history.specs.Cuts.{cuts_before}
 
 -- how many records may wait for a subscriber, and how many shapes its records may have
 abbrev pub stream_limits : Limits
-stream_limits = record { queue = 65536; shapes = 65280 }
+stream_limits = record { queue = 65536; shapes = MOST_SHAPES }
 
 -- how many audit entries may wait
 abbrev pub audit_limit : ℕ
 audit_limit = 131072
 
--- a history has at most 100,000,000 entries, of at most 2^40 octets
+-- a history may be as long as any
 abbrev pub journal_limits : Journaled
-journal_limits = record { entries = 100000000; octets = 2 ^ 40 }
+journal_limits = record { entries = MOST_ENTRIES; octets = MOST_OCTETS }
 
 -- the policy comes first
 abbrev pub edited : OfflineJob → List Entry

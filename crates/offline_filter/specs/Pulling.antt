@@ -2,6 +2,7 @@
 use Rattle.std.specs.Prelude.{◌≡◌, ℕ, ◌+◌, ◌*◌, ◌≤◌, Bool, List, length, Option}
 use Rattle.std.specs.List.{concat}
 use Rattle.std.specs.Io.KnownBytes.{Appends}
+use Rattle.ipfix_octets.specs.MessageFormat.{longest_message}
 use Rattle.subscriber_stream.specs.Message.{built, place_after}
 use Rattle.octet_devices.specs.Written.{WritesFront}
 use Rattle.event_journal.specs.declared.entry.Entry.{Entry}
@@ -20,7 +21,7 @@ pub record IsDelivering (d : Run) : Type 0 where
   pub place : ℕ
   pub stands : Stands d history place
   pub small : Small history
-  pub sent : d.sent ≤ 65535 * place
+  pub sent : d.sent ≤ longest_message * place
 
 -- what a pull answers, and the place that it leaves
 pub record Pulls (old : Run) (answer : Option (List ℕ)) (new : Run) : Type 0 where
@@ -35,7 +36,7 @@ pub record Delivers (old new : Run) (held holds : Option (List ℕ)) : Type 0 wh
   pub handed : (h : List Entry) (p : ℕ) → Stands old h p → Small h → HandsOut (disclosed 1 h) old.job.now old.job.target p messages (end_of h) × Stands new h (end_of h)
   pub written : Appends held holds (concat messages)
   pub sent : new.sent ≡ old.sent + length (concat messages)
-  pub few : (p : ℕ) → old.sent ≤ 65535 * p → (h : List Entry) → Stands old h p → Small h → new.sent ≤ 65535 * end_of h
+  pub few : (p : ℕ) → old.sent ≤ longest_message * p → (h : List Entry) → Stands old h p → Small h → new.sent ≤ longest_message * end_of h
 
 -- a front of the messages that waited was written: whole ones where memory ran out, and up to an octet where the writer
 -- failed

@@ -2,6 +2,7 @@
 use Rattle.std.specs.Prelude.{◌≡◌, ℕ, ◌*◌, ◌≤◌, Bool, List, [], ◌∷◌, ◌++◌, length, Option}
 use Rattle.std.specs.List.{concat}
 use Rattle.std.specs.Io.KnownBytes.{Appends}
+use Rattle.ipfix_octets.specs.MessageFormat.{longest_message}
 use Rattle.stream_meaning.specs.HandedOut.{AreHandedOut}
 use Rattle.offline_filter.specs.declared.job.OfflineJob.{OfflineJob}
 use Rattle.offline_filter.specs.declared.job.OfflineFault.{OfflineFault}
@@ -30,7 +31,7 @@ pub record IsRunning (d : Run) (job : OfflineJob) (messages : List (List ℕ)) (
   pub small : Small (history_of job messages)
   pub quiet : audit_waiting d ≡ []
   pub sent : d.sent ≡ length (concat (due job messages))
-  pub few : d.sent ≤ 65535 * end_of (history_of job messages)
+  pub few : d.sent ≤ longest_message * end_of (history_of job messages)
   pub written : Appends held holds (concat (due job messages))
   pub audited : Appends aheld aholds (audit_due job messages)
   pub accepted : AreAccepted job [] messages

@@ -1,8 +1,10 @@
 -- What a run keeps, and the history that it stands for.
-use Rattle.std.specs.Prelude.{◌≡◌, ℕ, ◌+◌, ◌*◌, ◌≤◌, ◌^◌, true, List, [], ◌∷◌, length}
+use Rattle.std.specs.Prelude.{◌≡◌, ℕ, ◌+◌, ◌*◌, ◌≤◌, true, List, [], ◌∷◌, length}
 use Rattle.std.specs.List.{flat_map}
+use Rattle.subscriber_stream.specs.declared.limits.TheConstants.{MOST_QUEUE}
 use Rattle.stream_meaning.specs.Served.{AreStreamable}
 use Rattle.disclosure_audit.specs.declared.entry.AuditEntry.{AuditEntry}
+use Rattle.event_journal.specs.declared.limits.TheConstants.{MOST_ENTRIES, MOST_OCTETS}
 use Rattle.event_journal.specs.declared.entry.Entry.{Entry}
 use Rattle.event_journal.specs.Counted.{Counted}
 use Rattle.event_journal.specs.Sizes.{history_octets, IsCountOf}
@@ -48,10 +50,10 @@ pub record Stands (d : Run) (h : List Entry) (p : ℕ) : Type 0 where
 
 -- no count comes near its end, and what is disclosed can be streamed
 pub record Small (h : List Entry) : Type 0 where
-  pub entries : length h ≤ 100000000
-  pub octets : history_octets h ≤ 2 ^ 40
+  pub entries : length h ≤ MOST_ENTRIES
+  pub octets : history_octets h ≤ MOST_OCTETS
   pub records : length (accepted h) ≤ history_octets h
-  pub listed : length (disclosed 1 h) ≤ 1000000 * length h
+  pub listed : length (disclosed 1 h) ≤ MOST_QUEUE * length h
   pub streamable : AreStreamable (disclosed 1 h)
 
 -- a run that stands somewhere

@@ -4,6 +4,7 @@ use Rattle.std.specs.List.{flat_map}
 use Rattle.sequences.specs.Before.{each_with_before}
 use Rattle.ipfix_template.specs.DataRecord.{DataRecord}
 use Rattle.ipfix_session.specs.Meaning.{domain_of}
+use Rattle.flow_anonymize.specs.Outcome.{passed}
 use Rattle.disclosure_audit.specs.declared.reason.Reason.TheVariants.{Late}
 use Rattle.disclosure_audit.specs.declared.entry.What.TheVariants.{Withheld}
 use Rattle.disclosure_audit.specs.declared.entry.AuditEntry.{AuditEntry}
@@ -12,7 +13,6 @@ use Rattle.event_journal.specs.declared.entry.Entry.TheVariants.{Message}
 use Rattle.mediator_history.specs.Subscriptions.{is_served}
 use Rattle.mediator_history.specs.Accepted.{records_at}
 use Rattle.mediator_history.specs.Counting.{outcome_for}
-use Rattle.mediator_history.specs.Disclosed.{passed}
 use Rattle.offline_filter.specs.declared.job.OfflineJob.{OfflineJob}
 use Rattle.offline_filter.specs.Offline.{history_of}
 

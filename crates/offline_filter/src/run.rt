@@ -7,12 +7,13 @@ use bytes::Bytes;
 use event_journal::{MOST_ENTRIES, MOST_OCTETS, Tally};
 use mediator_state::{Fault, Limits, State};
 use std::alloc::Global;
+use subscriber_stream::MOST_SHAPES;
 
 /// How many records may wait for the subscriber, how many templates its records may have, and how many entries may wait in
 /// the audit.
 const LIMITS: Limits = Limits {
     queue: 65_536,
-    shapes: 65_280,
+    shapes: MOST_SHAPES,
     audit: 131_072,
 };
 

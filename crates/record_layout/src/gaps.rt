@@ -1,5 +1,6 @@
 //! The octets of fixed length before, between and behind the fields of variable length.
 ghost use Rattle.std.specs.Prelude.{◌≡◌, ◌≤◌, ◌*◌, length, IfOk, IfSome};
+ghost use Rattle.ipfix_template.specs.declared.field.TheConstants.{MOST_FIELDS};
 ghost use Rattle.record_layout.specs.Gaps.{first_gap, gaps_behind, walk_at, start_of};
 
 use ipfix_octets::read_varlen;
@@ -11,7 +12,7 @@ const LONG_FROM: usize = 255;
 
 /// The octets of the fields before the first field of variable length.
 pub(crate) fn first_gap(fields: &[FieldSpec]) -> usize
-    requires { length fields.now ≤ 65535 }
+    requires { length fields.now ≤ MOST_FIELDS }
     ensures { result ≡ first_gap fields.now }
 {
     let mut octets = 0;
@@ -26,7 +27,7 @@ pub(crate) fn first_gap(fields: &[FieldSpec]) -> usize
 
 /// For each field of variable length, the octets of the fields between it and the next one, or the end.
 pub(crate) fn gaps_behind(alloc: Global, fields: &[FieldSpec]) -> Result<Vec<usize>, AllocError>
-    requires { length fields.now ≤ 65535 }
+    requires { length fields.now ≤ MOST_FIELDS }
     ensures { IfOk result (λ gaps. gaps.items ≡ gaps_behind fields.now) }
 {
     let mut gaps = Vec::new(alloc);

@@ -15,7 +15,6 @@ use Rattle.policy_text.specs.Policies.{Aggregate}
 use Rattle.flow_anonymize.specs.Outcome as outcome
 use Rattle.flow_anonymize.specs.Outcome.{Outcome, Passes, Aggregates, Withholds}
 use Rattle.mediator_history.specs.Counting.{counts}
-use Rattle.mediator_history.specs.Disclosed.{passed}
 use Rattle.mediator_history.specs.Auditing.{kept_back}
 use Rattle.record_sharing.specs.InForce.{InForce}
 use Rattle.live_subscriptions.specs.declared.served.Served.{Served}
@@ -137,12 +136,6 @@ added old new told tnew before notes domain f index r served place so over = rec
   noting = so.noting ∙ ap (λ l. before ++ flat_map (noted domain f (index, r)) l) (take_all place served over);
 }
 
--- what passes, by whichever definition
-passed_same : (o : Outcome) → outcome.passed o ≡ passed o
-passed_same (Passes kept removed) = refl
-passed_same (Aggregates rule definition) = refl
-passed_same (Withholds rule reason) = refl
-
 counts_same : (aggregates : List Aggregate) (clock : ℕ) (r : DataRecord) (o : Outcome) → counts_by aggregates clock r (outcome.decision_of o) ≡ counts aggregates clock r o
 counts_same aggregates clock r (Passes kept removed) = refl
 counts_same aggregates clock r (Aggregates rule definition) = refl
@@ -160,7 +153,7 @@ pub adding_step : (old new new2 : List (ℕ × List DataRecord)) (told tnew tnew
     → length new2 ≡ length new → length tnew2 ≡ length tnew → notes2 ≡ notes ++ map (note_of index who.sub) (kept_back_by f.policy.aggregates f.clock r found)
     → IsAdding old new2 told tnew2 before notes2 domain f index r served (place + 1)
 adding_step old new new2 told tnew tnew2 before notes notes2 domain f index r served place who other found so within at is gives tallies same same_too notes_grow = record {
-  shares = sharing_step (given_by domain f) old new new2 r served place who other so.shares within at (λ b a s split l. gives b a s split l ∙ ap (λ g. b ++ grown s g ∷ a) (passed_same o));
+  shares = sharing_step (given_by domain f) old new new2 r served place who other so.shares within at gives;
   tallies = sharing_step (added_by domain f) (map tallied told) (map tallied tnew) (map tallied tnew2) r served place who other so.tallies within at
       (λ b a s split l. tallies b a s split l ∙ ap (λ (d : Decision). b ++ grown s (map count_of (counts_by f.policy.aggregates f.clock r d)) ∷ a) is ∙ ap (λ c. b ++ grown s (map count_of c) ∷ a) (counts_same f.policy.aggregates f.clock r o));
   noting = notes_grow ∙ ap (λ (d : Decision). notes ++ map (note_of index who.sub) (kept_back_by f.policy.aggregates f.clock r d)) is ∙ ap (λ k. notes ++ map (note_of index who.sub) k) (kept_back_same f.policy.aggregates f.clock r o)

@@ -3,7 +3,7 @@
 use Rattle.std.specs.Prelude.{ℕ, List, [], ◌∷◌, map, slice_get}
 use Rattle.std.specs.List.{flat_map, enumerate_from}
 use Rattle.ipfix_template.specs.DataRecord.{DataRecord}
-use Rattle.flow_anonymize.specs.Outcome.{Outcome}
+use Rattle.flow_anonymize.specs.Outcome.{Outcome, passed}
 use Rattle.flow_anonymize.specs.Disclosed.{disclosure_of}
 use Rattle.flow_aggregate.specs.Counts.{Count, count_of}
 use Rattle.disclosure_audit.specs.declared.entry.What.{What}
@@ -13,7 +13,6 @@ use Rattle.flow_anonymize.specs.declared.decision.Decision.{Decision}
 use Rattle.flow_anonymize.specs.declared.decision.Decision.TheVariants.{Passed, Aggregated, Withheld}
 use Rattle.flow_aggregate.specs.Groups.{Counted}
 use Rattle.mediator_history.specs.Counting.{counts, counted_in, timing_at}
-use Rattle.mediator_history.specs.Disclosed.{passed}
 use Rattle.mediator_history.specs.Auditing.{kept_back, removed_of, told_of, reason_named}
 use Rattle.record_sharing.specs.InForce.{InForce}
 use Rattle.live_subscriptions.specs.declared.served.Served.{Served}

@@ -1,7 +1,11 @@
 -- Which key of settings is at fault, said of each key alone.
-use Rattle.std.specs.Prelude.{◌≡◌, ◌^◌, ℕ, Bool, not, List, [], ◌∷◌, Option, Some, None, is_some, find}
+use Rattle.std.specs.Prelude.{◌≡◌, ℕ, Bool, not, List, [], ◌∷◌, Option, Some, None, is_some, find}
 use Rattle.toml.specs.Data.{Members}
 use Rattle.toml.specs.Parse.{parse_document}
+use Rattle.ipfix_octets.specs.MessageFormat.{header_octets, longest_message}
+use Rattle.subscriber_stream.specs.declared.limits.TheConstants.{MOST_QUEUE, MOST_SHAPES}
+use Rattle.disclosure_audit.specs.declared.audit.TheConstants.{MOST_ENTRIES as MOST_AUDITED}
+use Rattle.event_journal.specs.declared.limits.TheConstants.{MOST_ENTRIES, MOST_OCTETS}
 use Rattle.serve_settings.specs.declared.key.Key.{Key}
 use Rattle.serve_settings.specs.declared.key.Key.TheVariants.{Exporters, Admin, Policy, Connections, Target, Queue, Shapes, Audit, JournalEntries, JournalOctets, Turns, Deliver}
 use Rattle.serve_settings.specs.declared.fault.SettingsFault.{SettingsFault}
@@ -14,12 +18,12 @@ has table Exporters = is_some (text_in Exporters table)
 has table Admin = is_some (text_in Admin table)
 has table Policy = is_some (text_in Policy table)
 has table Connections = is_some (number_in Connections 1 1000 table)
-has table Target = is_some (number_in Target 16 65535 table)
-has table Queue = is_some (number_in Queue 1 1000000 table)
-has table Shapes = is_some (number_in Shapes 1 65280 table)
-has table Audit = is_some (number_in Audit 1 10000000 table)
-has table JournalEntries = is_some (number_in JournalEntries 1 100000000 table)
-has table JournalOctets = is_some (number_in JournalOctets 1 (2 ^ 40) table)
+has table Target = is_some (number_in Target header_octets longest_message table)
+has table Queue = is_some (number_in Queue 1 MOST_QUEUE table)
+has table Shapes = is_some (number_in Shapes 1 MOST_SHAPES table)
+has table Audit = is_some (number_in Audit 1 MOST_AUDITED table)
+has table JournalEntries = is_some (number_in JournalEntries 1 MOST_ENTRIES table)
+has table JournalOctets = is_some (number_in JournalOctets 1 MOST_OCTETS table)
 has table Turns = is_some (number_in Turns 1 1000000000 table)
 has table Deliver = is_some (collectors_in Deliver table)
 

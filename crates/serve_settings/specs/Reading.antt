@@ -1,8 +1,12 @@
 -- What a text of settings asks for, or its first fault.
-use Rattle.std.specs.Prelude.{ℕ, ◌^◌, List, Option, Some, None, Result, Ok, Err}
+use Rattle.std.specs.Prelude.{ℕ, List, Option, Some, None, Result, Ok, Err}
 use Rattle.toml.specs.Data.{Members}
 use Rattle.toml.specs.Parse.{parse_document}
 use Rattle.sequences.specs.Results.{◌>>=◌}
+use Rattle.ipfix_octets.specs.MessageFormat.{header_octets, longest_message}
+use Rattle.subscriber_stream.specs.declared.limits.TheConstants.{MOST_QUEUE, MOST_SHAPES}
+use Rattle.disclosure_audit.specs.declared.audit.TheConstants.{MOST_ENTRIES as MOST_AUDITED}
+use Rattle.event_journal.specs.declared.limits.TheConstants.{MOST_ENTRIES, MOST_OCTETS}
 use Rattle.mediator_calls.specs.declared.limits.Limits.{Limits}
 use Rattle.serve_settings.specs.declared.key.Key.TheVariants.{Exporters, Admin, Policy, Connections, Target, Queue, Shapes, Audit, JournalEntries, JournalOctets, Turns}
 use Rattle.serve_settings.specs.declared.fault.SettingsFault.{SettingsFault}
@@ -13,11 +17,11 @@ use Rattle.serve_settings.specs.Values.{text_at, number_at, collectors_at}
 -- the limits of the mediator
 unfoldable pub limits_in : Members → Result Limits SettingsFault
 limits_in table = do
-  queue ← number_at Queue 1 1000000 table
-  shapes ← number_at Shapes 1 65280 table
-  audit ← number_at Audit 1 10000000 table
-  entries ← number_at JournalEntries 1 100000000 table
-  octets ← number_at JournalOctets 1 (2 ^ 40) table
+  queue ← number_at Queue 1 MOST_QUEUE table
+  shapes ← number_at Shapes 1 MOST_SHAPES table
+  audit ← number_at Audit 1 MOST_AUDITED table
+  entries ← number_at JournalEntries 1 MOST_ENTRIES table
+  octets ← number_at JournalOctets 1 MOST_OCTETS table
   Ok (record { queue = queue; shapes = shapes; audit = audit; entries = entries; octets = octets })
 
 -- the settings in a table, or the first key at fault; other keys are ignored
@@ -27,7 +31,7 @@ settings_in table = do
   admin ← text_at Admin table
   policy ← text_at Policy table
   connections ← number_at Connections 1 1000 table
-  target ← number_at Target 16 65535 table
+  target ← number_at Target header_octets longest_message table
   limits ← limits_in table
   turns ← number_at Turns 1 1000000000 table
   collectors ← collectors_at table

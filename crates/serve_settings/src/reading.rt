@@ -13,27 +13,23 @@ use crate::key::Key;
 use crate::settings::Settings;
 use crate::values::{collectors_at, number_at, text_at};
 use event_journal::{MOST_ENTRIES, MOST_OCTETS};
+use ipfix_octets::message_format::{HEADER_OCTETS, LONGEST_MESSAGE};
 use mediator_calls::Limits;
 use std::alloc::Global;
+use subscriber_stream::{MOST_QUEUE, MOST_SHAPES};
 use toml::Table;
 
 /// The most connections of exporters that may be accepted.
 const MOST_CONNECTIONS: u64 = 1000;
 
 /// The shortest target: a message's header (RFC 7011, section 3.1).
-const LEAST_TARGET: u64 = 16;
+const LEAST_TARGET: u64 = HEADER_OCTETS as u64;
 
 /// The longest target: the longest message (RFC 7011, section 3.1).
-const MOST_TARGET: u64 = 65_535;
-
-/// The most records that may wait for a subscription.
-const MOST_QUEUE: u64 = 1_000_000;
-
-/// The most distinct templates of a subscription's records: there are Template IDs from 256 to 65,535 (RFC 7011, section 3.4.1).
-const MOST_SHAPES: u64 = 65_280;
+const MOST_TARGET: u64 = LONGEST_MESSAGE as u64;
 
 /// The most audit entries that may wait.
-const MOST_AUDIT: u64 = 10_000_000;
+const MOST_AUDIT: u64 = disclosure_audit::MOST_ENTRIES as u64;
 
 /// The most reads of a connection.
 const MOST_TURNS: u64 = 1_000_000_000;
@@ -81,8 +77,8 @@ fn limits_in(table: &Table) -> Result<Limits, SettingsFault>
     ensures allowed { IfOk result (λ limits. AreAllowed limits) }
 {
     Ok(Limits {
-        queue: number_at(table, Key::Queue, 1, MOST_QUEUE)? as u32,
-        shapes: number_at(table, Key::Shapes, 1, MOST_SHAPES)? as u32,
+        queue: number_at(table, Key::Queue, 1, u64::from(MOST_QUEUE))? as u32,
+        shapes: number_at(table, Key::Shapes, 1, u64::from(MOST_SHAPES))? as u32,
         audit: number_at(table, Key::Audit, 1, MOST_AUDIT)? as u32,
         entries: number_at(table, Key::JournalEntries, 1, MOST_ENTRIES)?,
         octets: number_at(table, Key::JournalOctets, 1, MOST_OCTETS)?,

@@ -4,6 +4,7 @@ use Rattle.std.specs.List.{AllByRecursion, flat_map}
 use Rattle.ipfix_octets.specs.MessageFormat.{least_template_id}
 use Rattle.ipfix_template.specs.Template.{IsWritable, is_options}
 use Rattle.ipfix_template.specs.DataRecord.{DataRecord, IsSound}
+use Rattle.subscriber_stream.specs.declared.limits.TheConstants.{MOST_SHAPES}
 use Rattle.subscriber_stream.specs.Shapes.{shapes_of}
 use Rattle.subscriber_stream.specs.Message.{place_after}
 use Rattle.subscriber_stream.specs.Calls.{Pull, Call, Given, Pulled, pulls_of, octets_got}
@@ -16,7 +17,7 @@ pub record IsStreamable (r : DataRecord) : Type 0 where
 -- records that one stream can announce: there are IDs from 256 to 65,535
 pub record AreStreamable (records : List DataRecord) : Type 0 where
   pub each : AllByRecursion IsStreamable records
-  pub shapes : length (shapes_of records) ≤ 65280
+  pub shapes : length (shapes_of records) ≤ MOST_SHAPES
 
 -- Export Time and target are numbers of 32 and of 16 bits
 abbrev pub IsInRange : Call → Type 0

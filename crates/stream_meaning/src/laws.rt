@@ -11,6 +11,7 @@ ghost use Rattle.ipfix_template.specs.DataRecord.{DataRecord};
 ghost use Rattle.subscriber_stream.specs.Parts.{parts, records_in};
 ghost use Rattle.subscriber_stream.specs.Message.{built, place_after};
 ghost use Rattle.subscriber_stream.specs.declared.limits.Limits.{Limits};
+ghost use Rattle.subscriber_stream.specs.declared.limits.TheConstants.{MOST_SHAPES};
 ghost use Rattle.subscriber_stream.specs.Standing.{Standing, StandsAt, FitsLimits};
 ghost use Rattle.subscriber_stream.specs.Calls.{Call, Serves, pulls_of};
 ghost use Rattle.stream_meaning.specs.Served.{IsStreamable, AreStreamable, AreInRange, records_given, messages_in, messages_got, pull_at, place_reached, pulls};
@@ -68,7 +69,7 @@ pub fn holders_keep()
     ensures given { (messages : List (List ℕ)) (records more : List DataRecord) (p : ℕ) → AreHandedOut messages records p
         → AreHandedOut messages (records ++ more) p }
     ensures streamable_more { (limits : Limits) (records more : List DataRecord) (p : ℕ) → AreStreamable records → AllByRecursion IsStreamable more
-        → FitsLimits limits records p more → limits.shapes ≤ 65280 → AreStreamable (records ++ more) }
+        → FitsLimits limits records p more → limits.shapes ≤ MOST_SHAPES → AreStreamable (records ++ more) }
     ensures pulled { (messages : List (List ℕ)) (answer : Option (List ℕ)) (records : List DataRecord) (p now target : ℕ) → now < 2 ^ 32 → target < 2 ^ 16
         → AreHandedOut messages records p → answer ≡ built records p now target
         → AreHandedOut (messages ++ messages_in (answer ∷ [])) records (place_after records p target) }

@@ -4,6 +4,7 @@ use Rattle.std.specs.Prelude.{◌≡◌, ◌≤◌, ◌<◌, ℕ, suc, ◌+◌, 
 use Rattle.ipfix_octets.specs.MessageFormat.{set_header_octets, least_template_id}
 use Rattle.ipfix_template.specs.declared.template.Template.{Template}
 use Rattle.ipfix_template.specs.Template.{IsAccepted, is_options, template_record}
+use Rattle.ipfix_template.specs.declared.data_record.TheConstants.{RECORD_ROOM}
 use Rattle.ipfix_template.specs.DataRecord.{kept_record, IsKept as IsKeptOf}
 use Rattle.subscriber_stream.specs.Parts.{Part, Announcement, Entry}
 use Rattle.subscriber_stream.specs.Message.{template_set, set_head}
@@ -30,14 +31,14 @@ pub record IsAnnouncement (shapes : List Template) (id octets : ℕ) : Type 0 wh
   pub known : id < least_template_id + length shapes
   pub accepted : IsAccepted (shape_at shapes id)
   pub counted : octets ≡ length (template_record least_template_id (is_options (shape_at shapes id)) (shape_at shapes id))
-  pub few : octets ≤ 65515
+  pub few : octets ≤ RECORD_ROOM
 
 -- the ID has a template, and the octets are those of a record of it
 pub record IsEntry (shapes : List Template) (id : ℕ) (octets : List ℕ) : Type 0 where
   pub low : least_template_id ≤ id
   pub known : id < least_template_id + length shapes
   pub kept : IsKeptOf (shape_at shapes id) octets
-  pub few : length octets ≤ 65515
+  pub few : length octets ≤ RECORD_ROOM
 
 abbrev pub IsKept : List Template → Item → Type 0
 IsKept shapes (Announced id octets) = IsAnnouncement shapes id octets

@@ -2,6 +2,7 @@
 use Rattle.std.specs.Prelude.{◌≡◌, ◌≤◌, ◌<◌, ℕ, zero, suc, ◌+◌, ◌-◌, ◌*◌, ◌^◌, List, [], ◌∷◌, ◌++◌, length}
 use Rattle.ipfix_template.specs.DataRecord.{DataRecord}
 use Rattle.subscriber_stream.specs.declared.limits.Limits.{Limits}
+use Rattle.subscriber_stream.specs.declared.limits.TheConstants.{MOST_SHAPES}
 use Rattle.subscriber_stream.specs.Shapes.{with_shape}
 use Rattle.subscriber_stream.specs.Parts.{Part, Announcement, Entry, parts_for}
 use Rattle.subscriber_stream.specs.Table.{Table}
@@ -44,7 +45,7 @@ pub record IsConsistent (table : Table) (queue : List Waiting) (capacity : ℕ) 
   pub counted : waiting ≡ entries (items_in queue)
   pub announced_before : announced + announcements (items_in queue) ≡ length table.shapes
   pub few_shapes : length table.shapes ≤ limits.shapes
-  pub few_ids : limits.shapes ≤ 65280
+  pub few_ids : limits.shapes ≤ MOST_SHAPES
   pub few_waiting : waiting ≤ limits.queue
   pub below : handed + waiting < 2 ^ 64
   pub room : length queue + 2 * spare ≤ capacity

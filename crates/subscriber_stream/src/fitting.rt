@@ -1,6 +1,6 @@
 //! How many parts a message takes.
 ghost use Rattle.std.specs.Prelude.{◌≡◌, ◌≤◌, ◌<◌, ◌+◌, ◌^◌, max, take, length, None};
-ghost use Rattle.ipfix_octets.specs.MessageFormat.{header_octets};
+ghost use Rattle.ipfix_octets.specs.MessageFormat.{longest_message, header_octets};
 ghost use Rattle.subscriber_stream.specs.Items.{fits, total};
 ghost use Rattle.subscriber_stream.specs.Waiting.{items_in, AreFilled};
 
@@ -18,7 +18,7 @@ pub(crate) fn fitting(queue: &VecDeque<Waiting>, target: u16) -> Front
     ensures parts { result.parts ≡ max 1 (fits target None header_octets (items_in queue.now.items)) }
     ensures octets { result.octets ≡ header_octets + total None (take result.parts (items_in queue.now.items)) }
     ensures within { result.parts ≤ length (items_in queue.now.items) }
-    ensures small { result.octets ≤ 65535 }
+    ensures small { result.octets ≤ longest_message }
 {
     let run = whole_run(queue, target);
     if run.parts > 0 {
@@ -37,7 +37,7 @@ fn whole_run(queue: &VecDeque<Waiting>, target: u16) -> Front
     ensures parts { result.parts ≡ fits target None header_octets (items_in queue.now.items) }
     ensures octets { result.octets ≡ header_octets + total None (take result.parts (items_in queue.now.items)) }
     ensures within { result.parts ≤ length (items_in queue.now.items) }
-    ensures small { result.octets ≤ 65535 }
+    ensures small { result.octets ≤ longest_message }
 {
     let mut run = Front {
         parts: 0,

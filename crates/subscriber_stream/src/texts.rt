@@ -3,6 +3,9 @@ ghost use Rattle.std.specs.Prelude.{◌≡◌, ◌≤◌, ◌<◌, ◌+◌, ◌-
 ghost use Rattle.std.specs.List.{concat};
 ghost use Rattle.record_runs.specs.Pieces.{pieces, AreEnds};
 
+#[cfg(test)]
+mod tests;
+
 use bytes::Bytes;
 use std::marker::Model;
 

@@ -25,6 +25,7 @@ pub(crate) struct Front {
 }
 
 impl Waiting {
+    ghost use Rattle.ipfix_octets.specs.MessageFormat.{longest_message};
     ghost use Rattle.subscriber_stream.specs.Items.{fits, total};
     ghost use Rattle.subscriber_stream.specs.Waiting.{items_of, set_after, IsFilled};
 
@@ -63,10 +64,10 @@ impl Waiting {
     /// How many of its parts fit into a message that has so many octets and ends with the Data Set of this
     /// ID, or with no Data Set.
     pub(crate) fn fitting(&self, target: u16, last: Option<u16>, octets: usize) -> Front
-        requires { octets ≤ 65535 }
+        requires { octets ≤ longest_message }
         ensures parts { result.parts ≡ fits target last octets (items_of self.now) }
         ensures octets { result.octets ≡ octets + total last (take result.parts (items_of self.now)) }
-        ensures small { result.octets ≤ 65535 }
+        ensures small { result.octets ≤ longest_message }
     {
         match self {
             Waiting::Announce { octets: more, .. } => {
@@ -86,16 +87,16 @@ impl Waiting {
 }
 
 ghost use Rattle.std.specs.Prelude.{map, if◌then◌else◌};
-ghost use Rattle.ipfix_octets.specs.MessageFormat.{set_header_octets};
+ghost use Rattle.ipfix_octets.specs.MessageFormat.{longest_message, set_header_octets};
 ghost use Rattle.subscriber_stream.specs.Items.{Brought, fits, total};
 
 /// How many records of this ID fit into a message that has so many octets and ends with the Data Set of the ID
 /// `last`, or with no Data Set.
 fn fitting_records(texts: &Texts, target: u16, last: Option<u16>, id: u16, octets: usize) -> Front
-    requires { octets ≤ 65535 }
+    requires { octets ≤ longest_message }
     ensures parts { result.parts ≡ fits target last octets (map (Brought id) texts.now) }
     ensures octets { result.octets ≡ octets + total last (take result.parts (map (Brought id) texts.now)) }
-    ensures small { result.octets ≤ 65535 }
+    ensures small { result.octets ≤ longest_message }
 {
     let opened = octets + head_octets(last, id);
     let target = usize::from(target);

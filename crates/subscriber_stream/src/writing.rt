@@ -1,7 +1,8 @@
 //! The octets of a message.
 ghost use Rattle.std.specs.Prelude.{◌≡◌, ◌≤◌, ◌<◌, ◌+◌, ◌^◌, ◌%◌, ◌++◌, length, drop, take, IfOk, OnOk, None};
 ghost use Rattle.sequences.specs.Octets.{be_octets};
-ghost use Rattle.ipfix_octets.specs.MessageFormat.{ipfix_version, header_octets, least_template_id};
+ghost use Rattle.ipfix_octets.specs.MessageFormat.{ipfix_version, longest_message, header_octets, least_template_id};
+ghost use Rattle.ipfix_template.specs.declared.data_record.TheConstants.{RECORD_ROOM};
 ghost use Rattle.subscriber_stream.specs.Message.{message, set_head, template_set};
 ghost use Rattle.subscriber_stream.specs.Items.{AreKept, parts_of, total, run, pieces};
 ghost use Rattle.subscriber_stream.specs.Waiting.{items_of, items_in, IsFilled, AreFilled, span};
@@ -31,7 +32,7 @@ pub(crate) fn message_of(
     requires filled { AreFilled queue.now.items }
     requires kept { AreKept shapes.now.shapes (items_in queue.now.items) }
     requires octets { whole.octets ≡ header_octets + total None (take whole.parts (items_in queue.now.items)) }
-    requires fits { whole.octets ≤ 65535 }
+    requires fits { whole.octets ≤ longest_message }
     ensures { IfOk result (λ m. m ≡ message now handed (parts_of shapes.now.shapes (take whole.parts (items_in queue.now.items)))) }
 {
     let mut out = Vec::with_capacity(alloc, whole.octets)?;
@@ -43,7 +44,7 @@ pub(crate) fn message_of(
 /// Appends a message header: version, length, Export Time, Sequence Number and Observation Domain 0
 /// (RFC 7011, section 3.1).
 fn put_header(octets: usize, now: u32, sequence: u32, out: &mut Vec<u8>) -> Result<(), AllocError>
-    requires { octets ≤ 65535 }
+    requires { octets ≤ longest_message }
     ensures { OnOk result (out.new.items ≡ out.old.items ++ (be_octets 2 ipfix_version ++ be_octets 2 octets ++ be_octets 4 now ++ be_octets 4 sequence ++ be_octets 4 0)) }
 {
     let [a, b] = IPFIX_VERSION.to_be_bytes();
@@ -132,7 +133,7 @@ fn put_announcement(
     out: &mut Vec<u8>,
 ) -> Result<(), AllocError>
     requires accepted { refusal_of id (is_options shape.now) shape.now ≡ None }
-    requires few { octets ≤ 65515 }
+    requires few { octets ≤ RECORD_ROOM }
     ensures { OnOk result (out.new.items
         ≡ out.old.items ++ (set_head (template_set shape.now) octets ++ template_record id (is_options shape.now) shape.now)) }
 {
@@ -167,7 +168,7 @@ fn template_set(shape: &Template) -> u16
 fn run_octets(queue: &VecDeque<Waiting>, place: usize, count: usize, id: u16) -> usize
     requires filled { AreFilled queue.now.items }
     requires place { place ≤ length queue.now.items }
-    requires fits { run id (take count (items_in (drop place queue.now.items))) ≤ 65535 }
+    requires fits { run id (take count (items_in (drop place queue.now.items))) ≤ longest_message }
     ensures { result ≡ run id (take count (items_in (drop place queue.now.items))) }
 {
     let mut octets = 0;

@@ -2,15 +2,13 @@
 ghost use Rattle.std.specs.Prelude.{◌≡◌, ◌≤◌, length};
 ghost use Rattle.std.specs.Arc.{arc_value};
 
-use crate::data_record::{RECORD_ROOM, Record, template_octets};
+use crate::data_record::{RECORD_ROOM, Record};
 use crate::template::Template;
 use bytes::Bytes;
 use std::sync::Arc;
 
 impl Record {
-    ghost use Rattle.ipfix_octets.specs.MessageFormat.{least_template_id};
     ghost use Rattle.ipfix_template.specs.DataRecord.{IsSound, IsKept};
-    ghost use Rattle.ipfix_template.specs.Template.{is_options, template_record};
     ghost use Rattle.ipfix_template.specs.Values.{record_text};
     ghost use Rattle.ipfix_template.specs.declared.data_record.TheConstants.{RECORD_ROOM};
 
@@ -56,13 +54,5 @@ impl Record {
         ensures fits { result ≤ RECORD_ROOM }
     {
         self.octets.len()
-    }
-
-    /// The octets of what `encode_template` appends for the record's template, at most [`RECORD_ROOM`].
-    pub fn template_octets(&self) -> usize
-        ensures exact { result ≡ length (template_record least_template_id (is_options self.now.template) self.now.template) }
-        ensures fits { result ≤ RECORD_ROOM }
-    {
-        template_octets(self.template())
     }
 }

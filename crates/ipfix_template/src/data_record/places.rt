@@ -1,5 +1,6 @@
 //! The values of a record, found in its octets.
 ghost use Rattle.std.specs.Prelude.{◌≡◌, ◌<◌, ◌≤◌, ◌+◌, ◌-◌, [], length, take, drop, slice_index_or, IfOk};
+ghost use Rattle.ipfix_octets.specs.Variable.{longest_value};
 ghost use Rattle.ipfix_template.specs.Values.{values_in};
 ghost use Rattle.ipfix_template.specs.DataRecord.{IsSound};
 ghost use Rattle.ipfix_template.specs.Places.{AreKept, ArePassed};
@@ -16,7 +17,7 @@ impl Record {
     pub fn value(&self, place: usize) -> &[u8]
         requires { place < length self.now.template.fields }
         ensures value { result.now ≡ slice_index_or self.now.values place [] }
-        ensures few { length result.now ≤ 65535 }
+        ensures few { length result.now ≤ longest_value }
         ensures sound { IsSound self.now }
     {
         let octets = self.octets.as_slice();

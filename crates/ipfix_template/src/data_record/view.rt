@@ -34,6 +34,7 @@ impl<'r> Model for RecordView<'r> {
 }
 
 impl<'r> RecordView<'r> {
+    ghost use Rattle.ipfix_octets.specs.Variable.{longest_value};
     ghost use Rattle.ipfix_template.specs.DataRecord.{IsSound, IsKept, kept_record};
     ghost use Rattle.ipfix_template.specs.Values.{record_text};
 
@@ -78,7 +79,7 @@ impl<'r> RecordView<'r> {
     pub fn value(&self, place: usize) -> &'r [u8]
         requires { place < length self.now.template.fields }
         ensures value { result.now ≡ slice_index_or self.now.values place [] }
-        ensures few { length result.now ≤ 65535 }
+        ensures few { length result.now ≤ longest_value }
         ensures sound { IsSound self.now }
     {
         let octets = &self.octets.as_slice()[self.start..self.end];

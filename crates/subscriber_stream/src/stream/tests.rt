@@ -1,4 +1,5 @@
-//! A run of records waits as the ID of its shape and its octets, and is handed out record by record.
+//! A run of records waits as the ID of its shape and its octets, and is handed out record by record. The queue's fields
+//! are named by their types, so that nothing that keeps records compiles.
 use crate::limits::Limits;
 use crate::stream::Stream;
 use crate::texts::Texts;
@@ -9,6 +10,7 @@ use ipfix_octets::message_format::LEAST_TEMPLATE_ID;
 use ipfix_template::{FieldSpec, Fields, Record, Template, Values};
 use record_runs::Records;
 use std::alloc::{AllocError, Global};
+use std::collections::VecDeque;
 use std::process::Abort;
 use std::sync::Arc;
 use std::test::Fail;
@@ -53,19 +55,25 @@ fn stream_of(alloc: Global, records: Records) -> Result<Stream, AllocError> {
     Ok(stream)
 }
 
+/// What waits.
+fn queue_of(stream: &Stream) -> &VecDeque<Waiting> {
+    &stream.queue
+}
+
 /// The ID and the octets of records that wait.
 fn brought(part: Option<&Waiting>) -> Option<(u16, &[u8])> {
     match part {
         Some(Waiting::Bring { id, texts }) => Some((*id, texts.front(texts.len()))),
-        Some(Waiting::Announce { .. }) | None => None,
+        Some(Waiting::Announce { id: _, octets: _ }) => None,
+        None => None,
     }
 }
 
 #[test]
 fn a_record_waits_as_its_octets(rt: HostRuntime) -> Result<(), Fail> {
     let stream = stream_of(rt.alloc(), records(rt.alloc())?)?;
-    assert!(rt; brought(stream.queue.get(0)).is_none());
-    assert!(rt; brought(stream.queue.get(1)) == Some((LEAST_TEMPLATE_ID, TCP)));
+    assert!(rt; brought(queue_of(&stream).get(0)).is_none());
+    assert!(rt; brought(queue_of(&stream).get(1)) == Some((LEAST_TEMPLATE_ID, TCP)));
     Ok(())
 }
 
