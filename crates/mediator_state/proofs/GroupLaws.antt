@@ -1,10 +1,10 @@
 -- What an entry leaves of the clock and of running groups; and what is added to groups, one subscription after another.
-use Rattle.std.proofs.Common.{◌≡◌, ◌≢◌, ℕ, ◌+◌, ◌<◌, ◌≤◌, Bool, true, false, cond, eqb, List, [], ◌∷◌, ◌++◌, length, map, take, Option, Some, None, refl, sym, ap, ◌∙◌, subst, arith, append_assoc, append-nil, length-append}
+use Rattle.std.proofs.Common.{◌≡◌, ◌≢◌, ℕ, ◌+◌, ◌<◌, ◌≤◌, Bool, true, false, cond, eqb, List, [], ◌∷◌, ◌++◌, length, map, take, drop, Option, None, refl, sym, ap, ◌∙◌, subst, arith, append_assoc, append-nil, length-append}
 use Rattle.std.specs.Prelude.{get_or, unwrap_or, ◌==◌, if◌then◌else◌}
-use Rattle.std.specs.List.{AllByRecursion, flat_map}
+use Rattle.std.specs.List.{AllByRecursion}
 use Rattle.std.proofs.lemmas.Bool.{eqb-true, eqb-false, ne_eqb}
 use Rattle.std.proofs.lemmas.Grind.{flat_map-append}
-use Rattle.std.proofs.lemmas.List.{map-append, take_more}
+use Rattle.std.proofs.lemmas.List.{map-append, take_more, take-append-drop}
 use Rattle.std.proofs.lemmas.List.Concat.{flat_map-cons}
 use Rattle.std.proofs.lemmas.Slice.Zip.{all_zipped_more}
 use Rattle.sequences.proofs.BeforeLaws.{last_of-push}
@@ -133,6 +133,9 @@ counts_next old now all left left2 r is countable so =
     by [] ready = absurd ready
     by (t ∷ ts) ready = (t.1, subst (λ (n : ℕ). AreReady (held_at now n) r.1 t.1) (sym ready.0.0) ready.0.1)
 
+added_push : (q : ℕ) (done : List (ℕ × List Count)) (t : ℕ × List Count) → added_to q (done ++ t ∷ []) ≡ added_to q done ++ (if t.0 == q then t.1 else [])
+added_push q done t = flat_map-append (λ (s : ℕ × List Count). cond (eqb s.0 q) s.1 []) done (t ∷ []) ∙ ap (λ (l : List Count). added_to q done ++ l) (append-nil (cond (eqb t.0 q) t.1 []))
+
 -- one more of the tallies
 one_counted : (old now now2 : List (ℕ × Held)) (left : List (ℕ × List Addition)) (all done rest : List (ℕ × List Count)) (r : ℕ × List Addition) (t : ℕ × List Count)
     → all ≡ done ++ t ∷ rest
@@ -145,15 +148,12 @@ one_counted old now now2 left all done rest r t split each behind apart ready ad
   done = done ++ t ∷ [];
   rest = rest;
   split = split ∙ sym (append_assoc done (t ∷ []) rest);
-  each = λ q before more stands counts. by_number q before more stands (sym (pushed q) ∙ counts) behind.0 (t.0 == q) refl;
+  each = λ q before more stands counts. by_number q before more stands (sym (added_push q done t) ∙ counts) behind.0 (t.0 == q) refl;
   behind = apart_more done t rest behind.1 apart.0;
   apart = apart.1;
   ready = ready_stays t.0 now now2 left rest (λ q other. others q (λ e. other (e ∙ ready.0.0))) apart.0 ready.1;
 }
   where
-    pushed : (q : ℕ) → added_to q (done ++ t ∷ []) ≡ added_to q done ++ (if t.0 == q then t.1 else [])
-    pushed q = flat_map-append (λ (s : ℕ × List Count). cond (eqb s.0 q) s.1 []) done (t ∷ []) ∙ ap (λ (l : List Count). added_to q done ++ l) (append-nil (cond (eqb t.0 q) t.1 []))
-
     by_number : (q : ℕ) (before more : List Counted) → StandsFor (groups_at old q) before → (added_to q done ++ (if t.0 == q then t.1 else [])) ≡ map count_of more
         → AllByRecursion (λ o. o.0 ≢ t.0) done → (same : Bool) → (t.0 == q) ≡ same → StandsFor (groups_at now2 q) (before ++ more)
     by_number q before more stands counts first true is =
@@ -200,9 +200,14 @@ counting_end old now all left so none tallies ready apart q before more stands a
 
 -- ---- what is made ready, one subscription after another
 
+-- no more groups are ready than these add to
+abbrev pub ReadyFor : List (ℕ × Held) → List (ℕ × List Count) → Type 0
+ReadyFor groups tallies = (q : ℕ) → length (held_at groups q).ready ≤ length (added_to q tallies)
+
 -- so many tallies are ready, where no subscription stands twice
 pub record IsReserving (old now : List (ℕ × Held)) (reserved : List (ℕ × List Addition)) (tallies : List (ℕ × List Count)) (count capacity all : ℕ) : Type 0 where
   pub same : (q : ℕ) → groups_at now q ≡ groups_at old q
+  pub few : ReadyFor now tallies
   pub ready : AreApart tallies → AllReady now reserved tallies
   pub long : length reserved ≡ count
   pub room : all ≤ capacity
@@ -219,16 +224,49 @@ apart_front (u ∷ ts) t apart =
     front_of u [] all = (tt, all.0)
     front_of u (o ∷ us) all = let more = front_of u us all.1 in ((all.0, more.0), more.1)
 
+-- one subscription more
+few_next : (now now2 : List (ℕ × Held)) (ts : List (ℕ × List Count)) (t : ℕ × List Count) → ReadyFor now ts → length (held_at now2 t.0).ready ≤ length t.1
+    → ((q : ℕ) → q ≢ t.0 → held_at now2 q ≡ held_at now q) → ReadyFor now2 (ts ++ t ∷ [])
+few_next now now2 ts t so here others q = by (t.0 == q) refl where
+  long : (b : Bool) → (t.0 == q) ≡ b → length (added_to q (ts ++ t ∷ [])) ≡ length (added_to q ts) + length (cond b t.1 [])
+  long b is = ap length (added_push q ts t ∙ ap (λ (c : Bool). added_to q ts ++ cond c t.1 []) is) ∙ length-append (added_to q ts) (cond b t.1 [])
+
+  by : (b : Bool) → (t.0 == q) ≡ b → length (held_at now2 q).ready ≤ length (added_to q (ts ++ t ∷ []))
+  by true is =
+      let at : length (held_at now2 q).ready ≤ length t.1 = subst (λ (n : ℕ). length (held_at now2 n).ready ≤ length t.1) (eqb-true t.0 q is) here in
+      omega (arith, at, long true is)
+  by false is = omega (arith, ap (λ (h : Held). length h.ready) (others q (λ e. eqb-false t.0 q is (sym e))), so q, long false is)
+
+-- what the first ones add is no more than what all add
+front_few : {X : Type 0} (f : X → ℕ × List Count) (groups : List (ℕ × Held)) (xs : List X) (n : ℕ) → ReadyFor groups (map f (take n xs)) → ReadyFor groups (map f xs)
+front_few f groups xs n so q =
+    let parts : added_to q (map f xs) ≡ added_to q (map f (take n xs)) ++ added_to q (map f (drop n xs)) =
+    ap (λ ys. added_to q (map f ys)) (sym (take-append-drop n xs)) ∙ ap (added_to q) (map-append f (take n xs) (drop n xs))
+    ∙ flat_map-append (λ (s : ℕ × List Count). cond (eqb s.0 q) s.1 []) (map f (take n xs)) (map f (drop n xs)) in
+    omega (arith, so q, ap length parts ∙ length-append (added_to q (map f (take n xs))) (added_to q (map f (drop n xs))))
+
+one_more : {X : Type 0} (f : X → ℕ × List Count) (xs : List X) (i : ℕ) (x d : X) → i < length xs → x ≡ get_or xs i d → map f (take (i + 1) xs) ≡ map f (take i xs) ++ f x ∷ []
+one_more f xs i x d within is =
+    ap (map f) (take_more xs i d within) ∙ map-append f (take i xs) (get_or xs i d ∷ []) ∙ ap (λ y. map f (take i xs) ++ f y ∷ []) (sym is)
+
+-- where one could not be made ready
+pub reserving_few : {X : Type 0} (f : X → ℕ × List Count) (old now now2 : List (ℕ × Held)) (reserved : List (ℕ × List Addition)) (xs : List X) (i capacity all : ℕ) (x d : X)
+    → i < length xs → x ≡ get_or xs i d → ((q : ℕ) → q ≢ (f x).0 → held_at now2 q ≡ held_at now q) → length (held_at now2 (f x).0).ready ≤ length (f x).1
+    → IsReserving old now reserved (map f (take i xs)) i capacity all → ReadyFor now2 (map f xs)
+reserving_few f old now now2 reserved xs i capacity all x d within is others here so =
+    front_few f now2 xs (i + 1) (subst (ReadyFor now2) (sym (one_more f xs i x d within is)) (few_next now now2 (map f (take i xs)) (f x) so.few here others))
+
 pub reserving_next : {X : Type 0} (f : X → ℕ × List Count) (old now now2 : List (ℕ × Held)) (reserved reserved2 : List (ℕ × List Addition)) (xs : List X) (i capacity capacity2 : ℕ) (x d : X) (r : ℕ × List Addition)
-    → i < length xs → x ≡ get_or xs i d → ((q : ℕ) → groups_at now2 q ≡ groups_at now q) → ((q : ℕ) → q ≢ (f x).0 → held_at now2 q ≡ held_at now q) → IsReadyFor now2 r (f x)
+    → i < length xs → x ≡ get_or xs i d → ((q : ℕ) → groups_at now2 q ≡ groups_at now q) → ((q : ℕ) → q ≢ (f x).0 → held_at now2 q ≡ held_at now q)
+    → length (held_at now2 (f x).0).ready ≤ length (f x).1 → IsReadyFor now2 r (f x)
     → reserved2 ≡ reserved ++ r ∷ [] → capacity2 ≡ capacity
     → IsReserving old now reserved (map f (take i xs)) i capacity (length xs) → IsReserving old now2 reserved2 (map f (take (i + 1) xs)) (i + 1) capacity2 (length xs)
-reserving_next f old now now2 reserved reserved2 xs i capacity capacity2 x d r within is same others here pushed kept so =
+reserving_next f old now now2 reserved reserved2 xs i capacity capacity2 x d r within is same others few here pushed kept so =
     let ts : List (ℕ × List Count) = map f (take i xs) in
-    let more : map f (take (i + 1) xs) ≡ ts ++ f x ∷ [] =
-    ap (map f) (take_more xs i d within) ∙ map-append f (take i xs) (get_or xs i d ∷ []) ∙ ap (λ y. ts ++ f y ∷ []) (sym is) in
+    let more : map f (take (i + 1) xs) ≡ ts ++ f x ∷ [] = one_more f xs i x d within is in
     record {
       same = λ q. same q ∙ so.same q;
+      few = subst (ReadyFor now2) (sym more) (few_next now now2 ts (f x) so.few few others);
       ready = λ apart.
           let ends = apart_front ts (f x) (subst AreApart more apart) in
           subst (λ (us : List (ℕ × List Count)). AllReady now2 reserved2 us) (sym more)

@@ -42,13 +42,13 @@ pub record HasAuditFor (audit : Kept) (more : ℕ) : Type 0 where
   pub reserved : more ≤ audit.spare
 
 -- room was made for what a plan does, and what it counts is ready so
-pub record HasRoomForPlan (e : Engine) (p : Plan) (reserved : List (ℕ × List Addition)) : Type 0 where
+pub record HasRoomForPlan (e : Engine) (p : Plan) (added : List (ℕ × List Addition)) : Type 0 where
   pub audit : length e.audit.standing.entries + (length p.cuts.items + length p.entries.items) ≤ e.audit.limit
   pub limit : e.audit.limit ≤ MOST_AUDITED
   pub reserved : length p.cuts.items + length p.entries.items ≤ e.audit.spare
   pub session : IfSome (at_key p.session e.sessions) (λ o. HasRoomFor o.session p.reading)
   pub streams : AllByRecursion (HasSpare e.subscriptions.live) (map shown p.shares.items)
-  pub groups : AreApart (map tallied p.tallies.items) → AllReady e.groups reserved (map tallied p.tallies.items)
+  pub groups : AreApart (map tallied p.tallies.items) → AllReady e.groups added (map tallied p.tallies.items)
 
 -- it is the plan for a message behind some history of so many entries
 pub record IsPlannedFor (e : Engine) (position : ℕ) (p : Plan) : Type 0 where
@@ -65,13 +65,13 @@ abbrev pub receipt_of : ℕ → ℕ → Meaning → Receipt
 receipt_of position cuts m = record { position = position + cuts; records = length m.records; cut = cuts; skips = m.skips; gap = m.gap }
 
 -- sessions, streams, groups and audit have room for what a message brings, gives, counts and keeps back
-pub record IsReadyToTake (e : Engine) (session : ℕ) (reading : Ahead) (shares : List (ℕ × List DataRecord)) (reserved : List (ℕ × List Addition)) (entries : ℕ) : Type 0 where
+pub record IsReadyToTake (e : Engine) (session : ℕ) (reading : Ahead) (shares : List (ℕ × List DataRecord)) (added : List (ℕ × List Addition)) (entries : ℕ) : Type 0 where
   pub history : List Entry
   pub stands : Stands e history
   pub session_room : IsSomeAnd (at_key session e.sessions) (λ o. HasRoomFor o.session reading)
   pub session_count : IfSome (at_key session e.sessions) (λ o. o.accepted + 1 < 2 ^ 64)
   pub streams : AreReady e.subscriptions shares
-  pub groups : AreCountable e.groups reserved
+  pub groups : AreCountable e.groups added
   pub audit : length e.audit.standing.entries + entries ≤ e.audit.limit
   pub reserved : entries ≤ e.audit.spare
   pub count : e.audit.standing.drained + length e.audit.standing.entries + entries < 2 ^ 64

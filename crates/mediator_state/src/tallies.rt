@@ -1,5 +1,5 @@
 //! What a message adds to running groups, subscription by subscription.
-ghost use Rattle.std.specs.Prelude.{◌≡◌, ◌≢◌, ◌++◌, ℕ, List, map, IfOk};
+ghost use Rattle.std.specs.Prelude.{◌≡◌, ◌≢◌, ◌≤◌, ◌++◌, ℕ, List, length, map, IfOk};
 ghost use Rattle.flow_aggregate.specs.Groups.{Counted};
 ghost use Rattle.flow_aggregate.specs.Counts.{Count, count_of};
 ghost use Rattle.flow_aggregate.specs.Additions.{AreReady};
@@ -32,6 +32,7 @@ pub(crate) fn reserve_all(
 ) -> Result<Vec<Reserved>, AllocError>
     ensures same { (q : ℕ) → groups_at groups.new q ≡ groups_at groups.old q }
     ensures ok { IfOk result (λ reserved. AreApart (map tallied tallies.now) → AllReady groups.new (map reserved_for reserved.items) (map tallied tallies.now)) }
+    ensures few { (q : ℕ) → length (held_at groups.new q).ready ≤ length (added_to q (map tallied tallies.now)) }
 {
     groups.release();
     let mut reserved = Vec::with_capacity(alloc, tallies.len())?;

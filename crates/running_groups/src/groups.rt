@@ -1,5 +1,5 @@
 //! The table of the groups that are still open.
-ghost use Rattle.std.specs.Prelude.{◌≡◌, ◌≢◌, ◌≤◌, ◌+◌, ◌++◌, ℕ, List, [], true, length, map, IfOk, OnOk};
+ghost use Rattle.std.specs.Prelude.{◌≡◌, ◌≢◌, ◌≤◌, ◌+◌, ◌++◌, ℕ, List, [], true, length, map, IfOk, OnErr, OnOk};
 ghost use Rattle.flow_aggregate.specs.Groups.{Counted};
 ghost use Rattle.flow_aggregate.specs.Running.{places, nothing_held, StandsFor, staying};
 ghost use Rattle.flow_aggregate.specs.Counts.{Count as OneCount, count_of};
@@ -68,6 +68,8 @@ impl RunningGroups {
     pub fn reserve(&mut self, sub: u64, counts: &[Count]) -> Result<Vec<Addition>, AllocError>
         ensures same { (q : ℕ) → groups_at self.new q ≡ groups_at self.old q }
         ensures ok { IfOk result (λ additions. AreReady (held_at self.new sub) additions.items counts.now) }
+        ensures few { length (held_at self.new sub).ready ≤ length counts.now }
+        ensures err { OnErr result ((held_at self.new sub).ready ≡ []) }
         ensures others { (q : ℕ) → q ≢ sub → held_at self.new q ≡ held_at self.old q }
     {
         self.make(sub)?;
@@ -95,6 +97,7 @@ impl RunningGroups {
     pub fn add_reserved(&mut self, sub: u64, additions: Vec<Addition>)
         requires { (counts : List OneCount) × AreReady (held_at self.old sub) additions.items counts }
         ensures adds { (before more : List Counted) → StandsFor (groups_at self.old sub) before → AreReady (held_at self.old sub) additions.items (map count_of more) → StandsFor (groups_at self.new sub) (before ++ more) }
+        ensures ready { (held_at self.new sub).ready ≡ [] }
         ensures others { (q : ℕ) → q ≢ sub → held_at self.new q ≡ held_at self.old q }
     {
         if let Some(groups) = self.by_number.get_mut(&sub) {
@@ -143,6 +146,7 @@ impl RunningGroups {
     fn make(&mut self, sub: u64) -> Result<(), AllocError>
         ensures same { (q : ℕ) → held_at self.new q ≡ held_at self.old q }
         ensures ok { OnOk result (has_groups self.new sub ≡ true) }
+        ensures err { OnErr result (held_at self.new sub ≡ nothing_held) }
     {
         if !self.by_number.contains_key(&sub) {
             self.by_number.insert(sub, Running::new(self.alloc))?;

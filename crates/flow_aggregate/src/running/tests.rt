@@ -1,4 +1,4 @@
-//! What is kept of groups are their sums: these name the fields by their types, so that nothing else compiles.
+//! What is kept of groups are their sums, and no records: these name all fields by their types, so that nothing else compiles.
 use crate::group::Group;
 use crate::running::Running;
 use crate::sums::Sums;
@@ -6,18 +6,34 @@ use indexmap::IndexMap;
 use std::process::Abort;
 use std::test::Fail;
 
-fn sums_of(running: &Running) -> &IndexMap<Group, Sums> {
-    &running.groups
+/// All that is kept.
+fn kept(running: &Running) -> (&IndexMap<Group, Sums>, usize, u64) {
+    match running {
+        Running {
+            alloc: _,
+            groups,
+            counted,
+            earliest,
+        } => (groups, *counted, *earliest),
+    }
 }
 
-fn counted_of(running: &Running) -> usize {
-    running.counted
+/// All that is kept of a group.
+fn numbers(sums: Sums) -> (u64, u64, u64) {
+    let Sums {
+        octets,
+        packets,
+        flows,
+    } = sums;
+    (octets, packets, flows)
 }
 
 #[test]
 fn a_new_one_keeps_no_sums(rt: HostRuntime) -> Result<(), Fail> {
     let running = Running::new(rt.alloc());
-    assert!(rt; sums_of(&running).is_empty());
-    assert!(rt; counted_of(&running) == 0);
+    let (groups, counted, _earliest) = kept(&running);
+    assert!(rt; groups.is_empty());
+    assert!(rt; counted == 0);
+    assert!(rt; numbers(Sums::none()) == (0, 0, 0));
     Ok(())
 }
