@@ -119,17 +119,17 @@ within_more q total more n k whole some low few is = by_bounds (q * n) (q * (n +
 pub held_on : (old new : Mediation) (more : List Entry) → IsSound old → GoesOn old more new → Brings old more → IsHeld new
 held_on old new more sound on brings = record {
   queued = λ sub live. omega (
-      arith,
-      waits sub live,
-      few_wait (stream_limits old.limits) (disclosed sub old.history) (waiting_at old sub) (brings.given sub) (brings.waits sub (ap (is_live sub) (sym on.history) ∙ live)) (brings.fits sub),
-      ap (λ (l : Limits). l.queue) on.limits,
-    );
+    arith,
+    waits sub live,
+    few_wait (stream_limits old.limits) (disclosed sub old.history) (waiting_at old sub) (brings.given sub) (brings.waits sub (ap (is_live sub) (sym on.history) ∙ live)) (brings.fits sub),
+    ap (λ (l : Limits). l.queue) on.limits,
+  );
   shapes = λ sub. omega (
-      arith,
-      few_shapes (stream_limits old.limits) (disclosed sub old.history) (waiting_at old sub) (brings.given sub) (sound.held.shapes sub) (brings.fits sub),
-      ap (λ (l : List DataRecord). length (shapes_of l)) (listed sub),
-      ap (λ (l : Limits). l.shapes) on.limits,
-    );
+    arith,
+    few_shapes (stream_limits old.limits) (disclosed sub old.history) (waiting_at old sub) (brings.given sub) (sound.held.shapes sub) (brings.fits sub),
+    ap (λ (l : List DataRecord). length (shapes_of l)) (listed sub),
+    ap (λ (l : Limits). l.shapes) on.limits,
+  );
   noted = omega (
     arith,
     brings.audit,
