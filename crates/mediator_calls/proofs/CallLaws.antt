@@ -1,6 +1,6 @@
 -- What the calls of a mediator's state say to its callers.
 use Rattle.std.proofs.Common.{◌≡◌, ℕ, ◌+◌, ◌<◌, ◌≤◌, ◌^◌, Bool, true, false, cond, List, [], ◌∷◌, ◌++◌, length, take, drop, Option, Some, None, Result, Ok, Err, refl, sym, ap, ◌∙◌, subst, append-nil, arith}
-use Rattle.std.specs.Prelude.{◌≢◌, ◌==◌, unwrap_or, OnOk, IfOk, IfErr}
+use Rattle.std.specs.Prelude.{◌≢◌, ◌==◌, unwrap_or, OnOk, OnErr, IfOk, IfErr}
 use Rattle.std.proofs.lemmas.Bool.{false≢true, eq-eqb}
 use Rattle.sequences.proofs.BeforeLaws.{last_of-push}
 use Rattle.ipfix_session.specs.Meaning.{meaning_of}
@@ -25,10 +25,12 @@ use Rattle.mediator_state.specs.Seen.{place_of, IsUntouched}
 use Rattle.mediator_state.specs.Standing.{AreNumbered, Stands}
 use Rattle.mediator_state.specs.Calls as state
 use Rattle.mediator_calls.specs.declared.limits.Limits.{Limits}
-use Rattle.mediator_calls.specs.Mediation.{Place, Mediation, place_at, noted_at, journal_limits}
-use Rattle.mediator_calls.specs.View.{view_of, tells, limits_of, StandsForJournal}
-use Rattle.mediator_calls.specs.Calls.{GoesOn, Opens, Closes, with_cuts, Receives, RefusesReceive, Edits, Subscribes, Unsubscribes, Advances, RefusesAdvance, Pulls, IsStatusOf, Drains}
+use Rattle.mediator_calls.specs.Held.{IsHeld}
+use Rattle.mediator_calls.specs.Mediation.{Place, Mediation, started, place_at, noted_at, journal_limits}
+use Rattle.mediator_calls.specs.View.{view_of, tells, limits_of, StandsForJournal, IsKept}
+use Rattle.mediator_calls.specs.Calls.{GoesOn, Opens, Closes, AuditHolds, with_cuts, Receives, RefusesReceive, Edits, Subscribes, Unsubscribes, Advances, RefusesAdvance, Pulls, IsStatusOf, Drains}
 use Rattle.mediator_calls.specs.Sound.{IsSound}
+use Rattle.mediator_calls.proofs.HeldLaws.{held_start, held_open, held_close, held_edit, held_subscribe, held_unsubscribe, held_receive, held_advance, held_pull, held_drain}
 use Rattle.mediator_calls.proofs.Places.{place_is, within, unplaced_at, cuts_are, places_same}
 
 -- ---- results
@@ -163,11 +165,19 @@ goes_on_with_cuts : (s t : State Kept) (entry : Entry) → StandsForJournal s �
 goes_on_with_cuts s t entry stands accepts untouched journaled =
     goes_on s t (with_cuts (view_of s) entry) stands (subst (λ (more : List Entry). AcceptsNext s more t) (with_cuts_are s stands entry) accepts) untouched journaled
 
+-- the audit holds what is named of an entry and its cuts
+audit_seen : (s : State Kept) (entry : Entry) → StandsForJournal s → state.AuditHolds s.engine s.chronicle.entries (state.with_cuts s.engine s.chronicle.entries entry) → AuditHolds (view_of s) (with_cuts (view_of s) entry)
+audit_seen s entry stands holds = record {
+  before = subst (λ (waiting : List AuditEntry). length waiting ≤ s.engine.audit.limit) stands.stands.audit.waiting holds.before;
+  after = subst (λ (more : List Entry). length (drop s.engine.audit.standing.drained (audit_list (s.chronicle.entries ++ more))) ≤ s.engine.audit.limit) (with_cuts_are s stands entry) holds.after;
+}
+
 pub receives : (s t : State Kept) (session number : ℕ) (octets : List ℕ) (r : Receipt) → StandsForJournal s → state.Receives tells limits_of s s.chronicle.entries session number octets r t → IsUntouched s.engine t.engine → t.chronicle.limits ≡ s.chronicle.limits → Receives (view_of s) session number octets r (view_of t)
 receives s t session number octets r stands got untouched journaled = record {
   next = got.next;
   meaning = got.meaning;
   means = got.means;
+  audit = audit_seen s (Message session number octets) stands got.audit;
   goes_on = goes_on_with_cuts s t (Message session number octets) stands got.accepts untouched journaled;
   receipt = got.receipt ∙ ap (λ (cuts : List Entry). receipt_of (length s.chronicle.entries) (length cuts) got.meaning) (cuts_are s stands (Message session number octets));
 }
@@ -218,6 +228,7 @@ refuses_receive (fault.ClockBack last) s session number octets stands r = r
 pub advances : (s t : State Kept) (time : ℕ) → StandsForJournal s → state.Advances tells limits_of s s.chronicle.entries time t → IsUntouched s.engine t.engine → t.chronicle.limits ≡ s.chronicle.limits → Advances (view_of s) time (view_of t)
 advances s t time stands advanced untouched journaled = record {
   ahead = advanced.ahead;
+  audit = audit_seen s (Advance time) stands advanced.audit;
   goes_on = goes_on_with_cuts s t (Advance time) stands advanced.accepts untouched journaled;
 }
 
@@ -269,10 +280,93 @@ drains s t most out stands drained places count streams audit journaled = record
 
 -- ---- what every mediator keeps
 
-pub is_sound : (s : State Kept) → StandsForJournal s → IsSound (view_of s)
-is_sound s stands = record {
-  streamable = stands.stands.small.streamable;
-  places = within s stands;
-  drained = stands.stands.audit.within;
-  numbered = stands.stands.numbered;
+pub is_sound : (s : State Kept) → IsKept s → IsSound (view_of s)
+is_sound s kept = record {
+  streamable = kept.stands.stands.small.streamable;
+  places = within s kept.stands;
+  drained = kept.stands.stands.audit.within;
+  numbered = kept.stands.stands.numbered;
+  held = kept.held;
 }
+
+-- a refused call leaves it so
+pub kept_same : (s t : State Kept) → IsKept s → KeepsHistories s t → IsUntouched s.engine t.engine → t.chronicle.limits ≡ s.chronicle.limits → IsKept t
+kept_same s t kept keeps untouched journaled = record {
+  stands = stands_on s t kept.stands keeps;
+  held = subst IsHeld (sym (same_on s t kept.stands keeps untouched journaled)) kept.held;
+}
+
+-- whatever a call answers, where it keeps so what it accepts
+pub kept_by : {X E : Type 0} {P : X → Type 0} (r : Result X E) (s t : State Kept) → IsKept s → IfOk r P → ((x : X) → P x → IsKept t) → OnErr r (KeepsHistories s t) → OnErr r (IsUntouched s.engine t.engine) → t.chronicle.limits ≡ s.chronicle.limits → IsKept t
+kept_by (Ok x) s t kept ok does same untouched journaled = does x ok
+kept_by (Err e) s t kept ok does same untouched journaled = kept_same s t kept same untouched journaled
+
+pub kept_done : {X E P : Type 0} (r : Result X E) (s t : State Kept) → IsKept s → OnOk r P → (P → IsKept t) → OnErr r (KeepsHistories s t) → OnErr r (IsUntouched s.engine t.engine) → t.chronicle.limits ≡ s.chronicle.limits → IsKept t
+kept_done (Ok x) s t kept ok does same untouched journaled = does ok
+kept_done (Err e) s t kept ok does same untouched journaled = kept_same s t kept same untouched journaled
+
+-- an untouched engine is so whatever is answered
+pub either_way : {X E P : Type 0} (r : Result X E) → P → OnErr r P
+either_way (Ok x) p = tt
+either_way (Err e) p = p
+
+pub kept_open : (s t : State Kept) (n : ℕ) → IsKept s → state.Opens tells limits_of s s.chronicle.entries n t → IsUntouched s.engine t.engine → t.chronicle.limits ≡ s.chronicle.limits → IsKept t
+kept_open s t n kept is untouched journaled = record {
+  stands = accepted_stands s t (Open n ∷ []) is.accepts;
+  held = held_open (view_of s) (view_of t) n (is_sound s kept) (opens s t n kept.stands is untouched journaled);
+}
+
+pub kept_close : (s t : State Kept) (session : ℕ) → IsKept s → state.Closes tells limits_of s s.chronicle.entries session t → IsUntouched s.engine t.engine → t.chronicle.limits ≡ s.chronicle.limits → IsKept t
+kept_close s t session kept is untouched journaled = record {
+  stands = accepted_stands s t (Close session ∷ []) is.accepts;
+  held = held_close (view_of s) (view_of t) session (is_sound s kept) (closes s t session kept.stands is untouched journaled);
+}
+
+pub kept_edit : (s t : State Kept) (text : List ℕ) (n : ℕ) → IsKept s → state.Edits tells limits_of s s.chronicle.entries text n t → IsUntouched s.engine t.engine → t.chronicle.limits ≡ s.chronicle.limits → IsKept t
+kept_edit s t text n kept is untouched journaled = record {
+  stands = accepted_stands s t (Edit text ∷ []) is.accepts;
+  held = held_edit (view_of s) (view_of t) text n (is_sound s kept) (edits s t text n kept.stands is untouched journaled);
+}
+
+pub kept_subscribe : (s t : State Kept) (name : List ℕ) (n : ℕ) → IsKept s → state.Subscribes tells limits_of s s.chronicle.entries name n t → IsUntouched s.engine t.engine → t.chronicle.limits ≡ s.chronicle.limits → IsKept t
+kept_subscribe s t name n kept is untouched journaled = record {
+  stands = accepted_stands s t (Subscribe n name ∷ []) is.accepts;
+  held = held_subscribe (view_of s) (view_of t) name n (is_sound s kept) (subscribes s t name n kept.stands is untouched journaled);
+}
+
+pub kept_unsubscribe : (s t : State Kept) (sub : ℕ) → IsKept s → state.Unsubscribes tells limits_of s s.chronicle.entries sub t → ((q : ℕ) → q ≢ sub → place_of t.engine q ≡ place_of s.engine q)
+    → t.engine.audit.standing.drained ≡ s.engine.audit.standing.drained → t.engine.limits ≡ s.engine.limits → t.engine.audit.limit ≡ s.engine.audit.limit → t.chronicle.limits ≡ s.chronicle.limits → IsKept t
+kept_unsubscribe s t sub kept is others drained streams audit journaled = record {
+  stands = accepted_stands s t (Unsubscribe sub ∷ []) is.accepts;
+  held = held_unsubscribe (view_of s) (view_of t) sub (is_sound s kept) (unsubscribes s t sub kept.stands is others drained streams audit journaled);
+}
+
+pub kept_receive : (s t : State Kept) (session number : ℕ) (octets : List ℕ) (r : Receipt) → IsKept s → state.Receives tells limits_of s s.chronicle.entries session number octets r t → IsUntouched s.engine t.engine → t.chronicle.limits ≡ s.chronicle.limits → IsKept t
+kept_receive s t session number octets r kept is untouched journaled = record {
+  stands = accepted_stands s t (state.with_cuts s.engine s.chronicle.entries (Message session number octets)) is.accepts;
+  held = held_receive (view_of s) (view_of t) session number octets r (is_sound s kept) (receives s t session number octets r kept.stands is untouched journaled);
+}
+
+pub kept_advance : (s t : State Kept) (time : ℕ) → IsKept s → state.Advances tells limits_of s s.chronicle.entries time t → IsUntouched s.engine t.engine → t.chronicle.limits ≡ s.chronicle.limits → IsKept t
+kept_advance s t time kept is untouched journaled = record {
+  stands = accepted_stands s t (state.with_cuts s.engine s.chronicle.entries (Advance time)) is.accepts;
+  held = held_advance (view_of s) (view_of t) time (is_sound s kept) (advances s t time kept.stands is untouched journaled);
+}
+
+pub kept_pull : (s t : State Kept) (sub now target : ℕ) (answer : Option (List ℕ)) → IsKept s → now < 2 ^ 32 → target < 2 ^ 16 → state.Pulls tells s s.chronicle.entries sub now target answer t → ((q : ℕ) → q ≢ sub → place_of t.engine q ≡ place_of s.engine q)
+    → t.engine.audit.standing.drained ≡ s.engine.audit.standing.drained → t.engine.limits ≡ s.engine.limits → t.engine.audit.limit ≡ s.engine.audit.limit → t.chronicle.limits ≡ s.chronicle.limits → IsKept t
+kept_pull s t sub now target answer kept time size is others drained streams audit journaled = record {
+  stands = for_journal t s.chronicle.entries is.stands;
+  held = held_pull (view_of s) (view_of t) sub now target answer kept.held (pulls s t sub now target answer kept.stands time size is others drained streams audit journaled);
+}
+
+pub kept_drain : (s t : State Kept) (most : ℕ) (out : List AuditEntry) → IsKept s → (out ≡ take most (drop s.engine.audit.standing.drained (audit_list s.chronicle.entries))) × state.StandsFor tells t s.chronicle.entries → ((q : ℕ) → place_of t.engine q ≡ place_of s.engine q)
+    → t.engine.audit.standing.drained ≡ s.engine.audit.standing.drained + length out → t.engine.limits ≡ s.engine.limits → t.engine.audit.limit ≡ s.engine.audit.limit → t.chronicle.limits ≡ s.chronicle.limits → IsKept t
+kept_drain s t most out kept is places count streams audit journaled = record {
+  stands = for_journal t s.chronicle.entries is.1;
+  held = held_drain (view_of s) (view_of t) most out kept.held (drains s t most out kept.stands is places count streams audit journaled);
+}
+
+-- before any call
+pub kept_start : (limits : Limits) (s : State Kept) → StandsForJournal s → view_of s ≡ started limits → IsKept s
+kept_start limits s stands is = record { stands = stands; held = subst IsHeld (sym is) (held_start limits) }

@@ -6,3 +6,4 @@ pub mod Sums
 pub mod Handing
 pub mod Moving
 pub mod Pulling
+pub mod HeldLaws

@@ -1,5 +1,5 @@
 -- What the calls of a mediator answer, and what they leave.
-use Rattle.std.specs.Prelude.{◌≡◌, ◌≢◌, ℕ, ◌+◌, ◌<◌, ◌≤◌, ◌^◌, true, List, [], ◌∷◌, ◌++◌, length, take, Option, Ok}
+use Rattle.std.specs.Prelude.{◌≡◌, ◌≢◌, ℕ, ◌+◌, ◌<◌, ◌≤◌, ◌^◌, true, List, [], ◌∷◌, ◌++◌, length, take, drop, Option, Ok}
 use Rattle.ipfix_session.specs.Meaning.{Meaning, meaning_of}
 use Rattle.policy_text.specs.Policies.{Meaning as Policy}
 use Rattle.policy_text.specs.Parsing.{policy_of}
@@ -56,11 +56,17 @@ cuts_of m entry = cuts_before (stream_limits m.limits) m.history entry (waiting_
 abbrev pub with_cuts : Mediation → Entry → List Entry
 with_cuts m entry = cuts_of m entry ++ entry ∷ []
 
--- the message is the next of its session, it and its cuts are accepted, and this is its receipt
+-- what waits to be drained is no more than the audit's limit, before these entries and with what it names of them
+pub record AuditHolds (m : Mediation) (more : List Entry) : Type 0 where
+  pub before : length (noted_at m) ≤ m.limits.audit
+  pub after : length (drop m.drained (audit_list (m.history ++ more))) ≤ m.limits.audit
+
+-- the message is the next of its session, the audit holds it, it and its cuts are accepted, and this is its receipt
 pub record Receives (old : Mediation) (session number : ℕ) (octets : List ℕ) (r : Receipt) (new : Mediation) : Type 0 where
   pub next : IsNext old.history session number
   pub meaning : Meaning
   pub means : meaning_of (messages_of session old.history) octets ≡ Ok meaning
+  pub audit : AuditHolds old (with_cuts old (Message session number octets))
   pub goes_on : GoesOn old (with_cuts old (Message session number octets)) new
   pub receipt : r ≡ receipt_of (length old.history) (length (cuts_of old (Message session number octets))) meaning
 
@@ -76,12 +82,14 @@ RefusesReceive why m session number octets = RefusesMessage why m.history sessio
 
 -- ---- the clock
 
--- the time isn't before that of the last advance, and the advance and its cuts are accepted
+-- the time isn't before that of the last advance, the audit holds the advance's cuts, and both are accepted
 pub record Advances (old : Mediation) (t : ℕ) (new : Mediation) : Type 0 where
   pub ahead : clock_of old.history ≤ t
+  pub audit : AuditHolds old (with_cuts old (Advance t))
   pub goes_on : GoesOn old (with_cuts old (Advance t)) new
 
--- the clock stands later; else the journal is judged, and then the audit, whose need and room are told; want of memory says nothing
+-- the clock stands later; else the journal is judged, and then the audit, whose need and room are told; memory runs out only
+-- where the clock doesn't stand later
 abbrev pub RefusesAdvance : Fault → Mediation → ℕ → Type 0
 RefusesAdvance (fault.ClockBack last) m t = (last ≡ clock_of m.history) × (t < last)
 RefusesAdvance fault.JournalFull m t = (clock_of m.history ≤ t) × (HasRoomAfter (journal_limits m.limits) m.history (with_cuts m (Advance t)) → ⊥)
@@ -89,7 +97,7 @@ RefusesAdvance (fault.AuditFull need room) m t =
     (clock_of m.history ≤ t) × HasRoomAfter (journal_limits m.limits) m.history (with_cuts m (Advance t))
     × ((noted : List AuditEntry) × (audit_list (m.history ++ with_cuts m (Advance t)) ≡ audit_list m.history ++ noted) × (need ≡ length noted))
     × (room + length (noted_at m) ≡ m.limits.audit) × (room < need)
-RefusesAdvance fault.OutOfMemory m t = Unit {0}
+RefusesAdvance fault.OutOfMemory m t = clock_of m.history ≤ t
 RefusesAdvance _ m t = ⊥
 
 -- ---- policies

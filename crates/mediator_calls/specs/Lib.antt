@@ -22,6 +22,7 @@ pub use Rattle.mediator_state.specs.Calls as StateCalls
 pub mod FaultTexts
 pub mod Limited
 pub mod Mediation
+pub mod Held
 pub mod View
 pub mod Sound
 pub mod Calls

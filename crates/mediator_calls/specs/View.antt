@@ -8,6 +8,7 @@ use Rattle.mediator_state.specs.declared.state.State.{State}
 use Rattle.mediator_state.specs.Seen.{place_of}
 use Rattle.mediator_state.specs.Calls.{StandsFor}
 use Rattle.mediator_calls.specs.Mediation.{Place, Mediation, live}
+use Rattle.mediator_calls.specs.Held.{IsHeld}
 
 abbrev pub placed : Engine → ℕ → Place
 placed e sub = record { sub = sub; reached = place_of e sub }
@@ -36,3 +37,8 @@ limits_of j = j.limits
 -- the state stands for its journal
 abbrev pub StandsForJournal : State Kept → Type 0
 StandsForJournal s = StandsFor tells s s.chronicle.entries
+
+-- so it does, and holds no more than its limits allow
+pub record IsKept (s : State Kept) : Type 0 where
+  pub stands : StandsForJournal s
+  pub held : IsHeld (view_of s)

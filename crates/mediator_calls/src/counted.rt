@@ -1,8 +1,8 @@
 //! A mediator and the counts of what it took in and handed out.
-ghost use Rattle.std.specs.Prelude.{◌≡◌, ◌≤◌, false, length, IfOk, IfErr, OnOk, OnErr};
+ghost use Rattle.std.specs.Prelude.{◌≡◌, ◌≤◌, [], take, false, length, IsOk, IfOk, IfErr, OnOk, OnErr};
 ghost use Rattle.mediator_history.specs.Subscriptions.{is_live};
 ghost use Rattle.mediator_state.specs.Calls.{RefusesClose, RefusesEdit, RefusesSubscribe, RefusesUnsubscribe};
-ghost use Rattle.mediator_calls.specs.Mediation.{journal_limits};
+ghost use Rattle.mediator_calls.specs.Mediation.{noted_at, journal_limits};
 ghost use Rattle.mediator_calls.specs.Calls.{Opens, RefusesOpen, Closes, Receives, RefusesReceive, Edits, Subscribes, Unsubscribes, Advances, RefusesAdvance, IsStatusOf, Drains};
 ghost use Rattle.mediator_calls.specs.Counted.{counted_as, handed_at, handed_live, handed_of, Counts};
 ghost use Rattle.mediator_calls.specs.Handing.{HandsOut, RefusesHanding};
@@ -271,6 +271,8 @@ impl CountedMediator {
         ensures ok { IfOk result (λ out. Drains self.old.core most out.items self.new.core) }
         ensures counts { OnOk result (Counts self.old 0 0 0 self.new) }
         ensures same { OnErr result (self.new ≡ self.old) }
+        // Nothing to hand out takes no memory.
+        ensures none { take most (noted_at self.old.core) ≡ [] → IsOk result }
     {
         self.mediator.drain_audit(most)
     }

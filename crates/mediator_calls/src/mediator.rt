@@ -1,8 +1,8 @@
 //! A mediator and its calls.
-ghost use Rattle.std.specs.Prelude.{◌≡◌, true, false, IfOk, IfErr, OnOk, OnErr};
+ghost use Rattle.std.specs.Prelude.{◌≡◌, [], take, true, false, IsOk, IfOk, IfErr, OnOk, OnErr};
 ghost use Rattle.mediator_history.specs.Subscriptions.{is_live};
 ghost use Rattle.mediator_state.specs.Calls.{RefusesClose, RefusesEdit, RefusesSubscribe, RefusesUnsubscribe, RefusesPull};
-ghost use Rattle.mediator_calls.specs.Mediation.{started, journal_limits};
+ghost use Rattle.mediator_calls.specs.Mediation.{started, noted_at, journal_limits};
 ghost use Rattle.mediator_calls.specs.Limited.{AreAllowed, RefusesLimits};
 ghost use Rattle.mediator_calls.specs.Sound.{IsSound};
 ghost use Rattle.mediator_calls.specs.Calls.{Opens, RefusesOpen, Closes, Receives, RefusesReceive, Edits, Subscribes, Unsubscribes, Advances, RefusesAdvance, Pulls, IsStatusOf, Drains};
@@ -33,13 +33,13 @@ impl Drop for Mediator {
 
 impl Model for Mediator {
     ghost use Rattle.mediator_calls.specs.Mediation.{Mediation};
-    ghost use Rattle.mediator_calls.specs.View.{view_of, StandsForJournal};
+    ghost use Rattle.mediator_calls.specs.View.{view_of, IsKept};
 
     ghost Value = { Mediation };
 
     ghost view = { λ m. view_of m.state };
 
-    ghost invariant = { λ m. StandsForJournal m.state };
+    ghost invariant = { λ m. IsKept m.state };
 }
 
 impl Mediator {
@@ -212,6 +212,8 @@ impl Mediator {
     pub fn drain_audit(&mut self, most: u32) -> Result<Vec<AuditEntry>, AllocError>
         ensures ok { IfOk result (λ out. Drains self.old most out.items self.new) }
         ensures same { OnErr result (self.new ≡ self.old) }
+        // Nothing to hand out takes no memory.
+        ensures none { take most (noted_at self.old) ≡ [] → IsOk result }
     {
         self.state.drain_audit(most)
     }

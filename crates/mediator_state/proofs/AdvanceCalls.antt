@@ -1,7 +1,8 @@
 -- What an advance of the clock answers and leaves, by what its steps do.
-use Rattle.std.proofs.Common.{◌≡◌, ℕ, ◌+◌, ◌≤◌, ◌<◌, List, [], ◌∷◌, ◌++◌, length, map, refl, sym, ap, ◌∙◌, subst, append_assoc}
+use Rattle.std.proofs.Common.{◌≡◌, ℕ, ◌+◌, ◌≤◌, ◌<◌, List, [], ◌∷◌, ◌++◌, length, map, refl, sym, ap, ◌∙◌, subst, append_assoc, arith}
 use Rattle.ipfix_template.specs.DataRecord.{DataRecord}
 use Rattle.disclosure_audit.specs.declared.entry.AuditEntry.{AuditEntry}
+use Rattle.disclosure_audit.specs.Queue.{Standing}
 use Rattle.event_journal.specs.Sizes.{IsCountOf}
 use Rattle.event_journal.specs.declared.entry.Entry.{Entry}
 use Rattle.event_journal.specs.declared.entry.Entry.TheVariants.{Advance, Cut}
@@ -21,10 +22,10 @@ use Rattle.mediator_state.specs.Standing.{Stands}
 use Rattle.mediator_state.specs.Seen.{waiting_of, IsSameEngine}
 use Rattle.mediator_state.specs.Planning.{IsJudged}
 use Rattle.mediator_state.specs.Accepting.{LacksAudit}
-use Rattle.mediator_state.specs.Advancing.{IsClosingFor}
-use Rattle.mediator_state.specs.Calls.{StandsFor, Accepts, with_cuts, Advances, RefusesAdvance}
+use Rattle.mediator_state.specs.Advancing.{HasRoomToClose, IsClosingFor}
+use Rattle.mediator_state.specs.Calls.{StandsFor, AuditHolds, Accepts, with_cuts, Advances, RefusesAdvance}
 use Rattle.mediator_state.proofs.SameLaws.{stands_same, judged_same}
-use Rattle.mediator_state.proofs.CallLaws.{room_after, room_before, length-cut_entries}
+use Rattle.mediator_state.proofs.CallLaws.{room_after, room_before, length-cut_entries, audit_holds}
 
 -- what was found out of an advance before it is accepted
 pub record IsClosing (e : Engine) (h : List Entry) (t : ℕ) (c : Closing) (entries : List Entry) : Type 0 where
@@ -63,7 +64,7 @@ closing_audit (fault.AuditFull need room) limits count sizes e h t c entries cou
   lacks.2,
   lacks.1,
 )
-closing_audit fault.OutOfMemory limits count sizes e h t c entries counts f r lacks = tt
+closing_audit fault.OutOfMemory limits count sizes e h t c entries counts f r lacks = f.ahead
 closing_audit fault.JournalFull limits count sizes e h t c entries counts f r lacks = absurd lacks
 closing_audit fault.UnknownSession limits count sizes e h t c entries counts f r lacks = absurd lacks
 closing_audit (fault.OutOfTurn expected) limits count sizes e h t c entries counts f r lacks = absurd lacks
@@ -73,6 +74,16 @@ closing_audit fault.BadName limits count sizes e h t c entries counts f r lacks 
 closing_audit (fault.AlreadySubscribed sub) limits count sizes e h t c entries counts f r lacks = absurd lacks
 closing_audit fault.UnknownSub limits count sizes e h t c entries counts f r lacks = absurd lacks
 closing_audit (fault.ClockBack last) limits count sizes e h t c entries counts f r lacks = absurd lacks
+
+-- memory ran out where the clock doesn't stand later
+pub ahead_memory : (why : Fault) (limits : Journaled) (e : Engine) (h : List Entry) (t : ℕ) → why ≡ fault.OutOfMemory → clock_of h ≤ t → RefusesAdvance why limits e h t
+ahead_memory why limits e h t is ahead = rw is ahead
+
+-- the room that was made for an advance holds what is named of its cuts
+pub closing_held : (d e : Engine) (h : List Entry) (t : ℕ) (c : Closing) (entries : List Entry) → IsSameEngine d e → Stands d h → IsClosing d h t c entries → HasRoomToClose e c → AuditHolds d h (with_cuts d h (Advance t))
+closing_held d e h t c entries same so f room =
+    audit_holds d h (with_cuts d h (Advance t)) (cut_entries (length h) c.cuts.items) so.audit (noted_closing d h t c entries f)
+    (omega (arith, room.audit.room, same.audit_limit, ap (λ (s : Standing). length s.entries) same.audit, length-cut_entries (length h) c.cuts.items))
 
 -- room was made for it, which the engine shows in nothing else
 pub closing_for : (d e : Engine) (h : List Entry) (t position : ℕ) (c : Closing) → IsSameEngine d e → Stands d h → length h ≡ position → position ≤ 100000000
@@ -91,15 +102,16 @@ AcceptsClosing e position t c new = (h : List Entry) → Stands e h → length h
     → Stands new (after_cuts h c.cuts.items ++ Advance t ∷ [])
 
 pub advanced : {C : Type 0} (tells : C → List Entry → Type 0) (limits : C → Journaled) (old new : State C) (e : Engine) (count sizes : ℕ) (h : List Entry) (t : ℕ) (c : Closing) (entries : List Entry) (position : ℕ)
-    → StandsFor tells old h → IsCountOf h count sizes → position ≡ count → IsClosing old.engine h t c entries → HasRoom (limits old.chronicle) count sizes entries → IsSameEngine old.engine e
+    → StandsFor tells old h → IsCountOf h count sizes → position ≡ count → IsClosing old.engine h t c entries → HasRoom (limits old.chronicle) count sizes entries → IsSameEngine old.engine e → AuditHolds old.engine h (with_cuts old.engine h (Advance t))
     → tells new.chronicle (h ++ entries) → AcceptsClosing e position t c new.engine → Advances tells limits old h t new
-advanced tells limits old new e count sizes h t c entries position stands counts at f room same told accepts =
+advanced tells limits old new e count sizes h t c entries position stands counts at f room same held told accepts =
     let same_entries : entries ≡ with_cuts old.engine h (Advance t) = entries_closing old.engine h t c entries f in
     let after : Stands new.engine (after_cuts h c.cuts.items ++ Advance t ∷ []) =
     accepts h (stands_same old.engine e h same stands.stands) (sym (at ∙ counts.entries)) f.ahead (judged_same old.engine e h (Advance t) c.cuts.items (map shown c.shares.items) [] same f.judged) in
     let history : after_cuts h c.cuts.items ++ Advance t ∷ [] ≡ h ++ entries = append_assoc h (map Cut c.cuts.items) (Advance t ∷ []) ∙ ap (λ (more : List Entry). h ++ more) (sym f.entries_made) in
     record {
       ahead = f.ahead;
+      audit = held;
       accepts = record {
         room = subst (λ (more : List Entry). HasRoomAfter (limits old.chronicle) h more) same_entries (room_after (limits old.chronicle) count sizes h entries counts room);
         stands = record {

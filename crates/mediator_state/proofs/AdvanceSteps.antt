@@ -30,6 +30,7 @@ use Rattle.live_subscriptions.specs.Table.{at, Related, TakesGiven, given_to}
 use Rattle.record_sharing.specs.InForce.{InForce, in_force_with}
 use Rattle.running_groups.specs.Table.{groups_at}
 use Rattle.mediator_state.specs.declared.engine.Engine.{Engine}
+use Rattle.mediator_state.specs.Ascending.{Ascend}
 use Rattle.mediator_state.specs.Standing.{Stands, place, IsSession, IsSubscription, IsLiveAs, IsUnopened, IsUnbegun, AreNumbered, IsSmall, AreInRange}
 use Rattle.mediator_state.specs.Seen.{place_in, place_of}
 use Rattle.mediator_state.specs.Planning.{share_at}
@@ -95,6 +96,7 @@ numbered_advance h t so =
           (disclosed-push sub h (Advance t) ∙ ap (λ (l : List DataRecord). disclosed sub h ++ l) (closes_served_only h t sub before.unserved) ∙ append-nil (disclosed sub h))
           (counted_same sub h (Advance t) refl) before;
       distinct = subst AreDistinct (sym (subscribed-advance h t)) so.distinct;
+      ascending = subst Ascend (sym (subscribed-advance h t)) so.ascending;
       within = subst (λ (ns : List ℕ). AllByRecursion (λ sub. sub ≤ length ns) ns) (sym (subscribed-advance h t)) so.within;
     }
 

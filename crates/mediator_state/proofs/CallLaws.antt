@@ -1,13 +1,15 @@
 -- What the calls of a state answer and leave, by what its parts do.
-use Rattle.std.proofs.Common.{◌≡◌, ℕ, suc, ◌+◌, ◌≤◌, Bool, true, false, List, [], ◌∷◌, ◌++◌, length, map, Result, Ok, Err, refl, sym, ap, ◌∙◌, subst, append_assoc, length-append}
+use Rattle.std.proofs.Common.{◌≡◌, ℕ, suc, ◌+◌, ◌≤◌, Bool, true, false, List, [], ◌∷◌, ◌++◌, length, drop, map, Result, Ok, Err, refl, sym, ap, ◌∙◌, subst, append_assoc, length-append, arith}
 use Rattle.std.specs.Prelude.{◌↔◌, IsTrue, OnErr}
 use Rattle.std.specs.Result.{IsErr, IsErrAnd, IfErr}
-use Rattle.std.proofs.lemmas.List.{length-map}
+use Rattle.std.proofs.lemmas.List.{length-map, drop-append-le}
 use Rattle.policy_text.specs.Naming.{is_name}
 use Rattle.policy_text.specs.Parsing.{policy_of}
 use Rattle.policy_text.specs.Policies.{Meaning as Policy}
 use Rattle.ipfix_session.specs.Meaning.{meaning_of}
+use Rattle.flow_aggregate.specs.declared.addition.Addition.{Addition}
 use Rattle.disclosure_audit.specs.declared.entry.AuditEntry.{AuditEntry}
+use Rattle.disclosure_audit.specs.Queue.{Standing, StandsIn}
 use Rattle.event_journal.specs.Sizes.{history_octets, IsCountOf}
 use Rattle.event_journal.specs.declared.entry.Entry.{Entry}
 use Rattle.event_journal.specs.declared.entry.Entry.TheVariants.{Message, Edit, Subscribe, Cut}
@@ -27,8 +29,8 @@ use Rattle.mediator_state.specs.declared.state.State.{State}
 use Rattle.mediator_state.specs.Standing.{Stands, StandsSomewhere}
 use Rattle.mediator_state.specs.Seen.{waiting_of, IsSameEngine}
 use Rattle.mediator_state.specs.Planning.{IsPlan, IsNext, RefusesMessage}
-use Rattle.mediator_state.specs.Accepting.{LacksAudit, IsPlannedFor, receipt_of}
-use Rattle.mediator_state.specs.Calls.{StandsFor, StandsForSome, Accepts, LacksRoom, LacksRoomAfter, with_cuts, HasMeaning, RefusesReceive, Receives, IsFree, RefusesEdit, RefusesSubscribe}
+use Rattle.mediator_state.specs.Accepting.{LacksAudit, HasRoomForPlan, IsPlannedFor, receipt_of}
+use Rattle.mediator_state.specs.Calls.{StandsFor, StandsForSome, AuditHolds, Accepts, LacksRoom, LacksRoomAfter, with_cuts, HasMeaning, RefusesReceive, Receives, IsFree, RefusesEdit, RefusesSubscribe}
 use Rattle.mediator_state.proofs.SameLaws.{stands_same, plan_same}
 
 -- ---- what keeps the history counts it
@@ -59,7 +61,7 @@ room_before limits count octets h more c r = record {
 
 pub lacks_after : (e : Fault) (limits : Journaled) (count octets : ℕ) (h more : List Entry) → IsCountOf h count octets → LacksRoom e limits count octets more → LacksRoomAfter e limits h more
 lacks_after fault.JournalFull limits count octets h more c lacks = λ r. lacks (room_before limits count octets h more c r)
-lacks_after fault.OutOfMemory limits count octets h more c lacks = tt
+lacks_after fault.OutOfMemory limits count octets h more c lacks = room_after limits count octets h more c lacks
 lacks_after fault.UnknownSession limits count octets h more c lacks = absurd lacks
 lacks_after (fault.OutOfTurn expected) limits count octets h more c lacks = absurd lacks
 lacks_after (fault.Malformed why) limits count octets h more c lacks = absurd lacks
@@ -72,7 +74,7 @@ lacks_after (fault.AuditFull need room) limits count octets h more c lacks = abs
 
 -- ---- a message and its cuts
 
-next_of : (e : Engine) (h : List Entry) (session number : ℕ) (octets : List ℕ) (p : Plan) → p.session ≡ session → IsPlan e h number octets p → IsNext h session number
+pub next_of : (e : Engine) (h : List Entry) (session number : ℕ) (octets : List ℕ) (p : Plan) → p.session ≡ session → IsPlan e h number octets p → IsNext h session number
 next_of e h session number octets p is plan = record {
   opened = subst (λ (s : ℕ). is_open s h ≡ true) is plan.opened;
   turn = subst (λ (s : ℕ). number ≡ length (messages_of s h)) is plan.turn;
@@ -151,7 +153,7 @@ refused_audit (fault.AuditFull need room) limits count sizes e h session number 
   lacks.2,
   lacks.1,
 )
-refused_audit fault.OutOfMemory limits count sizes e h session number octets p entries c f r lacks = tt
+refused_audit fault.OutOfMemory limits count sizes e h session number octets p entries c f r lacks = next_of e h session number octets p f.session_is f.plan
 refused_audit fault.JournalFull limits count sizes e h session number octets p entries c f r lacks = absurd lacks
 refused_audit fault.UnknownSession limits count sizes e h session number octets p entries c f r lacks = absurd lacks
 refused_audit (fault.OutOfTurn expected) limits count sizes e h session number octets p entries c f r lacks = absurd lacks
@@ -161,6 +163,33 @@ refused_audit fault.BadName limits count sizes e h session number octets p entri
 refused_audit (fault.AlreadySubscribed sub) limits count sizes e h session number octets p entries c f r lacks = absurd lacks
 refused_audit fault.UnknownSub limits count sizes e h session number octets p entries c f r lacks = absurd lacks
 refused_audit (fault.ClockBack last) limits count sizes e h session number octets p entries c f r lacks = absurd lacks
+
+-- memory ran out behind what was found out of a message
+pub next_memory : (why : Fault) (limits : Journaled) (e : Engine) (h : List Entry) (session number : ℕ) (octets : List ℕ) → why ≡ fault.OutOfMemory → IsNext h session number → RefusesReceive why limits e h session number octets
+next_memory why limits e h session number octets is next = rw is next
+
+-- ---- that the audit holds what is named
+
+pub audit_holds : (e : Engine) (h more : List Entry) (noted : List AuditEntry) → StandsIn e.audit.standing (audit_list h) → audit_list (h ++ more) ≡ audit_list h ++ noted
+    → length e.audit.standing.entries + length noted ≤ e.audit.limit → AuditHolds e h more
+audit_holds e h more noted stands is room = record {
+  before = omega (arith, room);
+  after = subst (λ (n : ℕ). n ≤ e.audit.limit) (sym waiting) room;
+}
+  where
+    waiting : length (drop e.audit.standing.drained (audit_list (h ++ more))) ≡ length e.audit.standing.entries + length noted
+    waiting =
+        ap (λ (all : List AuditEntry). length (drop e.audit.standing.drained all)) is
+        ∙ ap (λ (l : List AuditEntry). length l) (drop-append-le e.audit.standing.drained (audit_list h) noted stands.within)
+        ∙ length-append (drop e.audit.standing.drained (audit_list h)) noted
+        ∙ ap (λ (l : List AuditEntry). length l + length noted) (sym stands.waiting)
+
+-- the room that was made for a message holds what is named of it and its cuts
+pub message_held : (d e : Engine) (h : List Entry) (session number : ℕ) (octets : List ℕ) (p : Plan) (entries : List Entry) (added : List (ℕ × List Addition)) → IsSameEngine d e → Stands d h → IsFound d h session number octets p entries → HasRoomForPlan e p added
+    → AuditHolds d h (with_cuts d h (Message session number octets))
+message_held d e h session number octets p entries added same so f room =
+    audit_holds d h (with_cuts d h (Message session number octets)) (cut_entries (length h) p.cuts.items ++ p.entries.items) so.audit (noted_of d h session number octets p f.session_is f.plan)
+    (omega (arith, room.audit, same.audit_limit, ap (λ (s : Standing). length s.entries) same.audit, length-append (cut_entries (length h) p.cuts.items) p.entries.items, length-cut_entries (length h) p.cuts.items))
 
 -- ---- what an accepted message leaves
 
@@ -181,9 +210,9 @@ abbrev pub AcceptsPlan : Engine → ℕ → Plan → Engine → Type 0
 AcceptsPlan e position p new = (h : List Entry) (number : ℕ) (octets : List ℕ) → Stands e h → length h ≡ position → IsPlan e h number octets p → Stands new (after_cuts h p.cuts.items ++ Message p.session number octets ∷ [])
 
 pub received : {C : Type 0} (tells : C → List Entry → Type 0) (limits : C → Journaled) (old new : State C) (e : Engine) (count sizes : ℕ) (h : List Entry) (session number : ℕ) (octets : List ℕ) (p : Plan) (entries : List Entry) (r : Receipt) (position : ℕ)
-    → StandsFor tells old h → IsCountOf h count sizes → position ≡ count → IsFound old.engine h session number octets p entries → HasRoom (limits old.chronicle) count sizes entries → IsSameEngine old.engine e
+    → StandsFor tells old h → IsCountOf h count sizes → position ≡ count → IsFound old.engine h session number octets p entries → HasRoom (limits old.chronicle) count sizes entries → IsSameEngine old.engine e → AuditHolds old.engine h (with_cuts old.engine h (Message session number octets))
     → tells new.chronicle (h ++ entries) → AcceptsPlan e position p new.engine → r ≡ receipt_of position (length p.cuts.items) p.reading.meaning → Receives tells limits old h session number octets r new
-received tells limits old new e count sizes h session number octets p entries r position stands c at f room same told accepts receipt =
+received tells limits old new e count sizes h session number octets p entries r position stands c at f room same held told accepts receipt =
     let counted : length h ≡ position = sym (at ∙ c.entries) in
     let same_entries : entries ≡ with_cuts old.engine h (Message session number octets) = entries_are old.engine h session number octets p entries f.session_is f.entries_made f.plan in
     let after : Stands new.engine (after_cuts h p.cuts.items ++ Message p.session number octets ∷ []) = accepts h number octets (stands_same old.engine e h same stands.stands) counted (plan_same old.engine e h number octets p same f.plan) in
@@ -193,6 +222,7 @@ received tells limits old new e count sizes h session number octets p entries r 
       next = next_of old.engine h session number octets p f.session_is f.plan;
       meaning = p.reading.meaning;
       means = means_of old.engine h session number octets p f.session_is f.plan;
+      audit = held;
       accepts = record {
         room = subst (λ (more : List Entry). HasRoomAfter (limits old.chronicle) h more) same_entries (room_after (limits old.chronicle) count sizes h entries c room);
         stands = record {
@@ -231,7 +261,7 @@ accepts_one tells limits count sizes old mid chronicle engine h written entry s 
 pub refused_subscribe : (e : Fault) (limits : Journaled) (count sizes : ℕ) (h : List Entry) (name : List ℕ) (n : ℕ) (written : List ℕ) → n ≡ subscriptions_begun h + 1 → written ≡ name → IsCountOf h count sizes → is_name name ≡ true → IsFree h name → LacksRoom e limits count sizes (Subscribe n written ∷ []) → RefusesSubscribe e limits h name
 refused_subscribe fault.JournalFull limits count sizes h name n written next is c named free lacks =
     (named, free, subst (λ (w : List ℕ). LacksRoomAfter fault.JournalFull limits h (Subscribe (subscriptions_begun h + 1) w ∷ [])) is (subst (λ (k : ℕ). LacksRoomAfter fault.JournalFull limits h (Subscribe k written ∷ [])) next (lacks_after fault.JournalFull limits count sizes h (Subscribe n written ∷ []) c lacks)))
-refused_subscribe fault.OutOfMemory limits count sizes h name n written next is c named free lacks = (named, free, tt)
+refused_subscribe fault.OutOfMemory limits count sizes h name n written next is c named free lacks = (named, free)
 refused_subscribe fault.UnknownSession limits count sizes h name n written next is c named free lacks = absurd lacks
 refused_subscribe (fault.OutOfTurn expected) limits count sizes h name n written next is c named free lacks = absurd lacks
 refused_subscribe (fault.Malformed why) limits count sizes h name n written next is c named free lacks = absurd lacks
@@ -258,8 +288,15 @@ refused_edit fault.UnknownSub limits count sizes h text written policy is c spel
 refused_edit (fault.ClockBack last) limits count sizes h text written policy is c spelled lacks = absurd lacks
 refused_edit (fault.AuditFull need room) limits count sizes h text written policy is c spelled lacks = absurd lacks
 
+-- memory ran out where there was room in the journal
+pub room_memory : (e : Fault) (limits : Journaled) (count octets : ℕ) (more : List Entry) → e ≡ fault.OutOfMemory → HasRoom limits count octets more → LacksRoom e limits count octets more
+room_memory e limits count octets more is room = rw is room
+
+pub room_memory_after : (e : Fault) (limits : Journaled) (count octets : ℕ) (h more : List Entry) → e ≡ fault.OutOfMemory → IsCountOf h count octets → HasRoom limits count octets more → LacksRoomAfter e limits h more
+room_memory_after e limits count octets h more is c room = lacks_after e limits count octets h more c (room_memory e limits count octets more is room)
+
 pub refused_memory : (e : Fault) (limits : Journaled) (h : List Entry) (name : List ℕ) → e ≡ fault.OutOfMemory → is_name name ≡ true → IsFree h name → RefusesSubscribe e limits h name
-refused_memory e limits h name is named free = rw is (named, free, tt)
+refused_memory e limits h name is named free = rw is (named, free)
 
 -- ---- results
 

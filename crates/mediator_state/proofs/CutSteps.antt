@@ -32,6 +32,7 @@ use Rattle.live_subscriptions.specs.Table.{at, cut_off}
 use Rattle.record_sharing.specs.InForce.{InForce}
 use Rattle.running_groups.specs.Table.{groups_at}
 use Rattle.mediator_state.specs.declared.engine.Engine.{Engine}
+use Rattle.mediator_state.specs.Ascending.{Ascend}
 use Rattle.mediator_state.specs.Standing.{Stands, place, IsSession, IsSubscription, IsLiveAs, IsUnopened, IsUnbegun, AreNumbered, IsSmall, AreInRange}
 use Rattle.mediator_state.specs.Steps.{KeepsRest}
 use Rattle.mediator_state.proofs.GroupLaws.{clock_kept, groups_ended}
@@ -119,6 +120,7 @@ numbered_cut h number so = record {
   sessions = λ session above. unopened_stays h (h ++ Cut number ∷ []) session (is_open-cut session h number) (messages-cut session h number) (so.sessions session (omega (arith, above, opened-cut h number)));
   subscriptions = λ sub above. unbegun_stays h (h ++ Cut number ∷ []) sub (is_live-cut sub h number) (unserved_cut sub h number) (disclosed-cut sub h number) (counted_same sub h (Cut number) refl) (so.subscriptions sub (omega (arith, above, begun-cut h number)));
   distinct = subst AreDistinct (sym (subscribed-cut h number)) so.distinct;
+  ascending = subst Ascend (sym (subscribed-cut h number)) so.ascending;
   within = subst (λ (ns : List ℕ). AllByRecursion (λ sub. sub ≤ length ns) ns) (sym (subscribed-cut h number)) so.within;
 }
 

@@ -38,7 +38,9 @@ use Rattle.record_sharing.specs.InForce.{InForce, in_force_with}
 use Rattle.running_groups.specs.Table.{groups_at}
 use Rattle.mediator_state.specs.declared.engine.Engine.{Engine}
 use Rattle.mediator_state.proofs.GroupLaws.{clock_stays, clock_kept, none_stand, groups_kept, groups_ended}
+use Rattle.mediator_state.specs.Ascending.{Ascend}
 use Rattle.mediator_state.specs.Standing.{place, IsSession, IsSubscription, IsLiveAs, IsUnopened, IsUnbegun, AreNumbered, IsSmall, AreInRange, Stands, StandsSomewhere}
+use Rattle.mediator_state.proofs.AscendLaws.{ascend_push, all_below}
 
 -- ---- what stays where an entry has no word in it
 
@@ -117,6 +119,7 @@ numbered_stays h x opened begun still silent gone off given counts so =
       sessions = λ session above. unopened_stays h x session (still session) (silent session) (so.sessions session (subst (λ (n : ℕ). n < session) count above));
       subscriptions = λ sub above. unbegun_stays h x sub (gone sub) (off sub) (given sub) (counts sub) (so.subscriptions sub (subst (λ (n : ℕ). n < sub) count_too above));
       distinct = subst AreDistinct (sym same) so.distinct;
+      ascending = subst Ascend (sym same) so.ascending;
       within = subst (λ (t : List ℕ). AllByRecursion (λ sub. sub ≤ length t) t) (sym same) so.within;
     }
 
@@ -207,6 +210,7 @@ stands-open e d h n so next in_force groups edits opened begun table audit limit
         sessions = λ session higher. unopened_stays h (Open n) session (ap (λ (o : Option Bool). unwrap_or o false) (other session (λ is. absurd (omega (arith, count, so.opened, is, higher))))) refl (so.numbered.sessions session (omega (arith, count, higher)));
         subscriptions = λ sub higher. unbegun_stays h (Open n) sub refl refl refl refl (so.numbered.subscriptions sub (subst (λ (t : List ℕ). length t < sub) same higher));
         distinct = subst AreDistinct (sym same) so.numbered.distinct;
+        ascending = subst Ascend (sym same) so.numbered.ascending;
         within = subst (λ (t : List ℕ). AllByRecursion (λ sub. sub ≤ length t) t) (sym same) so.numbered.within;
       }
 
@@ -417,6 +421,7 @@ stands-subscribe e d h n name stream so next in_force groups edits opened begun 
         unbegun_stays h (Subscribe n name) sub (ap (λ (o : Option Bool). unwrap_or o false) (begun_other sub apart)) (ap (λ (o : Option Bool). unwrap_or o false) (on_other sub apart)) refl refl
         (so.numbered.subscriptions sub (omega (arith, count, higher)));
     distinct = subst AreDistinct (sym pushed) (distinct_push (flat_map subscribed_in h) n so.numbered.distinct new);
+    ascending = subst Ascend (sym pushed) (ascend_push (flat_map subscribed_in h) n so.numbered.ascending (all_below (subscriptions_begun h) n (flat_map subscribed_in h) above so.numbered.within));
     within = subst (λ (t : List ℕ). AllByRecursion (λ sub. sub ≤ subscriptions_begun (h ++ Subscribe n name ∷ [])) t) (sym pushed)
         (AllByRecursion-append (λ sub. sub ≤ subscriptions_begun (h ++ Subscribe n name ∷ [])) (flat_map subscribed_in h) (n ∷ [])
         (within_more (subscriptions_begun h) (subscriptions_begun (h ++ Subscribe n name ∷ [])) (flat_map subscribed_in h) (omega (arith, count)) so.numbered.within)
@@ -449,6 +454,7 @@ stands-new d in_force groups edits opened begun sessions table audit range = rec
     sessions = λ session above. record { closed = refl; silent = refl };
     subscriptions = λ sub above. record { gone = refl; unserved = refl; nothing = refl; uncounted = refl };
     distinct = tt;
+    ascending = tt;
     within = tt;
   };
   small = record {

@@ -4,6 +4,7 @@ pub mod MessageSteps
 pub mod AdvanceSteps
 pub mod CutRows
 pub mod Accepts
+pub mod AscendLaws
 pub mod EntrySteps
 pub mod Judging
 pub mod SameLaws

@@ -43,6 +43,7 @@ use Rattle.flow_aggregate.specs.Running.{StandsFor as StandsForRecords}
 use Rattle.record_sharing.specs.InForce.{InForce}
 use Rattle.running_groups.specs.Table.{groups_at}
 use Rattle.mediator_state.specs.declared.engine.Engine.{Engine}
+use Rattle.mediator_state.specs.Ascending.{Ascend}
 use Rattle.mediator_state.specs.Standing.{Stands, place, IsSession, IsSubscription, IsLiveAs, IsUnopened, IsUnbegun, AreNumbered, IsSmall, AreInRange}
 use Rattle.mediator_state.specs.Seen.{place_in, place_of}
 use Rattle.mediator_state.specs.Counting.{added_to}
@@ -191,6 +192,7 @@ numbered_message h session number octets on so =
           (disclosed-push sub h (Message session number octets) ∙ ap (λ (l : List DataRecord). disclosed sub h ++ l) (given-unserved sub session number octets h before.unserved) ∙ append-nil (disclosed sub h))
           (counted_same sub h (Message session number octets) (counted_unserved sub h (Message session number octets) before.unserved)) before;
       distinct = subst AreDistinct (sym (subscribed-message h session number octets)) so.distinct;
+      ascending = subst Ascend (sym (subscribed-message h session number octets)) so.ascending;
       within = subst (λ (ns : List ℕ). AllByRecursion (λ sub. sub ≤ length ns) ns) (sym (subscribed-message h session number octets)) so.within;
     }
   where

@@ -29,10 +29,10 @@ use Rattle.mediator_state.specs.Standing.{Stands}
 use Rattle.mediator_state.specs.Counting.{AllReady, AreApart, AreCountable}
 use Rattle.mediator_state.specs.Planning.{share_at, AreTallied, HasRoomIn, AreStreamed, IsPlan}
 
--- the audit has no room for so many entries, and this is its room
+-- the audit has no room for so many entries, and this is its room; or it has, and memory ran out
 abbrev pub LacksAudit : Fault → Kept → ℕ → Type 0
 LacksAudit (fault.AuditFull need room) audit noted = (need ≡ noted) × (room < need) × (room + length audit.standing.entries ≡ audit.limit)
-LacksAudit fault.OutOfMemory audit noted = Unit {0}
+LacksAudit fault.OutOfMemory audit noted = length audit.standing.entries + noted ≤ audit.limit
 LacksAudit _ audit noted = ⊥
 
 -- the audit has room for so many entries, in memory too

@@ -52,10 +52,15 @@ pub record Accepts {C : Type 0} (tells : C → List Entry → Type 0) (limits : 
   pub room : HasRoomAfter (limits old.chronicle) h more
   pub stands : StandsFor tells new (h ++ more)
 
--- behind so many entries of so many octets there is no room for these; want of memory says nothing
+-- what waits to be drained is no more than the audit's limit, before these entries behind a history and with what it names of them
+pub record AuditHolds (e : Engine) (h more : List Entry) : Type 0 where
+  pub before : length e.audit.standing.entries ≤ e.audit.limit
+  pub after : length (drop e.audit.standing.drained (audit_list (h ++ more))) ≤ e.audit.limit
+
+-- behind so many entries of so many octets there is no room for these; or there is, and memory ran out
 abbrev pub LacksRoom : Fault → Journaled → ℕ → ℕ → List Entry → Type 0
 LacksRoom fault.JournalFull limits count octets more = HasRoom limits count octets more → ⊥
-LacksRoom fault.OutOfMemory limits count octets more = Unit {0}
+LacksRoom fault.OutOfMemory limits count octets more = HasRoom limits count octets more
 LacksRoom _ limits count octets more = ⊥
 
 -- the same behind a history
@@ -83,11 +88,12 @@ RefusesClose e limits h session = (is_open session h ≡ true) × LacksRoomAfter
 abbrev pub with_cuts : Engine → List Entry → Entry → List Entry
 with_cuts e h entry = cuts_before e.limits h entry (waiting_of e) ++ entry ∷ []
 
--- the message is the next of its session, it and its cuts are accepted, and this is its receipt
+-- the message is the next of its session, the audit holds it, it and its cuts are accepted, and this is its receipt
 pub record Receives {C : Type 0} (tells : C → List Entry → Type 0) (limits : C → Journaled) (old : State C) (h : List Entry) (session number : ℕ) (octets : List ℕ) (r : Receipt) (new : State C) : Type 0 where
   pub next : IsNext h session number
   pub meaning : Meaning
   pub means : meaning_of (messages_of session h) octets ≡ Ok meaning
+  pub audit : AuditHolds old.engine h (with_cuts old.engine h (Message session number octets))
   pub accepts : Accepts tells limits old h (with_cuts old.engine h (Message session number octets)) new
   pub receipt : r ≡ receipt_of (length h) (length (cuts_before old.engine.limits h (Message session number octets) (waiting_of old.engine))) meaning
 
@@ -108,12 +114,14 @@ RefusesReceive why limits e h session number octets = RefusesMessage why h sessi
 
 -- ---- the clock
 
--- the time isn't before that of the last advance, and the advance and its cuts are accepted
+-- the time isn't before that of the last advance, the audit holds the advance's cuts, and both are accepted
 pub record Advances {C : Type 0} (tells : C → List Entry → Type 0) (limits : C → Journaled) (old : State C) (h : List Entry) (t : ℕ) (new : State C) : Type 0 where
   pub ahead : clock_of h ≤ t
+  pub audit : AuditHolds old.engine h (with_cuts old.engine h (Advance t))
   pub accepts : Accepts tells limits old h (with_cuts old.engine h (Advance t)) new
 
--- the clock stands later; else the journal is judged, and then the audit, whose need and room are told
+-- the clock stands later; else the journal is judged, and then the audit, whose need and room are told; memory runs out only where
+-- the clock doesn't stand later
 abbrev pub RefusesAdvance : Fault → Journaled → Engine → List Entry → ℕ → Type 0
 RefusesAdvance (fault.ClockBack last) limits e h t = (last ≡ clock_of h) × (t < last)
 RefusesAdvance fault.JournalFull limits e h t = (clock_of h ≤ t) × (HasRoomAfter limits h (with_cuts e h (Advance t)) → ⊥)
@@ -121,7 +129,7 @@ RefusesAdvance (fault.AuditFull need room) limits e h t =
     (clock_of h ≤ t) × HasRoomAfter limits h (with_cuts e h (Advance t))
     × ((noted : List AuditEntry) × (audit_list (h ++ with_cuts e h (Advance t)) ≡ audit_list h ++ noted) × (need ≡ length noted))
     × (room + length e.audit.standing.entries ≡ e.audit.limit) × (room < need)
-RefusesAdvance fault.OutOfMemory limits e h t = Unit {0}
+RefusesAdvance fault.OutOfMemory limits e h t = clock_of h ≤ t
 RefusesAdvance _ limits e h t = ⊥
 
 -- ---- policies
@@ -163,6 +171,7 @@ pub record Subscribes {C : Type 0} (tells : C → List Entry → Type 0) (limits
 abbrev pub RefusesSubscribe : Fault → Journaled → List Entry → List ℕ → Type 0
 RefusesSubscribe fault.BadName limits h name = is_name name ≡ false
 RefusesSubscribe (fault.AlreadySubscribed sub) limits h name = (is_name name ≡ true) × (is_live sub h ≡ true) × (name_of sub h ≡ name)
+RefusesSubscribe fault.OutOfMemory limits h name = (is_name name ≡ true) × IsFree h name
 RefusesSubscribe e limits h name = (is_name name ≡ true) × IsFree h name × LacksRoomAfter e limits h (Subscribe (subscriptions_begun h + 1) name ∷ [])
 
 pub record Unsubscribes {C : Type 0} (tells : C → List Entry → Type 0) (limits : C → Journaled) (old : State C) (h : List Entry) (sub : ℕ) (new : State C) : Type 0 where

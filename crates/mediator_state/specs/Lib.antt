@@ -11,6 +11,7 @@ pub use Rattle.mediator_history.specs.Auditing
 pub use Rattle.mediator_history.specs.Cuts
 pub mod FaultTexts
 pub mod Refusals
+pub mod Ascending
 pub mod Standing
 pub mod Seen
 pub mod Steps
@@ -19,3 +20,4 @@ pub mod Planning
 pub mod Accepting
 pub mod Advancing
 pub mod Calls
+pub mod CutOrder

@@ -99,10 +99,11 @@ pub record IsNext (h : List Entry) (session number : ℕ) : Type 0 where
   pub opened : is_open session h ≡ true
   pub turn : number ≡ length (messages_of session h)
 
--- a message is refused so for itself: its session, its number, its octets, in this order; want of memory says nothing
+-- a message is refused so for itself: its session, its number, its octets, in this order; memory runs out only for the next message
+-- of an open session
 abbrev pub RefusesMessage : Fault → List Entry → ℕ → ℕ → List ℕ → Type 0
 RefusesMessage (fault.Malformed why) h session number octets = IsNext h session number × (meaning_of (messages_of session h) octets ≡ Err why)
-RefusesMessage fault.OutOfMemory h session number octets = Unit {0}
+RefusesMessage fault.OutOfMemory h session number octets = IsNext h session number
 RefusesMessage fault.UnknownSession h session number octets = RefusesTurn fault.UnknownSession h session number
 RefusesMessage (fault.OutOfTurn expected) h session number octets = RefusesTurn (fault.OutOfTurn expected) h session number
 RefusesMessage _ h session number octets = ⊥

@@ -22,6 +22,7 @@ use Rattle.open_sessions.specs.declared.open_session.OpenSession.{OpenSession}
 use Rattle.live_subscriptions.specs.declared.subscription.Subscription.{Subscription}
 use Rattle.live_subscriptions.specs.Table.{Table, at}
 use Rattle.mediator_state.specs.declared.engine.Engine.{Engine}
+use Rattle.mediator_state.specs.Ascending.{Ascend}
 
 -- the place up to which a stream's parts were handed out
 abbrev pub place : Standing → ℕ
@@ -57,12 +58,13 @@ pub record IsUnbegun (h : List Entry) (sub : ℕ) : Type 0 where
   pub nothing : disclosed sub h ≡ []
   pub uncounted : counted sub h ≡ []
 
--- numbers are those from 1 on, and none comes again
+-- numbers are those from 1 on, none comes again, and those of subscriptions ascend
 pub record AreNumbered (h : List Entry) : Type 0 where
   pub sessions : (session : ℕ) → sessions_opened h < session → IsUnopened h session
   pub subscriptions : (sub : ℕ) → subscriptions_begun h < sub → IsUnbegun h sub
   pub distinct : AreDistinct (flat_map subscribed_in h)
   pub within : AllByRecursion (λ sub. sub ≤ subscriptions_begun h) (flat_map subscribed_in h)
+  pub ascending : Ascend (flat_map subscribed_in h)
 
 -- no count comes near its end, and what is disclosed can be streamed
 pub record IsSmall (h : List Entry) : Type 0 where

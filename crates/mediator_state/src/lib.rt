@@ -18,17 +18,20 @@
 //! answers the message built at the subscription's place and moves it past that message, `drain_audit` the oldest
 //! entries, `status` what waits and what was handed out; none of them changes the history. A refused call leaves all
 //! of that (`same`, `untouched`), and its fault is the first cause that stands (`err`): its own, then the journal's,
-//! then the audit's, whose need and room are told; want of memory says nothing.
+//! then the audit's, whose need and room are told; want of memory is told only where none stands that the call looks
+//! for before it asks for memory. An accepted message or advance found room in the audit (`AuditHolds`).
 #![tactic(auto)]
 
 mod closing;
 mod engine;
 mod fault;
+pub mod laws;
 mod plan;
 mod receipt;
 mod state;
 mod tallies;
 
 pub use fault::Fault;
+pub use laws::cuts_ascend;
 pub use receipt::{Receipt, Status};
 pub use state::{Limits, State};

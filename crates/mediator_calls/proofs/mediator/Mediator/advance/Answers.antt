@@ -8,9 +8,9 @@ use Rattle.mediator_calls.proofs.mediator.Mediator.advance.Goals as goal
 pub returns-clause-ok : goal.returns-clause-ok
 returns-clause-ok c = on_ok_gives c.advance.result c.advance.ensures.ok
     (λ ok. subst (λ (m : Mediation). Advances m c.args.t (view_of c.advance.new.self)) c.self.view_is
-    (advances c.self.inside.state c.advance.new.self c.args.t c.self.invariant (ok c.self.inside.state.chronicle.entries c.self.invariant) c.advance.ensures.untouched c.advance.ensures.journaled))
+    (advances c.self.inside.state c.advance.new.self c.args.t c.self.invariant.stands (ok c.self.inside.state.chronicle.entries c.self.invariant.stands) c.advance.ensures.untouched c.advance.ensures.journaled))
 
 pub returns-clause-err : goal.returns-clause-err
 returns-clause-err c = if_err_gives c.advance.result c.advance.ensures.err
     (λ e refused. subst (λ (m : Mediation). RefusesAdvance e m c.args.t) c.self.view_is
-    (refuses_advance e c.self.inside.state c.args.t c.self.invariant (refused c.self.inside.state.chronicle.entries c.self.invariant)))
+    (refuses_advance e c.self.inside.state c.args.t c.self.invariant.stands (refused c.self.inside.state.chronicle.entries c.self.invariant.stands)))

@@ -8,4 +8,4 @@ use Rattle.mediator_calls.proofs.mediator.Mediator.close.Goals as goal
 pub returns-clause-ok : goal.returns-clause-ok
 returns-clause-ok c = on_ok_gives c.close.result c.close.ensures.ok
     (λ ok. subst (λ (m : Mediation). Closes m c.args.session.0 (view_of c.close.new.self)) c.self.view_is
-    (closes c.self.inside.state c.close.new.self c.args.session.0 c.self.invariant (ok c.self.inside.state.chronicle.entries c.self.invariant) c.close.ensures.untouched c.close.ensures.journaled))
+    (closes c.self.inside.state c.close.new.self c.args.session.0 c.self.invariant.stands (ok c.self.inside.state.chronicle.entries c.self.invariant.stands) c.close.ensures.untouched c.close.ensures.journaled))

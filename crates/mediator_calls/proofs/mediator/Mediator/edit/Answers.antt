@@ -8,4 +8,4 @@ use Rattle.mediator_calls.proofs.mediator.Mediator.edit.Goals as goal
 pub returns-clause-ok : goal.returns-clause-ok
 returns-clause-ok c = if_ok_gives c.edit.result c.edit.ensures.ok
     (λ x ok. subst (λ (m : Mediation). Edits m c.args.text.now x (view_of c.edit.new.self)) c.self.view_is
-    (edits c.self.inside.state c.edit.new.self c.args.text.now x c.self.invariant (ok c.self.inside.state.chronicle.entries c.self.invariant) c.edit.ensures.untouched c.edit.ensures.journaled))
+    (edits c.self.inside.state c.edit.new.self c.args.text.now x c.self.invariant.stands (ok c.self.inside.state.chronicle.entries c.self.invariant.stands) c.edit.ensures.untouched c.edit.ensures.journaled))

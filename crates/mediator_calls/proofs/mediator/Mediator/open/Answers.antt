@@ -10,6 +10,6 @@ pub returns-clause-ok : goal.returns-clause-ok
 returns-clause-ok c = elim c.match-open.branch [
   | in-Ok w ↦ if_ok_at _ c.match-open.result _ w.result-is
       (subst (λ (m : Mediation). Opens m w.in-Ok.session (view_of c.open.new.self)) c.self.view_is
-      (opens c.self.inside.state c.open.new.self w.in-Ok.session c.self.invariant (w.in-Ok.ensures.ok c.self.inside.state.chronicle.entries c.self.invariant) w.in-Ok.ensures.untouched w.in-Ok.ensures.journaled))
+      (opens c.self.inside.state c.open.new.self w.in-Ok.session c.self.invariant.stands (w.in-Ok.ensures.ok c.self.inside.state.chronicle.entries c.self.invariant.stands) w.in-Ok.ensures.untouched w.in-Ok.ensures.journaled))
   | in-Err w ↦ if_ok_none _ c.match-open.result _ w.result-is
 ]

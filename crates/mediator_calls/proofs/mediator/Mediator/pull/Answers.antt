@@ -8,4 +8,4 @@ use Rattle.mediator_calls.proofs.mediator.Mediator.pull.Goals as goal
 pub returns-clause-ok : goal.returns-clause-ok
 returns-clause-ok c = if_ok_gives c.pull.result c.pull.ensures.ok
     (λ x ok. subst (λ (m : Mediation). Pulls m c.args.sub.0 c.args.now c.args.target x (view_of c.pull.new.self)) c.self.view_is
-    (pulls c.self.inside.state c.pull.new.self c.args.sub.0 c.args.now c.args.target x c.self.invariant c.ranges.now.fits c.ranges.target.fits (ok c.self.inside.state.chronicle.entries c.self.invariant) c.pull.ensures.others c.pull.ensures.drained c.pull.ensures.limits c.pull.ensures.audit_limit c.pull.ensures.journaled))
+    (pulls c.self.inside.state c.pull.new.self c.args.sub.0 c.args.now c.args.target x c.self.invariant.stands c.ranges.now.fits c.ranges.target.fits (ok c.self.inside.state.chronicle.entries c.self.invariant.stands) c.pull.ensures.others c.pull.ensures.drained c.pull.ensures.limits c.pull.ensures.audit_limit c.pull.ensures.journaled))

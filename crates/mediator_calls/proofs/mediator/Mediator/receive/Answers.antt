@@ -8,9 +8,9 @@ use Rattle.mediator_calls.proofs.mediator.Mediator.receive.Goals as goal
 pub returns-clause-ok : goal.returns-clause-ok
 returns-clause-ok c = if_ok_gives c.receive.result c.receive.ensures.ok
     (λ x ok. subst (λ (m : Mediation). Receives m c.args.session.0 c.args.number c.args.message x (view_of c.receive.new.self)) c.self.view_is
-    (receives c.self.inside.state c.receive.new.self c.args.session.0 c.args.number c.args.message x c.self.invariant (ok c.self.inside.state.chronicle.entries c.self.invariant) c.receive.ensures.untouched c.receive.ensures.journaled))
+    (receives c.self.inside.state c.receive.new.self c.args.session.0 c.args.number c.args.message x c.self.invariant.stands (ok c.self.inside.state.chronicle.entries c.self.invariant.stands) c.receive.ensures.untouched c.receive.ensures.journaled))
 
 pub returns-clause-err : goal.returns-clause-err
 returns-clause-err c = if_err_gives c.receive.result c.receive.ensures.err
     (λ e refused. subst (λ (m : Mediation). RefusesReceive e m c.args.session.0 c.args.number c.args.message) c.self.view_is
-    (refuses_receive e c.self.inside.state c.args.session.0 c.args.number c.args.message c.self.invariant (refused c.self.inside.state.chronicle.entries c.self.invariant)))
+    (refuses_receive e c.self.inside.state c.args.session.0 c.args.number c.args.message c.self.invariant.stands (refused c.self.inside.state.chronicle.entries c.self.invariant.stands)))

@@ -10,6 +10,6 @@ pub returns-clause-ok : goal.returns-clause-ok
 returns-clause-ok c = elim c.match-subscribe.branch [
   | in-Ok w ↦ if_ok_at _ c.match-subscribe.result _ w.result-is
       (subst (λ (m : Mediation). Subscribes m c.args.name.now w.in-Ok.sub (view_of c.subscribe.new.self)) c.self.view_is
-      (subscribes c.self.inside.state c.subscribe.new.self c.args.name.now w.in-Ok.sub c.self.invariant (w.in-Ok.ensures.ok c.self.inside.state.chronicle.entries c.self.invariant) w.in-Ok.ensures.untouched w.in-Ok.ensures.journaled))
+      (subscribes c.self.inside.state c.subscribe.new.self c.args.name.now w.in-Ok.sub c.self.invariant.stands (w.in-Ok.ensures.ok c.self.inside.state.chronicle.entries c.self.invariant.stands) w.in-Ok.ensures.untouched w.in-Ok.ensures.journaled))
   | in-Err w ↦ if_ok_none _ c.match-subscribe.result _ w.result-is
 ]

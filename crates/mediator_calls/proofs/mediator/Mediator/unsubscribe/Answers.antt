@@ -8,4 +8,4 @@ use Rattle.mediator_calls.proofs.mediator.Mediator.unsubscribe.Goals as goal
 pub returns-clause-ok : goal.returns-clause-ok
 returns-clause-ok c = on_ok_gives c.unsubscribe.result c.unsubscribe.ensures.ok
     (λ ok. subst (λ (m : Mediation). Unsubscribes m c.args.sub.0 (view_of c.unsubscribe.new.self)) c.self.view_is
-    (unsubscribes c.self.inside.state c.unsubscribe.new.self c.args.sub.0 c.self.invariant (ok c.self.inside.state.chronicle.entries c.self.invariant) c.unsubscribe.ensures.others c.unsubscribe.ensures.drained c.unsubscribe.ensures.limits c.unsubscribe.ensures.audit_limit c.unsubscribe.ensures.journaled))
+    (unsubscribes c.self.inside.state c.unsubscribe.new.self c.args.sub.0 c.self.invariant.stands (ok c.self.inside.state.chronicle.entries c.self.invariant.stands) c.unsubscribe.ensures.others c.unsubscribe.ensures.drained c.unsubscribe.ensures.limits c.unsubscribe.ensures.audit_limit c.unsubscribe.ensures.journaled))

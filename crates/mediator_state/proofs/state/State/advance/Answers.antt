@@ -7,8 +7,20 @@ use Rattle.mediator_state.specs.Advancing.{IsClosingFor}
 use Rattle.mediator_state.specs.Calls.{RefusesAdvance}
 use Rattle.mediator_state.proofs.SameLaws.{stands_same}
 use Rattle.mediator_state.proofs.CallLaws.{full_where, room_where, err_gives, on_err}
-use Rattle.mediator_state.proofs.AdvanceCalls.{ahead_of, closing_found, closing_full, closing_audit, closing_for, advanced}
+use Rattle.mediator_state.proofs.AdvanceCalls.{ahead_of, ahead_memory, closing_held, closing_found, closing_full, closing_audit, closing_for, advanced}
 use Rattle.mediator_state.proofs.state.State.advance.Goals as goal
+
+pub returns-in_err-closing-clause-err : goal.returns-in_err-closing-clause-err
+returns-in_err-closing-clause-err g c =
+    err_gives c.from_residual.result c.from_residual.ensures
+    (λ e is h s. ahead_memory e (g.C.Chronicle.limits c.args.self.now.chronicle) c.args.self.now.engine h c.args.t is
+    (ahead_of c.args.self.now.engine h c.args.t c.clock-last.result s.stands c.clock-last.ensures (omega (arith, c.if-t-last.false))))
+
+pub returns-in_err-entries-clause-err : goal.returns-in_err-entries-clause-err
+returns-in_err-entries-clause-err g c =
+    err_gives c.from_residual-in_err-entries.result c.from_residual-in_err-entries.ensures
+    (λ e is h s. ahead_memory e (g.C.Chronicle.limits c.args.self.now.chronicle) c.args.self.now.engine h c.args.t is
+    (ahead_of c.args.self.now.engine h c.args.t c.clock-last.result s.stands c.clock-last.ensures (omega (arith, c.if-t-last.false))))
 
 pub returns-then-not-room-clause-err : goal.returns-then-not-room-clause-err
 returns-then-not-room-clause-err g c = λ h s.
@@ -32,6 +44,12 @@ returns-in_err-make_room_to_close-clause-err g c =
 pub returns-in_err-reserve-clause-same : goal.returns-in_err-reserve-clause-same
 returns-in_err-reserve-clause-same g c = on_err c.from_residual-in_err-reserve.result (λ h s. record { told = c.reserve.ensures.tells h s.told; stands = stands_same c.args.self.now.engine c.make_room_to_close.new.self h c.make_room_to_close.ensures.same s.stands })
 
+pub returns-in_err-reserve-clause-err : goal.returns-in_err-reserve-clause-err
+returns-in_err-reserve-clause-err g c =
+    err_gives c.from_residual-in_err-reserve.result c.from_residual-in_err-reserve.ensures
+    (λ e is h s. ahead_memory e (g.C.Chronicle.limits c.args.self.now.chronicle) c.args.self.now.engine h c.args.t is
+    (ahead_of c.args.self.now.engine h c.args.t c.clock-last.result s.stands c.clock-last.ensures (omega (arith, c.if-t-last.false))))
+
 pub advance-requires-clause-planned : goal.advance-requires-clause-planned
 advance-requires-clause-planned g c =
     let h : List Entry = c.requires.stands.history in
@@ -49,4 +67,7 @@ returns-clause-ok g c = λ h s.
     (closing_found c.args.self.now.engine h c.args.t c.in_ok-closing.closing c.in_ok-entries.entries.items c.deref.result.now (ahead_of c.args.self.now.engine h c.args.t c.clock-last.result s.stands c.clock-last.ensures (omega (arith, c.if-t-last.false))) (c.in_ok-closing.ensures h s.stands) c.in_ok-entries.ensures c.deref.ensures.value)
     (room_where c.room.result (g.C.Chronicle.limits c.args.self.now.chronicle) (g.C.Chronicle.count c.args.self.now.chronicle) (g.C.Chronicle.octets c.args.self.now.chronicle) c.deref-2.result.now c.in_ok-entries.entries.items c.room.ensures c.deref-2.ensures.value c.if-not-room.false)
     (subst (λ (e : Engine). IsSameEngine c.args.self.now.engine e) (sym c.append.ensures.engine) c.make_room_to_close.ensures.same)
+    (closing_held c.args.self.now.engine c.make_room_to_close.new.self h c.args.t c.in_ok-closing.closing c.in_ok-entries.entries.items c.make_room_to_close.ensures.same s.stands
+    (closing_found c.args.self.now.engine h c.args.t c.in_ok-closing.closing c.in_ok-entries.entries.items c.deref.result.now (ahead_of c.args.self.now.engine h c.args.t c.clock-last.result s.stands c.clock-last.ensures (omega (arith, c.if-t-last.false))) (c.in_ok-closing.ensures h s.stands) c.in_ok-entries.ensures c.deref.ensures.value)
+    c.in_ok-make_room_to_close.ensures.ok)
     (c.append.ensures.tells h (c.reserve.ensures.tells h s.told)) c.advance.ensures.stands

@@ -6,7 +6,7 @@ use Rattle.mediator_state.specs.Seen.{IsSameEngine}
 use Rattle.mediator_state.specs.Accepting.{IsPlannedFor, LacksAudit}
 use Rattle.mediator_state.specs.Calls.{RefusesReceive}
 use Rattle.mediator_state.proofs.SameLaws.{stands_same}
-use Rattle.mediator_state.proofs.CallLaws.{found, refused_full, refused_audit, full_where, room_where, planned_for, received, err_gives, on_err}
+use Rattle.mediator_state.proofs.CallLaws.{found, next_of, next_memory, message_held, refused_full, refused_audit, full_where, room_where, planned_for, received, err_gives, on_err}
 use Rattle.mediator_state.proofs.state.State.receive.Goals as goal
 
 pub returns-then-not-room-clause-err : goal.returns-then-not-room-clause-err
@@ -15,6 +15,13 @@ returns-then-not-room-clause-err g c = λ h s.
     refused_full (g.C.Chronicle.limits c.args.self.now.chronicle) (g.C.Chronicle.count c.args.self.now.chronicle) (g.C.Chronicle.octets c.args.self.now.chronicle) c.args.self.now.engine h c.args.session c.args.number c.args.message c.in_ok-plan.plan c.in_ok-entries.entries.items counts
     (found c.args.self.now.engine h c.args.session c.args.number c.args.message c.in_ok-plan.plan c.in_ok-entries.entries.items c.deref.result.now (c.in_ok-plan.ensures.ok h s.stands (sym (c.len-position.ensures.value ∙ counts.entries))) c.in_ok-plan.ensures.session c.in_ok-entries.ensures c.deref.ensures.value)
     (full_where c.room.result (g.C.Chronicle.limits c.args.self.now.chronicle) (g.C.Chronicle.count c.args.self.now.chronicle) (g.C.Chronicle.octets c.args.self.now.chronicle) c.deref-2.result.now c.in_ok-entries.entries.items c.room.ensures c.deref-2.ensures.value c.if-not-room.true)
+
+pub returns-in_err-entries-clause-err : goal.returns-in_err-entries-clause-err
+returns-in_err-entries-clause-err g c =
+    err_gives c.from_residual-in_err-entries.result c.from_residual-in_err-entries.ensures
+    (λ e is h s. next_memory e (g.C.Chronicle.limits c.args.self.now.chronicle) c.args.self.now.engine h c.args.session c.args.number c.args.message is
+    (next_of c.args.self.now.engine h c.args.session c.args.number c.args.message c.in_ok-plan.plan c.in_ok-plan.ensures.session
+    (c.in_ok-plan.ensures.ok h s.stands (sym (c.len-position.ensures.value ∙ (g.met.C.Chronicle.counted c.args.self.now.chronicle h s.told).entries)))))
 
 pub returns-in_err-reserved-clause-same : goal.returns-in_err-reserved-clause-same
 returns-in_err-reserved-clause-same g c = on_err c.from_residual-in_err-reserved.result (λ h s. record { told = s.told; stands = stands_same c.args.self.now.engine c.make_room.new.self h (subst (λ (e : Engine). IsSameEngine e c.make_room.new.self) c.plan.ensures.same c.make_room.ensures.same) s.stands })
@@ -32,6 +39,13 @@ returns-in_err-reserved-clause-err g c =
 
 pub returns-in_err-reserve-clause-same : goal.returns-in_err-reserve-clause-same
 returns-in_err-reserve-clause-same g c = on_err c.from_residual-in_err-reserve.result (λ h s. record { told = c.reserve.ensures.tells h s.told; stands = stands_same c.args.self.now.engine c.make_room.new.self h (subst (λ (e : Engine). IsSameEngine e c.make_room.new.self) c.plan.ensures.same c.make_room.ensures.same) s.stands })
+
+pub returns-in_err-reserve-clause-err : goal.returns-in_err-reserve-clause-err
+returns-in_err-reserve-clause-err g c =
+    err_gives c.from_residual-in_err-reserve.result c.from_residual-in_err-reserve.ensures
+    (λ e is h s. next_memory e (g.C.Chronicle.limits c.args.self.now.chronicle) c.args.self.now.engine h c.args.session c.args.number c.args.message is
+    (next_of c.args.self.now.engine h c.args.session c.args.number c.args.message c.in_ok-plan.plan c.in_ok-plan.ensures.session
+    (c.in_ok-plan.ensures.ok h s.stands (sym (c.len-position.ensures.value ∙ (g.met.C.Chronicle.counted c.args.self.now.chronicle h s.told).entries)))))
 
 pub accept-requires-clause-planned : goal.accept-requires-clause-planned
 accept-requires-clause-planned g c =
@@ -51,4 +65,7 @@ returns-clause-ok g c = λ h s.
     (found c.args.self.now.engine h c.args.session c.args.number c.args.message c.in_ok-plan.plan c.in_ok-entries.entries.items c.deref.result.now (c.in_ok-plan.ensures.ok h s.stands (sym (c.len-position.ensures.value ∙ counts.entries))) c.in_ok-plan.ensures.session c.in_ok-entries.ensures c.deref.ensures.value)
     (room_where c.room.result (g.C.Chronicle.limits c.args.self.now.chronicle) (g.C.Chronicle.count c.args.self.now.chronicle) (g.C.Chronicle.octets c.args.self.now.chronicle) c.deref-2.result.now c.in_ok-entries.entries.items c.room.ensures c.deref-2.ensures.value c.if-not-room.false)
     (subst (λ (e : Engine). IsSameEngine c.args.self.now.engine e) (sym c.append.ensures.engine) (subst (λ (e : Engine). IsSameEngine e c.make_room.new.self) c.plan.ensures.same c.make_room.ensures.same))
+    (message_held c.args.self.now.engine c.make_room.new.self h c.args.session c.args.number c.args.message c.in_ok-plan.plan c.in_ok-entries.entries.items _ (subst (λ (e : Engine). IsSameEngine e c.make_room.new.self) c.plan.ensures.same c.make_room.ensures.same) s.stands
+    (found c.args.self.now.engine h c.args.session c.args.number c.args.message c.in_ok-plan.plan c.in_ok-entries.entries.items c.deref.result.now (c.in_ok-plan.ensures.ok h s.stands (sym (c.len-position.ensures.value ∙ counts.entries))) c.in_ok-plan.ensures.session c.in_ok-entries.ensures c.deref.ensures.value)
+    c.in_ok-reserved.ensures.ok)
     (c.append.ensures.tells h (c.reserve.ensures.tells h s.told)) c.accept.ensures.stands c.accept.ensures.receipt
