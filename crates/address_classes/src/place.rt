@@ -1,5 +1,6 @@
 //! Where the values of a side stand in each record of a template.
 ghost use Rattle.std.specs.Prelude.{◌≡◌, ◌≤◌, ◌+◌, ◌*◌, length, IfOk, IfSome};
+ghost use Rattle.ipfix_template.specs.declared.field.TheConstants.{VARIABLE, MOST_FIELDS};
 ghost use Rattle.address_classes.specs.Places.{ArePlaces, place_at, start_behind, HasPlace, value_at};
 
 use ipfix_template::{FieldSpec, RecordView};
@@ -21,7 +22,7 @@ pub(crate) fn places_of(
     side: Side,
     fields: &[FieldSpec],
 ) -> Result<Vec<Place>, AllocError>
-    requires { length fields.now ≤ 65535 }
+    requires { length fields.now ≤ MOST_FIELDS }
     ensures { IfOk result (λ places. ArePlaces side fields.now places.items) }
 {
     let mut places = Vec::new(alloc);
@@ -38,7 +39,7 @@ pub(crate) fn places_of(
 
 /// Where a field's value stands, with where it starts, if that is the same in each record.
 fn place_at(start: Option<usize>, field: &FieldSpec, index: usize) -> Place
-    requires { IfSome start (λ s. s ≤ 65535 * 65535) }
+    requires { IfSome start (λ s. s ≤ MOST_FIELDS * VARIABLE) }
     ensures { result ≡ place_at start field.now index }
 {
     let length = usize::from(field.length);
@@ -53,9 +54,9 @@ fn place_at(start: Option<usize>, field: &FieldSpec, index: usize) -> Place
 
 /// Where the value behind the field's starts, if that is the same in each record.
 fn start_behind(start: Option<usize>, field: &FieldSpec) -> Option<usize>
-    requires { IfSome start (λ s. s ≤ 65535 * 65535) }
+    requires { IfSome start (λ s. s ≤ MOST_FIELDS * VARIABLE) }
     ensures start { result ≡ start_behind start field.now }
-    ensures near { IfSome start (λ s. IfSome result (λ next. next ≤ s + 65535)) }
+    ensures near { IfSome start (λ s. IfSome result (λ next. next ≤ s + VARIABLE)) }
 {
     let length = usize::from(field.length);
     match start {

@@ -1,6 +1,7 @@
 -- What is known of the verdicts on a record's fields: one for each, and no more bits are kept than a value has.
 use Rattle.std.specs.Prelude.{◌≡◌, ℕ, ◌≤◌, ◌*◌, Bool, true, false, List, length}
 use Rattle.std.specs.List.{zip, AllByRecursion}
+use Rattle.ipfix_template.specs.declared.field.TheConstants.{MOST_FIELDS}
 use Rattle.ipfix_template.specs.DataRecord.{DataRecord, IsSound}
 use Rattle.policy_judge.specs.declared.verdict.ElementAction.{ElementAction}
 use Rattle.policy_judge.specs.declared.verdict.ElementAction.TheVariants.{Keep, Remove, Truncate, Degrade}
@@ -27,6 +28,6 @@ is_whole verdict = stays_whole verdict.action
 
 pub record AreJudged (r : DataRecord) (verdicts : List ElementVerdict) : Type 0 where
   pub sound : IsSound r
-  pub few : length verdicts ≤ 65535
+  pub few : length verdicts ≤ MOST_FIELDS
   pub each : length verdicts ≡ length r.template.fields
   pub within : AreWithin r.values verdicts

@@ -1,6 +1,7 @@
 //! The verdict on each field of a record, and which fields stay.
 ghost use Rattle.std.specs.Prelude.{◌≡◌, ◌<◌, ◌≤◌, length, map, filter, not, IfOk};
 ghost use Rattle.std.specs.List.{zip};
+ghost use Rattle.ipfix_template.specs.declared.field.TheConstants.{MOST_FIELDS};
 ghost use Rattle.flow_anonymize.specs.Remaining.{verdicts_of, is_kept, kept_fields, removed_fields};
 ghost use Rattle.flow_anonymize.specs.Within.{AreJudged};
 
@@ -79,7 +80,7 @@ pub(crate) fn removed_fields(
     alloc: Global,
     verdicts: &[ElementVerdict],
 ) -> Result<Vec<RemovedField>, AllocError>
-    requires { length verdicts.now ≤ 65535 }
+    requires { length verdicts.now ≤ MOST_FIELDS }
     ensures { IfOk result (λ removed. removed.items ≡ removed_fields verdicts.now) }
 {
     verdicts

@@ -181,6 +181,16 @@ impl Output {
         self.close()?;
         Ok(mem::replace(&mut self.done, Records::new(self.alloc)))
     }
+
+    /// Drops all records, and gives their memory back.
+    pub(crate) fn clear(&mut self)
+        ensures { self.new ≡ record { given = []; writing = None } }
+    {
+        self.done = Records::new(self.alloc);
+        self.template = None;
+        self.text = Vec::new(self.alloc);
+        self.ends = Vec::new(self.alloc);
+    }
 }
 
 ghost use Rattle.flow_anonymize.specs.Outcome.{passed_text};

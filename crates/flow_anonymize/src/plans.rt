@@ -135,8 +135,29 @@ impl Plans {
     /// of it.
     ///
     /// # Errors
-    /// Want of memory.
+    /// Want of memory. Then nothing is left of what passed before: the caller begins anew, with the first record.
     pub fn disclose(
+        &mut self,
+        alloc: Global,
+        classes: Option<RecordClasses>,
+        flow_record: &RecordView<'_>,
+    ) -> Result<Decision, AllocError>
+        requires template { self.old.for.template ≡ Some flow_record.now.template }
+        requires classes { classes ≡ classes_of self.old.for.cuts flow_record.now }
+        ensures given { OnOk result (self.new.given ≡ self.old.given ++ passed (outcome_for self.old.for flow_record.now)) }
+        ensures decision { IfOk result (λ d. d ≡ decision_of (outcome_for self.old.for flow_record.now)) }
+        ensures same { self.new.for ≡ self.old.for }
+        ensures dropped { OnErr result (self.new.given ≡ []) }
+    {
+        let decision = self.judge(alloc, classes, flow_record);
+        if decision.is_err() {
+            self.shelf.drop_records();
+        }
+        decision
+    }
+
+    /// The same, but that at an error some of what passed before may be left.
+    fn judge(
         &mut self,
         alloc: Global,
         classes: Option<RecordClasses>,
@@ -234,11 +255,15 @@ impl Plans {
     /// Takes all records that passed, one after another. The plans stay.
     ///
     /// # Errors
-    /// Want of memory.
+    /// Want of memory. Then too nothing is left of what passed.
     pub fn take_records(&mut self) -> Result<Records, AllocError>
         ensures given { IfOk result (λ all. all ≡ self.old.given) }
-        ensures taken { OnOk result (self.new ≡ record { for = self.old.for; given = [] }) }
+        ensures taken { self.new ≡ record { for = self.old.for; given = [] } }
     {
-        self.shelf.take_records()
+        let records = self.shelf.take_records();
+        if records.is_err() {
+            self.shelf.drop_records();
+        }
+        records
     }
 }

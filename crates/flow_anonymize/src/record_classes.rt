@@ -2,9 +2,8 @@
 ghost use Rattle.std.specs.Prelude.{◌≡◌};
 ghost use Rattle.flow_anonymize.specs.Classes.{classes_of};
 
-use address_classes::{AddressClasses, AddressPlaces, RecentClasses};
-use ipfix_template::{Record, RecordView};
-use policy_judge::Side;
+use address_classes::{AddressPlaces, RecentClasses};
+use ipfix_template::RecordView;
 
 /// The classes of a record's addresses, as one key for its sources and one for its destinations.
 #[derive(Clone, Copy, Debug)]
@@ -14,22 +13,8 @@ pub struct RecordClasses {
 }
 
 impl RecordClasses {
-    /// The classes of a record's addresses; `None` where it has more than three on a side.
-    pub fn of(classes: &AddressClasses, flow_record: &Record) -> Option<RecordClasses>
-        ensures { result ≡ classes_of classes.now flow_record.now }
-    {
-        let sources = classes.key(Side::Source, flow_record);
-        let destinations = classes.key(Side::Destination, flow_record);
-        match (sources, destinations) {
-            (Some(sources), Some(destinations)) => Some(RecordClasses {
-                sources,
-                destinations,
-            }),
-            _ => None,
-        }
-    }
-
-    /// As [`RecordClasses::of`], by the places that the record's template gives its addresses.
+    /// The classes of a record's addresses, by the places that its template gives them; `None` where it has more than three on
+    /// a side.
     pub fn at(
         classes: &mut RecentClasses,
         places: &AddressPlaces,

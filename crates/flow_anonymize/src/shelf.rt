@@ -137,6 +137,14 @@ impl Shelf {
         self.open = None;
         self.output.take_records()
     }
+
+    /// Drops all records that were given. The plans stay.
+    pub(crate) fn drop_records(&mut self)
+        ensures { self.new ≡ record { slots = self.old.slots; given = [] } }
+    {
+        self.open = None;
+        self.output.clear();
+    }
 }
 
 ghost use Rattle.std.specs.Prelude.{true};

@@ -6,7 +6,7 @@ use Rattle.flow_anonymize.specs.Outcome.{Outcome, passed, decision_of}
 use Rattle.flow_anonymize.specs.Planning.{planned}
 use Rattle.flow_anonymize.specs.Plans.{PlansOf, Discloses}
 use Rattle.flow_anonymize.proofs.PlanLaws.{found_shelf, there_is}
-use Rattle.flow_anonymize.proofs.plans.Plans.disclose.Goals as goal
+use Rattle.flow_anonymize.proofs.plans.Plans.judge.Goals as goal
 
 pub give-requires-clause-showable : goal.give-requires-clause-showable
 give-requires-clause-showable c = λ slot at.
