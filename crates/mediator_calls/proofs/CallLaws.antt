@@ -305,6 +305,15 @@ pub kept_done : {X E P : Type 0} (r : Result X E) (s t : State Kept) → IsKept 
 kept_done (Ok x) s t kept ok does same untouched journaled = does ok
 kept_done (Err e) s t kept ok does same untouched journaled = kept_same s t kept same untouched journaled
 
+pub both_ok : {X E : Type 0} (P Q : X → Type 0) (r : Result X E) → IfOk r P → IfOk r Q → IfOk r (λ x. P x × Q x)
+both_ok P Q (Ok x) p q = (p, q)
+both_ok P Q (Err e) p q = tt
+
+-- a refused call leaves all as it was
+pub kept_or_same : {X E : Type 0} {P : X → Type 0} (r : Result X E) (s t : State Kept) → IsKept s → IfOk r P → ((x : X) → P x → IsKept t) → OnErr r (t ≡ s) → IsKept t
+kept_or_same (Ok x) s t kept ok does same = does x ok
+kept_or_same (Err e) s t kept ok does same = subst IsKept (sym same) kept
+
 -- an untouched engine is so whatever is answered
 pub either_way : {X E P : Type 0} (r : Result X E) → P → OnErr r P
 either_way (Ok x) p = tt

@@ -2,9 +2,15 @@ use Rattle.std.proofs.Common.{subst}
 use Rattle.mediator_calls.specs.Mediation.{Mediation}
 use Rattle.mediator_calls.specs.View.{view_of}
 use Rattle.mediator_calls.specs.Calls.{Opens}
-use Rattle.mediator_calls.proofs.CallLaws.{if_ok_at, if_ok_none, opens}
+use Rattle.mediator_calls.proofs.CallLaws.{if_ok_at, if_ok_none, opens, kept_open, kept_same}
 use Rattle.mediator_calls.proofs.mediator.Mediator.open.Goals.{in-Ok, in-Err}
 use Rattle.mediator_calls.proofs.mediator.Mediator.open.Goals as goal
+
+pub invariant_of-self : goal.invariant_of-self
+invariant_of-self c = elim c.match-open.branch [
+  | in-Ok w ↦ kept_open c.self.inside.state c.open.new.self w.in-Ok.session c.self.invariant (w.in-Ok.ensures.ok c.self.inside.state.chronicle.entries c.self.invariant.stands) w.in-Ok.ensures.untouched w.in-Ok.ensures.journaled
+  | in-Err w ↦ kept_same c.self.inside.state c.open.new.self c.self.invariant w.in-Err.ensures.same w.in-Err.ensures.untouched w.in-Err.ensures.journaled
+]
 
 pub returns-clause-ok : goal.returns-clause-ok
 returns-clause-ok c = elim c.match-open.branch [

@@ -2,8 +2,13 @@ use Rattle.std.proofs.Common.{subst}
 use Rattle.mediator_calls.specs.Mediation.{Mediation}
 use Rattle.mediator_calls.specs.View.{view_of}
 use Rattle.mediator_calls.specs.Calls.{Receives, RefusesReceive}
-use Rattle.mediator_calls.proofs.CallLaws.{if_ok_gives, if_err_gives, receives, refuses_receive}
+use Rattle.mediator_calls.proofs.CallLaws.{if_ok_gives, if_err_gives, receives, refuses_receive, kept_by, kept_receive, either_way}
 use Rattle.mediator_calls.proofs.mediator.Mediator.receive.Goals as goal
+
+pub invariant_of-self : goal.invariant_of-self
+invariant_of-self c = kept_by c.receive.result c.self.inside.state c.receive.new.self c.self.invariant c.receive.ensures.ok
+    (λ x ok. kept_receive c.self.inside.state c.receive.new.self c.args.session.0 c.args.number c.args.message x c.self.invariant (ok c.self.inside.state.chronicle.entries c.self.invariant.stands) c.receive.ensures.untouched c.receive.ensures.journaled)
+    c.receive.ensures.same (either_way c.receive.result c.receive.ensures.untouched) c.receive.ensures.journaled
 
 pub returns-clause-ok : goal.returns-clause-ok
 returns-clause-ok c = if_ok_gives c.receive.result c.receive.ensures.ok
