@@ -1,8 +1,8 @@
 //! What lies under the lock.
-ghost use Rattle.std.specs.Prelude.{◌≡◌, ◌+◌, ◌*◌, ◌<◌, true, false, length, IfOk, IfErr, OnOk, OnErr};
+ghost use Rattle.std.specs.Prelude.{◌≡◌, ◌+◌, ◌*◌, ◌<◌, [], take, true, false, length, IsOk, IfOk, IfErr, OnOk, OnErr};
 ghost use Rattle.mediator_history.specs.Subscriptions.{is_live};
 ghost use Rattle.mediator_state.specs.Calls.{RefusesClose, RefusesEdit, RefusesSubscribe, RefusesUnsubscribe};
-ghost use Rattle.mediator_calls.specs.Mediation.{journal_limits};
+ghost use Rattle.mediator_calls.specs.Mediation.{noted_at, journal_limits};
 ghost use Rattle.mediator_calls.specs.Sound.{IsSound};
 ghost use Rattle.mediator_calls.specs.Calls.{Opens, Closes, Receives, RefusesReceive, Edits, Subscribes, Unsubscribes, Advances, RefusesAdvance, IsStatusOf, Drains};
 ghost use Rattle.mediator_calls.specs.Counted.{counted_as, handed_at, handed_live};
@@ -283,6 +283,7 @@ impl<E: EntryLedger, H: RecordLedger> Desk<E, H> {
         ensures ok { IfOk result (λ out. Drains self.old.counted.core most out.items self.new.counted.core) }
         ensures counts { OnOk result (Adds 0 0 0 self.old self.new) }
         ensures same { OnErr result (self.new ≡ self.old) }
+        ensures none { take most (noted_at self.old.counted.core) ≡ [] → IsOk result }
     {
         self.counted.drain_audit(most)
     }
