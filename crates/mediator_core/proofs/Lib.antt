@@ -1,3 +1,4 @@
 pub mod Holding
 pub mod RunLaws
 pub mod SecrecyLaws
+pub mod AnsweredLaws

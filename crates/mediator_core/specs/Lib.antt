@@ -26,3 +26,4 @@ pub mod Refusals
 pub mod Runs
 pub mod Headline
 pub mod Secrecy
+pub mod Answered

@@ -3,7 +3,7 @@
 //!
 //! - [`Mediator`] with its calls, and [`Call`] and [`Reply`], calls and answers as values, are `mediator_calls`'.
 //! - `transcript`: [`run`], a list of calls on a new mediator, and its [`Transcript`].
-//! - `laws`: what never matters to what a subscription is disclosed.
+//! - `laws`: what never matters to what a subscription is disclosed, and that what is full is told.
 //!
 //! Proved of [`run`], for every list of calls and any limits that are allowed: each reply is that of its call, one after
 //! another from a mediator before any call (`steps`); the history's entries are those of the accepted calls, in order,
@@ -13,14 +13,15 @@
 //! (`front`); the audit entries that were drained, with those that wait, are the audit list (`audited`); a subscription's
 //! answers are built from its pulls, each with what was disclosed to it by then (`secret`). What is disclosed stays the same
 //! where rules that name others are left out of edits, entries of others out of the history, or where values that are
-//! denied change (`laws`).
+//! denied change; and no call is accepted for which the audit or the count has no room (`laws`).
 #![tactic(auto)]
 
 mod laws;
 mod transcript;
 
 pub use laws::{
-    denied_values_never_matter, entries_of_others_never_matter, rules_of_others_never_matter,
+    denied_values_never_matter, entries_of_others_never_matter, full_is_told,
+    rules_of_others_never_matter,
 };
 pub use mediator_calls::{
     Call, Fault, Limits, Mediator, Receipt, Reply, RunFault, SessionId, Status, SubId, UnknownSub,
