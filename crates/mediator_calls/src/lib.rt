@@ -12,15 +12,15 @@
 //! audit entries were drained, its limits): an accepted call answers what the history says and goes on with just its
 //! entry, behind just the cuts that it makes (`ok`); a refused one changes nothing (`same`), and its fault is the first
 //! cause that stands (`err`). `journal` is the history (`entries`), and every mediator keeps that what is disclosed can be
-//! streamed, that no place or drained count is past its end and that no number of a session or a subscription comes again
-//! (`sound`): its type keeps that its state stands for its journal. `Limits::are_allowed` is true exactly where each limit
+//! streamed, that no place or drained count is past its end, that no number of a session or a subscription comes again and that
+//! no more is held than its own limits allow (`sound`): its type keeps that its state stands for its journal, and this. `Limits::are_allowed` is true exactly where each limit
 //! stands in its range.
 //!
 //! Proved of each call of a counted mediator: what the mediator's call answers, leaves and refuses (`ok`, `same`, `err`), and what
 //! it adds to the counts (`counts`): an accepted message, edit, begin or end of a subscription and advance of the clock is one
 //! entry more since the value was made; a pull hands out as many records as stand in its message, and that many are told; what a
 //! subscription was handed stays counted when it ends. `handed` is what all subscriptions were handed, those that have ended and
-//! those that are live. A pull is refused before that count could come to 2^64 (`err`).
+//! those that are live. A pull is refused before that count could come to 2^64, and then alone (`ok`, `err`).
 #![tactic(auto)]
 
 mod call;
