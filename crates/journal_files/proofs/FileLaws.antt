@@ -30,9 +30,11 @@ past_number_read width n fault a rest is = rw (number_read width n a rest is, eq
 head_read : (count : ℕ) (rest : List ℕ) → count < 2 ^ 64 → head_of (head_octets count ++ rest) ≡ found count rest
 unfolding head_of
 head_read count rest below =
-    rw (past_number_read 4 magic BadMagic (be_octets 4 magic) (be_octets 2 version ++ (be_octets 8 count ++ rest)) (written_number 4 magic (omega arith)),
-    past_number_read 2 version BadVersion (be_octets 2 version) (be_octets 8 count ++ rest) (written_number 2 version (omega arith)),
-    number_read 8 count (be_octets 8 count) rest (written_number 8 count below)) refl
+    rw (
+      past_number_read 4 magic BadMagic (be_octets 4 magic) (be_octets 2 version ++ (be_octets 8 count ++ rest)) (written_number 4 magic (omega arith)),
+      past_number_read 2 version BadVersion (be_octets 2 version) (be_octets 8 count ++ rest) (written_number 2 version (omega arith)),
+      number_read 8 count (be_octets 8 count) rest (written_number 8 count below),
+    ) refl
 
 -- what was read past a number, in its octets
 record IsPast (width n : ℕ) (octets rest : List ℕ) : Type 0 where

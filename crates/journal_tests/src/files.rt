@@ -1,0 +1,172 @@
+//! A journal file of four entries, by hand: each entry's octets as the format has them.
+use bytes::Bytes;
+use event_journal::{Entry, PolicyText};
+use faulty_devices::Narrow;
+use journal_files::{JournalFault, JournalWriter, WriteFault, decode};
+use octet_devices::Device;
+use policy_text::Name;
+use std::alloc::{AllocError, Global};
+use std::io::ErrorKind::Interrupted;
+use std::process::Abort;
+use std::test::Fail;
+
+/// A policy by which all passes.
+const POLICY: &str =
+    "policy 1\nrule for * in * from * to * pass\nrule for * in * from * to * element * keep\n";
+
+/// A message with a template and one record.
+const MESSAGE: &[u8] =
+    b"\x00\x0a\x00\x32\x65\x53\xf1\x00\x00\x00\x00\x00\x00\x00\x00\x07\x00\x02\x00\x14\x01\x00\x00\x03\x00\x08\x00\x04\x00\x07\x00\x02\x00\x01\x00\x04\x01\x00\x00\x0e\xc0\x00\x02\x4d\x01\xbb\x00\x00\x05\xdc";
+
+/// What stands before four entries.
+const HEAD: &[u8] = b"IPMJ\x00\x01\x00\x00\x00\x00\x00\x00\x00\x04";
+
+/// An edit, but for its text.
+const EDIT: &[u8] = b"\x04\x00\x00\x00\x00\x00\x00\x00\x55";
+
+const SUBSCRIBE: &[u8] = b"\x05\x00\x00\x00\x00\x00\x00\x00\x01\x04acme";
+
+const OPEN: &[u8] = b"\x01\x00\x00\x00\x00\x00\x00\x00\x01";
+
+/// A message's entry, but for the message.
+const FIRST_OF_SESSION: &[u8] =
+    b"\x03\x00\x00\x00\x00\x00\x00\x00\x01\x00\x00\x00\x00\x00\x00\x00\x00\x00\x00\x00\x32";
+
+/// The file of an edit, a subscription, a session and its message, in that order: 202 octets.
+fn file(alloc: Global) -> Result<Vec<u8>, AllocError> {
+    let mut file = Vec::new(alloc);
+    for part in [
+        HEAD,
+        EDIT,
+        POLICY.as_bytes(),
+        SUBSCRIBE,
+        OPEN,
+        FIRST_OF_SESSION,
+        MESSAGE,
+    ] {
+        file.extend_from_slice(part)?;
+    }
+    Ok(file)
+}
+
+fn edit(alloc: Global) -> Result<Entry, AllocError> {
+    Ok(Entry::Edit {
+        text: PolicyText::new(alloc, POLICY)?,
+    })
+}
+
+fn subscribe(alloc: Global) -> Result<Entry, AllocError> {
+    Ok(Entry::Subscribe {
+        sub: 1,
+        name: Name::new(alloc, b"acme")?,
+    })
+}
+
+fn message(alloc: Global) -> Result<Entry, AllocError> {
+    Ok(Entry::Message {
+        session: 1,
+        number: 0,
+        octets: Bytes::copy_from_slice(alloc, MESSAGE)?,
+    })
+}
+
+#[test]
+fn a_file_of_four_entries_is_read(rt: HostRuntime) -> Result<(), Fail> {
+    let file = file(rt.alloc())?;
+    assert_eq!(rt; file.len(), 202);
+    let journal = decode(rt.alloc(), file.as_slice())?;
+    assert_eq!(rt; journal.len(), 4);
+    assert_eq!(rt; journal.octets(), 188);
+    assert!(rt; journal.get(0) == Some(&edit(rt.alloc())?));
+    assert!(rt; journal.get(1) == Some(&subscribe(rt.alloc())?));
+    assert!(rt; journal.get(2) == Some(&Entry::Open { session: 1 }));
+    assert!(rt; journal.get(3) == Some(&message(rt.alloc())?));
+    Ok(())
+}
+
+/// The fault of a file, if it has one.
+fn fault_of(alloc: Global, octets: &[u8]) -> Option<JournalFault> {
+    decode(alloc, octets).err()
+}
+
+#[test]
+fn each_front_of_it_is_cut_off(rt: HostRuntime) -> Result<(), Fail> {
+    let file = file(rt.alloc())?;
+    for count in 0..file.len() {
+        let front = file.as_slice().get(..count).ok_or("count")?;
+        assert!(rt; fault_of(rt.alloc(), front) == Some(JournalFault::Truncated));
+    }
+    Ok(())
+}
+
+/// Octets that are no journal file, and the fault.
+static FAULTS: [(&[u8], JournalFault); 10] = [
+    (b"", JournalFault::Truncated),
+    (b"IPM", JournalFault::Truncated),
+    (
+        b"IPMK\x00\x01\x00\x00\x00\x00\x00\x00\x00\x00",
+        JournalFault::BadMagic,
+    ),
+    (b"IPMK", JournalFault::BadMagic),
+    (b"IPMJ\x00\x02", JournalFault::BadVersion),
+    (
+        b"IPMJ\x00\x01\x00\x00\x00\x00\x00\x00\x00\x00\x01",
+        JournalFault::BadEntry,
+    ),
+    (
+        b"IPMJ\x00\x01\x00\x00\x00\x00\x00\x00\x00\x01\x00",
+        JournalFault::BadEntry,
+    ),
+    (
+        b"IPMJ\x00\x01\x00\x00\x00\x00\x00\x00\x00\x01\x09",
+        JournalFault::BadEntry,
+    ),
+    (
+        b"IPMJ\x00\x01\x00\x00\x00\x00\x00\x00\x00\x01\x05\x00\x00\x00\x00\x00\x00\x00\x01\x04Acme",
+        JournalFault::BadEntry,
+    ),
+    (
+        b"IPMJ\x00\x01\x00\x00\x00\x00\x00\x00\x00\x01\x04\x00\x00\x00\x00\x00\x00\x00\x01\xff",
+        JournalFault::BadEntry,
+    ),
+];
+
+#[test]
+fn the_first_fault_is_named(rt: HostRuntime) -> Result<(), Fail> {
+    for (octets, fault) in FAULTS.iter() {
+        assert!(rt; fault_of(rt.alloc(), octets) == Some(*fault));
+    }
+    Ok(())
+}
+
+/// A device that takes at most seven octets a call, and fails after so many calls.
+fn device(alloc: Global, calls: usize) -> Result<Device<Narrow>, AllocError> {
+    Ok(Device::new(Narrow::new(alloc, 202, 7, calls, Interrupted)?))
+}
+
+/// Writes the four entries.
+fn write_all(alloc: Global, device: &mut Device<Narrow>) -> Result<(), WriteFault> {
+    let mut writer = JournalWriter::start(alloc, 4, device)?;
+    writer.put(&edit(alloc)?, device)?;
+    writer.put(&subscribe(alloc)?, device)?;
+    writer.put(&Entry::Open { session: 1 }, device)?;
+    writer.put(&message(alloc)?, device)
+}
+
+#[test]
+fn a_file_is_written_entry_by_entry(rt: HostRuntime) -> Result<(), Fail> {
+    let mut device = device(rt.alloc(), 100)?;
+    assert!(rt; write_all(rt.alloc(), &mut device) == Ok(()));
+    let file = file(rt.alloc())?;
+    assert!(rt; device.into_inner().octets == file);
+    Ok(())
+}
+
+#[test]
+fn a_device_that_fails_says_how_much_it_took(rt: HostRuntime) -> Result<(), Fail> {
+    let mut device = device(rt.alloc(), 3)?;
+    assert!(rt; write_all(rt.alloc(), &mut device) == Err(WriteFault::Write { sent: 7 }));
+    let file = file(rt.alloc())?;
+    assert!(rt; Some(device.into_inner().octets.as_slice()) == file.as_slice().get(..21));
+    Ok(())
+}
