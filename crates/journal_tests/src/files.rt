@@ -1,4 +1,8 @@
 //! A journal file of four entries, by hand: each entry's octets as the format has them.
+ghost use Rattle.std.specs.Prelude.{IfOk};
+ghost use Rattle.policy_text.specs.Naming.{is_name};
+ghost use Rattle.event_journal.specs.Spelled.{IsSpelled};
+
 use bytes::Bytes;
 use event_journal::{Entry, PolicyText};
 use faulty_devices::Narrow;
@@ -49,20 +53,26 @@ fn file(alloc: Global) -> Result<Vec<u8>, AllocError> {
     Ok(file)
 }
 
-fn edit(alloc: Global) -> Result<Entry, AllocError> {
+fn edit(alloc: Global) -> Result<Entry, AllocError>
+    ensures { IfOk result (λ e. IsSpelled e) }
+{
     Ok(Entry::Edit {
         text: PolicyText::new(alloc, POLICY)?,
     })
 }
 
-fn subscribe(alloc: Global) -> Result<Entry, AllocError> {
+fn subscribe(alloc: Global) -> Result<Entry, AllocError>
+    ensures { IfOk result (λ e. IsSpelled e) }
+{
     Ok(Entry::Subscribe {
         sub: 1,
         name: Name::new(alloc, b"acme")?,
     })
 }
 
-fn message(alloc: Global) -> Result<Entry, AllocError> {
+fn message(alloc: Global) -> Result<Entry, AllocError>
+    ensures { IfOk result (λ e. IsSpelled e) }
+{
     Ok(Entry::Message {
         session: 1,
         number: 0,
