@@ -1,0 +1,4 @@
+pub mod Format
+pub mod Reading
+pub mod Laws
+pub mod Seen

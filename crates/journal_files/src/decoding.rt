@@ -1,0 +1,85 @@
+//! Reading a journal file in memory.
+ghost use Rattle.std.specs.Prelude.{◌≡◌, ◌∷◌, ◌++◌, [], List, true, false, length, IfOk};
+ghost use Rattle.sequences.specs.Results.{◌>>=◌};
+ghost use Rattle.event_journal.specs.declared.entry.Entry.{Entry};
+ghost use Rattle.event_journal.specs.declared.limits.TheConstants.{MOST_ENTRIES, MOST_OCTETS};
+ghost use Rattle.event_journal.specs.Spelled.{IsSpelled};
+ghost use Rattle.event_journal.specs.Sizes.{history_octets};
+ghost use Rattle.journal_files.specs.Format.{file_octets};
+ghost use Rattle.journal_files.specs.Reading.{Gives, entries_behind, file_of, is_past, pushed_of};
+ghost use Rattle.journal_files.specs.Laws.{IsFile};
+
+use crate::entry::{read_entry, read_head};
+use crate::fault::JournalFault;
+use event_journal::{Entry, Journal, MOST_ENTRIES, MOST_OCTETS};
+use std::alloc::Global;
+use std::slice::from_ref;
+
+/// The journal that a file says, with the greatest limits that a journal may have.
+///
+/// # Errors
+/// The file's first fault, or want of memory.
+pub fn decode(alloc: Global, octets: &[u8]) -> Result<Journal, JournalFault>
+    ensures exact { Gives (λ j. j.entries) result (file_of octets.now) }
+    ensures limits { IfOk result (λ j. j.limits ≡ record { entries = MOST_ENTRIES; octets = MOST_OCTETS }) }
+    // The octets are those by which the journal is written, so there is no other file of it.
+    ensures same { IfOk result (λ j. octets.now ≡ file_octets j.entries) }
+    // The file of a history is read, unless memory runs out.
+    ensures only { (h : List Entry) → IsFile h → octets.now ≡ file_octets h → Gives (λ j. j.entries) result (Ok h) }
+{
+    read_file(alloc, octets)
+}
+
+#[tactic(auto, unfolding(crate::specs::Reading::file_of))]
+fn read_file(alloc: Global, octets: &[u8]) -> Result<Journal, JournalFault>
+    ensures exact { Gives (λ j. j.entries) result (file_of octets.now) }
+    ensures limits { IfOk result (λ j. j.limits ≡ record { entries = MOST_ENTRIES; octets = MOST_OCTETS }) }
+{
+    let (count, rest) = read_head(octets)?;
+    let mut journal = Journal::new(alloc, MOST_ENTRIES, MOST_OCTETS);
+    put_entries(alloc, count, rest, &mut journal)?;
+    Ok(journal)
+}
+
+/// Adds so many entries to a journal, which are all that the octets have.
+fn put_entries(
+    alloc: Global,
+    count: u64,
+    octets: &[u8],
+    journal: &mut Journal,
+) -> Result<(), JournalFault>
+    requires limits { journal.old.limits ≡ record { entries = MOST_ENTRIES; octets = MOST_OCTETS } }
+    ensures read { Gives (λ _. journal.new.entries) result (entries_behind journal.old.entries count octets.now) }
+    ensures limits { journal.new.limits ≡ journal.old.limits }
+{
+    let mut rest = octets;
+    let mut left = count;
+    'entries: while left > 0 {
+        let (entry, after) = read_entry(alloc, rest)?;
+        put_entry(entry, journal)?;
+        rest = after;
+        left -= 1;
+    }
+    if rest.is_empty() {
+        Ok(())
+    } else {
+        Err(JournalFault::BadEntry)
+    }
+}
+
+/// Adds an entry to a journal, if it isn't past the journal's limits.
+fn put_entry(entry: Entry, journal: &mut Journal) -> Result<(), JournalFault>
+    requires limits { journal.old.limits ≡ record { entries = MOST_ENTRIES; octets = MOST_OCTETS } }
+    requires spelled { IsSpelled entry }
+    ensures pushed { Gives (λ _. journal.new.entries) result (pushed_of journal.old.entries entry) }
+    ensures limits { journal.new.limits ≡ journal.old.limits }
+{
+    if !journal.room(from_ref(&entry)) {
+        return Err(JournalFault::BadEntry);
+    }
+    journal.reserve(1)?;
+    journal.push_reserved(entry);
+    Ok(())
+}
+
+ghost use Rattle.std.specs.Prelude.{Ok};

@@ -1,0 +1,162 @@
+//! Reading the entry at the front of octets.
+ghost use Rattle.std.specs.Prelude.{◌≡◌, ◌≤◌, ◌<◌, ◌^◌, length, true, IfOk};
+ghost use Rattle.sequences.specs.Results.{◌>>=◌};
+ghost use Rattle.event_journal.specs.Spelled.{IsSpelled};
+ghost use Rattle.journal_files.specs.Reading.{Gives, front_of, number_of, past_number, head_of, numbered, message_of, edit_of, subscribe_of, entry_by, entry_of};
+ghost use Rattle.journal_files.specs.Format.{magic, version};
+ghost use Rattle.journal_files.specs.Seen.{entry_seen, number_seen, octets_seen};
+ghost use Rattle.journal_files.specs.declared.fault.JournalFault.TheVariants.{BadMagic, BadVersion};
+
+use crate::fault::JournalFault;
+use crate::format::{
+    ADVANCE, CLOSE, CUT, EDIT, MAGIC, MESSAGE, OPEN, SUBSCRIBE, UNSUBSCRIBE, VERSION,
+};
+use bytes::Bytes;
+use event_journal::{Entry, PolicyText};
+use ipfix_octets::be_number;
+use policy_text::{Name, is_name};
+use std::alloc::Global;
+use std::str::from_utf8;
+
+/// So many octets of the front, and those after them.
+#[tactic(auto, unfolding(crate::specs::Reading::front_of))]
+fn front(count: u64, octets: &[u8]) -> Result<(&[u8], &[u8]), JournalFault>
+    ensures read { Gives octets_seen result (front_of count octets.now) }
+    ensures long { IfOk result (λ f. length f.0.now ≡ count) }
+{
+    if (octets.len() as u64) < count {
+        return Err(JournalFault::Truncated);
+    }
+    Ok(octets.split_at(count as usize))
+}
+
+/// The number in so many octets of the front, and the octets after them.
+#[tactic(auto, unfolding(crate::specs::Reading::number_of))]
+fn number(width: u64, octets: &[u8]) -> Result<(u64, &[u8]), JournalFault>
+    requires some { 1 ≤ width }
+    requires few { width ≤ 8 }
+    ensures read { Gives number_seen result (number_of width octets.now) }
+    ensures below { IfOk result (λ f. f.0 < 256 ^ width) }
+{
+    let (digits, rest) = front(width, octets)?;
+    Ok((be_number(digits), rest))
+}
+
+/// How many entries a file announces, and the octets after its head.
+///
+/// # Errors
+/// The file is cut off in its head, or has another magic number or version.
+#[tactic(auto, unfolding(crate::specs::Reading::head_of, crate::specs::Reading::past_number))]
+pub(crate) fn read_head(octets: &[u8]) -> Result<(u64, &[u8]), JournalFault>
+    ensures { Gives number_seen result (head_of octets.now) }
+{
+    let (found, rest) = number(4, octets)?;
+    if found != u64::from(MAGIC) {
+        return Err(JournalFault::BadMagic);
+    }
+    let (found, rest) = number(2, rest)?;
+    if found != u64::from(VERSION) {
+        return Err(JournalFault::BadVersion);
+    }
+    number(8, rest)
+}
+
+/// The entry at the front, and the octets after it.
+///
+/// # Errors
+/// The entry is cut off, or is none; or memory ran out.
+#[tactic(auto, unfolding(crate::specs::Reading::entry_of))]
+pub(crate) fn read_entry(alloc: Global, octets: &[u8]) -> Result<(Entry, &[u8]), JournalFault>
+    ensures read { Gives entry_seen result (entry_of octets.now) }
+    ensures spelled { IfOk result (λ f. IsSpelled f.0) }
+{
+    let (kind, rest) = number(1, octets)?;
+    read_by(alloc, kind as u8, rest)
+}
+
+/// The entry of a kind, and the octets after it.
+#[tactic(auto, unfolding(crate::specs::Reading::entry_by, crate::specs::Reading::numbered))]
+fn read_by(alloc: Global, kind: u8, octets: &[u8]) -> Result<(Entry, &[u8]), JournalFault>
+    ensures read { Gives entry_seen result (entry_by kind octets.now) }
+    ensures spelled { IfOk result (λ f. IsSpelled f.0) }
+{
+    match kind {
+        OPEN => {
+            let (session, rest) = number(8, octets)?;
+            Ok((Entry::Open { session }, rest))
+        }
+        CLOSE => {
+            let (session, rest) = number(8, octets)?;
+            Ok((Entry::Close { session }, rest))
+        }
+        MESSAGE => read_message(alloc, octets),
+        EDIT => read_edit(alloc, octets),
+        SUBSCRIBE => read_subscribe(alloc, octets),
+        UNSUBSCRIBE => {
+            let (sub, rest) = number(8, octets)?;
+            Ok((Entry::Unsubscribe { sub }, rest))
+        }
+        ADVANCE => {
+            let (t, rest) = number(8, octets)?;
+            Ok((Entry::Advance { t }, rest))
+        }
+        CUT => {
+            let (sub, rest) = number(8, octets)?;
+            Ok((Entry::Cut { sub }, rest))
+        }
+        _ => Err(JournalFault::BadEntry),
+    }
+}
+
+/// The message's entry behind its kind, and the octets after it.
+#[tactic(auto, unfolding(crate::specs::Reading::message_of))]
+fn read_message(alloc: Global, octets: &[u8]) -> Result<(Entry, &[u8]), JournalFault>
+    ensures read { Gives entry_seen result (message_of octets.now) }
+    ensures spelled { IfOk result (λ f. IsSpelled f.0) }
+{
+    let (session, rest) = number(8, octets)?;
+    let (place, rest) = number(8, rest)?;
+    let (len, rest) = number(4, rest)?;
+    let (message, rest) = front(len, rest)?;
+    let entry = Entry::Message {
+        session,
+        number: place,
+        octets: Bytes::copy_from_slice(alloc, message)?,
+    };
+    Ok((entry, rest))
+}
+
+/// The edit's entry behind its kind, and the octets after it.
+#[tactic(auto, unfolding(crate::specs::Reading::edit_of))]
+fn read_edit(alloc: Global, octets: &[u8]) -> Result<(Entry, &[u8]), JournalFault>
+    ensures read { Gives entry_seen result (edit_of octets.now) }
+    ensures spelled { IfOk result (λ f. IsSpelled f.0) }
+{
+    let (len, rest) = number(8, octets)?;
+    let (text, rest) = front(len, rest)?;
+    match from_utf8(text) {
+        Ok(text) => {
+            let text = PolicyText::new(alloc, text)?;
+            Ok((Entry::Edit { text }, rest))
+        }
+        Err(_) => Err(JournalFault::BadEntry),
+    }
+}
+
+/// The subscription's entry behind its kind, and the octets after it.
+#[tactic(auto, unfolding(crate::specs::Reading::subscribe_of))]
+fn read_subscribe(alloc: Global, octets: &[u8]) -> Result<(Entry, &[u8]), JournalFault>
+    ensures read { Gives entry_seen result (subscribe_of octets.now) }
+    ensures spelled { IfOk result (λ f. IsSpelled f.0) }
+{
+    let (sub, rest) = number(8, octets)?;
+    let (len, rest) = number(1, rest)?;
+    let (name, rest) = front(len, rest)?;
+    match from_utf8(name) {
+        Ok(text) if is_name(text) => {
+            let name = Name::new(alloc, name)?;
+            Ok((Entry::Subscribe { sub, name }, rest))
+        }
+        Ok(_) | Err(_) => Err(JournalFault::BadEntry),
+    }
+}
