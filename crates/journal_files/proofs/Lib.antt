@@ -1,1 +1,4 @@
-
+pub mod NumberLaws
+pub mod TextLaws
+pub mod WrittenParts
+pub mod EntryRead

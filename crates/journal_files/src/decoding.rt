@@ -1,6 +1,5 @@
 //! Reading a journal file in memory.
 ghost use Rattle.std.specs.Prelude.{◌≡◌, ◌∷◌, ◌++◌, [], List, true, false, length, IfOk};
-ghost use Rattle.sequences.specs.Results.{◌>>=◌};
 ghost use Rattle.event_journal.specs.declared.entry.Entry.{Entry};
 ghost use Rattle.event_journal.specs.declared.limits.TheConstants.{MOST_ENTRIES, MOST_OCTETS};
 ghost use Rattle.event_journal.specs.Spelled.{IsSpelled};

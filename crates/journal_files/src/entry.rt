@@ -1,11 +1,12 @@
 //! Reading the entry at the front of octets.
-ghost use Rattle.std.specs.Prelude.{◌≡◌, ◌≤◌, ◌<◌, ◌^◌, length, true, IfOk};
-ghost use Rattle.sequences.specs.Results.{◌>>=◌};
+ghost use Rattle.std.specs.Prelude.{◌≡◌, ◌≤◌, ◌<◌, ◌^◌, length, true, false, IfOk, MatchResult};
+ghost use Rattle.std.specs.Str.{is_utf8};
+ghost use Rattle.policy_text.specs.Naming.{is_name};
 ghost use Rattle.event_journal.specs.Spelled.{IsSpelled};
 ghost use Rattle.journal_files.specs.Reading.{Gives, front_of, number_of, past_number, head_of, numbered, message_of, edit_of, subscribe_of, entry_by, entry_of};
 ghost use Rattle.journal_files.specs.Format.{magic, version};
 ghost use Rattle.journal_files.specs.Seen.{entry_seen, number_seen, octets_seen};
-ghost use Rattle.journal_files.specs.declared.fault.JournalFault.TheVariants.{BadMagic, BadVersion};
+ghost use Rattle.journal_files.specs.declared.fault.JournalFault.TheVariants.{BadMagic, BadVersion, BadEntry};
 
 use crate::fault::JournalFault;
 use crate::format::{
@@ -134,12 +135,32 @@ fn read_edit(alloc: Global, octets: &[u8]) -> Result<(Entry, &[u8]), JournalFaul
 {
     let (len, rest) = number(8, octets)?;
     let (text, rest) = front(len, rest)?;
-    match from_utf8(text) {
-        Ok(text) => {
-            let text = PolicyText::new(alloc, text)?;
-            Ok((Entry::Edit { text }, rest))
-        }
+    let text = PolicyText::new(alloc, text_in(text)?)?;
+    Ok((Entry::Edit { text }, rest))
+}
+
+/// The text that the octets are.
+///
+/// # Errors
+/// They are not UTF-8.
+#[tactic(auto, using(crate::proofs::TextLaws::is_text, crate::proofs::TextLaws::is_no_text))]
+fn text_in(octets: &[u8]) -> Result<&str, JournalFault>
+    ensures { MatchResult result (λ text. (text.now ≡ octets.now) × (is_utf8 octets.now ≡ true)) (λ e. (e ≡ BadEntry) × (is_utf8 octets.now ≡ false)) }
+{
+    match from_utf8(octets) {
+        Ok(text) => Ok(text),
         Err(_) => Err(JournalFault::BadEntry),
+    }
+}
+
+/// Whether the octets are a name.
+#[tactic(auto, using(crate::proofs::TextLaws::is_no_name))]
+fn is_name_in(octets: &[u8]) -> bool
+    ensures { result ≡ is_name octets.now }
+{
+    match from_utf8(octets) {
+        Ok(text) => is_name(text),
+        Err(_) => false,
     }
 }
 
@@ -152,11 +173,9 @@ fn read_subscribe(alloc: Global, octets: &[u8]) -> Result<(Entry, &[u8]), Journa
     let (sub, rest) = number(8, octets)?;
     let (len, rest) = number(1, rest)?;
     let (name, rest) = front(len, rest)?;
-    match from_utf8(name) {
-        Ok(text) if is_name(text) => {
-            let name = Name::new(alloc, name)?;
-            Ok((Entry::Subscribe { sub, name }, rest))
-        }
-        Ok(_) | Err(_) => Err(JournalFault::BadEntry),
+    if !is_name_in(name) {
+        return Err(JournalFault::BadEntry);
     }
+    let name = Name::new(alloc, name)?;
+    Ok((Entry::Subscribe { sub, name }, rest))
 }
