@@ -2,3 +2,4 @@ pub mod NumberLaws
 pub mod TextLaws
 pub mod WrittenParts
 pub mod EntryRead
+pub mod HistoryLaws

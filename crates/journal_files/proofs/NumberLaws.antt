@@ -1,8 +1,7 @@
 -- A number is written by the octets that it was read from.
 use Rattle.std.proofs.Common.{◌≡◌, ℕ, zero, suc, ◌+◌, ◌*◌, ◌/◌, ◌%◌, ◌^◌, ◌<◌, List, [], ◌∷◌, length, refl, sym, ap, ◌∙◌, arith}
 use Rattle.std.proofs.Math.Nat.{mul_assoc, pow-succ', add-mul-div_right, add-mul-mod_self_right, mod-eq_of_lt}
-use Rattle.std.proofs.Math.Arith.{div-mul-add}
-use Rattle.std.proofs.lemmas.Nat.{pow-add}
+use Rattle.std.proofs.lemmas.Nat.{pow-add, div-mul-add}
 use Rattle.std.specs.Int.{byte_at}
 use Rattle.sequences.specs.Octets.{be_value, be_octets, AreOctets, IsNumber}
 use Rattle.sequences.proofs.OctetLaws.{byte_at-pow, pow_positive, length-be_octets, be_value-be_octets, be_value-below, AreOctets-rest}

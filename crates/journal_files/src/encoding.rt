@@ -75,6 +75,13 @@ fn put_number(number: u64, out: &mut Vec<u8>) -> Result<(), AllocError>
     out.extend_from_slice(&number.to_be_bytes())
 }
 
+/// Appends a length in 4 octets.
+fn put_length(len: u32, out: &mut Vec<u8>) -> Result<(), AllocError>
+    ensures { OnOk result (out.new.items ≡ out.old.items ++ be_octets 4 len) }
+{
+    out.extend_from_slice(&len.to_be_bytes())
+}
+
 /// Appends an entry that has a number alone.
 fn put_numbered(kind: u8, number: u64, out: &mut Vec<u8>) -> Result<(), AllocError>
     ensures { OnOk result (out.new.items ≡ out.old.items ++ kind ∷ be_octets 8 number) }
@@ -95,7 +102,7 @@ fn put_message(
 {
     put_numbered(MESSAGE, session, out)?;
     put_number(number, out)?;
-    out.extend_from_slice(&(message.len() as u32).to_be_bytes())?;
+    put_length(message.len() as u32, out)?;
     out.extend_from_slice(message)
 }
 

@@ -10,6 +10,6 @@ overflow_cast-name c = let short = name_short c.args.name.now c.requires in omeg
 pub returns : goal.returns
 returns c =
     rw (name_octet c.args.name.now c.requires)
-    (appended c.extend_from_slice.result _ _ _ _ c.extend_from_slice.ensures.items
+    (appended c.extend_from_slice.result c.push.new.self.items c.args.name.now _ _ c.extend_from_slice.ensures.items
     (three_parts c.args.out.now.items (5 ∷ be_octets 8 c.args.sub) (length c.args.name.now ∷ []) c.args.name.now
     _ _ c.in_ok-put_numbered.ensures c.in_ok-push.ensures.items))
