@@ -2,4 +2,5 @@ pub mod NumberLaws
 pub mod TextLaws
 pub mod WrittenParts
 pub mod EntryRead
+pub mod EntryWritten
 pub mod HistoryLaws

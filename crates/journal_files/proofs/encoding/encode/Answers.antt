@@ -1,8 +1,8 @@
 use Rattle.std.proofs.Common.{◌≡◌, ◌≤◌, ◌+◌, length, Some, sym, arith}
 use Rattle.std.specs.Prelude.{slice_get}
-use Rattle.std.proofs.lemmas.List.{slice_get_within}
+use Rattle.std.proofs.lemmas.Option.{slice_get_within}
 use Rattle.journal_files.specs.Format.{head_octets}
-use Rattle.journal_files.proofs.HistoryLaws.{written_more}
+use Rattle.journal_files.proofs.HistoryLaws.{written_more, written_all}
 use Rattle.journal_files.proofs.encoding.encode.Goals as goal
 
 pub entries-preserved : goal.entries-preserved
@@ -15,4 +15,5 @@ entries-preserved c =
     }
 
 pub returns : goal.returns
-returns c = ?
+returns c =
+    written_all c.entries.file.items (head_octets (length c.args.journal.now.entries)) c.args.journal.now.entries c.entries.position c.get.result c.in_default.not-Some c.get.ensures c.entries.invariant.written
