@@ -151,9 +151,9 @@ subscribe_found octets rest e are eq =
 -- ---- an entry
 
 -- one kind, or another
-by_kind : {P : Type 0} (kind i : ℕ) (yes other : Found Entry) (y : Entry × List ℕ) (b : Bool) → eqb kind i ≡ b → cond b yes other ≡ Ok y → (kind ≡ i → yes ≡ Ok y → P) → (other ≡ Ok y → P) → P
-by_kind kind i yes other y true is e here there = here (eqb-true kind i is) e
-by_kind kind i yes other y false is e here there = there e
+by_kind : {P : Type 0} (kind i : ℕ) (one other : Found Entry) (y : Entry × List ℕ) (b : Bool) → eqb kind i ≡ b → cond b one other ≡ Ok y → (kind ≡ i → one ≡ Ok y → P) → (other ≡ Ok y → P) → P
+by_kind kind i one other y true is e here there = here (eqb-true kind i is) e
+by_kind kind i one other y false is e here there = there e
 
 kind_found : (kind : ℕ) (octets rest : List ℕ) (e : Entry) → AreOctets octets → entry_by kind octets ≡ found e rest → kind ∷ octets ≡ octets_of e ++ rest
 unfolding entry_by

@@ -4,3 +4,5 @@ pub mod WrittenParts
 pub mod EntryRead
 pub mod EntryWritten
 pub mod HistoryLaws
+pub mod FileLaws
+pub mod ReadingSteps
