@@ -2,3 +2,4 @@ pub mod Format
 pub mod Reading
 pub mod Laws
 pub mod Seen
+pub mod Writing

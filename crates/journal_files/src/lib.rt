@@ -15,8 +15,10 @@ mod entry;
 mod fault;
 mod format;
 mod laws;
+mod writing;
 
 pub use decoding::decode;
 pub use encoding::encode;
 pub use fault::JournalFault;
+pub use writing::{JournalWriter, WriteFault};
 pub use laws::{entry_read_back, entry_written_back, file_read_back, file_written_back};

@@ -1,0 +1,11 @@
+-- What was written to a sink where a file could not be written further.
+use Rattle.std.specs.Prelude.{◌≡◌, ℕ, Bool, List, Option}
+use Rattle.std.specs.Io.KnownBytes.{Keeps}
+use Rattle.octet_devices.specs.Written.{WritesFront}
+use Rattle.journal_files.specs.declared.writing.WriteFault.{WriteFault}
+use Rattle.journal_files.specs.declared.writing.WriteFault.TheVariants.{Write, OutOfMemory}
+
+-- the sink failed, after so many octets of those that were due; or memory ran out before any was written
+abbrev pub Stops : WriteFault → Option (List ℕ) → Option (List ℕ) → List ℕ → Bool → Bool → Type 0
+Stops (Write sent) old new due was_failed has_failed = WritesFront old new due sent has_failed
+Stops OutOfMemory old new due was_failed has_failed = Keeps old new × (has_failed ≡ was_failed)

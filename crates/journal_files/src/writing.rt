@@ -1,0 +1,115 @@
+//! Writing a journal file to a sink, entry by entry.
+ghost use Rattle.std.specs.Prelude.{◌≡◌, ◌+◌, ◌<◌, OnOk, OnErr, IfOk, IfErr};
+ghost use Rattle.std.specs.Io.KnownBytes.{Appends};
+ghost use Rattle.event_journal.specs.Spelled.{IsSpelled};
+ghost use Rattle.journal_files.specs.Format.{head_octets, octets_of};
+ghost use Rattle.journal_files.specs.Writing.{Stops};
+
+use crate::encoding::{put_entry, put_head};
+use event_journal::Entry;
+use octet_devices::{Sink, write_all};
+use std::alloc::{AllocError, Global};
+use std::marker::Model;
+
+/// Why a file could not be written further.
+#[derive(Clone, Copy, Debug, PartialEq, Eq)]
+pub enum WriteFault {
+    /// The sink failed, after so many octets of what the call was to write.
+    Write { sent: usize },
+    /// Want of memory, and the call has written nothing.
+    OutOfMemory,
+}
+
+impl From<AllocError> for WriteFault {
+    ghost use Rattle.std.specs.Prelude.{◌≡◌};
+    ghost use Rattle.journal_files.specs.declared.writing.WriteFault.TheVariants.{OutOfMemory};
+
+    ghost from_gives = { λ _ e. e ≡ OutOfMemory };
+
+    fn from(_e: AllocError) -> WriteFault {
+        WriteFault::OutOfMemory
+    }
+}
+
+/// Writes a file of so many entries to a sink, an entry at a time. It keeps room for the octets of one entry. Contracts
+/// see how many entries are left to write.
+#[derive(Drop)]
+pub struct JournalWriter {
+    left: u64,
+    /// The octets of the entry that is being written.
+    entry: Vec<u8>,
+}
+
+impl Model for JournalWriter {
+    ghost use Rattle.std.specs.Prelude.{ℕ};
+
+    ghost Value = { ℕ };
+
+    ghost view = { λ w. w.left };
+}
+
+impl JournalWriter {
+    /// Begins a file of so many entries, and writes what stands before them.
+    ///
+    /// # Errors
+    /// The sink failed, or memory ran out.
+    pub fn start<S: Sink>(
+        alloc: Global,
+        entries: u64,
+        sink: &mut S,
+    ) -> Result<JournalWriter, WriteFault>
+        ensures ok { IfOk result (λ w. w ≡ entries) }
+        ensures written { OnOk result (Appends (S.contents sink.old) (S.contents sink.new) (head_octets entries)) }
+        ensures stays { OnOk result (S.has_failed sink.new ≡ S.has_failed sink.old) }
+        ensures err { IfErr result (λ e. Stops e (S.contents sink.old) (S.contents sink.new) (head_octets entries) (S.has_failed sink.old) (S.has_failed sink.new)) }
+    {
+        let mut entry = Vec::new(alloc);
+        put_head(entries, &mut entry)?;
+        send(entry.as_slice(), sink)?;
+        Ok(JournalWriter {
+            left: entries,
+            entry,
+        })
+    }
+
+    /// How many entries are left to write.
+    pub fn left(&self) -> u64
+        ensures { result ≡ self.now }
+    {
+        self.left
+    }
+
+    /// Writes an entry.
+    ///
+    /// # Errors
+    /// The sink failed, and the file is broken; or memory ran out, and the entry may be written again.
+    pub fn put<S: Sink>(&mut self, entry: &Entry, sink: &mut S) -> Result<(), WriteFault>
+        requires left { 0 < self.old }
+        requires spelled { IsSpelled entry.now }
+        ensures left { OnOk result (self.new + 1 ≡ self.old) }
+        ensures same { OnErr result (self.new ≡ self.old) }
+        ensures written { OnOk result (Appends (S.contents sink.old) (S.contents sink.new) (octets_of entry.now)) }
+        ensures stays { OnOk result (S.has_failed sink.new ≡ S.has_failed sink.old) }
+        ensures err { IfErr result (λ e. Stops e (S.contents sink.old) (S.contents sink.new) (octets_of entry.now) (S.has_failed sink.old) (S.has_failed sink.new)) }
+    {
+        self.entry.clear();
+        put_entry(entry, &mut self.entry)?;
+        send(self.entry.as_slice(), sink)?;
+        self.left -= 1;
+        Ok(())
+    }
+}
+
+/// Writes all of the octets.
+fn send<S: Sink>(octets: &[u8], sink: &mut S) -> Result<(), WriteFault>
+    ensures written { OnOk result (Appends (S.contents sink.old) (S.contents sink.new) octets.now) }
+    ensures stays { OnOk result (S.has_failed sink.new ≡ S.has_failed sink.old) }
+    ensures err { IfErr result (λ e. Stops e (S.contents sink.old) (S.contents sink.new) octets.now (S.has_failed sink.old) (S.has_failed sink.new)) }
+{
+    match write_all(sink, octets) {
+        Ok(()) => Ok(()),
+        Err(stopped) => Err(WriteFault::Write {
+            sent: stopped.sent,
+        }),
+    }
+}
