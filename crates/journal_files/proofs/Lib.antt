@@ -6,3 +6,4 @@ pub mod EntryWritten
 pub mod HistoryLaws
 pub mod FileLaws
 pub mod ReadingSteps
+pub mod Gathered

@@ -39,14 +39,19 @@ end_of octets = if length octets == 0 then Ok None else Err fault.BadEntry
 unfoldable pub step_of : Place → List ℕ → Result (Option (Entry × List ℕ)) JournalFault
 step_of place octets = if place.left == 0 then end_of octets else (next_of place octets >>= λ found. Ok (Some found))
 
+-- the octets are those of one entry, or of none; where they are cut off, the source is at its end
+pub record IsGathered (octets : List ℕ) (left : Option (List ℕ)) : Type 0 where
+  pub whole : (entry : Entry) (rest : List ℕ) → entry_of octets ≡ Ok (entry, rest) → rest ≡ []
+  pub cut_off : entry_of octets ≡ Err fault.Truncated → IsAtEnd left
+
 -- ---- what a step does to a source
 
 -- these octets were consumed, and they show the fault; where the file is cut off, nothing comes after them
-pub record Shows (fault : JournalFault) (A : Type 0) (read : List ℕ → Result A JournalFault) (given left : Option (List ℕ)) : Type 0 where
+pub record Shows (why : JournalFault) (A : Type 0) (read : List ℕ → Result A JournalFault) (given left : Option (List ℕ)) : Type 0 where
   pub piece : List ℕ
   pub consumed : Consumes given left piece
-  pub shown : read piece ≡ Err fault
-  pub end : fault ≡ fault.Truncated → IsAtEnd left
+  pub shown : read piece ≡ Err why
+  pub end : why ≡ fault.Truncated → IsAtEnd left
 
 -- some octets were consumed, of which nothing is told
 pub record Loses (given left : Option (List ℕ)) : Type 0 where

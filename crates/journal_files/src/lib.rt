@@ -17,11 +17,13 @@ mod format;
 mod gathering;
 mod laws;
 mod read_fault;
+mod reading;
 mod writing;
 
 pub use decoding::decode;
 pub use encoding::encode;
 pub use fault::JournalFault;
 pub use read_fault::ReadFault;
+pub use reading::JournalReader;
 pub use writing::{JournalWriter, WriteFault};
 pub use laws::{entry_read_back, entry_written_back, file_read_back, file_written_back};
