@@ -123,7 +123,7 @@ fn front_of_kind(kind: u8) -> Option<usize>
 }
 
 /// How many octets an entry announces in its front.
-#[tactic(auto, unfolding(crate::specs::Gathering::announced))]
+#[tactic(auto, unfolding(crate::specs::Gathering::announced, crate::specs::Gathering::front_octets))]
 fn announced_by(kind: u8, front: &[u8]) -> u64
     requires { IfSome (front_octets kind) (λ n. n ≤ length front.now) }
     ensures { result ≡ announced kind front.now }
