@@ -7,3 +7,5 @@ pub mod HistoryLaws
 pub mod FileLaws
 pub mod ReadingSteps
 pub mod Gathered
+pub mod Extents
+pub mod Decided
