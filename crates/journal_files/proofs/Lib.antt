@@ -9,3 +9,4 @@ pub mod ReadingSteps
 pub mod Gathered
 pub mod Extents
 pub mod Decided
+pub mod Stopping

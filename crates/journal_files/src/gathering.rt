@@ -70,7 +70,7 @@ fn read_piece<R: Source>(
     }
 }
 
-ghost use Rattle.std.specs.Prelude.{List, ℕ, [], ◌∷◌, slice_index};
+ghost use Rattle.std.specs.Prelude.{List, ℕ, [], ◌∷◌, ◌^◌, slice_index};
 ghost use Rattle.event_journal.specs.declared.limits.TheConstants.{MOST_OCTETS};
 ghost use Rattle.journal_files.specs.Gathering.{front_octets, announced};
 ghost use Rattle.journal_files.specs.Streaming.{Place, IsGathered, StopsReading, next_of};
@@ -126,7 +126,9 @@ fn front_of_kind(kind: u8) -> Option<usize>
 #[tactic(auto, unfolding(crate::specs::Gathering::announced, crate::specs::Gathering::front_octets))]
 fn announced_by(kind: u8, front: &[u8]) -> u64
     requires { IfSome (front_octets kind) (λ n. n ≤ length front.now) }
-    ensures { result ≡ announced kind front.now }
+    ensures value { result ≡ announced kind front.now }
+    // Of such lengths an edit's alone has more than 32 bits.
+    ensures long { 2 ^ 32 ≤ result → kind ≡ 4 }
 {
     match kind {
         MESSAGE => be_number(&front[17..21]),
