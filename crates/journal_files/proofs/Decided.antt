@@ -1,6 +1,5 @@
 -- When octets that were gathered are those of one entry.
-use Rattle.std.proofs.Common.{◌≡◌, ◌⊎◌, inl, inr, ℕ, ◌+◌, ◌≤◌, ◌<◌, Bool, true, false, cond, eqb, List, [], ◌∷◌, ◌++◌, length, take, drop, length-drop, Option, Some, None, Result, Ok, Err, refl, sym, ap, subst, ◌∙◌, length-append, arith}
-use Rattle.std.specs.Prelude.{slice_index}
+use Rattle.std.proofs.Common.{◌≡◌, ◌⊎◌, inl, inr, ℕ, ◌+◌, ◌≤◌, ◌<◌, Bool, true, false, cond, eqb, List, [], ◌∷◌, ◌++◌, length, take, drop, length-drop, get_or, Option, Some, None, Result, Ok, Err, refl, sym, ap, subst, ◌∙◌, length-append, arith}
 use Rattle.std.specs.Io.KnownBytes.{IsAtEnd}
 use Rattle.std.proofs.lemmas.Bool.{eqb-true}
 use Rattle.std.proofs.lemmas.List.{take-append-le}
@@ -62,9 +61,9 @@ pub filled_true : (b : Bool) (n : ℕ) (octets : List ℕ) (left : Option (List 
 filled_true true n octets left e filled = filled
 filled_true false n octets left e filled = absurd cc
 
-pub single : (octets : List ℕ) (kind : ℕ) → length octets ≡ 1 → kind ≡ slice_index octets 0 → octets ≡ kind ∷ []
+pub single : (octets : List ℕ) (kind : ℕ) → length octets ≡ 1 → kind ≡ get_or octets 0 kind → octets ≡ kind ∷ []
 single [] kind one at = absurd (omega arith)
-single (x ∷ octets) kind one at = rw (empty octets (omega (arith, one)), at) refl
+single (x ∷ octets) kind one at = rw (empty octets (omega (arith, one))) (ap (λ (n : ℕ). n ∷ []) (sym at))
 
 pub no_kind : (octets : List ℕ) (kind : ℕ) (found : Option ℕ) (left : Option (List ℕ)) → octets ≡ kind ∷ [] → found ≡ front_octets kind → ((x : ℕ) → found ≡ Some x → ⊥) → IsGathered octets left
 no_kind octets kind None left e is other = subst (λ t. IsGathered t left) (sym e) (gathered_no_kind kind [] left (sym is))

@@ -1,5 +1,5 @@
 -- What was consumed of a source, one piece after another.
-use Rattle.std.proofs.Common.{◌≡◌, ℕ, ◌+◌, ◌-◌, ◌<◌, ◌≤◌, inl, inr, refl, arith, length, take, length-append, List, [], ◌++◌, Option, Some, None, Result, Ok, Err, OnErr, sym, ap, ◌∙◌, append_assoc}
+use Rattle.std.proofs.Common.{◌≡◌, ℕ, ◌+◌, ◌-◌, ◌<◌, ◌≤◌, inl, inr, refl, arith, length, take, length-append, List, [], ◌++◌, Option, Some, None, Result, Ok, Err, OnErr, sym, subst, ap, ◌∙◌, append_assoc}
 use Rattle.std.specs.Io.KnownBytes.{Consumes, Keeps, IsAtEnd}
 use Rattle.std.proofs.KnownBytes.{Consumes-trans, Consumes-nil, Consumes-kept}
 use Rattle.std.proofs.lemmas.List.{length-take-le}
@@ -54,3 +54,6 @@ skips_kept count left given now after skipping kept = record { piece = skipping.
 
 pub skipping_loses : (count left : ℕ) (given now : Option (List ℕ)) → IsSkipping count left given now → Loses given now
 skipping_loses count left given now skipping = record { piece = skipping.piece; consumed = skipping.consumed }
+
+pub from_nothing : (a b : Option (List ℕ)) (old now : List ℕ) → old ≡ [] → Gathers a b old now → Gathers a b [] now
+from_nothing a b old now none g = subst (λ t. Gathers a b t now) none g

@@ -10,3 +10,4 @@ pub mod Gathered
 pub mod Extents
 pub mod Decided
 pub mod Stopping
+pub mod TooLong

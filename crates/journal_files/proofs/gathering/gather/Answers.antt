@@ -1,9 +1,11 @@
-use Rattle.std.proofs.Common.{◌≡◌, ◌∷◌, [], ◌∙◌, sym}
+use Rattle.std.proofs.Common.{◌≡◌, ◌∷◌, [], ◌∙◌, sym, ap, arith}
 use Rattle.std.proofs.lemmas.Result.{err_from_is_err_and}
+use Rattle.journal_files.specs.Gathering.{announced}
 use Rattle.journal_files.specs.Streaming.{next_of}
-use Rattle.journal_files.proofs.Gathered.{loses_after, gathers_more}
+use Rattle.journal_files.proofs.Gathered.{loses_after, gathers_more, from_nothing}
 use Rattle.journal_files.proofs.Decided.{gathered_none, filled_false, filled_true, single, no_kind, gathered_front, gathered_body}
 use Rattle.journal_files.proofs.Stopping.{stops_by}
+use Rattle.journal_files.proofs.TooLong.{stops_long}
 use Rattle.journal_files.proofs.gathering.gather.Goals as goal
 
 pub returns-then-not-branch-clause-gathered : goal.returns-then-not-branch-clause-gathered
@@ -41,4 +43,11 @@ pub returns-clause-gathered : goal.returns-clause-gathered
 returns-clause-gathered g c =
     let one = single c.fill.new.held.items c.index-kind.result.now (filled_true c.in_ok-fill.field-0 1 c.fill.new.held.items _ c.if-not-branch.false c.in_ok-fill.ensures.filled) c.index-kind.ensures in
     gathered_body c.index-kind.result.now c.in-Some.front c.announced_by-more.result c.fill.new.held.items c.fill-2.new.held.items c.fill-3.new.held.items _ _ _ c.in_ok-fill-3.field-0 one c.in_ok-fill-2.ensures.gathers c.in_ok-fill-3.ensures.gathers
-    (sym c.in-Some.ensures.value) (filled_true c.in_ok-fill-2.field-0 c.in-Some.front c.fill-2.new.held.items _ c.if-not-branch-2.false c.in_ok-fill-2.ensures.filled) c.announced_by-more.ensures.value c.in_ok-fill-3.ensures.filled
+    (sym c.in-Some.ensures.value) (filled_true c.in_ok-fill-2.field-0 c.in-Some.front c.fill-2.new.held.items _ c.if-not-branch-2.false c.in_ok-fill-2.ensures.filled) (c.announced_by-more.ensures.value ∙ ap (announced c.index-kind.result.now) c.as_slice.ensures.value) c.in_ok-fill-3.ensures.filled
+
+pub returns-then-more-gt-MOST_OCTETS-clause-err : goal.returns-then-more-gt-MOST_OCTETS-clause-err
+returns-then-more-gt-MOST_OCTETS-clause-err g c = λ place.
+    let one = single c.fill.new.held.items c.index-kind.result.now (filled_true c.in_ok-fill.field-0 1 c.fill.new.held.items _ c.if-not-branch.false c.in_ok-fill.ensures.filled) c.index-kind.ensures in
+    stops_long place c.in_ok-skip.field-0 c.index-kind.result.now c.in-Some.front c.announced_by-more.result c.fill.new.held.items c.fill-2.new.held.items _ _ _ _ _ _ one (from_nothing _ _ _ _ c.requires c.in_ok-fill.ensures.gathers) c.in_ok-fill-2.ensures.gathers
+    (c.announced_by-more.ensures.long (omega (arith, c.if-more-gt-MOST_OCTETS.true))) (sym c.in-Some.ensures.value) (filled_true c.in_ok-fill-2.field-0 c.in-Some.front c.fill-2.new.held.items _ c.if-not-branch-2.false c.in_ok-fill-2.ensures.filled)
+    (c.announced_by-more.ensures.value ∙ ap (announced c.index-kind.result.now) c.as_slice.ensures.value) c.if-more-gt-MOST_OCTETS.true (c.in_ok-skip.ensures.stays ∙ c.in_ok-fill-2.ensures.stays ∙ c.in_ok-fill.ensures.stays) c.in_ok-skip.ensures.skips
