@@ -47,13 +47,13 @@ front_short : (n : ℕ) (octets : List ℕ) → front_of n octets ≡ Err Trunca
 unfolding front_of
 front_short n octets e = short_by n octets (ltb (length octets) n) refl e
 
-record IsNumberCut (width : ℕ) (octets : List ℕ) (n : ℕ) (rest : List ℕ) : Type 0 where
+pub record IsNumberCut (width : ℕ) (octets : List ℕ) (n : ℕ) (rest : List ℕ) : Type 0 where
   pub long : width ≤ length octets
   pub number : n ≡ be_value (take width octets)
   pub rest_is : rest ≡ drop width octets
   pub left : length octets ≡ width + length rest
 
-number_cut : (width : ℕ) (octets : List ℕ) (n : ℕ) (rest : List ℕ) → number_of width octets ≡ found n rest → IsNumberCut width octets n rest
+pub number_cut : (width : ℕ) (octets : List ℕ) (n : ℕ) (rest : List ℕ) → number_of width octets ≡ found n rest → IsNumberCut width octets n rest
 unfolding number_of
 number_cut width octets n rest e =
     let b = bind_Ok (front_of width octets) (λ front. found (be_value front.0) front.1) (n, rest) e in
@@ -67,7 +67,7 @@ number_cut width octets n rest e =
       left = omega (arith, front.long, ap (λ (t : List ℕ). length t) after, length-drop width octets);
     }
 
-number_short : (width : ℕ) (octets : List ℕ) → number_of width octets ≡ Err Truncated → length octets < width
+pub number_short : (width : ℕ) (octets : List ℕ) → number_of width octets ≡ Err Truncated → length octets < width
 unfolding number_of
 number_short width octets e =
     elim (bind_Err (front_of width octets) (λ front. found (be_value front.0) front.1) Truncated e) [

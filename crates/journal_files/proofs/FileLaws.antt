@@ -54,11 +54,11 @@ past_number_found width n fault octets rest are e =
       rest_are = subst AreOctets p.1 number.front.rest_are;
     }
 
-record IsHead (octets : List ℕ) (count : ℕ) (rest : List ℕ) : Type 0 where
+pub record IsHead (octets : List ℕ) (count : ℕ) (rest : List ℕ) : Type 0 where
   pub whole : octets ≡ head_octets count ++ rest
   pub rest_are : AreOctets rest
 
-head_found : (octets rest : List ℕ) (count : ℕ) → AreOctets octets → head_of octets ≡ found count rest → IsHead octets count rest
+pub head_found : (octets rest : List ℕ) (count : ℕ) → AreOctets octets → head_of octets ≡ found count rest → IsHead octets count rest
 unfolding head_of
 head_found octets rest count are e =
     let m = bind_Ok (past_number 4 magic BadMagic octets) (λ after_magic. past_number 2 version BadVersion after_magic >>= λ after_version. number_of 8 after_version) (count, rest) e in

@@ -11,3 +11,4 @@ pub mod Extents
 pub mod Decided
 pub mod Stopping
 pub mod TooLong
+pub mod Answering

@@ -1,7 +1,7 @@
 -- How a file is read from a source, entry by entry, and what each step consumes.
 use Rattle.std.specs.Prelude.{◌≡◌, ◌⊎◌, ℕ, zero, suc, ◌+◌, ◌-◌, ◌<◌, Bool, true, false, List, [], ◌∷◌, ◌++◌, length, Option, Some, None, Result, Ok, Err, ◌==◌, if◌then◌else◌}
 use Rattle.std.specs.Io.KnownBytes.{Consumes, IsAtEnd}
-use Rattle.sequences.specs.Results.{◌>>=◌}
+use Rattle.sequences.specs.Results.{◌>>=◌, FailsBut}
 use Rattle.event_journal.specs.declared.entry.Entry.{Entry}
 use Rattle.event_journal.specs.Sizes.{entry_octets, history_octets}
 use Rattle.journal_files.specs.declared.fault.JournalFault.{JournalFault}
@@ -9,7 +9,7 @@ use Rattle.journal_files.specs.declared.fault.JournalFault.TheVariants as fault
 use Rattle.journal_files.specs.declared.read_fault.ReadFault.{ReadFault}
 use Rattle.journal_files.specs.declared.read_fault.ReadFault.TheVariants.{Read, File}
 use Rattle.journal_files.specs.Format.{head_octets, octets_of}
-use Rattle.journal_files.specs.Reading.{Found, head_of, entry_of, is_past, entries_behind}
+use Rattle.journal_files.specs.Reading.{Found, head_of, entry_of, is_past, entries_behind, is_memory}
 
 -- a place in a file: how many entries are left, and the number and the octets of those before it
 pub record Place : Type 0 where
@@ -43,6 +43,17 @@ step_of place octets = if place.left == 0 then end_of octets else (next_of place
 pub record IsGathered (octets : List ℕ) (left : Option (List ℕ)) : Type 0 where
   pub whole : (entry : Entry) (rest : List ℕ) → entry_of octets ≡ Ok (entry, rest) → rest ≡ []
   pub cut_off : entry_of octets ≡ Err fault.Truncated → IsAtEnd left
+
+-- the octets begin with an entry that isn't past the limits
+pub record IsEntryIn (count size : ℕ) (octets : List ℕ) (entry : Entry) : Type 0 where
+  pub rest : List ℕ
+  pub read : entry_of octets ≡ Ok (entry, rest)
+  pub written : octets ≡ octets_of entry ++ rest
+  pub within : is_past count size entry ≡ false
+
+-- they don't, and this is the fault
+abbrev pub FailsIn : JournalFault → ℕ → ℕ → List ℕ → Type 0
+FailsIn why count size octets = FailsBut is_memory why (next_of (record { left = 1; count = count; octets = size }) octets)
 
 -- ---- what a step does to a source
 

@@ -87,20 +87,47 @@ impl JournalReader {
     {
         self.held.clear();
         if self.left == 0 {
-            return match fill(source, 1, &mut self.piece, &mut self.held)? {
-                true => Err(ReadFault::File(JournalFault::BadEntry)),
-                false => Ok(None),
-            };
+            if fill(source, 1, &mut self.piece, &mut self.held)? {
+                return Err(ReadFault::File(JournalFault::BadEntry));
+            }
+            return Ok(None);
         }
         gather(source, &mut self.piece, &mut self.held)?;
-        let (entry, _) = read_entry(self.alloc, self.held.as_slice())?;
-        let octets = entry.octets();
-        if self.count == MOST_ENTRIES || octets > MOST_OCTETS - self.octets {
-            return Err(ReadFault::File(JournalFault::BadEntry));
-        }
+        let entry = entry_in(self.alloc, self.count, self.octets, self.held.as_slice())?;
         self.left -= 1;
         self.count += 1;
-        self.octets += octets;
+        self.octets += entry.octets();
         Ok(Some(entry))
     }
+}
+
+ghost use Rattle.std.specs.Prelude.{◌≤◌};
+ghost use Rattle.event_journal.specs.declared.limits.TheConstants.{MOST_ENTRIES, MOST_OCTETS};
+ghost use Rattle.journal_files.specs.Reading.{is_past};
+ghost use Rattle.journal_files.specs.Streaming.{IsEntryIn, FailsIn};
+
+/// The entry that the octets are, behind so many entries of so many octets.
+///
+/// # Errors
+/// The entry is none, or past the greatest limits; or memory ran out.
+fn entry_in(alloc: Global, count: u64, octets: u64, held: &[u8]) -> Result<Entry, JournalFault>
+    requires few { count ≤ MOST_ENTRIES }
+    requires small { octets ≤ MOST_OCTETS }
+    ensures ok { IfOk result (λ entry. IsEntryIn count octets held.now entry) }
+    ensures err { IfErr result (λ fault. FailsIn fault count octets held.now) }
+{
+    let (entry, _) = read_entry(alloc, held)?;
+    if is_past(count, octets, &entry) {
+        return Err(JournalFault::BadEntry);
+    }
+    Ok(entry)
+}
+
+/// Whether the entry is past the greatest limits, behind so many entries of so many octets.
+fn is_past(count: u64, octets: u64, entry: &Entry) -> bool
+    requires few { count ≤ MOST_ENTRIES }
+    requires small { octets ≤ MOST_OCTETS }
+    ensures { result ≡ is_past count octets entry.now }
+{
+    count + 1 > MOST_ENTRIES || octets + entry.octets() > MOST_OCTETS
 }
