@@ -18,7 +18,7 @@ use Rattle.journal_files.proofs.EntryRead.{found, kind_read}
 use Rattle.journal_files.proofs.EntryWritten.{message_part, length_part, number_part, text_part, name_part, name_length_part, tested, by_kind}
 
 -- what a step that failed was given
-bind_Err : {A B : Type 0} (r : Result A JournalFault) (f : A → Result B JournalFault) (why : JournalFault) → (r >>= f) ≡ Err why → (r ≡ Err why) ⊎ ((x : A) × (r ≡ Ok x) × (f x ≡ Err why))
+pub bind_Err : {A B : Type 0} (r : Result A JournalFault) (f : A → Result B JournalFault) (why : JournalFault) → (r >>= f) ≡ Err why → (r ≡ Err why) ⊎ ((x : A) × (r ≡ Ok x) × (f x ≡ Err why))
 bind_Err (Ok x) f why e = inr (x, refl, e)
 bind_Err {A} {B} (Err k) f why e = inl (let err : JournalFault → Result A JournalFault = λ t. Err t in ap err (same_Err {A = B} k why e))
 
