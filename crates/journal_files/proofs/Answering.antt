@@ -1,16 +1,16 @@
 -- What is answered of a head, and of an entry.
-use Rattle.std.proofs.Common.{◌≡◌, ℕ, ◌+◌, ◌≤◌, ◌<◌, Bool, true, false, cond, List, [], ◌∷◌, ◌++◌, length, Option, Some, None, Result, Ok, Err, IfOk, refl, sym, ap, subst, ◌∙◌, arith}
+use Rattle.std.proofs.Common.{◌≡◌, ℕ, true, List, ◌++◌, Result, Ok, Err, IfOk, refl}
 use Rattle.std.specs.Borrow.{Bor}
 use Rattle.sequences.specs.Octets.{AreOctets}
-use Rattle.sequences.specs.Results.{◌>>=◌, FailsBut}
+use Rattle.sequences.specs.Results.{FailsBut}
 use Rattle.sequences.proofs.ResultLaws.{fails_along}
 use Rattle.event_journal.specs.declared.entry.Entry.{Entry}
 use Rattle.journal_files.specs.declared.fault.JournalFault.{JournalFault}
 use Rattle.journal_files.specs.declared.fault.JournalFault.TheVariants.{BadEntry}
 use Rattle.journal_files.specs.Format.{head_octets, octets_of}
-use Rattle.journal_files.specs.Reading.{Found, head_of, entry_of, is_past, is_memory, Gives}
+use Rattle.journal_files.specs.Reading.{head_of, entry_of, is_past, is_memory, Gives}
 use Rattle.journal_files.specs.Seen.{number_seen, entry_seen}
-use Rattle.journal_files.specs.Streaming.{FailsIn, IsEntryIn, next_of}
+use Rattle.journal_files.specs.Streaming.{FailsIn, next_of}
 use Rattle.journal_files.proofs.EntryRead.{found}
 use Rattle.journal_files.proofs.EntryWritten.{entry_written_back}
 use Rattle.journal_files.proofs.FileLaws.{head_found}

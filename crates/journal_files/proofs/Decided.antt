@@ -1,14 +1,12 @@
 -- When octets that were gathered are those of one entry.
-use Rattle.std.proofs.Common.{◌≡◌, ◌⊎◌, inl, inr, ℕ, ◌+◌, ◌≤◌, ◌<◌, Bool, true, false, cond, eqb, List, [], ◌∷◌, ◌++◌, length, take, drop, length-drop, get_or, Option, Some, None, Result, Ok, Err, refl, sym, ap, subst, ◌∙◌, length-append, arith}
+use Rattle.std.proofs.Common.{◌≡◌, ℕ, ◌+◌, ◌≤◌, ◌<◌, Bool, true, false, cond, eqb, List, [], ◌∷◌, ◌++◌, length, take, drop, length-drop, get_or, Option, Some, None, refl, sym, ap, subst, ◌∙◌, arith}
 use Rattle.std.specs.Io.KnownBytes.{IsAtEnd}
 use Rattle.std.proofs.lemmas.Bool.{eqb-true}
 use Rattle.std.proofs.lemmas.List.{take-append-le}
 use Rattle.std.proofs.Math.Seq.{drop-append-le}
 use Rattle.sequences.specs.Octets.{be_value, number_at}
 use Rattle.sequences.proofs.ResultLaws.{Err-Ok}
-use Rattle.event_journal.specs.declared.entry.Entry.{Entry}
-use Rattle.journal_files.specs.declared.fault.JournalFault.TheVariants.{Truncated}
-use Rattle.journal_files.specs.Reading.{number_of, entry_of, entry_by, front_of}
+use Rattle.journal_files.specs.Reading.{number_of, entry_of, front_of}
 use Rattle.journal_files.specs.Gathering.{front_octets, announced, IsFilled, Gathers}
 use Rattle.journal_files.specs.Streaming.{IsGathered}
 use Rattle.journal_files.proofs.EntryRead.{kind_read}

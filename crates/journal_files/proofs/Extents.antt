@@ -1,9 +1,8 @@
 -- How long an entry is, as its front tells.
-use Rattle.std.proofs.Common.{◌≡◌, ◌⊎◌, inl, inr, ℕ, zero, suc, ◌+◌, ◌≤◌, ◌<◌, Bool, true, false, cond, ltb, eqb, List, [], ◌∷◌, ◌++◌, length, take, drop, Option, Some, None, Result, Ok, Err, refl, sym, ap, subst, ◌∙◌, length-drop, arith}
+use Rattle.std.proofs.Common.{◌≡◌, ◌⊎◌, inl, inr, ℕ, ◌+◌, ◌≤◌, ◌<◌, Bool, true, false, cond, ltb, eqb, List, ◌∷◌, length, take, drop, Some, Result, Ok, Err, refl, sym, ap, subst, ◌∙◌, length-drop, arith}
 use Rattle.std.specs.Str.{is_utf8}
 use Rattle.std.proofs.lemmas.Bool.{ltb-true, ltb-false, eqb-true}
-use Rattle.std.proofs.lemmas.List.{take-append-le, drop-drop}
-use Rattle.std.proofs.Math.Seq.{drop-append-le}
+use Rattle.std.proofs.lemmas.List.{drop-drop}
 use Rattle.sequences.specs.Octets.{be_value, number_at}
 use Rattle.sequences.specs.Results.{◌>>=◌}
 use Rattle.sequences.proofs.ResultLaws.{same_Ok, same_Err, Err-Ok, bind_Ok}
@@ -12,9 +11,9 @@ use Rattle.event_journal.specs.declared.entry.Entry.{Entry}
 use Rattle.event_journal.specs.declared.entry.Entry.TheVariants.{Open, Close, Message, Edit, Subscribe, Unsubscribe, Advance, Cut}
 use Rattle.journal_files.specs.declared.fault.JournalFault.{JournalFault}
 use Rattle.journal_files.specs.declared.fault.JournalFault.TheVariants.{Truncated, BadEntry}
-use Rattle.journal_files.specs.Reading.{Found, front_of, number_of, numbered, message_of, edit_of, subscribe_of, entry_by, entry_of}
+use Rattle.journal_files.specs.Reading.{Found, front_of, number_of, numbered, message_of, edit_of, subscribe_of, entry_by}
 use Rattle.journal_files.specs.Gathering.{front_octets, announced}
-use Rattle.journal_files.proofs.EntryRead.{found, kind_read}
+use Rattle.journal_files.proofs.EntryRead.{found}
 use Rattle.journal_files.proofs.EntryWritten.{message_part, length_part, number_part, text_part, name_part, name_length_part, tested, by_kind}
 
 -- what a step that failed was given

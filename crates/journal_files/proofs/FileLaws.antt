@@ -1,5 +1,5 @@
 -- The file of a history says it, and a file that says a history is that history's file.
-use Rattle.std.proofs.Common.{◌≡◌, ℕ, zero, suc, ◌+◌, ◌≤◌, ◌<◌, ◌^◌, Bool, true, false, cond, ltb, eqb, List, [], ◌∷◌, ◌++◌, length, drop, Result, Ok, Err, refl, sym, ap, subst, ◌∙◌, append_assoc, append-nil, length-append, arith}
+use Rattle.std.proofs.Common.{◌≡◌, ℕ, zero, suc, ◌+◌, ◌≤◌, ◌<◌, ◌^◌, Bool, true, false, cond, eqb, List, [], ◌∷◌, ◌++◌, length, drop, Result, Ok, Err, refl, sym, ap, subst, ◌∙◌, append_assoc, append-nil, length-append, arith}
 use Rattle.std.specs.List.{All}
 use Rattle.std.proofs.lemmas.Bool.{le-ltb, eqb-true, eq-eqb}
 use Rattle.std.proofs.lemmas.List.{drop_at}
@@ -14,9 +14,9 @@ use Rattle.event_journal.specs.declared.limits.TheConstants.{MOST_ENTRIES, MOST_
 use Rattle.event_journal.specs.Sizes.{entry_octets, history_octets}
 use Rattle.journal_files.specs.declared.fault.JournalFault.{JournalFault}
 use Rattle.journal_files.specs.declared.fault.JournalFault.TheVariants.{BadMagic, BadVersion, BadEntry}
-use Rattle.journal_files.specs.Format.{magic, version, head_octets, octets_of, history_in_octets, file_octets}
+use Rattle.journal_files.specs.Format.{magic, version, head_octets, octets_of, history_in_octets}
 use Rattle.journal_files.specs.Reading.{number_of, past_number, head_of, entry_of, is_past, pushed_of, entries_behind, file_of}
-use Rattle.journal_files.specs.Laws.{IsWritten, IsFile, FileReadBack, FileWrittenBack}
+use Rattle.journal_files.specs.Laws.{IsWritten, FileReadBack, FileWrittenBack}
 use Rattle.journal_files.proofs.NumberLaws.{written_number}
 use Rattle.journal_files.proofs.EntryRead.{found, number_read, entry_read_back}
 use Rattle.journal_files.proofs.EntryWritten.{number_found, entry_written_back}
@@ -30,9 +30,11 @@ past_number_read width n fault a rest is = rw (number_read width n a rest is, eq
 head_read : (count : ℕ) (rest : List ℕ) → count < 2 ^ 64 → head_of (head_octets count ++ rest) ≡ found count rest
 unfolding head_of
 head_read count rest below =
-    rw (past_number_read 4 magic BadMagic (be_octets 4 magic) (be_octets 2 version ++ (be_octets 8 count ++ rest)) (written_number 4 magic (omega arith)),
-    past_number_read 2 version BadVersion (be_octets 2 version) (be_octets 8 count ++ rest) (written_number 2 version (omega arith)),
-    number_read 8 count (be_octets 8 count) rest (written_number 8 count below)) refl
+    rw (
+      past_number_read 4 magic BadMagic (be_octets 4 magic) (be_octets 2 version ++ (be_octets 8 count ++ rest)) (written_number 4 magic (omega arith)),
+      past_number_read 2 version BadVersion (be_octets 2 version) (be_octets 8 count ++ rest) (written_number 2 version (omega arith)),
+      number_read 8 count (be_octets 8 count) rest (written_number 8 count below),
+    ) refl
 
 -- what was read past a number, in its octets
 record IsPast (width n : ℕ) (octets rest : List ℕ) : Type 0 where

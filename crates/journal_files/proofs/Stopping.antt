@@ -1,5 +1,5 @@
 -- Why reading stops.
-use Rattle.std.proofs.Common.{◌≡◌, ◌⊎◌, inl, inr, ℕ, ◌+◌, ◌≤◌, ◌<◌, Bool, true, false, cond, eqb, List, [], ◌∷◌, ◌++◌, length, Option, Some, None, Result, Ok, Err, refl, sym, ap, subst, ◌∙◌, arith}
+use Rattle.std.proofs.Common.{◌≡◌, inl, inr, ℕ, zero, suc, ◌-◌, ◌+◌, ◌<◌, Bool, true, false, cond, eqb, List, [], ◌++◌, length, Option, Some, None, Result, Ok, Err, refl, sym, ap, subst, ◌∙◌, arith}
 use Rattle.std.specs.Io.KnownBytes.{Consumes, IsAtEnd}
 use Rattle.std.proofs.lemmas.Bool.{ne_eqb}
 use Rattle.sequences.specs.Results.{◌>>=◌, FailsBut}
@@ -10,9 +10,10 @@ use Rattle.journal_files.specs.declared.fault.JournalFault.TheVariants.{BadMagic
 use Rattle.journal_files.specs.declared.read_fault.ReadFault.{ReadFault}
 use Rattle.journal_files.specs.declared.read_fault.ReadFault.TheVariants.{Read, File}
 use Rattle.journal_files.specs.Format.{magic, version}
-use Rattle.journal_files.specs.Reading.{Found, number_of, past_number, head_of, entry_of, is_past, is_memory}
+use Rattle.journal_files.specs.Reading.{Found, number_of, past_number, head_of, entry_of, is_past, pushed_of, entries_behind, is_memory}
+use Rattle.event_journal.specs.Sizes.{history_octets}
 use Rattle.journal_files.specs.Gathering.{Gathers, IsFilled}
-use Rattle.journal_files.specs.Streaming.{Place, Loses, Shows, FailsIn, FailsToGather, IsGathered, StopsReading, next_of, step_of}
+use Rattle.journal_files.specs.Streaming.{Place, Loses, Shows, FailsIn, FailsToGather, IsGathered, StopsReading, StepByStep, next_of, step_of, after_step}
 use Rattle.journal_files.proofs.EntryRead.{found}
 use Rattle.journal_files.proofs.Extents.{bind_Err, number_short, number_cut}
 
@@ -31,13 +32,15 @@ step_end place octets none one = rw (none, one) refl
 
 pub shows_more : (l n s : ℕ) (place : Place) (given left : Option (List ℕ)) (old held : List ℕ) (was has : Bool) → place_of l n s ≡ place → l ≡ 0 → old ≡ [] → Gathers given left old held → length held ≡ 1 → has ≡ was → StopsReading (File BadEntry) (step_of place) given left was has
 shows_more l n s place given left old held was has view none nothing g one same =
-    let joined : held ≡ g.piece = g.joined ∙ ap (λ (t : List ℕ). t ++ g.piece) nothing in
-    (record {
-      piece = g.piece;
-      consumed = g.consumed;
-      shown = step_end place g.piece (sym (ap (λ (p : Place). p.left) view) ∙ none) (omega (arith, one, ap (λ (t : List ℕ). length t) joined));
-      end = λ e. absurd (other e);
-    }, same)
+    let joined : held ≡ g.piece = g.joined ∙ ap (λ (t : List ℕ). t ++ g.piece) nothing in (
+      record {
+        piece = g.piece;
+        consumed = g.consumed;
+        shown = step_end place g.piece (sym (ap (λ (p : Place). p.left) view) ∙ none) (omega (arith, one, ap (λ (t : List ℕ). length t) joined));
+        end = λ e. absurd (other e);
+      },
+      same,
+    )
   where
     other : BadEntry ≡ Truncated → ⊥
     other e = cc
@@ -174,3 +177,24 @@ pub head_stops : (why : JournalFault) (given left : Option (List ℕ)) (old held
 head_stops why given left old held slice whole was has is fails nothing g filled same =
     let joined : held ≡ g.piece = g.joined ∙ ap (λ (t : List ℕ). t ++ g.piece) nothing in
     stops_head why given left held whole was has (subst (λ t. FailsBut is_memory why (head_of t)) is fails) (subst (Consumes given left) (sym joined) g.consumed) filled same
+
+-- ---- step by step
+
+after_found : (h : List Entry) (left : ℕ) (entry : Entry) (rest : List ℕ) (past : Bool) → is_past (length h) (history_octets h) entry ≡ past
+    → (pushed_of h entry >>= λ more. entries_behind more left rest) ≡ after_step h (suc left) (cond past (Err BadEntry) (found entry rest) >>= λ one. Ok (Some one))
+after_found h left entry rest true is = rw is refl
+after_found h left entry rest false is = let less : suc left - 1 ≡ left = omega arith in rw (is, less) refl
+
+after_entry : (h : List Entry) (left : ℕ) (r : Found Entry) → (r >>= λ one. pushed_of h one.0 >>= λ more. entries_behind more left one.1)
+    ≡ after_step h (suc left) ((r >>= λ one. cond (is_past (length h) (history_octets h) one.0) (Err BadEntry) (Ok one)) >>= λ one. Ok (Some one))
+after_entry h left (Ok one) = after_found h left one.0 one.1 (is_past (length h) (history_octets h) one.0) refl
+after_entry h left (Err why) = refl
+
+after_end : (h : List Entry) (octets : List ℕ) (end : Bool) → cond end (Ok h) (Err BadEntry) ≡ after_step h 0 (cond end (Ok None) (Err BadEntry))
+after_end h octets true = refl
+after_end h octets false = refl
+
+pub step_by_step : StepByStep
+unfolding entries_behind step_of next_of
+step_by_step h zero octets = after_end h octets (eqb (length octets) 0)
+step_by_step h (suc left) octets = rw (ne_eqb (suc left) 0 (λ e. omega arith)) (after_entry h left (entry_of octets))

@@ -1,5 +1,5 @@
 -- An edit whose text is longer than a journal may be.
-use Rattle.std.proofs.Common.{◌≡◌, ◌⊎◌, inl, inr, ℕ, ◌+◌, ◌≤◌, ◌<◌, Bool, true, false, cond, ltb, List, [], ◌∷◌, ◌++◌, length, take, Option, Some, None, Result, Ok, Err, refl, sym, ap, subst, ◌∙◌, append_assoc, append-nil, arith}
+use Rattle.std.proofs.Common.{◌≡◌, ◌⊎◌, inl, inr, ℕ, ◌+◌, ◌<◌, Bool, true, false, cond, ltb, List, [], ◌∷◌, ◌++◌, length, Option, Some, Err, refl, sym, ap, subst, ◌∙◌, append-nil, arith}
 use Rattle.std.specs.Prelude.{◌||◌}
 use Rattle.std.specs.Str.{is_utf8}
 use Rattle.std.specs.Io.KnownBytes.{Consumes, IsAtEnd}
@@ -13,9 +13,9 @@ use Rattle.event_journal.specs.declared.limits.TheConstants.{MOST_ENTRIES, MOST_
 use Rattle.journal_files.specs.declared.fault.JournalFault.{JournalFault}
 use Rattle.journal_files.specs.declared.fault.JournalFault.TheVariants.{Truncated, BadEntry}
 use Rattle.journal_files.specs.declared.read_fault.ReadFault.TheVariants.{File}
-use Rattle.journal_files.specs.Reading.{Found, front_of, edit_of, entry_by, entry_of, is_past}
+use Rattle.journal_files.specs.Reading.{front_of, edit_of, entry_by, entry_of, is_past}
 use Rattle.journal_files.specs.Gathering.{Gathers, Skips, front_octets, announced}
-use Rattle.journal_files.specs.Streaming.{Place, Shows, StopsReading, next_of}
+use Rattle.journal_files.specs.Streaming.{Place, StopsReading, next_of}
 use Rattle.journal_files.proofs.EntryRead.{found, kind_read, front_read, number_read}
 use Rattle.journal_files.proofs.EntryWritten.{text_part}
 
@@ -61,16 +61,18 @@ stops_edit place why more digits given now left was has consumed wide is long sa
   where
     piece : List ℕ
     piece = 4 ∷ (digits ++ skips.piece)
+
     all : Consumes given left piece
     all = Consumes-trans given now left (4 ∷ digits) skips.piece consumed skips.consumed
+
     by_fault : ((why ≡ BadEntry) × (length skips.piece ≡ more)) ⊎ ((why ≡ Truncated) × (length skips.piece < more) × IsAtEnd left) → StopsReading (File why) (next_of place) given left was has
     by_fault (inl p) = subst (λ k. StopsReading (File k) (next_of place) given left was has) (sym p.0)
-      (record { piece = piece; consumed = all; shown = too_long place digits skips.piece wide (p.1 ∙ is) (omega (arith, long, p.1)); end = λ e. absurd (other e) }, same)
+        (record { piece = piece; consumed = all; shown = too_long place digits skips.piece wide (p.1 ∙ is) (omega (arith, long, p.1)); end = λ e. absurd (other e) }, same)
       where
         other : BadEntry ≡ Truncated → ⊥
         other e = cc
     by_fault (inr p) = subst (λ k. StopsReading (File k) (next_of place) given left was has) (sym p.0)
-      (record { piece = piece; consumed = all; shown = too_short place digits skips.piece wide (omega (arith, is, p.1)); end = λ e. p.2 }, same)
+        (record { piece = piece; consumed = all; shown = too_short place digits skips.piece wide (omega (arith, is, p.1)); end = λ e. p.2 }, same)
 
 pub stops_long : (place : Place) (why : JournalFault) (kind n more : ℕ) (one two : List ℕ) (given first now left : Option (List ℕ)) (was has : Bool) → one ≡ kind ∷ [] → Gathers given first [] one → Gathers first now one two → kind ≡ 4 → front_octets kind ≡ Some n → length two ≡ n → more ≡ announced kind two → MOST_OCTETS < more → has ≡ was → Skips why more now left → StopsReading (File why) (next_of place) given left was has
 unfolding front_octets announced

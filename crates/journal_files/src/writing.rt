@@ -108,8 +108,6 @@ fn send<S: Sink>(octets: &[u8], sink: &mut S) -> Result<(), WriteFault>
 {
     match write_all(sink, octets) {
         Ok(()) => Ok(()),
-        Err(stopped) => Err(WriteFault::Write {
-            sent: stopped.sent,
-        }),
+        Err(stopped) => Err(WriteFault::Write { sent: stopped.sent }),
     }
 }

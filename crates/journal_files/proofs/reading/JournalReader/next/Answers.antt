@@ -1,4 +1,3 @@
-use Rattle.std.proofs.Common.{length}
 use Rattle.std.proofs.lemmas.Result.{err_from_is_err_and}
 use Rattle.journal_files.proofs.Decided.{filled_true}
 use Rattle.journal_files.proofs.Stopping.{shows_more, stops_step, entry_stops}
