@@ -12,3 +12,4 @@ pub mod Decided
 pub mod Stopping
 pub mod TooLong
 pub mod Answering
+pub mod Stays

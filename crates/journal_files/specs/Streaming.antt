@@ -9,7 +9,7 @@ use Rattle.journal_files.specs.declared.fault.JournalFault.TheVariants as fault
 use Rattle.journal_files.specs.declared.read_fault.ReadFault.{ReadFault}
 use Rattle.journal_files.specs.declared.read_fault.ReadFault.TheVariants.{Read, File}
 use Rattle.journal_files.specs.Format.{octets_of}
-use Rattle.journal_files.specs.Reading.{Found, entry_of, is_past, entries_behind, is_memory}
+use Rattle.journal_files.specs.Reading.{Found, head_of, entry_of, is_past, entries_behind, is_memory}
 
 -- a place in a file: how many entries are left, and the number and the octets of those before it
 pub record Place : Type 0 where
@@ -96,7 +96,7 @@ StopsReading {A} (File fault.BadVersion) read given left was_failed has_failed =
 StopsReading {A} (File fault.Truncated) read given left was_failed has_failed = Shows fault.Truncated A read given left × (has_failed ≡ was_failed)
 StopsReading {A} (File fault.BadEntry) read given left was_failed has_failed = Shows fault.BadEntry A read given left × (has_failed ≡ was_failed)
 
--- ---- the law
+-- ---- laws
 
 -- what follows a step
 abbrev pub after_step : List Entry → ℕ → Result (Option (Entry × List ℕ)) JournalFault → Result (List Entry) JournalFault
@@ -107,3 +107,11 @@ after_step h left (Err why) = Err why
 -- the entries of a file are read by one step after another
 abbrev pub StepByStep : Type 0
 StepByStep = (h : List Entry) (left : ℕ) (octets : List ℕ) → entries_behind h left octets ≡ after_step h left (step_of (place_behind h left) octets)
+
+-- a fault that shows in a step is the same whatever follows, but that a file is cut off
+abbrev pub FaultStays : Type 0
+FaultStays = (place : Place) (octets more : List ℕ) (why : JournalFault) → (why ≡ fault.Truncated → ⊥) → step_of place octets ≡ Err why → step_of place (octets ++ more) ≡ Err why
+
+-- and so is one that shows in the head
+abbrev pub HeadStays : Type 0
+HeadStays = (octets more : List ℕ) (why : JournalFault) → (why ≡ fault.Truncated → ⊥) → head_of octets ≡ Err why → head_of (octets ++ more) ≡ Err why

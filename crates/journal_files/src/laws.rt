@@ -3,7 +3,7 @@ ghost use Rattle.std.specs.Prelude.{◌≡◌, ◌∷◌, ◌++◌, [], List};
 ghost use Rattle.event_journal.specs.declared.entry.Entry.{Entry};
 ghost use Rattle.journal_files.specs.Format.{octets_of, history_in_octets};
 ghost use Rattle.journal_files.specs.Laws.{EntryReadBack, EntryWrittenBack, FileReadBack, FileWrittenBack};
-ghost use Rattle.journal_files.specs.Streaming.{StepByStep};
+ghost use Rattle.journal_files.specs.Streaming.{StepByStep, FaultStays, HeadStays};
 
 /// An entry that is written is read as itself, whatever follows.
 pub fn entry_read_back()
@@ -35,4 +35,11 @@ pub fn file_grows()
 /// there.
 pub fn step_by_step()
     ensures { StepByStep }
+{}
+
+/// A fault that octets show is that of each file that begins with them, but that a file is cut off: so the fault at which
+/// a reader stops is the file's first.
+pub fn fault_stays()
+    ensures head { HeadStays }
+    ensures step { FaultStays }
 {}

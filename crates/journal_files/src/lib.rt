@@ -15,7 +15,8 @@
 //! octets (`written`), and at a fault says which front of them. A [`JournalReader`] hands out an entry exactly by its own
 //! octets and consumes none past them (`ok`); a fault is the one that the octets consumed show, and a file is cut off only
 //! where the source is at its end (`err`). Both keep room for the octets of one entry. Laws: `entry_read_back`,
-//! `entry_written_back`, `file_read_back`, `file_written_back`, `file_grows`, `step_by_step`.
+//! `entry_written_back`, `file_read_back`, `file_written_back`, `file_grows`, `step_by_step`,
+//! `fault_stays`.
 #![tactic(auto)]
 
 mod decoding;
@@ -33,8 +34,8 @@ pub use decoding::decode;
 pub use encoding::encode;
 pub use fault::JournalFault;
 pub use laws::{
-    entry_read_back, entry_written_back, file_grows, file_read_back, file_written_back,
-    step_by_step,
+    entry_read_back, entry_written_back, fault_stays, file_grows, file_read_back,
+    file_written_back, step_by_step,
 };
 pub use read_fault::ReadFault;
 pub use reading::JournalReader;
