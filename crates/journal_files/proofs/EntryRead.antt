@@ -1,5 +1,5 @@
 -- An entry that is written is read as itself, whatever follows.
-use Rattle.std.proofs.Common.{◌≡◌, ℕ, ◌+◌, ◌<◌, ◌^◌, false, true, ltb, List, [], ◌∷◌, ◌++◌, length, Ok, refl, sym, ap, ◌∙◌, append_assoc, length-append, arith}
+use Rattle.std.proofs.Common.{◌≡◌, ℕ, false, true, ltb, List, [], ◌∷◌, ◌++◌, length, Ok, refl, ap, ◌∙◌, append_assoc, length-append, arith}
 use Rattle.std.specs.Str.{is_utf8}
 use Rattle.std.proofs.lemmas.Bool.{le-ltb}
 use Rattle.std.proofs.lemmas.List.{take_at, drop_at}
@@ -28,7 +28,7 @@ number_read width n a rest is = rw (front_read width a rest is.wide, is.value) r
 one_octet : (n : ℕ) → IsNumber 1 (n ∷ []) n
 one_octet n = record { wide = refl; value = omega arith }
 
-kind_read : (kind : ℕ) (rest : List ℕ) → entry_of (kind ∷ rest) ≡ entry_by kind rest
+pub kind_read : (kind : ℕ) (rest : List ℕ) → entry_of (kind ∷ rest) ≡ entry_by kind rest
 unfolding entry_of
 kind_read kind rest = rw (number_read 1 kind (kind ∷ []) rest (one_octet kind)) refl
 

@@ -1,5 +1,5 @@
 -- The file of a history says it, and a file that says a history is that history's file.
-use Rattle.std.proofs.Common.{◌≡◌, ℕ, zero, suc, ◌+◌, ◌≤◌, ◌<◌, ◌^◌, Bool, true, false, cond, ltb, eqb, List, [], ◌∷◌, ◌++◌, length, drop, Result, Ok, Err, refl, sym, ap, subst, ◌∙◌, append_assoc, append-nil, length-append, arith}
+use Rattle.std.proofs.Common.{◌≡◌, ℕ, zero, suc, ◌+◌, ◌≤◌, ◌<◌, ◌^◌, Bool, true, false, cond, eqb, List, [], ◌∷◌, ◌++◌, length, drop, Result, Ok, Err, refl, sym, ap, subst, ◌∙◌, append_assoc, append-nil, length-append, arith}
 use Rattle.std.specs.List.{All}
 use Rattle.std.proofs.lemmas.Bool.{le-ltb, eqb-true, eq-eqb}
 use Rattle.std.proofs.lemmas.List.{drop_at}
@@ -14,9 +14,9 @@ use Rattle.event_journal.specs.declared.limits.TheConstants.{MOST_ENTRIES, MOST_
 use Rattle.event_journal.specs.Sizes.{entry_octets, history_octets}
 use Rattle.journal_files.specs.declared.fault.JournalFault.{JournalFault}
 use Rattle.journal_files.specs.declared.fault.JournalFault.TheVariants.{BadMagic, BadVersion, BadEntry}
-use Rattle.journal_files.specs.Format.{magic, version, head_octets, octets_of, history_in_octets, file_octets}
+use Rattle.journal_files.specs.Format.{magic, version, head_octets, octets_of, history_in_octets}
 use Rattle.journal_files.specs.Reading.{number_of, past_number, head_of, entry_of, is_past, pushed_of, entries_behind, file_of}
-use Rattle.journal_files.specs.Laws.{IsWritten, IsFile, FileReadBack, FileWrittenBack}
+use Rattle.journal_files.specs.Laws.{IsWritten, FileReadBack, FileWrittenBack}
 use Rattle.journal_files.proofs.NumberLaws.{written_number}
 use Rattle.journal_files.proofs.EntryRead.{found, number_read, entry_read_back}
 use Rattle.journal_files.proofs.EntryWritten.{number_found, entry_written_back}
@@ -56,11 +56,11 @@ past_number_found width n fault octets rest are e =
       rest_are = subst AreOctets p.1 number.front.rest_are;
     }
 
-record IsHead (octets : List ℕ) (count : ℕ) (rest : List ℕ) : Type 0 where
+pub record IsHead (octets : List ℕ) (count : ℕ) (rest : List ℕ) : Type 0 where
   pub whole : octets ≡ head_octets count ++ rest
   pub rest_are : AreOctets rest
 
-head_found : (octets rest : List ℕ) (count : ℕ) → AreOctets octets → head_of octets ≡ found count rest → IsHead octets count rest
+pub head_found : (octets rest : List ℕ) (count : ℕ) → AreOctets octets → head_of octets ≡ found count rest → IsHead octets count rest
 unfolding head_of
 head_found octets rest count are e =
     let m = bind_Ok (past_number 4 magic BadMagic octets) (λ after_magic. past_number 2 version BadVersion after_magic >>= λ after_version. number_of 8 after_version) (count, rest) e in

@@ -6,3 +6,10 @@ pub mod EntryWritten
 pub mod HistoryLaws
 pub mod FileLaws
 pub mod ReadingSteps
+pub mod Gathered
+pub mod Extents
+pub mod Decided
+pub mod Stopping
+pub mod TooLong
+pub mod Answering
+pub mod Stays

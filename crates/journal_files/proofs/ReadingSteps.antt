@@ -1,5 +1,5 @@
 -- How the entries of a file are read, one after another.
-use Rattle.std.proofs.Common.{◌≡◌, ℕ, zero, suc, ◌+◌, ◌-◌, ◌<◌, Bool, true, false, eqb, List, length, Result, Ok, Err, IfOk, refl, sym, ap, subst, ◌∙◌, arith}
+use Rattle.std.proofs.Common.{◌≡◌, ℕ, zero, suc, ◌-◌, ◌<◌, true, false, eqb, List, length, Result, Ok, Err, IfOk, refl, sym, ap, subst, ◌∙◌, arith}
 use Rattle.sequences.specs.Octets.{AreOctets}
 use Rattle.sequences.specs.Results.{FailsBut}
 use Rattle.sequences.proofs.ResultLaws.{fails_along}

@@ -1,6 +1,6 @@
 -- What the octets of a file say, or their first fault, judged from the front, which is this project's own rule. A number, and what a
 -- length announces, is judged when it is whole: a file that ends before is cut off. An entry is judged when it is whole.
-use Rattle.std.specs.Prelude.{◌≡◌, ℕ, zero, suc, ◌+◌, Bool, true, false, List, [], ◌∷◌, ◌++◌, length, take, drop, Result, Ok, Err, nat_lt, ◌==◌, ◌||◌, if◌then◌else◌}
+use Rattle.std.specs.Prelude.{ℕ, zero, suc, ◌+◌, Bool, true, false, List, [], ◌∷◌, ◌++◌, length, take, drop, Result, Ok, Err, nat_lt, ◌==◌, ◌||◌, if◌then◌else◌}
 use Rattle.std.specs.Str.{is_utf8}
 use Rattle.sequences.specs.Octets.{be_value}
 use Rattle.sequences.specs.Results.{◌>>=◌, GivesBut}

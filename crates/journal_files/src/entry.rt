@@ -1,10 +1,10 @@
 //! Reading the entry at the front of octets.
-ghost use Rattle.std.specs.Prelude.{◌≡◌, ◌≤◌, ◌<◌, ◌^◌, length, true, false, IfOk, MatchResult};
+ghost use Rattle.std.specs.Prelude.{◌≡◌, ◌++◌, ◌≤◌, ◌<◌, ◌^◌, length, true, false, IfOk, MatchResult};
 ghost use Rattle.std.specs.Str.{is_utf8};
 ghost use Rattle.policy_text.specs.Naming.{is_name};
 ghost use Rattle.event_journal.specs.Spelled.{IsSpelled};
 ghost use Rattle.journal_files.specs.Reading.{Gives, front_of, number_of, past_number, head_of, numbered, message_of, edit_of, subscribe_of, entry_by, entry_of};
-ghost use Rattle.journal_files.specs.Format.{magic, version};
+ghost use Rattle.journal_files.specs.Format.{magic, version, head_octets, octets_of};
 ghost use Rattle.journal_files.specs.Seen.{entry_seen, number_seen, octets_seen};
 ghost use Rattle.journal_files.specs.declared.fault.JournalFault.TheVariants.{BadMagic, BadVersion, BadEntry};
 
@@ -47,8 +47,15 @@ fn number(width: u64, octets: &[u8]) -> Result<(u64, &[u8]), JournalFault>
 ///
 /// # Errors
 /// The file is cut off in its head, or has another magic number or version.
-#[tactic(auto, unfolding(crate::specs::Reading::head_of, crate::specs::Reading::past_number))]
 pub(crate) fn read_head(octets: &[u8]) -> Result<(u64, &[u8]), JournalFault>
+    ensures read { Gives number_seen result (head_of octets.now) }
+    ensures written { IfOk result (λ f. octets.now ≡ head_octets f.0 ++ f.1.now) }
+{
+    first_head(octets)
+}
+
+#[tactic(auto, unfolding(crate::specs::Reading::head_of, crate::specs::Reading::past_number))]
+fn first_head(octets: &[u8]) -> Result<(u64, &[u8]), JournalFault>
     ensures { Gives number_seen result (head_of octets.now) }
 {
     let (found, rest) = number(4, octets)?;
@@ -66,8 +73,16 @@ pub(crate) fn read_head(octets: &[u8]) -> Result<(u64, &[u8]), JournalFault>
 ///
 /// # Errors
 /// The entry is cut off, or is none; or memory ran out.
-#[tactic(auto, unfolding(crate::specs::Reading::entry_of))]
 pub(crate) fn read_entry(alloc: Global, octets: &[u8]) -> Result<(Entry, &[u8]), JournalFault>
+    ensures read { Gives entry_seen result (entry_of octets.now) }
+    ensures spelled { IfOk result (λ f. IsSpelled f.0) }
+    ensures written { IfOk result (λ f. octets.now ≡ octets_of f.0 ++ f.1.now) }
+{
+    first_entry(alloc, octets)
+}
+
+#[tactic(auto, unfolding(crate::specs::Reading::entry_of))]
+fn first_entry(alloc: Global, octets: &[u8]) -> Result<(Entry, &[u8]), JournalFault>
     ensures read { Gives entry_seen result (entry_of octets.now) }
     ensures spelled { IfOk result (λ f. IsSpelled f.0) }
 {

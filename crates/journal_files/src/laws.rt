@@ -1,5 +1,9 @@
 //! Laws: what is written and what is read are one format.
+ghost use Rattle.std.specs.Prelude.{◌≡◌, ◌∷◌, ◌++◌, [], List};
+ghost use Rattle.event_journal.specs.declared.entry.Entry.{Entry};
+ghost use Rattle.journal_files.specs.Format.{octets_of, history_in_octets};
 ghost use Rattle.journal_files.specs.Laws.{EntryReadBack, EntryWrittenBack, FileReadBack, FileWrittenBack};
+ghost use Rattle.journal_files.specs.Streaming.{StepByStep, FaultStays, HeadStays};
 
 /// An entry that is written is read as itself, whatever follows.
 pub fn entry_read_back()
@@ -19,4 +23,23 @@ pub fn file_read_back()
 /// A file that says a history is that history's file, so no two files say one.
 pub fn file_written_back()
     ensures { FileWrittenBack }
+{}
+
+/// The octets of a history with one entry more are those of the history, and then those of the entry: so what was written
+/// entry by entry is the file.
+pub fn file_grows()
+    ensures { (h : List Entry) (entry : Entry) → history_in_octets (h ++ entry ∷ []) ≡ history_in_octets h ++ octets_of entry }
+{}
+
+/// A file is read by one step after another, each with the entry, the end or the fault that reading the whole file finds
+/// there.
+pub fn step_by_step()
+    ensures { StepByStep }
+{}
+
+/// A fault that octets show is that of each file that begins with them, but that a file is cut off: so the fault at which
+/// a reader stops is the file's first.
+pub fn fault_stays()
+    ensures head { HeadStays }
+    ensures step { FaultStays }
 {}

@@ -1,19 +1,22 @@
-//! Journal files: the octets by which a journal is kept, written and read both ways exactly. The format is this project's
-//! own; no RFC speaks of it.
+//! Journal files: the octets by which a journal is kept, written and read both ways exactly, in memory or an entry at a
+//! time. The format is this project's own; no RFC speaks of it.
 //!
 //! - `encoding`: [`encode`], the file of a journal, in memory.
-//! - `writing`: [`JournalWriter`], which writes a file to a sink, entry by entry, and [`WriteFault`].
 //! - `decoding`: [`decode`], the journal that a file says, or the file's first fault.
-//! - `fault`: [`JournalFault`], why octets are no journal file.
-//! - `laws`: [`file_read_back`], [`file_written_back`], [`entry_read_back`] and [`entry_written_back`], proved over the
-//!   definitions.
-//! - `entry`: the entry at the front of octets; `format`: the numbers of the format.
+//! - `writing`: [`JournalWriter`] writes a file to a sink, and [`WriteFault`] says how far it came.
+//! - `reading`: [`JournalReader`] reads a file from a source.
+//! - `fault`: [`JournalFault`], why octets are no journal file; `read_fault`: [`ReadFault`], also why none were read.
+//! - `laws`: what is written is read back, what is read is written back, and a file is read step by step.
+//! - `entry`, `gathering`, `format`: the entry at the front of octets, its octets out of a source, the format's numbers.
 //!
-//! Proved: `encode` gives the file of the journal's entries. `decode` gives the journal that the file says, with the greatest
-//! limits (`limits`), or the file's first fault from the front (`exact`); what it reads is written by the same octets (`same`), and
-//! it reads the file of each history within these limits (`only`). A writer puts behind what a sink holds the octets of the head
-//! and of each entry (`written`), and where it stops, says how many of these the sink took (`err`). Laws: what is written is read
-//! back, and what is read is written back, so that each history has one file.
+//! Proved: `encode` gives the octets of the journal's file. `decode` answers what the reading definition computes, with
+//! the file's first fault (`exact`); the octets that it accepts are those by which the journal is written (`same`), and
+//! the file of each history within the greatest limits is accepted (`only`). A [`JournalWriter`] writes exactly these
+//! octets (`written`), and at a fault says which front of them. A [`JournalReader`] hands out an entry exactly by its own
+//! octets and consumes none past them (`ok`); a fault is the one that the octets consumed show, and a file is cut off only
+//! where the source is at its end (`err`). Both keep room for the octets of one entry. Laws: `entry_read_back`,
+//! `entry_written_back`, `file_read_back`, `file_written_back`, `file_grows`, `step_by_step`,
+//! `fault_stays`.
 #![tactic(auto)]
 
 mod decoding;
@@ -21,11 +24,19 @@ mod encoding;
 mod entry;
 mod fault;
 mod format;
+mod gathering;
 mod laws;
+mod read_fault;
+mod reading;
 mod writing;
 
 pub use decoding::decode;
 pub use encoding::encode;
 pub use fault::JournalFault;
-pub use laws::{entry_read_back, entry_written_back, file_read_back, file_written_back};
+pub use laws::{
+    entry_read_back, entry_written_back, fault_stays, file_grows, file_read_back,
+    file_written_back, step_by_step,
+};
+pub use read_fault::ReadFault;
+pub use reading::JournalReader;
 pub use writing::{JournalWriter, WriteFault};

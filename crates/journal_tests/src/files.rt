@@ -5,8 +5,8 @@ ghost use Rattle.event_journal.specs.Spelled.{IsSpelled};
 
 use bytes::Bytes;
 use event_journal::{Entry, PolicyText};
-use faulty_devices::Narrow;
-use journal_files::{JournalFault, JournalWriter, WriteFault, decode};
+use faulty_devices::{Narrow, Schedule, Sparing};
+use journal_files::{JournalFault, JournalReader, JournalWriter, ReadFault, WriteFault, decode};
 use octet_devices::Device;
 use policy_text::Name;
 use std::alloc::{AllocError, Global};
@@ -178,5 +178,47 @@ fn a_device_that_fails_says_how_much_it_took(rt: HostRuntime) -> Result<(), Fail
     assert!(rt; write_all(rt.alloc(), &mut device) == Err(WriteFault::Write { sent: 7 }));
     let file = file(rt.alloc())?;
     assert!(rt; Some(device.into_inner().octets.as_slice()) == file.as_slice().get(..21));
+    Ok(())
+}
+
+/// A device that gives at most seven octets a call, and fails after so many calls.
+fn source(octets: &[u8], calls: usize) -> Device<Sparing<'_>> {
+    Device::new(Sparing {
+        rest: octets,
+        schedule: Schedule {
+            most: 7,
+            until_failure: calls,
+            failure: Interrupted,
+        },
+    })
+}
+
+#[test]
+fn a_file_is_read_entry_by_entry(rt: HostRuntime) -> Result<(), Fail> {
+    let file = file(rt.alloc())?;
+    let mut source = source(file.as_slice(), 1000);
+    let Ok(mut reader) = JournalReader::start(rt.alloc(), &mut source) else {
+        return Err(Fail::new("start"));
+    };
+    assert_eq!(rt; reader.left(), 4);
+    assert!(rt; reader.next(&mut source) == Ok(Some(edit(rt.alloc())?)));
+    assert!(rt; reader.next(&mut source) == Ok(Some(subscribe(rt.alloc())?)));
+    assert!(rt; reader.next(&mut source) == Ok(Some(Entry::Open { session: 1 })));
+    assert!(rt; reader.next(&mut source) == Ok(Some(message(rt.alloc())?)));
+    assert!(rt; reader.next(&mut source) == Ok(None));
+    Ok(())
+}
+
+#[test]
+fn a_source_that_fails_or_ends_is_told(rt: HostRuntime) -> Result<(), Fail> {
+    let file = file(rt.alloc())?;
+    let front = file.as_slice().get(..20).ok_or("front")?;
+    let mut ended = source(front, 1000);
+    let Ok(mut reader) = JournalReader::start(rt.alloc(), &mut ended) else {
+        return Err(Fail::new("start"));
+    };
+    assert!(rt; reader.next(&mut ended) == Err(ReadFault::File(JournalFault::Truncated)));
+    let mut failing = source(front, 0);
+    assert!(rt; JournalReader::start(rt.alloc(), &mut failing).err() == Some(ReadFault::Read));
     Ok(())
 }

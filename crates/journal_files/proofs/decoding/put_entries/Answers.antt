@@ -1,4 +1,4 @@
-use Rattle.std.proofs.Common.{arith, ◌≡◌, ◌∙◌, sym}
+use Rattle.std.proofs.Common.{arith, ◌∙◌, sym}
 use Rattle.std.proofs.lemmas.Result.{err_from_is_err_and}
 use Rattle.journal_files.proofs.ReadingSteps.{entry_more, entry_fails, push_fails, all_read, more_left}
 use Rattle.journal_files.proofs.decoding.put_entries.Goals as goal

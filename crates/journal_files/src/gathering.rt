@@ -1,0 +1,167 @@
+//! Gathering octets from a source.
+ghost use Rattle.std.specs.Prelude.{◌≡◌, ◌+◌, ◌<◌, ◌≤◌, true, length, vec_len, OnOk, OnErr, IfOk, IfErr, IfSome};
+ghost use Rattle.std.specs.Io.KnownBytes.{IsAtEnd};
+ghost use Rattle.journal_files.specs.Gathering.{Gathers, IsFilled, Skips};
+ghost use Rattle.journal_files.specs.Streaming.{FailsToGather, Loses};
+
+use crate::fault::JournalFault;
+use crate::format::{EDIT, MESSAGE, SUBSCRIBE};
+use crate::read_fault::ReadFault;
+use event_journal::MOST_OCTETS;
+use ipfix_octets::be_number;
+use octet_devices::{Failed, Source};
+
+/// The most octets of one read.
+const PIECE: usize = 65_536;
+
+/// Puts octets from a source behind those that are held, until so many are held, and says whether there are. It reads no
+/// octet past them.
+///
+/// # Errors
+/// The source failed, or memory ran out.
+pub(crate) fn fill<R: Source>(
+    source: &mut R,
+    wanted: usize,
+    piece: &mut Vec<u8>,
+    held: &mut Vec<u8>,
+) -> Result<bool, ReadFault>
+    requires { vec_len held.old ≤ wanted }
+    ensures gathers { OnOk result (Gathers (R.remaining source.old) (R.remaining source.new) held.old.items held.new.items) }
+    ensures filled { IfOk result (λ whole. IsFilled whole wanted held.new.items (R.remaining source.new)) }
+    ensures stays { OnOk result (R.has_failed source.new ≡ R.has_failed source.old) }
+    ensures loses { OnErr result (Loses (R.remaining source.old) (R.remaining source.new)) }
+    ensures err { IfErr result (λ e. FailsToGather e (R.has_failed source.old) (R.has_failed source.new)) }
+{
+    'reads: while held.len() < wanted {
+        let room = (wanted - held.len()).min(PIECE);
+        let count = read_piece(source, room, piece, held)?;
+        if count == 0 {
+            return Ok(false);
+        }
+    }
+    Ok(true)
+}
+
+/// Reads once, and puts at most so many octets behind those that are held; none only at the end.
+///
+/// # Errors
+/// The source failed, or memory ran out.
+fn read_piece<R: Source>(
+    source: &mut R,
+    room: usize,
+    piece: &mut Vec<u8>,
+    held: &mut Vec<u8>,
+) -> Result<usize, ReadFault>
+    requires some { 0 < room }
+    ensures gathers { OnOk result (Gathers (R.remaining source.old) (R.remaining source.new) held.old.items held.new.items) }
+    ensures count { IfOk result (λ n. (vec_len held.new ≡ vec_len held.old + n) × (n ≤ room)) }
+    ensures end { IfOk result (λ n. n ≡ 0 → IsAtEnd (R.remaining source.new)) }
+    ensures stays { OnOk result (R.has_failed source.new ≡ R.has_failed source.old) }
+    ensures loses { OnErr result (Loses (R.remaining source.old) (R.remaining source.new)) }
+    ensures err { IfErr result (λ e. FailsToGather e (R.has_failed source.old) (R.has_failed source.new)) }
+{
+    piece.resize(room, 0)?;
+    match source.read(piece.as_mut_slice()) {
+        Ok(count) => {
+            held.extend_from_slice(&piece.as_slice()[..count])?;
+            Ok(count)
+        }
+        Err(Failed) => Err(ReadFault::Read),
+    }
+}
+
+ghost use Rattle.std.specs.Prelude.{List, ℕ, [], ◌∷◌, ◌^◌, slice_index};
+ghost use Rattle.event_journal.specs.declared.limits.TheConstants.{MOST_OCTETS};
+ghost use Rattle.journal_files.specs.Gathering.{front_octets, announced};
+ghost use Rattle.journal_files.specs.Streaming.{Place, IsGathered, StopsReading, next_of};
+
+/// Gathers the octets of one entry, and none past them; or fewer where the source ends, or where they are of no entry.
+///
+/// # Errors
+/// The source failed, or memory ran out; or the entry is past the greatest limits, and its octets are not held.
+pub(crate) fn gather<R: Source>(
+    source: &mut R,
+    piece: &mut Vec<u8>,
+    held: &mut Vec<u8>,
+) -> Result<(), ReadFault>
+    requires { held.old.items ≡ [] }
+    ensures gathers { OnOk result (Gathers (R.remaining source.old) (R.remaining source.new) [] held.new.items) }
+    ensures gathered { OnOk result (IsGathered held.new.items (R.remaining source.new)) }
+    ensures stays { OnOk result (R.has_failed source.new ≡ R.has_failed source.old) }
+    ensures err { IfErr result (λ e. (place : Place) → StopsReading e (next_of place) (R.remaining source.old) (R.remaining source.new) (R.has_failed source.old) (R.has_failed source.new)) }
+{
+    if !fill(source, 1, piece, held)? {
+        return Ok(());
+    }
+    let kind = held[0];
+    let Some(front) = front_of_kind(kind) else {
+        return Ok(());
+    };
+    if !fill(source, front, piece, held)? {
+        return Ok(());
+    }
+    let more = announced_by(kind, held.as_slice());
+    if more > MOST_OCTETS {
+        return Err(ReadFault::File(skip(source, more, piece)?));
+    }
+    fill(source, front + more as usize, piece, held)?;
+    Ok(())
+}
+
+/// The octets of a kind before what it announces, if there is such a kind.
+#[tactic(auto, unfolding(crate::specs::Gathering::front_octets))]
+fn front_of_kind(kind: u8) -> Option<usize>
+    ensures value { result ≡ front_octets kind }
+    ensures few { IfSome result (λ n. (1 ≤ n) × (n ≤ 21)) }
+{
+    match kind {
+        MESSAGE => Some(21),
+        SUBSCRIBE => Some(10),
+        1..=8 => Some(9),
+        _ => None,
+    }
+}
+
+/// How many octets an entry announces in its front.
+#[tactic(auto, unfolding(crate::specs::Gathering::announced, crate::specs::Gathering::front_octets))]
+fn announced_by(kind: u8, front: &[u8]) -> u64
+    requires { IfSome (front_octets kind) (λ n. n ≤ length front.now) }
+    ensures value { result ≡ announced kind front.now }
+    // Of such lengths an edit's alone has more than 32 bits.
+    ensures long { 2 ^ 32 ≤ result → kind ≡ 4 }
+{
+    match kind {
+        MESSAGE => be_number(&front[17..21]),
+        EDIT => be_number(&front[1..9]),
+        SUBSCRIBE => be_number(&front[9..10]),
+        _ => 0,
+    }
+}
+
+/// Reads so many octets and keeps none, and says which fault an entry has that is so long: the file is cut off in it, or
+/// it is past the limits.
+///
+/// # Errors
+/// The source failed, or memory ran out.
+fn skip<R: Source>(
+    source: &mut R,
+    count: u64,
+    piece: &mut Vec<u8>,
+) -> Result<JournalFault, ReadFault>
+    ensures skips { IfOk result (λ fault. Skips fault count (R.remaining source.old) (R.remaining source.new)) }
+    ensures stays { OnOk result (R.has_failed source.new ≡ R.has_failed source.old) }
+    ensures loses { OnErr result (Loses (R.remaining source.old) (R.remaining source.new)) }
+    ensures err { IfErr result (λ e. FailsToGather e (R.has_failed source.old) (R.has_failed source.new)) }
+{
+    let mut left = count;
+    'pieces: while left > 0 {
+        let room = left.min(PIECE as u64) as usize;
+        piece.resize(room, 0)?;
+        match source.read(piece.as_mut_slice()) {
+            Ok(0) => return Ok(JournalFault::Truncated),
+            Ok(read) => left -= read as u64,
+            Err(Failed) => return Err(ReadFault::Read),
+        }
+    }
+    Ok(JournalFault::BadEntry)
+}
