@@ -1,0 +1,10 @@
+pub mod Stays
+pub mod ExporterLaws
+pub mod LegalLaws
+pub mod CutsPast
+pub mod FeedLaws
+pub mod KeyLaws
+pub mod SubscriberLaws
+pub mod StepLaws
+pub mod SumLaws
+pub mod FewRecords
