@@ -1,8 +1,9 @@
 //! A journal, which keeps its entries.
-ghost use Rattle.std.specs.Prelude.{◌≡◌, ◌≤◌, ◌<◌, ◌+◌, ◌-◌, ◌↔◌, [], ◌∷◌, ◌++◌, length, IsTrue, IsOk, OnOk, OnErr, slice_get, vec_capacity};
+ghost use Rattle.std.specs.Prelude.{◌≡◌, ◌≤◌, ◌<◌, ◌+◌, ◌-◌, ◌↔◌, [], ◌∷◌, ◌++◌, length, All, IsTrue, IsOk, OnOk, OnErr, slice_get, vec_capacity};
 ghost use Rattle.std.specs.Option.{option_copied};
 ghost use Rattle.event_journal.specs.declared.limits.TheConstants.{MOST_ENTRIES, MOST_OCTETS};
 
+use crate::edits::text_of_last;
 use crate::entry::Entry;
 use crate::tally::Tally;
 use std::alloc::{AllocError, Global};
@@ -43,6 +44,8 @@ impl Journal {
     ghost use Rattle.event_journal.specs.Room.{HasRoomAfter};
     ghost use Rattle.event_journal.specs.Counted.{AreLimits};
     ghost use Rattle.event_journal.specs.Kept.{with_entry};
+    ghost use Rattle.event_journal.specs.Spelled.{IsSpelled};
+    ghost use Rattle.event_journal.specs.LastEdit.{last_edit};
 
     /// A journal of no entry, for at most so many entries and octets. What it comes to keep is taken from `alloc`.
     pub fn new(alloc: Global, entries: u64, octets: u64) -> Journal
@@ -98,6 +101,8 @@ impl Journal {
         ensures value { result ≡ length self.now.entries }
         ensures within { result ≤ self.now.limits.entries }
         ensures limits { AreLimits self.now.limits }
+        // What is kept of every journal: callers learn it here.
+        ensures spelled { All IsSpelled self.now.entries }
     {
         self.tally.len()
     }
@@ -114,6 +119,13 @@ impl Journal {
         ensures { option_copied result ≡ slice_get self.now.entries position }
     {
         self.entries.get(position as usize)
+    }
+
+    /// The text of the last edit, or `None` where there was none. It takes no memory.
+    pub fn last_edit(&self) -> Option<&str>
+        ensures { option_copied result ≡ last_edit self.now.entries }
+    {
+        text_of_last(self.entries.as_slice())
     }
 
     /// For how many octets its entries count.

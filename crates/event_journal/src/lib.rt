@@ -3,7 +3,7 @@
 //!
 //! - `entry`: [`Entry`], one thing that was accepted.
 //! - `text`: [`PolicyText`], the text of an edit.
-//! - `journal`: [`Journal`], which keeps the entries.
+//! - `journal`: [`Journal`], which keeps the entries; `edits`: the text of the last edit among them.
 //! - `tally`: [`Tally`], which keeps their number and their octets alone, for a run that is not to grow.
 //! - `chronicle`: [`Chronicle`], the trait of both: what stands on it is proved once.
 //! - `limits`: [`MOST_ENTRIES`] and [`MOST_OCTETS`].
@@ -14,12 +14,14 @@
 //! them. `reserve` keeps all but the reserved room, fails only for want of memory, and takes none where the room is
 //! reserved already (`there`); `push_reserved` puts its entry behind the others, takes no memory and cannot fail. `len`
 //! and `octets` are those of the entries (`value`), within limits that stand in their ranges (`within`, `limits`), and
-//! `get` answers the entry at its position, or `None` past the last one. A [`Tally`] answers as a [`Journal`] of the same
+//! `get` answers the entry at its position, or `None` past the last one. `last_edit` is the text of the last edit. A journal
+//! file can spell each entry of every journal (`spelled` of `len`). A [`Tally`] answers as a [`Journal`] of the same
 //! entries: each history that either tells, as [`Chronicle`] says, has its number of entries and its octets (`counted`),
 //! is still told after `reserve` (`tells`), and after `push_reserved` goes on with the entry (`tells`).
 #![tactic(auto)]
 
 mod chronicle;
+mod edits;
 mod entry;
 mod journal;
 mod laws;

@@ -1,5 +1,5 @@
 //! Writing a journal file in memory.
-ghost use Rattle.std.specs.Prelude.{◌≡◌, ◌++◌, length, All, OnOk, IfOk};
+ghost use Rattle.std.specs.Prelude.{◌≡◌, ◌++◌, length, OnOk, IfOk};
 ghost use Rattle.event_journal.specs.Spelled.{IsSpelled};
 ghost use Rattle.journal_files.specs.Format.{head_octets, octets_of, file_octets};
 
@@ -14,7 +14,6 @@ use std::alloc::{AllocError, Global};
 /// # Errors
 /// Want of memory.
 pub fn encode(alloc: Global, journal: &Journal) -> Result<Vec<u8>, AllocError>
-    requires { All IsSpelled journal.now.entries }
     ensures { IfOk result (λ file. file.items ≡ file_octets journal.now.entries) }
 {
     let mut file = Vec::new(alloc);

@@ -6,7 +6,9 @@ ghost use Rattle.event_journal.specs.Spelled.{IsSpelled};
 use bytes::Bytes;
 use event_journal::{Entry, PolicyText};
 use faulty_devices::{Narrow, Schedule, Sparing};
-use journal_files::{JournalFault, JournalReader, JournalWriter, ReadFault, WriteFault, decode};
+use journal_files::{
+    JournalFault, JournalReader, JournalWriter, ReadFault, WriteFault, decode, encode,
+};
 use octet_devices::Device;
 use policy_text::Name;
 use std::alloc::{AllocError, Global};
@@ -91,6 +93,42 @@ fn a_file_of_four_entries_is_read(rt: HostRuntime) -> Result<(), Fail> {
     assert!(rt; journal.get(1) == Some(&subscribe(rt.alloc())?));
     assert!(rt; journal.get(2) == Some(&Entry::Open { session: 1 }));
     assert!(rt; journal.get(3) == Some(&message(rt.alloc())?));
+    Ok(())
+}
+
+#[test]
+fn what_was_read_is_written(rt: HostRuntime) -> Result<(), Fail> {
+    let file = file(rt.alloc())?;
+    let journal = decode(rt.alloc(), file.as_slice())?;
+    assert!(rt; encode(rt.alloc(), &journal)? == file);
+    Ok(())
+}
+
+/// Files, and the text of the last edit: a file of no entry, one of an edit and what came after it, and one of a second edit
+/// and what came before it.
+static EDITS: [(&[u8], Option<&str>); 3] = [
+    (b"IPMJ\x00\x01\x00\x00\x00\x00\x00\x00\x00\x00", None),
+    (
+        b"IPMJ\x00\x01\x00\x00\x00\x00\x00\x00\x00\x02\x04\x00\x00\x00\x00\x00\x00\x00\x01a\x01\x00\x00\x00\x00\x00\x00\x00\x01",
+        Some("a"),
+    ),
+    (
+        b"IPMJ\x00\x01\x00\x00\x00\x00\x00\x00\x00\x02\x04\x00\x00\x00\x00\x00\x00\x00\x01a\x04\x00\x00\x00\x00\x00\x00\x00\x01b",
+        Some("b"),
+    ),
+];
+
+/// Whether the last edit of a file's journal has this text.
+fn is_last_edit(alloc: Global, octets: &[u8], text: Option<&str>) -> Result<bool, JournalFault> {
+    let journal = decode(alloc, octets)?;
+    Ok(journal.last_edit() == text)
+}
+
+#[test]
+fn the_last_edit_is_told(rt: HostRuntime) -> Result<(), Fail> {
+    for (octets, text) in EDITS.iter() {
+        assert!(rt; is_last_edit(rt.alloc(), octets, *text)?);
+    }
     Ok(())
 }
 

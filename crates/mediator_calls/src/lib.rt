@@ -1,7 +1,7 @@
 //! The mediator with its calls; the same with the counts that a lock round it needs; and its calls and their answers as values,
 //! of which a list of calls is made.
 //!
-//! - `mediator`: [`Mediator`], with its calls.
+//! - `mediator`: [`Mediator`], with its calls. `finished`: [`Finished`], the journal that stays of a run.
 //! - `counted`: [`CountedMediator`], which counts what it takes in and hands out, so that those who called it can add up their
 //!   receipts. `handed`: [`Handed`], a message that was handed out, with its number of records.
 //! - `call`: [`Call`] and [`Reply`].
@@ -11,7 +11,7 @@
 //! Proved of each call, by what contracts see of a mediator (its history, the places of its live subscriptions, how many
 //! audit entries were drained, its limits): an accepted call answers what the history says and goes on with just its
 //! entry, behind just the cuts that it makes (`ok`); a refused one changes nothing (`same`), and its fault is the first
-//! cause that stands (`err`). `journal` is the history (`entries`), and every mediator keeps that what is disclosed can be
+//! cause that stands (`err`). `journal` is the history (`entries`), and so is what `finish` leaves; every mediator keeps that what is disclosed can be
 //! streamed, that no place or drained count is past its end, that no number of a session or a subscription comes again and that
 //! no more is held than its own limits allow (`sound`): its type keeps that its state stands for its journal, and this. `Limits::are_allowed` is true exactly where each limit
 //! stands in its range.
@@ -26,6 +26,7 @@
 mod call;
 mod counted;
 mod fault;
+mod finished;
 mod handed;
 mod ids;
 mod limits;
@@ -34,6 +35,7 @@ mod mediator;
 pub use call::{Call, Reply};
 pub use counted::CountedMediator;
 pub use fault::{PullFault, RunFault, UnknownSub};
+pub use finished::Finished;
 pub use handed::Handed;
 pub use ids::{SessionId, SubId};
 pub use limits::Limits;

@@ -7,6 +7,7 @@ ghost use Rattle.mediator_calls.specs.Limited.{AreAllowed, RefusesLimits};
 ghost use Rattle.mediator_calls.specs.Sound.{IsSound};
 ghost use Rattle.mediator_calls.specs.Calls.{Opens, RefusesOpen, Closes, Receives, RefusesReceive, Edits, Subscribes, Unsubscribes, Advances, RefusesAdvance, Pulls, IsStatusOf, Drains};
 
+use crate::finished::Finished;
 use crate::{Limits, RunFault, SessionId, SubId, UnknownSub};
 use bytes::Bytes;
 use disclosure_audit::AuditEntry;
@@ -216,5 +217,18 @@ impl Mediator {
         ensures none { take most (noted_at self.old) ≡ [] → IsOk result }
     {
         self.state.drain_audit(most)
+    }
+
+    /// Ends the run: what stays of it is its journal. It takes no memory.
+    pub fn finish(self) -> Finished
+        ensures entries { result.journal.entries ≡ self.history }
+        ensures limits { result.journal.limits ≡ journal_limits self.limits }
+        // What is kept of every mediator holds of the history that is left.
+        ensures sound { IsSound self }
+    {
+        let Mediator { state } = self;
+        Finished {
+            journal: state.into_chronicle(),
+        }
     }
 }

@@ -24,6 +24,7 @@ pub use laws::{
     rules_of_others_never_matter,
 };
 pub use mediator_calls::{
-    Call, Fault, Limits, Mediator, Receipt, Reply, RunFault, SessionId, Status, SubId, UnknownSub,
+    Call, Fault, Finished, Limits, Mediator, Receipt, Reply, RunFault, SessionId, Status, SubId,
+    UnknownSub,
 };
 pub use transcript::{Transcript, run};

@@ -69,6 +69,13 @@ impl<C: Chronicle + Drop> State<C> {
         &self.chronicle
     }
 
+    /// What keeps its history, without the rest.
+    pub fn into_chronicle(self) -> C
+        ensures { result ≡ self.chronicle }
+    {
+        self.chronicle
+    }
+
     /// Makes room for one entry more.
     ///
     /// # Errors

@@ -8,7 +8,7 @@ use disclosure_audit::line;
 use ipfix_message::DecodeError;
 use ipfix_session::{ReadError, Skips};
 use mediator_calls::PullFault;
-use mediator_core::{Fault, Receipt, Status, SubId, UnknownSub};
+use mediator_core::{Fault, Finished, Receipt, Status, SubId, UnknownSub};
 use policy_text::{FaultKind, PolicyFault};
 use shared_mediator::{
     AdminHandle, CloseFault, DeliveryHandle, EntryLedger, ExporterHandle, HandleFault,
@@ -202,6 +202,11 @@ fn expect_gone<E: EntryLedger, H: RecordLedger, R: Wait + Abort>(
     assert!(rt; full == Err(Fault::JournalFull));
 }
 
+/// Whether a journal of so many entries is left, and the text of its last edit.
+fn is_left(finished: Finished, entries: u64, text: &str) -> bool {
+    finished.journal.len() == entries && finished.journal.last_edit() == Some(text)
+}
+
 /// The journal has nine entries then: two edits, one begin and one end of a subscription and of a session, two messages, and an
 /// advance of the clock.
 #[test]
@@ -211,6 +216,7 @@ fn calls_through_handles(rt: HostRuntime) -> Result<(), Fail> {
     assert!(rt; closed.accepted == 2);
     assert!(rt; closed.handed == 1);
     assert!(rt; closed.mediator.journal().len() == 9);
+    assert!(rt; is_left(closed.mediator.finish(), 9, WITHHOLD));
     Ok(())
 }
 
