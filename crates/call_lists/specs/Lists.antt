@@ -10,6 +10,7 @@ use Rattle.call_lists.specs.declared.fault.CallsFault.{CallsFault}
 use Rattle.call_lists.specs.declared.fault.CallsFault.TheVariants.{Line, OutOfMemory}
 use Rattle.call_lists.specs.Sayings.{Saying, saying}
 use Rattle.call_lists.specs.Lines.{call_of, limits_of}
+use Rattle.mediator_state.specs.declared.state.TheConstants.{DEFAULT_AUDIT, DEFAULT_QUEUE}
 
 -- limits, and what calls say, in their order
 pub record Asked : Type 0 where
@@ -22,7 +23,7 @@ asked list = record { limits = list.limits; calls = map saying list.calls.items 
 
 -- the limits of a list that sets none
 abbrev pub default_limits : Limits
-default_limits = record { queue = 65536; shapes = MOST_SHAPES; audit = 131072; entries = MOST_ENTRIES; octets = MOST_OCTETS }
+default_limits = record { queue = DEFAULT_QUEUE; shapes = MOST_SHAPES; audit = DEFAULT_AUDIT; entries = MOST_ENTRIES; octets = MOST_OCTETS }
 
 -- no call and no limits yet
 abbrev pub nothing : Asked

@@ -9,14 +9,15 @@ use crate::line::{read_call, read_limits};
 use crate::words::cut_at;
 use event_journal::{MOST_ENTRIES, MOST_OCTETS};
 use mediator_calls::{Call, Limits};
+use mediator_state::{DEFAULT_AUDIT, DEFAULT_QUEUE};
 use std::alloc::{AllocError, Global};
 use subscriber_stream::MOST_SHAPES;
 
 /// The limits of a list that sets none: those of `ipmd offline`.
 const DEFAULT_LIMITS: Limits = Limits {
-    queue: 65_536,
+    queue: DEFAULT_QUEUE,
     shapes: MOST_SHAPES,
-    audit: 131_072,
+    audit: DEFAULT_AUDIT,
     entries: MOST_ENTRIES,
     octets: MOST_OCTETS,
 };

@@ -21,7 +21,7 @@ const U64: u64 = u64::MAX;
 /// The greatest Export Time, and the most audit entries that may be asked for.
 const U32: u64 = 4_294_967_295;
 /// The greatest target.
-const U16: u64 = 65_535;
+const U16: u64 = u16::MAX as u64;
 
 /// The call that a line asks for, if it asks for one.
 #[tactic(auto, unfolding(crate::specs::Lines::call_of))]

@@ -1,5 +1,5 @@
 -- A plan that is carried out: the cuts, and then the message.
-use Rattle.std.proofs.Common.{◌≡◌, ◌≢◌, ℕ, ◌+◌, ◌*◌, ◌≤◌, ◌<◌, ◌^◌, Bool, true, false, cond, List, [], ◌∷◌, ◌++◌, length, map, take, drop, Option, Some, None, refl, sym, ap, ◌∙◌, subst, arith, length-append}
+use Rattle.std.proofs.Common.{◌≡◌, ◌≢◌, ℕ, ◌+◌, ◌*◌, ◌≤◌, ◌<◌, ◌^◌, Bool, true, false, cond, List, [], ◌∷◌, ◌++◌, length, map, take, drop, slice_get, Option, Some, None, refl, sym, ap, ◌∙◌, subst, arith, length-append}
 use Rattle.std.specs.Prelude.{IsSomeAnd, IfSome, not, ◌&&◌}
 use Rattle.std.specs.Option.{option_map}
 use Rattle.std.specs.List.{flat_map, AllByRecursion}
@@ -31,7 +31,7 @@ use Rattle.flow_aggregate.specs.Additions.{AreReady}
 use Rattle.flow_aggregate.specs.Running.{Held, nothing_held}
 use Rattle.running_groups.specs.Table.{held_at}
 use Rattle.live_subscriptions.specs.Table.{shown}
-use Rattle.record_sharing.specs.Sharing.{tallied}
+use Rattle.running_groups.specs.Adding.{tallied}
 use Rattle.open_sessions.specs.declared.open_session.OpenSession.{OpenSession}
 use Rattle.live_subscriptions.specs.declared.subscription.Subscription.{Subscription}
 use Rattle.live_subscriptions.specs.Table.{at, cut_off, HasSpare, IsReady, AreReadyAmong}
@@ -40,11 +40,14 @@ use Rattle.mediator_state.specs.declared.closing.Closing.{Closing}
 use Rattle.mediator_state.specs.declared.plan.Plan.{Plan}
 use Rattle.mediator_state.specs.Standing.{Stands, place, IsSession, IsLiveAs, AreInRange}
 use Rattle.mediator_state.specs.Steps.{CutsInARow, HasAuditRoom}
-use Rattle.mediator_state.specs.Counting.{AllReady, AreApart}
+use Rattle.running_groups.specs.Adding.{AllReady, AreApart}
 use Rattle.mediator_state.specs.Planning.{share_at, tally_at, AreTallied, HasRoomIn, AreStreamed, IsJudged, IsPlan}
 use Rattle.mediator_state.specs.Accepting.{HasRoomForPlan, IsPlannedFor, IsReadyToTake, IsMessage}
 use Rattle.mediator_state.specs.Advancing.{HasRoomToClose, IsClosingFor, IsReadyToClose, AreClosings}
 use Rattle.mediator_state.proofs.MessageSteps.{few_given}
+use Rattle.event_journal.specs.declared.limits.TheConstants.{MOST_ENTRIES}
+use Rattle.disclosure_audit.specs.declared.audit.TheConstants.{MOST_ENTRIES as MOST_AUDITED}
+use Rattle.subscriber_stream.specs.declared.limits.TheConstants.{MOST_QUEUE}
 
 -- ---- counts
 
@@ -59,7 +62,7 @@ whole s records so =
         ∙ ap (λ (rs : List DataRecord). length rs) (sym (records_in-append (take p (parts records)) (drop p (parts records))) ∙ ap records_in (take-append-drop p (parts records)) ∙ parts_bring records)
 
 -- the audit counts no more than the history allows
-pub audit_count : (e : Engine) (h : List Entry) → Stands e h → e.audit.standing.drained + length e.audit.standing.entries ≤ 10000000 * length h
+pub audit_count : (e : Engine) (h : List Entry) → Stands e h → e.audit.standing.drained + length e.audit.standing.entries ≤ MOST_AUDITED * length h
 audit_count e h so = omega (arith, so.audit.within, ap (λ (l : List AuditEntry). length l) so.audit.waiting, length-drop e.audit.standing.drained (audit_list h), so.small.audited)
 
 -- ---- the session
@@ -70,7 +73,7 @@ session_room h session reading None so on room = false_true (sym so ∙ on) wher
   false_true e = absurd cc
 session_room h session reading (Some s) so on room = room
 
-session_count : (h : List Entry) (session : ℕ) (o : Option OpenSession) → length h ≤ 100000000 → IsSession h session o → IfSome o (λ s. s.accepted + 1 < 2 ^ 64)
+session_count : (h : List Entry) (session : ℕ) (o : Option OpenSession) → length h ≤ MOST_ENTRIES → IsSession h session o → IfSome o (λ s. s.accepted + 1 < 2 ^ 64)
 session_count h session None few so = tt
 session_count h session (Some s) few so = omega (arith, so.1, messages_few session h, few)
 
@@ -96,7 +99,7 @@ same_spare n true (Some s) spare = spare
 same_spare n false s spare = spare
 
 -- a live subscription is ready for its share
-ready_one : (limits : Limits) (h : List Entry) (share : ℕ × List DataRecord) (s : Option Subscription) → AreInRange limits → length h ≤ 200000000 → length (disclosed share.0 h) ≤ 1000000 * length h → IsLiveAs h limits share.0 s
+ready_one : (limits : Limits) (h : List Entry) (share : ℕ × List DataRecord) (s : Option Subscription) → AreInRange limits → length h ≤ 2 * MOST_ENTRIES → length (disclosed share.0 h) ≤ MOST_QUEUE * length h → IsLiveAs h limits share.0 s
     → (0 < length share.1 → IsSomeAnd s (λ x. HasRoom x.stream share.1)) → IfSome s (λ x. length share.1 ≤ x.stream.spare) → IfSome s (λ x. IsReady x.stream share.1)
 ready_one limits h share None range short listed so room spare = tt
 ready_one limits h share (Some x) range short listed so room spare = record {
@@ -123,7 +126,7 @@ spares_kept d e cuts row (share ∷ shares) spares = (
 
 -- the streams of those that are left are ready for what an entry gives them
 pub streams_ready : (d e : Engine) (h : List Entry) (x : Entry) (cuts : List ℕ) (shares : List (ℕ × List DataRecord))
-    → Stands e (after_cuts h cuts) → length (after_cuts h cuts) ≤ 200000000 → CutsInARow cuts d e → shares ≡ map (share_at (after_cuts h cuts) x) (served (after_cuts h cuts))
+    → Stands e (after_cuts h cuts) → length (after_cuts h cuts) ≤ 2 * MOST_ENTRIES → CutsInARow cuts d e → shares ≡ map (share_at (after_cuts h cuts) x) (served (after_cuts h cuts))
     → AllByRecursion (HasRoomIn d.subscriptions) shares → AllByRecursion (HasSpare d.subscriptions.live) shares → AreReadyAmong e.subscriptions.live shares
 streams_ready d e h x cuts shares so long row are rooms spares =
     subst (AreReadyAmong e.subscriptions.live) (sym are)
@@ -158,7 +161,7 @@ left_ready d e cuts g [] [] row uncut made = tt
 left_ready d e cuts g [] (n ∷ ns) row uncut made = absurd made
 left_ready d e cuts g (r ∷ rs) [] row uncut made = absurd made
 left_ready d e cuts g (r ∷ rs) (n ∷ ns) row uncut made = (
-  (made.0.0, subst (λ (h : Held). AreReady h r.1 (g n)) (sym (row.groups n ∙ ap (λ (b : Bool). cond b nothing_held (held_at d.groups n)) uncut.0)) made.0.1),
+  (ap (λ (ks : List ℕ). slice_get ks r.0) row.places ∙ made.0.0, subst (λ (h : Held). AreReady h r.1 (g n)) (sym (row.groups n ∙ ap (λ (b : Bool). cond b nothing_held (held_at d.groups n)) uncut.0)) made.0.1),
   left_ready d e cuts g rs ns row uncut.1 made.1,
 )
 
@@ -206,7 +209,7 @@ ready d e position p reserved planned room row stands =
     let h = planned.history in
     let cuts = p.cuts.items in
     let so : Stands e (after_cuts h cuts) = stands h planned.stands planned.counted in
-    let long : length (after_cuts h cuts) ≤ 200000000 = omega (arith, length-cuts h cuts, planned.counted, planned.short, room.audit, room.limit) in
+    let long : length (after_cuts h cuts) ≤ 2 * MOST_ENTRIES = omega (arith, length-cuts h cuts, planned.counted, planned.short, room.audit, room.limit) in
     let E : Entry = Message p.session planned.number planned.octets in
     record {
       history = after_cuts h cuts;
@@ -235,7 +238,7 @@ ready_to_close d e position t c planned room row stands =
     let h = planned.history in
     let cuts = c.cuts.items in
     let so : Stands e (after_cuts h cuts) = stands h planned.stands planned.counted in
-    let long : length (after_cuts h cuts) ≤ 200000000 = omega (arith, length-cuts h cuts, planned.counted, planned.short, room.audit.room, room.audit.limit) in
+    let long : length (after_cuts h cuts) ≤ 2 * MOST_ENTRIES = omega (arith, length-cuts h cuts, planned.counted, planned.short, room.audit.room, room.audit.limit) in
     record {
       history = after_cuts h cuts;
       stands = so;

@@ -26,6 +26,7 @@ use Rattle.mediator_state.specs.Advancing.{HasRoomToClose, IsClosingFor}
 use Rattle.mediator_state.specs.Calls.{StandsFor, AuditHolds, Accepts, with_cuts, Advances, RefusesAdvance}
 use Rattle.mediator_state.proofs.SameLaws.{stands_same, judged_same}
 use Rattle.mediator_state.proofs.CallLaws.{room_after, room_before, length-cut_entries, audit_holds}
+use Rattle.event_journal.specs.declared.limits.TheConstants.{MOST_ENTRIES}
 
 -- what was found out of an advance before it is accepted
 pub record IsClosing (e : Engine) (h : List Entry) (t : ℕ) (c : Closing) (entries : List Entry) : Type 0 where
@@ -86,7 +87,7 @@ closing_held d e h t c entries same so f room =
     (omega (arith, room.audit.room, same.audit_limit, ap (λ (s : Standing). length s.entries) same.audit, length-cut_entries (length h) c.cuts.items))
 
 -- room was made for it, which the engine shows in nothing else
-pub closing_for : (d e : Engine) (h : List Entry) (t position : ℕ) (c : Closing) → IsSameEngine d e → Stands d h → length h ≡ position → position ≤ 100000000
+pub closing_for : (d e : Engine) (h : List Entry) (t position : ℕ) (c : Closing) → IsSameEngine d e → Stands d h → length h ≡ position → position ≤ MOST_ENTRIES
     → IsJudged d h (Advance t) c.cuts.items (map shown c.shares.items) [] → IsClosingFor e position t c
 closing_for d e h t position c same stands counted short judged = record {
   history = h;

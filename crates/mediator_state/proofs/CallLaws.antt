@@ -32,6 +32,7 @@ use Rattle.mediator_state.specs.Planning.{IsPlan, IsNext, RefusesMessage}
 use Rattle.mediator_state.specs.Accepting.{LacksAudit, HasRoomForPlan, IsPlannedFor, receipt_of}
 use Rattle.mediator_state.specs.Calls.{StandsFor, StandsForSome, AuditHolds, Accepts, LacksRoom, LacksRoomAfter, with_cuts, HasMeaning, RefusesReceive, Receives, IsFree, RefusesEdit, RefusesSubscribe}
 use Rattle.mediator_state.proofs.SameLaws.{stands_same, plan_same}
+use Rattle.event_journal.specs.declared.limits.TheConstants.{MOST_ENTRIES}
 
 -- ---- what keeps the history counts it
 
@@ -194,7 +195,7 @@ message_held d e h session number octets p entries added same so f room =
 -- ---- what an accepted message leaves
 
 -- room was made for it, which the engine shows in nothing else
-pub planned_for : (d e : Engine) (h : List Entry) (number : ℕ) (octets : List ℕ) (position : ℕ) (p : Plan) → IsSameEngine d e → Stands d h → length h ≡ position → position ≤ 100000000 → IsPlan d h number octets p → IsPlannedFor e position p
+pub planned_for : (d e : Engine) (h : List Entry) (number : ℕ) (octets : List ℕ) (position : ℕ) (p : Plan) → IsSameEngine d e → Stands d h → length h ≡ position → position ≤ MOST_ENTRIES → IsPlan d h number octets p → IsPlannedFor e position p
 planned_for d e h number octets position p same stands counted short plan = record {
   history = h;
   number = number;

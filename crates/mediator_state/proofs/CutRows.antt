@@ -47,6 +47,7 @@ none_cut e position numbers room = record {
     rest = record { in_force = refl; edits = refl; opened = refl; begun = refl; sessions = refl; limits = refl; audit_limit = refl; drained = refl };
     table = λ q. refl;
     groups = λ q. refl;
+    places = refl;
     entries = omega arith;
     spare = omega arith;
   };
@@ -94,6 +95,7 @@ one_cut old now new position done number numbers so within is stands once =
         rest = rest_once old now new so.row.rest once.rest;
         table = λ q. once.table q ∙ ap (λ (s : Option Subscription). if q == number then option_map cut_off s else s) (so.row.table q) ∙ cut_again q number (take done numbers) (at old.subscriptions q);
         groups = λ q. once.groups q ∙ ap (λ (s : Held). if q == number then nothing_held else s) (so.row.groups q) ∙ gone_again q number (take done numbers) (held_at old.groups q);
+        places = once.places ∙ so.row.places;
         entries = omega (arith, once.entries, so.row.entries, length-append (take done numbers) (number ∷ []));
         spare = omega (arith, once.spare, so.row.spare, length-append (take done numbers) (number ∷ []));
       });

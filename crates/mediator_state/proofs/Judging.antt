@@ -49,10 +49,11 @@ use Rattle.mediator_history.proofs.CountingLaws.{clock-cuts, counted-served}
 use Rattle.live_subscriptions.specs.declared.served.Served.{Served}
 use Rattle.record_sharing.specs.declared.shares.Note.{Note}
 use Rattle.live_subscriptions.specs.declared.share.Share.{Share}
-use Rattle.record_sharing.specs.declared.shares.Tally.{Tally}
+use Rattle.running_groups.specs.declared.tally.Tally.{Tally}
 use Rattle.record_sharing.specs.InForce.{InForce, in_force_with}
 use Rattle.live_subscriptions.specs.Table.{shown}
-use Rattle.record_sharing.specs.Sharing.{given_by, added_by, kept_by, tallied, share_of, shares_of, tallies_of, note_of, noted, noted_of_each, notes_of}
+use Rattle.running_groups.specs.Adding.{tallied}
+use Rattle.record_sharing.specs.Sharing.{given_by, added_by, kept_by, share_of, shares_of, tallies_of, note_of, noted, noted_of_each, notes_of}
 use Rattle.open_sessions.specs.declared.open_session.OpenSession.{OpenSession}
 use Rattle.live_subscriptions.specs.declared.subscription.Subscription.{Subscription}
 use Rattle.live_subscriptions.specs.Table.{Table, at, told, told_in, lacks_room, lacks_room_at}

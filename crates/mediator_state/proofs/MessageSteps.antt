@@ -46,11 +46,13 @@ use Rattle.mediator_state.specs.declared.engine.Engine.{Engine}
 use Rattle.mediator_state.specs.Ascending.{Ascend}
 use Rattle.mediator_state.specs.Standing.{Stands, place, IsSession, IsSubscription, IsLiveAs, IsUnopened, IsUnbegun, AreNumbered, IsSmall, AreInRange}
 use Rattle.mediator_state.specs.Seen.{place_in, place_of}
-use Rattle.mediator_state.specs.Counting.{added_to}
+use Rattle.running_groups.specs.Adding.{added_to}
 use Rattle.mediator_state.specs.Planning.{share_at, tally_at, HasRoomIn, AreStreamed}
 use Rattle.mediator_state.proofs.GroupLaws.{clock_kept}
 use Rattle.mediator_state.specs.Accepting.{IsMessage}
 use Rattle.mediator_state.proofs.CutSteps.{no_entry, session_stays, unopened_stays, unbegun_stays}
+use Rattle.subscriber_stream.specs.declared.limits.TheConstants.{MOST_QUEUE}
+use Rattle.disclosure_audit.specs.declared.audit.TheConstants.{MOST_ENTRIES as MOST_AUDITED}
 
 -- ---- a message opens, closes and begins nothing
 
@@ -203,13 +205,13 @@ numbered_message h session number octets on so =
 
 -- ---- sizes
 
-pub few_given : (share : ℕ × List DataRecord) (limits : Limits) (h : List Entry) (s : Option Subscription) → AreInRange limits → IsLiveAs h limits share.0 s → (0 < length share.1 → IsSomeAnd s (λ x. HasRoom x.stream share.1)) → length share.1 ≤ 1000000
+pub few_given : (share : ℕ × List DataRecord) (limits : Limits) (h : List Entry) (s : Option Subscription) → AreInRange limits → IsLiveAs h limits share.0 s → (0 < length share.1 → IsSomeAnd s (λ x. HasRoom x.stream share.1)) → length share.1 ≤ MOST_QUEUE
 few_given share limits h s range so room = by_size (length share.1) refl where
-  with_room : (o : Option Subscription) → IsLiveAs h limits share.0 o → IsSomeAnd o (λ x. HasRoom x.stream share.1) → length share.1 ≤ 1000000
+  with_room : (o : Option Subscription) → IsLiveAs h limits share.0 o → IsSomeAnd o (λ x. HasRoom x.stream share.1) → length share.1 ≤ MOST_QUEUE
   with_room None so there = absurd there
   with_room (Some x) so there = omega (arith, there.queue, range.queue, ap (λ (l : Limits). l.queue) so.limits_are)
 
-  by_size : (n : ℕ) → length share.1 ≡ n → length share.1 ≤ 1000000
+  by_size : (n : ℕ) → length share.1 ≡ n → length share.1 ≤ MOST_QUEUE
   by_size zero is = omega (arith, is)
   by_size (suc n) is = with_room s so (room (omega (arith, is)))
 
@@ -225,7 +227,7 @@ streamable_given share limits h s range so room each before = by_size (length sh
   by_size zero is = subst AreStreamable (sym (ap (λ (l : List DataRecord). disclosed share.0 h ++ l) (nil_from_length share.1 is) ∙ append-nil (disclosed share.0 h))) before
   by_size (suc n) is = with_room s so (room (omega (arith, is)))
 
-pub small_given : (e : Engine) (h : List Entry) (x : Entry) (shares : List (ℕ × List DataRecord)) → Stands e h → GivesServedOnly h x → length (audit_at h x) ≤ 10000000
+pub small_given : (e : Engine) (h : List Entry) (x : Entry) (shares : List (ℕ × List DataRecord)) → Stands e h → GivesServedOnly h x → length (audit_at h x) ≤ MOST_AUDITED
     → shares ≡ map (share_at h x) (served h) → AllByRecursion (HasRoomIn e.subscriptions) shares → AllByRecursion AreStreamed shares → IsSmall (h ++ x ∷ [])
 small_given e h x shares so only noted are room streamable = record {
   listed = λ sub. omega (arith, so.small.listed sub, few sub, ap (λ (l : List DataRecord). length l) (disclosed-push sub h x), length-append (disclosed sub h) (given_at sub h x), length-append h (x ∷ []));
@@ -239,9 +241,9 @@ small_given e h x shares so only noted are room streamable = record {
     streams : AllByRecursion AreStreamed (map (share_at h x) (served h))
     streams = subst (AllByRecursion AreStreamed) are streamable
 
-    few : (sub : ℕ) → length (given_at sub h x) ≤ 1000000
+    few : (sub : ℕ) → length (given_at sub h x) ≤ MOST_QUEUE
     few sub = by_test (is_served sub h) refl where
-      by_test : (on : Bool) → is_served sub h ≡ on → length (given_at sub h x) ≤ 1000000
+      by_test : (on : Bool) → is_served sub h ≡ on → length (given_at sub h x) ≤ MOST_QUEUE
       by_test false off = omega (arith, ap (λ (l : List DataRecord). length l) (only sub off))
       by_test true on =
           few_given (share_at h x sub) e.limits h (at e.subscriptions sub) so.limits (so.subscriptions sub)
@@ -298,7 +300,7 @@ message_step d e h session number octets reading shares tallies entries so is di
     gives : (sub : ℕ) → given_to sub shares ≡ given_at sub h (Message session number octets)
     gives sub = ap (given_to sub) is.shares_are ∙ given_is h (Message session number octets) sub so.numbered (served_only session number octets h)
 
-    few_noted : length (audit_at h (Message session number octets)) ≤ 10000000
+    few_noted : length (audit_at h (Message session number octets)) ≤ MOST_AUDITED
     few_noted = omega (arith, is.few, ap (λ (l : List AuditEntry). length l) is.entries_are)
 
     adds : (sub : ℕ) → added_to sub tallies ≡ map count_of (counted_at sub h (Message session number octets))

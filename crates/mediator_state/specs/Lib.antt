@@ -15,7 +15,6 @@ pub mod Ascending
 pub mod Standing
 pub mod Seen
 pub mod Steps
-pub mod Counting
 pub mod Planning
 pub mod Accepting
 pub mod Advancing

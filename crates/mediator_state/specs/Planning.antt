@@ -21,7 +21,8 @@ use Rattle.live_subscriptions.specs.declared.served.Served.{Served}
 use Rattle.record_sharing.specs.declared.shares.Note.{Note}
 use Rattle.record_sharing.specs.InForce.{InForce}
 use Rattle.live_subscriptions.specs.Table.{shown}
-use Rattle.record_sharing.specs.Sharing.{tallied, share_of}
+use Rattle.running_groups.specs.Adding.{tallied}
+use Rattle.record_sharing.specs.Sharing.{share_of}
 use Rattle.open_sessions.specs.declared.open_session.OpenSession.{OpenSession}
 use Rattle.live_subscriptions.specs.Table.{Table, at, lacks_room_at}
 use Rattle.mediator_state.specs.declared.engine.Engine.{Engine}

@@ -1,6 +1,7 @@
 -- What the steps of an engine leave as it was.
 use Rattle.std.specs.Prelude.{◌≡◌, ◌≢◌, ℕ, ◌+◌, ◌≤◌, ◌<◌, ◌^◌, List, length, if◌then◌else◌, ◌==◌}
 use Rattle.std.specs.Option.{option_map}
+use Rattle.std.specs.Map.{keys_of}
 use Rattle.disclosure_audit.specs.Queue.{Kept}
 use Rattle.mediator_history.specs.Numbers.{is_in}
 use Rattle.flow_aggregate.specs.Running.{nothing_held}
@@ -30,6 +31,7 @@ pub record IsCutOnce (number : ℕ) (old new : Engine) : Type 0 where
   pub rest : KeepsRest old new
   pub table : (q : ℕ) → at new.subscriptions q ≡ (if q == number then option_map cut_off (at old.subscriptions q) else at old.subscriptions q)
   pub groups : (q : ℕ) → held_at new.groups q ≡ (if q == number then nothing_held else held_at old.groups q)
+  pub places : keys_of new.groups ≡ keys_of old.groups
   pub entries : length new.audit.standing.entries ≡ length old.audit.standing.entries + 1
   pub spare : new.audit.spare + 1 ≡ old.audit.spare
 
@@ -38,5 +40,6 @@ pub record CutsInARow (numbers : List ℕ) (old new : Engine) : Type 0 where
   pub rest : KeepsRest old new
   pub table : (q : ℕ) → at new.subscriptions q ≡ (if is_in q numbers then option_map cut_off (at old.subscriptions q) else at old.subscriptions q)
   pub groups : (q : ℕ) → held_at new.groups q ≡ (if is_in q numbers then nothing_held else held_at old.groups q)
+  pub places : keys_of new.groups ≡ keys_of old.groups
   pub entries : length new.audit.standing.entries ≡ length old.audit.standing.entries + length numbers
   pub spare : new.audit.spare + length numbers ≡ old.audit.spare

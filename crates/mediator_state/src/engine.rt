@@ -17,14 +17,13 @@ use crate::closing::Closing;
 use crate::fault::Fault;
 use crate::plan::Plan;
 use crate::receipt::Receipt;
-use crate::tallies::{Reserved, count_all, reserve_all};
 use disclosure_audit::{Audit, AuditEntry, What};
 use ipfix_session::Reading;
 use live_subscriptions::{Share, Subscriptions};
 use open_sessions::Sessions;
 use policy_text::Policy;
 use record_sharing::InForce;
-use running_groups::RunningGroups;
+use running_groups::{Reserved, RunningGroups};
 use std::alloc::{AllocError, Global};
 use subscriber_stream::{Limits, Stream};
 
@@ -264,7 +263,7 @@ impl Engine {
     ghost use Rattle.live_subscriptions.specs.Table.{HasSpare};
     ghost use Rattle.live_subscriptions.specs.Table.{shown};
     ghost use Rattle.flow_aggregate.specs.Counts.{Count};
-    ghost use Rattle.mediator_state.specs.Counting.{reserved_for, AllReady, AreApart};
+    ghost use Rattle.running_groups.specs.Adding.{reserved_for, AllReady, AreApart};
     ghost use Rattle.mediator_state.specs.Planning.{IsPlan};
     ghost use Rattle.mediator_state.specs.Accepting.{HasRoomForPlan, HasAuditFor, IsPlannedFor, LacksAudit, IsReadyToTake, IsMessage, receipt_of};
     ghost use Rattle.std.specs.Prelude.{map, IfErr};
@@ -302,7 +301,7 @@ impl Engine {
         self.make_audit_room(plan.cuts.len() + plan.entries.len())?;
         self.sessions.make_room(plan.session, &plan.reading)?;
         self.subscriptions.reserve(&plan.shares)?;
-        Ok(reserve_all(self.alloc, &mut self.groups, &plan.tallies)?)
+        Ok(self.groups.reserve(&plan.tallies)?)
     }
 
     /// Does what a plan says, in room that was made for it. It takes no memory.
@@ -350,7 +349,7 @@ impl Engine {
     {
         self.sessions.keep(session, reading);
         self.subscriptions.give(shares);
-        count_all(&mut self.groups, reserved);
+        self.groups.add_reserved(reserved);
         self.audit.extend_reserved(entries);
     }
 }

@@ -4,7 +4,6 @@
 //! - `state`: [`State`], with its calls; it is generic over what keeps the history ([`event_journal::Chronicle`]).
 //! - `engine`: what is kept beside the history; `plan`: what a message would do, before anything is changed, and `closing`:
 //!   what an advance of the clock would do.
-//! - `tallies`: what a message adds to running groups.
 //! - `fault`: [`Fault`], why a call is refused.
 //! - `receipt`: [`Receipt`] and [`Status`], what calls answer.
 //!
@@ -29,9 +28,8 @@ pub mod laws;
 mod plan;
 mod receipt;
 mod state;
-mod tallies;
 
 pub use fault::Fault;
 pub use laws::cuts_ascend;
 pub use receipt::{Receipt, Status};
-pub use state::{Limits, State};
+pub use state::{DEFAULT_AUDIT, DEFAULT_QUEUE, Limits, State};

@@ -6,7 +6,8 @@ ghost use Rattle.ipfix_template.specs.DataRecord.{DataRecord};
 ghost use Rattle.event_journal.specs.declared.limits.TheConstants.{MOST_ENTRIES};
 ghost use Rattle.event_journal.specs.declared.entry.Entry.{Entry};
 ghost use Rattle.live_subscriptions.specs.Table.{shown};
-ghost use Rattle.record_sharing.specs.Sharing.{tallied, shares_of, tallies_of, notes_of};
+ghost use Rattle.running_groups.specs.Adding.{tallied};
+ghost use Rattle.record_sharing.specs.Sharing.{shares_of, tallies_of, notes_of};
 ghost use Rattle.std.specs.List.{AllByRecursion};
 ghost use Rattle.mediator_state.specs.Planning.{stamp, AreStreamed};
 
@@ -18,7 +19,8 @@ use ipfix_session::Reading;
 use live_subscriptions::{Served, Share, Subscriptions};
 use open_sessions::OpenSession;
 use record_runs::Records;
-use record_sharing::{InForce, Note, Shares, Tally};
+use record_sharing::{InForce, Note, Shares};
+use running_groups::Tally;
 use std::alloc::{AllocError, Global};
 use stream_meaning::see_records;
 

@@ -18,6 +18,12 @@ use std::alloc::{AllocError, Global};
 use std::slice::from_ref;
 use subscriber_stream::PullError;
 
+/// How many records may wait for a subscription, where nobody sets a limit.
+pub const DEFAULT_QUEUE: u32 = 65_536;
+
+/// How many entries may wait in the audit, where nobody sets a limit.
+pub const DEFAULT_AUDIT: u32 = 131_072;
+
 /// How much a mediator may hold beside its history.
 #[derive(Clone, Copy, Debug, PartialEq, Eq)]
 pub struct Limits {

@@ -49,6 +49,7 @@ use Rattle.offline_filter.specs.Offline.{end_of}
 use Rattle.offline_filter.specs.Steps.{HasDelivered, Receives, Refuses}
 use Rattle.offline_filter.specs.Accepting.{Accepts, RefusesMessage}
 use Rattle.offline_filter.proofs.Messages.{served_alone, filter-none, cuts_none, cuts_one}
+use Rattle.event_journal.specs.declared.limits.TheConstants.{MOST_ENTRIES, MOST_OCTETS}
 
 -- ---- the faults of the parts
 
@@ -77,7 +78,7 @@ none_waits h limits None is here = refl
 none_waits h limits (Some s) is here =
     ap (λ ps. length (records_in ps)) (is.stream.waiting ∙ ap (λ n. drop n (parts (disclosed 1 h))) here ∙ drop_all (end_of h) (parts (disclosed 1 h)) (omega arith))
 
-pub small_of : (d : Run) (h : List Entry) (p : ℕ) → Stands d h p → length h ≤ 100000000 → history_octets h ≤ 2 ^ 40 → length (accepted h) ≤ history_octets h → Small h
+pub small_of : (d : Run) (h : List Entry) (p : ℕ) → Stands d h p → length h ≤ MOST_ENTRIES → history_octets h ≤ MOST_OCTETS → length (accepted h) ≤ history_octets h → Small h
 small_of d h p so entries octets records = record { entries = entries; octets = octets; records = records; listed = so.state.stands.small.listed 1; streamable = so.state.stands.small.streamable 1 }
 
 -- ---- whom a message cuts
@@ -262,7 +263,7 @@ records_fit old new octets r had receives =
     room : HasRoomAfter journal_limits had.history (with_cuts old.state.engine had.history (Message 1 old.messages octets))
     room = subst (λ l. HasRoomAfter l had.history (with_cuts old.state.engine had.history (Message 1 old.messages octets))) had.stands.limited.journal got.accepts.room
 
-    long : length octets ≤ 2 ^ 40
+    long : length octets ≤ MOST_OCTETS
     long = omega (arith, room.octets_fit, ap history_octets (same_entries old had.history octets had.stands), octets-push (cuts_by had.history octets) (next_message had.history octets))
 
 -- ---- the audit of a run

@@ -16,14 +16,15 @@ use Rattle.mediator_history.specs.Sessions.{messages_of}
 use Rattle.mediator_history.specs.Disclosed.{disclosed}
 use Rattle.mediator_history.specs.Auditing.{audit_list}
 use Rattle.mediator_history.specs.Cuts.{cuts_before}
+use Rattle.mediator_state.specs.declared.state.TheConstants.{DEFAULT_AUDIT, DEFAULT_QUEUE}
 
 -- how many records may wait for a subscriber, and how many shapes its records may have
 abbrev pub stream_limits : Limits
-stream_limits = record { queue = 65536; shapes = MOST_SHAPES }
+stream_limits = record { queue = DEFAULT_QUEUE; shapes = MOST_SHAPES }
 
 -- how many audit entries may wait
 abbrev pub audit_limit : ℕ
-audit_limit = 131072
+audit_limit = DEFAULT_AUDIT
 
 -- a history may be as long as any
 abbrev pub journal_limits : Journaled

@@ -5,16 +5,16 @@ ghost use Rattle.event_journal.specs.Room.{Limits as Journaled};
 use crate::job::OfflineJob;
 use bytes::Bytes;
 use event_journal::{MOST_ENTRIES, MOST_OCTETS, Tally};
-use mediator_state::{Fault, Limits, State};
+use mediator_state::{DEFAULT_AUDIT, DEFAULT_QUEUE, Fault, Limits, State};
 use std::alloc::Global;
 use subscriber_stream::MOST_SHAPES;
 
 /// How many records may wait for the subscriber, how many templates its records may have, and how many entries may wait in
 /// the audit.
 const LIMITS: Limits = Limits {
-    queue: 65_536,
+    queue: DEFAULT_QUEUE,
     shapes: MOST_SHAPES,
-    audit: 131_072,
+    audit: DEFAULT_AUDIT,
 };
 
 /// The number of the one session.

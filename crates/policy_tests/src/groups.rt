@@ -2,10 +2,11 @@
 use ipfix_session::Session;
 use live_subscriptions::Served;
 use policy_text::Policy;
-use record_sharing::{InForce, Shares, Tally};
-use running_groups::RunningGroups;
+use record_sharing::{InForce, Shares};
+use running_groups::{RunningGroups, Tally};
 use std::alloc::{AllocError, Global};
 use std::process::Abort;
+use std::slice::from_ref;
 use std::test::Fail;
 
 const POLICY: &str = "policy 1
@@ -42,17 +43,17 @@ fn shared(alloc: Global, in_force: &mut InForce, message: &[u8]) -> Result<Share
     Ok(Shares::of_records(alloc, in_force, 7, &read.records, &served)?)
 }
 
-fn add(groups: &mut RunningGroups, tally: Tally) -> Result<(), AllocError> {
-    let Tally { sub, counts } = tally;
-    let additions = groups.reserve(sub, &counts)?;
-    groups.add_reserved(sub, additions);
+/// Adds what a message adds for one subscription.
+fn add(groups: &mut RunningGroups, tally: &Tally) -> Result<(), AllocError> {
+    let reserved = groups.reserve(from_ref(tally))?;
+    groups.add_reserved(reserved);
     Ok(())
 }
 
 /// Adds what a message's records add to the sums.
 pub(crate) fn add_all(groups: &mut RunningGroups, found: Shares) -> Result<(), AllocError> {
     for tally in found.tallies {
-        add(groups, tally)?;
+        add(groups, &tally)?;
     }
     Ok(())
 }
@@ -76,23 +77,29 @@ fn one_advance_closes_a_hundred_thousand_groups(rt: HostRuntime) -> Result<(), F
 
 /// Makes ready for what a message adds, and adds nothing.
 fn refuse_all(groups: &mut RunningGroups, found: Shares) -> Result<(), AllocError> {
-    for tally in found.tallies {
-        let _additions = groups.reserve(tally.sub, &tally.counts)?;
-    }
+    let _reserved = groups.reserve(&found.tallies)?;
     Ok(())
 }
 
 /// The same, with a message for each of its records.
-fn refuse_each(groups: &mut RunningGroups, tally: &Tally) -> Result<(), AllocError> {
-    for one in tally.counts.chunks(1) {
-        let _additions = groups.reserve(tally.sub, one)?;
+fn refuse_each(alloc: Global, groups: &mut RunningGroups, tally: Tally) -> Result<(), AllocError> {
+    let Tally { sub, counts } = tally;
+    for count in counts {
+        let mut alone = Vec::with_capacity(alloc, 1)?;
+        alone.push_reserved(count);
+        let one = Tally { sub, counts: alone };
+        let _reserved = groups.reserve(from_ref(&one))?;
     }
     Ok(())
 }
 
-fn refuse_one_by_one(groups: &mut RunningGroups, found: Shares) -> Result<(), AllocError> {
+fn refuse_one_by_one(
+    alloc: Global,
+    groups: &mut RunningGroups,
+    found: Shares,
+) -> Result<(), AllocError> {
     for tally in found.tallies {
-        refuse_each(groups, &tally)?;
+        refuse_each(alloc, groups, tally)?;
     }
     Ok(())
 }
@@ -103,7 +110,11 @@ fn a_hundred_thousand_refused_messages_leave_no_group(rt: HostRuntime) -> Result
     let mut groups = RunningGroups::new(rt.alloc());
     for minute in 0..16 {
         let message = message(rt.alloc(), minute)?;
-        refuse_one_by_one(&mut groups, shared(rt.alloc(), &mut in_force, &message)?)?;
+        refuse_one_by_one(
+            rt.alloc(),
+            &mut groups,
+            shared(rt.alloc(), &mut in_force, &message)?,
+        )?;
     }
     // That of the last one goes with the next.
     assert_eq!(rt; groups.len(1), 1);

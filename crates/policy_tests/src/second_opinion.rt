@@ -1,9 +1,10 @@
 //! Records counted in running groups, and the same records kept in a list and added up when all is over.
+use crate::groups::add_all;
 use ipfix_session::Session;
 use ipfix_template::Record;
 use live_subscriptions::Served;
 use policy_text::Policy;
-use record_sharing::{InForce, Shares, Tally};
+use record_sharing::{InForce, Shares};
 use running_groups::RunningGroups;
 use std::alloc::{AllocError, Global};
 use std::process::Abort;
@@ -87,13 +88,6 @@ fn put_record(out: &mut Vec<u8>, closed: &Record) -> Result<(), AllocError> {
     Ok(())
 }
 
-fn add(groups: &mut RunningGroups, tally: Tally) -> Result<(), AllocError> {
-    let Tally { sub, counts } = tally;
-    let additions = groups.reserve(sub, &counts)?;
-    groups.add_reserved(sub, additions);
-    Ok(())
-}
-
 /// The groups of the flows.
 fn counted(alloc: Global, list: &[Flow]) -> Result<RunningGroups, Fail> {
     let mut in_force = InForce::since(alloc, Policy::parse(alloc, POLICY)?, 0)?;
@@ -107,9 +101,7 @@ fn counted(alloc: Global, list: &[Flow]) -> Result<RunningGroups, Fail> {
     }];
     let found = Shares::of_records(alloc, &mut in_force, 7, &read.records, &served)?;
     let mut groups = RunningGroups::new(alloc);
-    for tally in found.tallies {
-        add(&mut groups, tally)?;
-    }
+    add_all(&mut groups, found)?;
     Ok(groups)
 }
 

@@ -16,7 +16,6 @@ use Rattle.mediator_history.specs.Counting.{counts, counted_in, timing_at}
 use Rattle.mediator_history.specs.Auditing.{kept_back, removed_of, told_of, reason_named}
 use Rattle.record_sharing.specs.InForce.{InForce}
 use Rattle.live_subscriptions.specs.declared.served.Served.{Served}
-use Rattle.record_sharing.specs.declared.shares.Tally.{Tally}
 use Rattle.record_sharing.specs.declared.shares.Note.{Note}
 
 -- what becomes of a record for a subscriber of this name
@@ -36,10 +35,6 @@ given_by domain f name r = passed (outcome_by domain f name r)
 -- what it adds to an aggregate
 abbrev pub added_by : ℕ → InForce → List ℕ → DataRecord → List Count
 added_by domain f name r = map count_of (counts f.policy.aggregates f.clock r (outcome_by domain f name r))
-
--- a tally as a pair: the subscription with what is added to its aggregates
-abbrev pub tallied : Tally → ℕ × List Count
-tallied t = (t.sub, t.counts.items)
 
 -- before the first record
 abbrev pub blank : {X : Type 0} → Served → ℕ × List X

@@ -4,7 +4,7 @@
 //! - `in_force`: [`InForce`], the policy in force and the time of the clock, with what was worked out for the last messages.
 //! - `judges`: what becomes of a record, for each subscription.
 //! - `shares`: [`Shares`], what each subscription is given (a [`Share`](live_subscriptions::Share)), what is added to its
-//!   aggregates ([`Tally`]), and what the audit notes ([`Note`]).
+//!   aggregates ([`Tally`](running_groups::Tally)), and what the audit notes ([`Note`]).
 //!
 //! Proved: `Shares::of_records` gives each subscription, in their order, the records that the policy discloses to its
 //! subscriber (`shares`) and what counts in its aggregates by the clock (`tallies`), and notes what is kept back or counts
@@ -17,4 +17,4 @@ mod judges;
 mod shares;
 
 pub use in_force::InForce;
-pub use shares::{Note, Shares, Tally};
+pub use shares::{Note, Shares};

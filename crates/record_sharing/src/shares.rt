@@ -8,7 +8,8 @@ ghost use Rattle.mediator_history.specs.Auditing.{reason_named, removed_of, told
 ghost use Rattle.record_sharing.specs.InForce.{count_by, timing_by, as_list};
 ghost use Rattle.record_sharing.specs.Judges.{JudgeFor, JudgesAny};
 ghost use Rattle.live_subscriptions.specs.Table.{shown};
-ghost use Rattle.record_sharing.specs.Sharing.{blank, counts_by, kept_back_by, tallied, shares_of, tallies_of, notes_of, note_of, noted_of_each};
+ghost use Rattle.running_groups.specs.Adding.{tallied};
+ghost use Rattle.record_sharing.specs.Sharing.{blank, counts_by, kept_back_by, shares_of, tallies_of, notes_of, note_of, noted_of_each};
 
 use crate::in_force::InForce;
 use crate::judges::Judges;
@@ -18,15 +19,8 @@ use flow_anonymize::Decision;
 use ipfix_template::RecordView;
 use live_subscriptions::{Served, Share};
 use record_runs::{Records, Run};
+use running_groups::Tally;
 use std::alloc::{AllocError, Global};
-
-/// What is added to the aggregates of a subscription.
-#[derive(Drop)]
-pub struct Tally {
-    /// The number of the subscription.
-    pub sub: u64,
-    pub counts: Vec<Count>,
-}
 
 /// What the audit notes of a record for a subscription: that it is kept back, counts in an aggregate, or loses fields.
 #[derive(Debug, Drop)]

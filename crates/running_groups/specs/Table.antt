@@ -1,15 +1,20 @@
 -- The running groups of subscriptions by their numbers, as contracts see them.
-use Rattle.std.specs.Prelude.{ℕ, Bool, List, is_some, unwrap_or}
-use Rattle.ipfix_session.specs.Keeping.{at_key}
-use Rattle.flow_aggregate.specs.Running.{Entries, Held, nothing_held}
-
-abbrev pub has_groups : List (ℕ × Held) → ℕ → Bool
-has_groups table sub = is_some (at_key sub table)
+use Rattle.std.specs.Prelude.{◌≡◌, ℕ, Bool, List, Option, Some, unwrap_or, ◌==◌, nat_lt, length, slice_get}
+use Rattle.std.specs.Map.{lookup, keys_of}
+use Rattle.flow_aggregate.specs.Running.{Entries, Held, nothing_held, places}
 
 -- what is held for a subscription, and nothing where none was made
 abbrev pub held_at : List (ℕ × Held) → ℕ → Held
-held_at table sub = unwrap_or (at_key sub table) nothing_held
+held_at table sub = unwrap_or (lookup (λ q. sub == q) table) nothing_held
 
 -- the groups of a subscription
 abbrev pub groups_at : List (ℕ × Held) → ℕ → Entries
 groups_at table sub = (held_at table sub).groups
+
+-- at this place stands what is held for the subscription
+abbrev pub StandsAt : List (ℕ × Held) → ℕ → ℕ → Type 0
+StandsAt table place sub = slice_get (keys_of table) place ≡ Some sub
+
+-- there is a group, or one is made ready: nothing else is kept
+abbrev pub is_kept : Held → Bool
+is_kept held = nat_lt 0 (length (places held))

@@ -1,22 +1,31 @@
 //! The table of the groups that are still open.
-ghost use Rattle.std.specs.Prelude.{◌≡◌, ◌≢◌, ◌≤◌, ◌+◌, ◌++◌, ℕ, List, [], true, length, map, IfOk, OnErr, OnOk};
+ghost use Rattle.std.specs.Prelude.{◌≡◌, ◌≢◌, ◌≤◌, ◌+◌, ◌++◌, ℕ, List, [], length, map, eqb, IfOk, OnErr};
+ghost use Rattle.std.specs.List.{IsDistinct};
+ghost use Rattle.std.specs.Map.{keys_of};
 ghost use Rattle.flow_aggregate.specs.Groups.{Counted};
-ghost use Rattle.flow_aggregate.specs.Running.{places, nothing_held, StandsFor, staying};
-ghost use Rattle.flow_aggregate.specs.Counts.{Count as OneCount, count_of};
+ghost use Rattle.flow_aggregate.specs.Running.{places, nothing_held, StandsFor, staying, Held};
+ghost use Rattle.flow_aggregate.specs.Counts.{Count, count_of};
 ghost use Rattle.flow_aggregate.specs.Additions.{AreReady};
 ghost use Rattle.flow_aggregate.specs.Closing.{record_of, closed_by};
-ghost use Rattle.running_groups.specs.Table.{has_groups, held_at, groups_at};
+ghost use Rattle.running_groups.specs.Table.{held_at, groups_at, StandsAt, is_kept};
+ghost use Rattle.running_groups.specs.Adding.{tallied, reserved_for, IsReadyFor, AllReady, AreApart, AreCountable, added_to};
 
-use flow_aggregate::{Addition, ClosedAggregate, Count, Running};
+use crate::tally::{Reserved, Tally};
+use flow_aggregate::{ClosedAggregate, Running};
+use indexmap::IndexMap;
 use record_runs::Records;
 use std::alloc::{AllocError, Global};
-use std::collections::BTreeMap;
 use std::marker::Model;
 
 /// The groups that are still open, by the numbers of the subscriptions that are to have their records.
+///
+/// What a message counts is added in two steps: `reserve` finds or makes all places and takes the memory; `add_reserved` then
+/// looks nothing up, takes no memory and can't fail.
 pub struct RunningGroups {
     alloc: Global,
-    by_number: BTreeMap<u64, Running>,
+    // A subscription without a group keeps its place until the next `reserve` or `close`, so that what was made ready for
+    // others finds theirs.
+    by_number: IndexMap<u64, Running>,
 }
 
 impl Drop for RunningGroups {
@@ -30,12 +39,17 @@ impl Drop for RunningGroups {
 }
 
 impl Model for RunningGroups {
-    ghost use Rattle.std.specs.Prelude.{List, ℕ};
+    ghost use Rattle.std.specs.Prelude.{List, ℕ, eqb};
+    ghost use Rattle.std.specs.List.{IsDistinct};
+    ghost use Rattle.std.specs.Map.{keys_of};
     ghost use Rattle.flow_aggregate.specs.Running.{Held};
 
     ghost Value = { List (ℕ × Held) };
 
     ghost view = { λ r. r.by_number.entries };
+
+    // No subscription has two places.
+    ghost invariant = { λ r. IsDistinct eqb (keys_of r.by_number.entries) };
 }
 
 impl RunningGroups {
@@ -45,7 +59,7 @@ impl RunningGroups {
     {
         RunningGroups {
             alloc,
-            by_number: BTreeMap::new(alloc),
+            by_number: IndexMap::new(alloc),
         }
     }
 
@@ -61,22 +75,33 @@ impl RunningGroups {
         }
     }
 
-    /// Makes ready for all of these to be added to a subscription's groups. What was reserved for it before is so no more.
+    /// The numbers of the subscriptions that may have groups. Each stands once; no other has a group.
     ///
     /// # Errors
-    /// Want of memory; then nothing is reserved for it.
-    pub fn reserve(&mut self, sub: u64, counts: &[Count]) -> Result<Vec<Addition>, AllocError>
-        ensures same { (q : ℕ) → groups_at self.new q ≡ groups_at self.old q }
-        ensures ok { IfOk result (λ additions. AreReady (held_at self.new sub) additions.items counts.now) }
-        ensures few { length (held_at self.new sub).ready ≤ length counts.now }
-        ensures err { OnErr result ((held_at self.new sub).ready ≡ []) }
-        ensures others { (q : ℕ) → q ≢ sub → held_at self.new q ≡ held_at self.old q }
+    /// Want of memory.
+    pub fn subs(&self) -> Result<Vec<u64>, AllocError>
+        ensures numbers { IfOk result (λ subs. subs.items ≡ keys_of self.now) }
+        ensures once { IsDistinct eqb (keys_of self.now) }
     {
-        self.make(sub)?;
-        match self.by_number.get_mut(&sub) {
-            Some(groups) => groups.reserve(counts),
-            None => unreachable!(),
+        self.by_number.keys().copied().collect(self.alloc)
+    }
+
+    /// Makes ready for all that one message adds, where no subscription stands twice: finds the places of the groups, and makes
+    /// those that are wanting. What was reserved before is so no more.
+    ///
+    /// # Errors
+    /// Want of memory. No sum changes, whatever the answer.
+    pub fn reserve(&mut self, tallies: &[Tally]) -> Result<Vec<Reserved>, AllocError>
+        ensures same { (q : ℕ) → groups_at self.new q ≡ groups_at self.old q }
+        ensures ok { IfOk result (λ reserved. AreApart (map tallied tallies.now) → AllReady self.new (map reserved_for reserved.items) (map tallied tallies.now)) }
+        ensures few { (q : ℕ) → length (held_at self.new q).ready ≤ length (added_to q (map tallied tallies.now)) }
+    {
+        self.release();
+        let mut reserved = Vec::with_capacity(self.alloc, tallies.len())?;
+        'tallies: for tally in tallies {
+            reserved.push_reserved(self.reserve_one(tally)?);
         }
+        Ok(reserved)
     }
 
     /// Takes out the groups that were made for what wasn't added. It takes no memory. What was reserved before is so no more.
@@ -85,23 +110,23 @@ impl RunningGroups {
     {
         self.by_number.retain(
             |_sub: &u64, groups: &mut Running| -> bool
-                ensures { (result ≡ true) × (groups.new ≡ record { groups = groups.old.groups; ready = [] }) }
+                ensures { (result ≡ is_kept groups.new) × (groups.new ≡ record { groups = groups.old.groups; ready = [] }) }
             {
                 groups.release();
-                true
+                groups.len() > 0
             },
         );
     }
 
-    /// Adds what the last `reserve` made ready for a subscription. It takes no memory.
-    pub fn add_reserved(&mut self, sub: u64, additions: Vec<Addition>)
-        requires { (counts : List OneCount) × AreReady (held_at self.old sub) additions.items counts }
-        ensures adds { (before more : List Counted) → StandsFor (groups_at self.old sub) before → AreReady (held_at self.old sub) additions.items (map count_of more) → StandsFor (groups_at self.new sub) (before ++ more) }
-        ensures ready { (held_at self.new sub).ready ≡ [] }
-        ensures others { (q : ℕ) → q ≢ sub → held_at self.new q ≡ held_at self.old q }
+    /// Adds what the last `reserve` made ready. It looks nothing up and takes no memory.
+    pub fn add_reserved(&mut self, reserved: Vec<Reserved>)
+        requires { AreCountable self.old (map reserved_for reserved.items) }
+        ensures { (tallies : List (ℕ × List Count)) → AllReady self.old (map reserved_for reserved.items) tallies → AreApart tallies
+            → (q : ℕ) (before more : List Counted) → StandsFor (groups_at self.old q) before → added_to q tallies ≡ map count_of more
+            → StandsFor (groups_at self.new q) (before ++ more) }
     {
-        if let Some(groups) = self.by_number.get_mut(&sub) {
-            groups.add_reserved(additions);
+        'reserved: for one in reserved {
+            self.add_one(one);
         }
     }
 
@@ -126,32 +151,74 @@ impl RunningGroups {
     {
         self.by_number.retain(
             |_sub: &u64, groups: &mut Running| -> bool
-                ensures { (result ≡ true) × ((counted : List Counted) → StandsFor groups.old.groups counted → StandsFor groups.new.groups (staying t counted)) × (groups.new.ready ≡ []) }
+                ensures { (result ≡ is_kept groups.new) × ((counted : List Counted) → StandsFor groups.old.groups counted → StandsFor groups.new.groups (staying t counted)) × (groups.new.ready ≡ []) }
             {
                 groups.close(t);
-                true
+                groups.len() > 0
             },
         );
     }
 
-    /// Takes out the groups of a subscription. It takes no memory.
+    /// Drops the groups of a subscription. It takes no memory, and what was reserved for others stays so.
     pub fn remove(&mut self, sub: u64)
         ensures gone { held_at self.new sub ≡ nothing_held }
         ensures others { (q : ℕ) → q ≢ sub → held_at self.new q ≡ held_at self.old q }
+        ensures places { keys_of self.new ≡ keys_of self.old }
     {
-        let _ = self.by_number.remove(&sub);
+        if let Some(groups) = self.by_number.get_mut(&sub) {
+            *groups = Running::new(self.alloc);
+        }
+    }
+}
+
+impl RunningGroups {
+    /// Makes ready for what is added to the groups of one subscription. What was reserved for it before is so no more.
+    fn reserve_one(&mut self, tally: &Tally) -> Result<Reserved, AllocError>
+        ensures same { (q : ℕ) → groups_at self.new q ≡ groups_at self.old q }
+        ensures ok { IfOk result (λ reserved. IsReadyFor self.new (reserved_for reserved) (tallied tally.now)) }
+        ensures few { length (held_at self.new tally.now.sub).ready ≤ length tally.now.counts.items }
+        ensures others { (q : ℕ) → q ≢ tally.now.sub → held_at self.new q ≡ held_at self.old q }
+        ensures places { (place q : ℕ) → StandsAt self.old place q → StandsAt self.new place q }
+    {
+        let place = self.place_of(tally.sub)?;
+        match self.by_number.get_index_mut(place) {
+            Some(groups) => {
+                let additions = groups.reserve(&tally.counts)?;
+                Ok(Reserved { place, additions })
+            }
+            None => unreachable!(),
+        }
     }
 
-    /// Makes room for a subscription's groups, where it has none yet.
-    fn make(&mut self, sub: u64) -> Result<(), AllocError>
+    /// The place of a subscription's groups, which is made where it has none yet.
+    fn place_of(&mut self, sub: u64) -> Result<usize, AllocError>
         ensures same { (q : ℕ) → held_at self.new q ≡ held_at self.old q }
-        ensures ok { OnOk result (has_groups self.new sub ≡ true) }
+        ensures ok { IfOk result (λ place. StandsAt self.new place sub) }
         ensures err { OnErr result (held_at self.new sub ≡ nothing_held) }
+        ensures places { (place q : ℕ) → StandsAt self.old place q → StandsAt self.new place q }
     {
-        if !self.by_number.contains_key(&sub) {
-            self.by_number.insert(sub, Running::new(self.alloc))?;
+        match self.by_number.get_index_of(&sub) {
+            Some(place) => Ok(place),
+            None => {
+                let place = self.by_number.len();
+                self.by_number.insert(sub, Running::new(self.alloc))?;
+                Ok(place)
+            }
         }
-        Ok(())
+    }
+
+    /// Adds to the groups of the subscription at a place.
+    fn add_one(&mut self, reserved: Reserved)
+        requires { (sub : ℕ) × (counts : List Count) × IsReadyFor self.old (reserved_for reserved) (sub, counts) }
+        ensures adds { (sub : ℕ) (before more : List Counted) → IsReadyFor self.old (reserved_for reserved) (sub, map count_of more) → StandsFor (groups_at self.old sub) before
+            → StandsFor (groups_at self.new sub) (before ++ more) }
+        ensures others { (sub q : ℕ) → StandsAt self.old reserved.place sub → q ≢ sub → held_at self.new q ≡ held_at self.old q }
+        ensures places { keys_of self.new ≡ keys_of self.old }
+    {
+        let Reserved { place, additions } = reserved;
+        if let Some(groups) = self.by_number.get_index_mut(place) {
+            groups.add_reserved(additions);
+        }
     }
 }
 

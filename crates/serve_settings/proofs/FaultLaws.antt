@@ -12,6 +12,10 @@ use Rattle.serve_settings.specs.Faults.{has, keys, lacking, IsFaultOf}
 use Rattle.serve_settings.specs.Reading.{limits_in, settings_in}
 use Rattle.serve_settings.specs.Results.{Gives, needed}
 use Rattle.serve_settings.specs.Values.{text_in, number_in, collectors_in}
+use Rattle.subscriber_stream.specs.declared.limits.TheConstants.{MOST_QUEUE, MOST_SHAPES}
+use Rattle.disclosure_audit.specs.declared.audit.TheConstants.{MOST_ENTRIES as MOST_AUDITED}
+use Rattle.event_journal.specs.declared.limits.TheConstants.{MOST_ENTRIES, MOST_OCTETS}
+use Rattle.ipfix_octets.specs.MessageFormat.{header_octets, longest_message}
 
 -- the fault is the first of these keys that a table lacks
 pub record IsFirst (table : Members) (ks : List Key) (f : SettingsFault) : Type 0 where
@@ -50,12 +54,12 @@ settings_in-judges table =
     step table Admin _ (text_in Admin table) _ refl (λ admin.
     step table Policy _ (text_in Policy table) _ refl (λ policy.
     step table Connections _ (number_in Connections 1 1000 table) _ refl (λ connections.
-    step table Target _ (number_in Target 16 65535 table) _ refl (λ target.
-    step-within table Queue _ (number_in Queue 1 1000000 table) _ _ refl (λ queue.
-    step-within table Shapes _ (number_in Shapes 1 65280 table) _ _ refl (λ shapes.
-    step-within table Audit _ (number_in Audit 1 10000000 table) _ _ refl (λ audit.
-    step-within table JournalEntries _ (number_in JournalEntries 1 100000000 table) _ _ refl (λ entries.
-    step-within table JournalOctets _ (number_in JournalOctets 1 (2 ^ 40) table) _ _ refl (λ octets.
+    step table Target _ (number_in Target header_octets longest_message table) _ refl (λ target.
+    step-within table Queue _ (number_in Queue 1 MOST_QUEUE table) _ _ refl (λ queue.
+    step-within table Shapes _ (number_in Shapes 1 MOST_SHAPES table) _ _ refl (λ shapes.
+    step-within table Audit _ (number_in Audit 1 MOST_AUDITED table) _ _ refl (λ audit.
+    step-within table JournalEntries _ (number_in JournalEntries 1 MOST_ENTRIES table) _ _ refl (λ entries.
+    step-within table JournalOctets _ (number_in JournalOctets 1 MOST_OCTETS table) _ _ refl (λ octets.
     step table Turns _ (number_in Turns 1 1000000000 table) _ refl (λ turns.
     step table Deliver [] (collectors_in Deliver table) _ refl (λ collectors. record { judged = tt }))))))))))))
 

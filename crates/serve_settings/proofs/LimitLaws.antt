@@ -11,6 +11,9 @@ use Rattle.serve_settings.specs.Names.{name_of}
 use Rattle.serve_settings.specs.Reading.{limits_in}
 use Rattle.serve_settings.specs.Results.{needed}
 use Rattle.serve_settings.specs.Values.{within, number_at}
+use Rattle.subscriber_stream.specs.declared.limits.TheConstants.{MOST_QUEUE, MOST_SHAPES}
+use Rattle.disclosure_audit.specs.declared.audit.TheConstants.{MOST_ENTRIES as MOST_AUDITED}
+use Rattle.event_journal.specs.declared.limits.TheConstants.{MOST_ENTRIES, MOST_OCTETS}
 
 within-stands : (least most n : ℕ) → least ≤ n → n ≤ most → within least most (pos n) ≡ Some n
 within-stands least most n low high = grind (arith, nat_tests)
@@ -25,9 +28,9 @@ number_at-stands k least most n table stands low high = ap (read k least most) s
 pub allowed_limits_are_read : AllowedLimitsAreRead
 unfolding limits_in
 allowed_limits_are_read table limits allowed has =
-    let queue = number_at-stands Queue 1 1000000 limits.queue table has.queue allowed.some_queue allowed.most_queue in
-    let shapes = number_at-stands Shapes 1 65280 limits.shapes table has.shapes allowed.some_shapes allowed.most_shapes in
-    let audit = number_at-stands Audit 1 10000000 limits.audit table has.audit allowed.some_audit allowed.most_audit in
-    let entries = number_at-stands JournalEntries 1 100000000 limits.entries table has.entries allowed.some_entries allowed.most_entries in
-    let octets = number_at-stands JournalOctets 1 (2 ^ 40) limits.octets table has.octets allowed.some_octets allowed.most_octets in
+    let queue = number_at-stands Queue 1 MOST_QUEUE limits.queue table has.queue allowed.some_queue allowed.most_queue in
+    let shapes = number_at-stands Shapes 1 MOST_SHAPES limits.shapes table has.shapes allowed.some_shapes allowed.most_shapes in
+    let audit = number_at-stands Audit 1 MOST_AUDITED limits.audit table has.audit allowed.some_audit allowed.most_audit in
+    let entries = number_at-stands JournalEntries 1 MOST_ENTRIES limits.entries table has.entries allowed.some_entries allowed.most_entries in
+    let octets = number_at-stands JournalOctets 1 MOST_OCTETS limits.octets table has.octets allowed.some_octets allowed.most_octets in
     rw (queue, shapes, audit, entries, octets) refl

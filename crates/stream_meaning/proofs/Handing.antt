@@ -17,6 +17,7 @@ use Rattle.stream_meaning.specs.Served.{IsStreamable, AreStreamable, AreInRange,
 use Rattle.stream_meaning.specs.Means.{Means}
 use Rattle.stream_meaning.specs.HandedOut.{AreHandedOut}
 use Rattle.stream_meaning.proofs.Runs.{got, means_so_far, means_all}
+use Rattle.subscriber_stream.specs.declared.limits.TheConstants.{MOST_SHAPES}
 
 -- ---- what calls behind others give
 
@@ -115,14 +116,14 @@ handed_answer messages answer records p now target time below are is =
 
 -- ---- which records may be streamed
 
-no_shapes : length (shapes_of []) ≤ 65280
+no_shapes : length (shapes_of []) ≤ MOST_SHAPES
 unfolding shapes_of
 no_shapes = omega arith
 
 pub none_streamable : AreStreamable []
 none_streamable = record { each = tt; shapes = no_shapes }
 
-pub streamable_more : (limits : Limits) (records more : List DataRecord) (p : ℕ) → AreStreamable records → AllByRecursion IsStreamable more → FitsLimits limits records p more → limits.shapes ≤ 65280 → AreStreamable (records ++ more)
+pub streamable_more : (limits : Limits) (records more : List DataRecord) (p : ℕ) → AreStreamable records → AllByRecursion IsStreamable more → FitsLimits limits records p more → limits.shapes ≤ MOST_SHAPES → AreStreamable (records ++ more)
 streamable_more limits records more p may each fits few = record { each = AllByRecursion-append IsStreamable records more may.each each; shapes = omega (arith, fits.shapes, few) }
 
 -- ---- what is known of the messages

@@ -14,6 +14,7 @@ use Rattle.subscriber_stream.proofs.ShapeLaws.{shapes_after-first, shapes_on, sh
 use Rattle.stream_meaning.specs.Served.{IsStreamable, AreStreamable}
 use Rattle.stream_meaning.proofs.Tables.{Table, empty, defining, AreKnown, after_parts}
 use Rattle.stream_meaning.proofs.Sets.{known_append}
+use Rattle.subscriber_stream.specs.declared.limits.TheConstants.{MOST_SHAPES}
 
 -- shapes under IDs from this one on
 abbrev named : ℕ → List Template → Table
@@ -68,7 +69,7 @@ record IsListed (shapes : List Template) (r : DataRecord) (ps : List Part) (grow
   known : AreKnown (table_of shapes) ps
   after : after_parts (table_of shapes) ps ≡ table_of grown
 
-listed_by : (shapes : List Template) (r : DataRecord) (b : Bool) → is_among r.template shapes ≡ b → IsStreamable r → length (cond b shapes (shapes ++ r.template ∷ [])) ≤ 65280
+listed_by : (shapes : List Template) (r : DataRecord) (b : Bool) → is_among r.template shapes ≡ b → IsStreamable r → length (cond b shapes (shapes ++ r.template ∷ [])) ≤ MOST_SHAPES
     → IsListed shapes r (cond b (Entry (256 + position_or_len (same_template r.template) shapes) r ∷ []) (Announcement (256 + position_or_len (same_template r.template) shapes) r.template ∷ Entry (256 + position_or_len (same_template r.template) shapes) r ∷ [])) (cond b shapes (shapes ++ r.template ∷ []))
 listed_by shapes r true is may few =
     let place = place_known shapes r.template is in
@@ -92,17 +93,17 @@ listed_by shapes r false is may few =
       after = λ i. λ q. same q i;
     }
 
-listed : (shapes : List Template) (r : DataRecord) → IsStreamable r → length (with_shape shapes r.template) ≤ 65280 → IsListed shapes r (parts_for shapes r) (with_shape shapes r.template)
+listed : (shapes : List Template) (r : DataRecord) → IsStreamable r → length (with_shape shapes r.template) ≤ MOST_SHAPES → IsListed shapes r (parts_for shapes r) (with_shape shapes r.template)
 listed shapes r may few = listed_by shapes r (is_among r.template shapes) refl may few
 
 -- ---- all of them
 
-known_after : (before records : List DataRecord) → AllByRecursion IsStreamable records → length (shapes_after (shapes_of before) records) ≤ 65280 → AreKnown (table_of (shapes_of before)) (each_after parts_at before records)
+known_after : (before records : List DataRecord) → AllByRecursion IsStreamable records → length (shapes_after (shapes_of before) records) ≤ MOST_SHAPES → AreKnown (table_of (shapes_of before)) (each_after parts_at before records)
 known_after before [] all few = tt
 known_after before (r ∷ records) all few =
     let shapes = shapes_of before in
     let grown = with_shape shapes r.template in
-    let more : length (shapes_after grown records) ≤ 65280 = omega (arith, few, ap length (shapes_after-first shapes r records)) in
+    let more : length (shapes_after grown records) ≤ MOST_SHAPES = omega (arith, few, ap length (shapes_after-first shapes r records)) in
     let one = listed shapes r all.0 (omega (arith, more, length-shapes_after grown records)) in
     let push = shapes_of-push before r in
     let others = known_after (before ++ r ∷ []) records all.1 (omega (arith, more, ap (λ (ss : List Template). length (shapes_after ss records)) push)) in

@@ -26,11 +26,12 @@ use Rattle.stream_meaning.proofs.Tables.{Table, empty, AreKnown, after_parts}
 use Rattle.stream_meaning.proofs.Written.{items_at, header_at, head, message_is}
 use Rattle.stream_meaning.proofs.Readings.{contents_read, in_force_after}
 use Rattle.stream_meaning.proofs.Sets.{sets_written, sets_bring, sets_after, after_append}
+use Rattle.subscriber_stream.specs.Items.{longest_body}
 
 -- ---- a message has at most 65,535 octets
 
 -- a part alone fits a message
-one_fits : (table : Table) (part : Part) (ps : List Part) → AreKnown table (part ∷ ps) → length (body (part ∷ [])) ≤ 65519
+one_fits : (table : Table) (part : Part) (ps : List Part) → AreKnown table (part ∷ ps) → length (body (part ∷ [])) ≤ longest_body
 unfolding body set_head
 one_fits table (Announcement id shape) ps all =
     let len = length-template_record id (is_options shape) shape in

@@ -5,6 +5,7 @@ use Rattle.subscriber_stream.specs.declared.waiting.Waiting.{Waiting}
 use Rattle.subscriber_stream.specs.Items.{Item, cost, data_set, last_after, total, fits}
 use Rattle.subscriber_stream.specs.Waiting.{items_of, items_in, IsFilled, set_after}
 use Rattle.subscriber_stream.proofs.Queues.{items_from, set_is_last}
+use Rattle.ipfix_octets.specs.MessageFormat.{longest_message}
 
 -- ---- parts behind others
 
@@ -56,7 +57,7 @@ pub record IsRun (target : ℕ) (queue : List Waiting) (place parts octets : ℕ
   pub counted : octets ≡ 16 + total None (take parts (items_in queue))
   pub ends : last_after None (take parts (items_in queue)) ≡ last
   pub fit : parts + fits target last octets (items_in (drop place queue)) ≡ fits target None 16 (items_in queue)
-  pub small : octets ≤ 65535
+  pub small : octets ≤ longest_message
 
 pub IsRun-none : (target : ℕ) (queue : List Waiting) → IsRun target queue 0 0 16 None
 IsRun-none target queue = record {
@@ -74,7 +75,7 @@ pub record IsNext (target : ℕ) (queue : List Waiting) (place octets : ℕ) (la
   pub there : w ≡ get_or queue place w
   pub fit : more ≡ fits target last octets (items_of w)
   pub counted : whole ≡ octets + total last (take more (items_of w))
-  pub small : whole ≤ 65535
+  pub small : whole ≤ longest_message
 
 -- the parts that were taken, with those
 with_next : (target : ℕ) (queue : List Waiting) (place parts octets : ℕ) (last : Option ℕ) (w : Waiting) (more whole : ℕ) → IsRun target queue place parts octets last → IsNext target queue place octets last w more whole

@@ -13,6 +13,8 @@ use Rattle.subscriber_stream.specs.Steps.{IsConsistent}
 use Rattle.subscriber_stream.specs.Standing.{Kept}
 use Rattle.subscriber_stream.proofs.Messages.{run_length-waiting}
 use Rattle.subscriber_stream.proofs.Standings.{next_some, queued_entries}
+use Rattle.subscriber_stream.specs.Items.{longest_body}
+use Rattle.subscriber_stream.specs.declared.limits.TheConstants.{MOST_SHAPES}
 
 -- a stream whose queue this is, the number of records handed out, and how many parts its next message takes
 pub record Pulls (k : Kept) (shapes : List Template) (ws : List Item) (handed target n : ℕ) : Type 0 where
@@ -58,12 +60,12 @@ length_items [] = refl
 length_items (Announced id octets ∷ ws) = omega (arith, length_items ws)
 length_items (Brought id octets ∷ ws) = omega (arith, length_items ws)
 
-pub few_wait : (table : Table) (queue : List Waiting) (capacity : ℕ) (limits : Limits) (waiting handed announced spare : ℕ) → IsConsistent table queue capacity limits waiting handed announced spare → length (items_in queue) ≤ limits.queue + 65280
+pub few_wait : (table : Table) (queue : List Waiting) (capacity : ℕ) (limits : Limits) (waiting handed announced spare : ℕ) → IsConsistent table queue capacity limits waiting handed announced spare → length (items_in queue) ≤ limits.queue + MOST_SHAPES
 few_wait table queue capacity limits waiting handed announced spare is =
     omega (arith, length_items (items_in queue), is.counted, is.few_waiting, is.announced_before, is.few_shapes, is.few_ids)
 
 -- one part alone fits a message
-pub first_small : (shapes : List Template) (ws : List Item) → AreKept shapes ws → total None (take 1 ws) ≤ 65519
+pub first_small : (shapes : List Template) (ws : List Item) → AreKept shapes ws → total None (take 1 ws) ≤ longest_body
 first_small shapes [] kept = omega arith
 first_small shapes (Announced id octets ∷ ws) kept = omega (arith, kept.0.few)
 first_small shapes (Brought id octets ∷ ws) kept = omega (arith, kept.0.few)

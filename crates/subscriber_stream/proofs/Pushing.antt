@@ -25,6 +25,8 @@ use Rattle.subscriber_stream.proofs.Pieces.{kept_append}
 use Rattle.subscriber_stream.proofs.RunLaws.{brings}
 use Rattle.subscriber_stream.proofs.Queues.{items_in-append, filled_append}
 use Rattle.subscriber_stream.proofs.ShapeLaws.{is_among-itself}
+use Rattle.subscriber_stream.specs.Items.{longest_body}
+use Rattle.ipfix_octets.specs.MessageFormat.{set_header_octets}
 
 -- ---- the place of a shape
 
@@ -167,7 +169,7 @@ record IsPut (shapes : List Template) (t : Template) (texts : List (List ℕ)) (
   entries_are : entries items ≡ length texts
   counted : length shapes + announcements items ≡ length grown
 
-put_by : (shapes : List Template) (t : Template) (texts : List (List ℕ)) (announced : ℕ) (b : Bool) → is_among t shapes ≡ b → IsAccepted t → announced ≤ 65515 → AllByRecursion (IsKeptOf t) texts → IsAnnounced t announced
+put_by : (shapes : List Template) (t : Template) (texts : List (List ℕ)) (announced : ℕ) (b : Bool) → is_among t shapes ≡ b → IsAccepted t → announced ≤ longest_body - set_header_octets → AllByRecursion (IsKeptOf t) texts → IsAnnounced t announced
     → IsPut shapes t texts (cond b shapes (shapes ++ t ∷ [])) (new_items (256 + position_or_len (same_template t) shapes) (cond b None (Some announced)) texts)
 put_by shapes t texts announced true is accepted few kept announces =
     let id = 256 + position_or_len (same_template t) shapes in
@@ -216,7 +218,7 @@ followed_append (Brought id octets ∷ vs) ws first second = followed_append vs 
 pub record Takes (table grown : Table) (limits : Limits) (waiting handed spare : ℕ) (t : Template) (texts : List (List ℕ)) (announced : ℕ) : Type 0 where
   pub accepted : IsAccepted t
   pub announces : IsAnnounced t announced
-  pub announced_few : announced ≤ 65515
+  pub announced_few : announced ≤ longest_body - set_header_octets
   pub kept : AllByRecursion (IsKeptOf t) texts
   pub some : 0 < length texts
   pub reserved : length texts ≤ spare
@@ -274,7 +276,7 @@ place_holds shapes grown shape found place grown_is is at =
     sym (get_or_from_slice_get grown place found d at) ∙ ap (λ (i : ℕ). get_or grown i d) is ∙ ap (λ (ss : List Template). get_or ss first d) grown_is ∙ sym (at_place (with_shape shapes shape) first) ∙ there
 
 -- what is kept of a record says of its template
-pub template_kept : (t : Template) (texts : List (List ℕ)) → 0 < length texts → AllByRecursion (IsKeptOf t) texts → IsAccepted t × (length (template_record 256 (is_options t) t) ≤ 65515)
+pub template_kept : (t : Template) (texts : List (List ℕ)) → 0 < length texts → AllByRecursion (IsKeptOf t) texts → IsAccepted t × (length (template_record 256 (is_options t) t) ≤ longest_body - set_header_octets)
 template_kept t [] some kept = absurd (omega arith)
 template_kept t (text ∷ texts) some kept = (kept.0.sound.accepted, omega (arith, kept.0.sound.template_fits))
 

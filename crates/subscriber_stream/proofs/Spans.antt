@@ -12,6 +12,7 @@ use Rattle.subscriber_stream.specs.Waiting.{items_of, items_in, IsFilled, set_af
 use Rattle.subscriber_stream.proofs.RunLaws.{brings, head, cost_is, same_id}
 use Rattle.subscriber_stream.proofs.Queues.{items_from}
 use Rattle.subscriber_stream.proofs.Pieces.{run-total}
+use Rattle.subscriber_stream.specs.Items.{longest_body}
 
 -- none is left of no parts, and one less of one more
 none_less : (n : ℕ) (qs : List Item) → take (zero - n) qs ≡ []
@@ -83,7 +84,7 @@ span_small last id left texts qs some filled =
     omega (arith, total_span last id left texts qs some filled, run-total id (take (left - length texts) qs))
 
 -- the same, where the first so many of its records are in the message
-pub span_fits : (last : Option ℕ) (id left count octets others : ℕ) (w : Waiting) (texts : List (List ℕ)) (qs : List Item) → w ≡ Bring id texts → 0 < left → IsFilled w → count ≡ min (length texts) left → octets ≡ length (concat (take count texts)) → others ≡ run id (take (left - count) qs) → total last (take left (items_of w ++ qs)) ≤ 65519 → octets + others ≤ 65519
+pub span_fits : (last : Option ℕ) (id left count octets others : ℕ) (w : Waiting) (texts : List (List ℕ)) (qs : List Item) → w ≡ Bring id texts → 0 < left → IsFilled w → count ≡ min (length texts) left → octets ≡ length (concat (take count texts)) → others ≡ run id (take (left - count) qs) → total last (take left (items_of w ++ qs)) ≤ longest_body → octets + others ≤ longest_body
 span_fits last id left count octets others w texts qs w_is some filled count_is octets_is others_is fits =
     let len : length (items_of w) ≡ length texts = ap (λ (v : Waiting). length (items_of v)) w_is ∙ length-map texts (Brought id) in
     let swapped : count ≡ min left (length texts) = omega (arith, count_is) in
@@ -115,13 +116,13 @@ kept_behind shapes (v ∷ vs) ws kept =
 -- what was written up to this place, and what is still to be written
 pub record IsWriting (shapes : List Template) (queue : List Waiting) (count : ℕ) (start : List ℕ) (place left : ℕ) (last : Option ℕ) (out : List ℕ) : Type 0 where
   pub written : out ++ pieces shapes last (take left (items_in (drop place queue))) ≡ start ++ pieces shapes None (take count (items_in queue))
-  pub fits : total last (take left (items_in (drop place queue))) ≤ 65519
+  pub fits : total last (take left (items_in (drop place queue))) ≤ longest_body
   pub kept : AreKept shapes (items_in (drop place queue))
 
 -- what the next step asks for
 pub record CanWrite (shapes : List Template) (queue : List Waiting) (place left : ℕ) (last : Option ℕ) (w : Waiting) : Type 0 where
   pub kept : AreKept shapes (items_of w)
-  pub fits : total last (take left (items_of w ++ items_in (drop (place + 1) queue))) ≤ 65519
+  pub fits : total last (take left (items_of w ++ items_in (drop (place + 1) queue))) ≤ longest_body
 
 pub can_write : (shapes : List Template) (queue : List Waiting) (count : ℕ) (start : List ℕ) (place left : ℕ) (last : Option ℕ) (out : List ℕ) (w : Waiting) → IsWriting shapes queue count start place left last out → place < length queue → w ≡ get_or queue place w → CanWrite shapes queue place left last w
 can_write shapes queue count start place left last out w is lt at =

@@ -1,13 +1,17 @@
 -- What waits in a stream's queue, part by part, and what it adds to a message. A part names its template by the ID alone, and a
 -- record waits as its octets.
 use Rattle.std.specs.Prelude.{◌≡◌, ◌≤◌, ◌<◌, ℕ, suc, ◌+◌, ◌-◌, Bool, false, ◌==◌, nat_le, List, [], ◌∷◌, ◌++◌, length, map, slice_index_or, Option, Some, None, if◌then◌else◌}
-use Rattle.ipfix_octets.specs.MessageFormat.{set_header_octets, least_template_id}
+use Rattle.ipfix_octets.specs.MessageFormat.{longest_message, header_octets, set_header_octets, least_template_id}
 use Rattle.ipfix_template.specs.declared.template.Template.{Template}
 use Rattle.ipfix_template.specs.Template.{IsAccepted, is_options, template_record}
 use Rattle.ipfix_template.specs.declared.data_record.TheConstants.{RECORD_ROOM}
 use Rattle.ipfix_template.specs.DataRecord.{kept_record, IsKept as IsKeptOf}
 use Rattle.subscriber_stream.specs.Parts.{Part, Announcement, Entry}
 use Rattle.subscriber_stream.specs.Message.{template_set, set_head}
+
+-- the most octets of sets in one message
+abbrev pub longest_body : ℕ
+longest_body = longest_message - header_octets
 
 -- an announcement under an ID, whose template record has so many octets, or a record under an ID, as its octets
 pub data Item : Type 0 where

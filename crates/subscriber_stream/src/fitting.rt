@@ -1,7 +1,7 @@
 //! How many parts a message takes.
 ghost use Rattle.std.specs.Prelude.{◌≡◌, ◌≤◌, ◌<◌, ◌+◌, ◌^◌, max, take, length, None};
 ghost use Rattle.ipfix_octets.specs.MessageFormat.{longest_message, header_octets};
-ghost use Rattle.subscriber_stream.specs.Items.{fits, total};
+ghost use Rattle.subscriber_stream.specs.Items.{fits, total, longest_body};
 ghost use Rattle.subscriber_stream.specs.Waiting.{items_in, AreFilled};
 
 use crate::waiting::{Front, Waiting};
@@ -14,7 +14,7 @@ pub(crate) fn fitting(queue: &VecDeque<Waiting>, target: u16) -> Front
     requires some { 0 < length queue.now.items }
     requires filled { AreFilled queue.now.items }
     requires few { length (items_in queue.now.items) < 2 ^ 64 }
-    requires first { total None (take 1 (items_in queue.now.items)) ≤ 65519 }
+    requires first { total None (take 1 (items_in queue.now.items)) ≤ longest_body }
     ensures parts { result.parts ≡ max 1 (fits target None header_octets (items_in queue.now.items)) }
     ensures octets { result.octets ≡ header_octets + total None (take result.parts (items_in queue.now.items)) }
     ensures within { result.parts ≤ length (items_in queue.now.items) }

@@ -4,7 +4,7 @@ ghost use Rattle.sequences.specs.Octets.{be_octets};
 ghost use Rattle.ipfix_octets.specs.MessageFormat.{ipfix_version, longest_message, header_octets, least_template_id};
 ghost use Rattle.ipfix_template.specs.declared.data_record.TheConstants.{RECORD_ROOM};
 ghost use Rattle.subscriber_stream.specs.Message.{message, set_head, template_set};
-ghost use Rattle.subscriber_stream.specs.Items.{AreKept, parts_of, total, run, pieces};
+ghost use Rattle.subscriber_stream.specs.Items.{AreKept, parts_of, total, run, pieces, longest_body};
 ghost use Rattle.subscriber_stream.specs.Waiting.{items_of, items_in, IsFilled, AreFilled, span};
 
 use crate::shape_table::ShapeTable;
@@ -63,7 +63,7 @@ fn put_parts(
 ) -> Result<(), AllocError>
     requires filled { AreFilled queue.now.items }
     requires kept { AreKept shapes.now.shapes (items_in queue.now.items) }
-    requires fits { total None (take count (items_in queue.now.items)) ≤ 65519 }
+    requires fits { total None (take count (items_in queue.now.items)) ≤ longest_body }
     ensures { OnOk result (out.new.items ≡ out.old.items ++ pieces shapes.now.shapes None (take count (items_in queue.now.items))) }
 {
     let mut left = count;
@@ -95,7 +95,7 @@ fn put_span(
     requires kept { AreKept shapes.now.shapes (items_of next.now) }
     requires place { place ≤ length queue.now.items }
     requires some { 0 < left }
-    requires fits { total last (take left (items_of next.now ++ items_in (drop place queue.now.items))) ≤ 65519 }
+    requires fits { total last (take left (items_of next.now ++ items_in (drop place queue.now.items))) ≤ longest_body }
     ensures { OnOk result (out.new.items ≡ out.old.items ++ span shapes.now.shapes last left next.now (drop place queue.now.items)) }
 {
     match next {

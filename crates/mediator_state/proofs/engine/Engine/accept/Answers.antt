@@ -2,10 +2,10 @@ use Rattle.std.proofs.Common.{◌≡◌, ℕ, List, length, map, subst, sym}
 use Rattle.event_journal.specs.declared.entry.Entry.{Entry}
 use Rattle.event_journal.specs.declared.entry.Entry.TheVariants.{Message}
 use Rattle.mediator_history.specs.Cuts.{after_cuts}
-use Rattle.record_sharing.specs.Sharing.{tallied}
+use Rattle.running_groups.specs.Adding.{tallied}
 use Rattle.mediator_state.specs.Standing.{Stands}
 use Rattle.mediator_state.specs.Steps.{CutsInARow}
-use Rattle.mediator_state.specs.Counting.{reserved_for}
+use Rattle.running_groups.specs.Adding.{reserved_for}
 use Rattle.mediator_state.proofs.Accepts.{is_message, ready, groups_ready}
 use Rattle.mediator_state.proofs.engine.Engine.accept.Goals as goal
 

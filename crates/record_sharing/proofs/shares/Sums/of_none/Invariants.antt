@@ -1,5 +1,6 @@
 use Rattle.std.proofs.Common.{◌≡◌, map, take}
-use Rattle.record_sharing.specs.Sharing.{tallied, blank}
+use Rattle.running_groups.specs.Adding.{tallied}
+use Rattle.record_sharing.specs.Sharing.{blank}
 use Rattle.record_sharing.proofs.shares.Sums.of_none.Given as goal
 
 abbrev pub invariant-served : goal.invariant-served

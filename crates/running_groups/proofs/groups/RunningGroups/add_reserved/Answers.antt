@@ -1,22 +1,25 @@
-use Rattle.std.proofs.Common.{rules, subst}
-use Rattle.flow_aggregate.specs.Running.{Held}
-use Rattle.flow_aggregate.specs.Additions.{AreReady}
-use Rattle.running_groups.proofs.TableLaws.{held_there, added_there, added_nowhere}
-use Rattle.running_groups.proofs.groups.RunningGroups.add_reserved.Goals.{in-Some, in_default}
+use Rattle.std.proofs.Common.{map, ap, arith, sym}
+use Rattle.std.proofs.lemmas.List.{nil_from_length}
+use Rattle.std.specs.Vec.Iter.{into_iter_items}
+use Rattle.running_groups.specs.Adding.{reserved_for}
+use Rattle.running_groups.proofs.AddingLaws.{same_places, counting_start, counts_next, counting_next, counting_end}
 use Rattle.running_groups.proofs.groups.RunningGroups.add_reserved.Goals as goal
 
-pub add_reserved-requires : goal.add_reserved-requires
-add_reserved-requires c = (
-  c.requires.0,
-  subst (λ (h : Held). AreReady h c.args.additions.items c.requires.0)
-      (held_there c.args.self.now c.self.inside.by_number.entries c.args.sub c.in-Some.groups.now c.self.view_is (search rules)) c.requires.1,
-)
+pub reserved-init : goal.reserved-init
+reserved-init c =
+    counting_start c.args.self.now (map reserved_for c.args.reserved.items) (map reserved_for (into_iter_items c.into_iter-one-iterator.result)) (ap (map reserved_for) (sym c.into_iter-one-iterator.ensures.into_iter_gives.0))
 
-pub returns-clause-adds : goal.returns-clause-adds
-returns-clause-adds c before more stands ready = elim c.match-get_mut.branch [
-  | in-Some w ↦ rw w.self-inside-is
-      (added_there c.args.self.now c.self.inside.by_number.entries _ c.args.sub w.in-Some.groups.now w.add_reserved.new.self c.args.additions.items before more c.self.view_is (search rules) (search rules)
-      (λ stood made. w.add_reserved.ensures.adds before more stood made) stands ready)
-  | in_default w ↦ rw w.self-inside-is
-      (added_nowhere c.args.self.now c.self.inside.by_number.entries _ c.args.sub c.args.additions.items before more c.self.view_is (search rules) (search rules) stands ready)
-]
+pub add_one-requires : goal.add_one-requires
+add_one-requires c =
+    counts_next c.args.self.now c.reserved.self (map reserved_for c.args.reserved.items) (map reserved_for (into_iter_items c.reserved.one-iterator)) (map reserved_for (into_iter_items c.next.new.self))
+    (reserved_for c.in-Some.one) (ap (map reserved_for) c.in-Some.ensures.steps.0) c.requires c.reserved.invariant
+
+pub reserved-preserved : goal.reserved-preserved
+reserved-preserved c =
+    counting_next c.args.self.now c.reserved.self c.add_one.new.self (map reserved_for c.args.reserved.items) (map reserved_for (into_iter_items c.reserved.one-iterator)) (map reserved_for (into_iter_items c.next.new.self))
+    (reserved_for c.in-Some.one) (ap (map reserved_for) c.in-Some.ensures.steps.0) c.add_one.ensures.adds c.add_one.ensures.others (same_places c.reserved.self c.add_one.new.self c.add_one.ensures.places) c.reserved.invariant
+
+pub returns : goal.returns
+returns c =
+    counting_end c.args.self.now c.reserved.self (map reserved_for c.args.reserved.items) (map reserved_for (into_iter_items c.reserved.one-iterator)) c.reserved.invariant
+    (ap (map reserved_for) (nil_from_length (into_iter_items c.reserved.one-iterator) (omega (arith, c.in-None.ensures.steps.0))))

@@ -9,9 +9,9 @@ use Rattle.running_groups.proofs.groups.RunningGroups.close.Goals as goal
 pub returns-clause-stays : goal.returns-clause-stays
 returns-clause-stays c q counted stands =
     all_written _ (λ (v w : Held). (cs : List Counted) → StandsFor v.groups cs → StandsFor w.groups (staying c.args.t cs)) (λ cs stood. stays c.args.t [] cs stood) _
-    (λ k v b w g call. (search rules, λ cs before. search rules, search rules)) _ _ c.retain.ensures.filtered q counted
+    (λ k v b w g call. (search rules, λ cs before. search rules, search rules)) _ _ c.self.invariant c.retain.ensures.filtered q counted
     (subst (λ (es : List (ℕ × Held)). StandsFor (groups_at es q) counted) (sym c.self.view_is) stands)
 
 pub returns-clause-ready : goal.returns-clause-ready
 returns-clause-ready c q =
-    all_written _ (λ (v w : Held). w.ready ≡ []) refl _ (λ k v b w g call. (search rules, search rules, search rules)) _ _ c.retain.ensures.filtered q
+    all_written _ (λ (v w : Held). w.ready ≡ []) refl _ (λ k v b w g call. (search rules, search rules, search rules)) _ _ c.self.invariant c.retain.ensures.filtered q

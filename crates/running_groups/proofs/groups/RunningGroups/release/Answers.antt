@@ -6,7 +6,7 @@ use Rattle.running_groups.proofs.groups.RunningGroups.release.Goals as goal
 
 pub returns : goal.returns
 returns c q =
-    all_written _ (λ (v w : Held). w ≡ record { groups = v.groups; ready = [] }) refl _ (λ k v b w g call. (search rules, search rules, search rules)) _ _ c.retain.ensures.filtered q
+    all_written _ (λ (v w : Held). w ≡ record { groups = v.groups; ready = [] }) refl _ (λ k v b w g call. (search rules, search rules, search rules)) _ _ c.self.invariant c.retain.ensures.filtered q
     ∙ ap released c.self.view_is
   where
     released : List (ℕ × Held) → Held

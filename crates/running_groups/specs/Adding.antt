@@ -5,16 +5,21 @@ use Rattle.flow_aggregate.specs.declared.addition.Addition.{Addition}
 use Rattle.flow_aggregate.specs.Running.{Held}
 use Rattle.flow_aggregate.specs.Counts.{Count}
 use Rattle.flow_aggregate.specs.Additions.{AreReady}
-use Rattle.running_groups.specs.Table.{held_at}
-use Rattle.mediator_state.specs.declared.tallies.Reserved.{Reserved}
+use Rattle.running_groups.specs.declared.tally.Tally.{Tally}
+use Rattle.running_groups.specs.declared.tally.Reserved.{Reserved}
+use Rattle.running_groups.specs.Table.{held_at, StandsAt}
 
--- what was made ready for a subscription
+-- a tally as a pair: the subscription with what is added to its aggregates
+abbrev pub tallied : Tally → ℕ × List Count
+tallied t = (t.sub, t.counts.items)
+
+-- what was made ready, with the place where it is added
 abbrev pub reserved_for : Reserved → ℕ × List Addition
-reserved_for r = (r.sub, r.additions.items)
+reserved_for r = (r.place, r.additions.items)
 
--- that is what is added to its groups
+-- that is what is added to a subscription's groups, and there they stand
 abbrev pub IsReadyFor : List (ℕ × Held) → ℕ × List Addition → ℕ × List Count → Type 0
-IsReadyFor groups reserved tally = (reserved.0 ≡ tally.0) × AreReady (held_at groups tally.0) reserved.1 tally.1
+IsReadyFor groups reserved tally = StandsAt groups reserved.0 tally.0 × AreReady (held_at groups tally.0) reserved.1 tally.1
 
 -- so it is for each
 abbrev pub AllReady : List (ℕ × Held) → List (ℕ × List Addition) → List (ℕ × List Count) → Type 0
