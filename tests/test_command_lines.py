@@ -35,6 +35,8 @@ REFUSED = [
     ("no policy", ["offline", "--subscriber", "acme"], ONE_POLICY),
     ("two policies", [*OFFLINE, "--policy", "a"], ONE_POLICY),
     ("no settings", ["serve"], "--settings <FILE>"),
+    ("no journal", ["verify", "--quiet"], "--journal <FILE>"),
+    ("two journals", ["verify", "--journal", "a", "--journal", "b"], "cannot be used multiple times"),
     (
         "usage of the command: check-policy",
         ["check-policy"],
@@ -67,6 +69,8 @@ SHOWN = [
     ("offline --help: options", ["offline", "--help"], "--audit <FILE>"),
     ("offline -h: examples", ["offline", "-h"], "\n  ipmd offline --policy"),
     ("offline --help: what becomes of aggregates", ["offline", "--help"], "no advance closes them here"),
+    ("verify --help: options", ["verify", "--help"], "--quiet"),
+    ("help verify", ["help", "verify"], "\n  ipmd verify --journal run.journal"),
     ("check-policy --help: examples", ["check-policy", "--help"], "\n  ipmd check-policy --policy-text"),
     (
         "serve --help: the levels of the notes",

@@ -1,5 +1,6 @@
 """The examples of `examples/`: what each command writes, how each policy with a fault is answered, and each list of calls."""
 import shlex
+import subprocess
 import unittest
 
 from program import TOP
@@ -43,6 +44,14 @@ class Examples(ProgramTest):
         for path in found("*/calls.txt"):
             with self.subTest(path.parent.name):
                 self.expect_ran(run(["replay", "--calls", str(path)]), 0, (path.parent / "answers.txt").read_text(), "")
+
+    def test_journals(self):
+        for path in found("*/run.hex"):
+            with self.subTest(path.parent.name):
+                journal = self.file("run.journal", bytes.fromhex(path.read_text()))
+                self.expect_ran(run(["verify", "--journal", journal]), 0, (path.parent / "found.txt").read_text(), "")
+                listed = subprocess.run([path.parent / "entries", journal], capture_output=True, text=True, check=True)
+                self.assertEqual(len(listed.stdout.splitlines()), 7)
 
 
 if __name__ == "__main__":

@@ -2,8 +2,10 @@
 use Rattle.std.proofs.Common.{◌≡◌, ℕ, List, Bool, Option, inl, inr, ap, subst}
 use Rattle.std.specs.Borrow.{Bor}
 use Rattle.ipmd_command_line.specs.CommandLine.{AsksFor}
-use Rattle.ipmd_command_line.specs.declared.task.Task.TheVariants.{Serve}
+use Rattle.ipmd_command_line.specs.declared.task.OfflineOptions.{OfflineOptions}
+use Rattle.ipmd_command_line.specs.declared.task.Task.TheVariants.{Offline, Serve}
 use Rattle.ipmd_offline.specs.declared.fault.ProgramFault.{ProgramFault}
+use Rattle.ipmd_offline.specs.Runs.{RefusesToFilter}
 use Rattle.ipmd_offline.specs.Status.{line_of_fault, Tells}
 use Rattle.ipmd.specs.Program.{FailsFor, IsFault}
 use Rattle.ipmd.specs.Serving.{FailsToServe}
@@ -13,6 +15,11 @@ pub unserved : {D : Type 0} (words : List (List ℕ)) (path : Bor (List ℕ)) (e
     → AsksFor words (Serve path) → FailsToServe e held holds before after → FailsFor words e given held holds before after
 unserved words path e given held holds before after asks (inl (same, refuses, keeps)) = inl (same, inr (inr (inr (inr (inl (path, asks, refuses, keeps))))))
 unserved words path e given held holds before after asks (inr refuses) = inr (path, asks, refuses)
+
+-- a stream was not filtered
+pub unfiltered : {D : Type 0} (words : List (List ℕ)) (options : OfflineOptions) (e : ProgramFault) (given held holds : Option (List ℕ)) (before after : D)
+    → after ≡ before → AsksFor words (Offline options) → RefusesToFilter options e given held holds → FailsFor words e given held holds before after
+unfiltered words options e given held holds before after same asks refuses = inl (same, inr (inr (inl (options, asks, refuses))))
 
 -- it was a fault, and then that was said
 pub blamed : {D : Type 0} (holds_of : D → Option (List ℕ)) (words : List (List ℕ)) (e : ProgramFault) (given held holds : Option (List ℕ)) (before after : D) (has_failed : Bool) (tells : Option (List ℕ))

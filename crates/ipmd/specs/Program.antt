@@ -7,12 +7,15 @@ use Rattle.clap.specs.declared.error.Error.{Error}
 use Rattle.offline_filter.specs.declared.job.OfflineReport.{OfflineReport}
 use Rattle.ipmd_command_line.specs.CommandLine.{AsksFor, RefusesWords}
 use Rattle.ipmd_command_line.specs.declared.fault.CommandLineFault.{CommandLineFault}
+use Rattle.ipmd_command_line.specs.declared.task.ReplayOptions.{ReplayOptions}
 use Rattle.ipmd_command_line.specs.declared.task.OfflineOptions.{OfflineOptions}
-use Rattle.ipmd_command_line.specs.declared.task.Task.TheVariants.{Offline, CheckPolicy, Replay, Serve, Show}
+use Rattle.ipmd_command_line.specs.declared.task.VerifyOptions.{VerifyOptions}
+use Rattle.ipmd_command_line.specs.declared.task.Task.TheVariants.{Offline, CheckPolicy, Replay, Serve, Verify, Show}
 use Rattle.ipmd_command_line.specs.declared.task.PolicySource.{PolicySource}
 use Rattle.ipmd_offline.specs.declared.fault.ProgramFault.{ProgramFault}
 use Rattle.ipmd_offline.specs.Runs.{CountsPolicy, Filters, RefusesToCount, RefusesToFilter, RefusesToShow, Shows, line_of_report}
 use Rattle.ipmd_offline.specs.Status.{command_line_fault_of, line_of_fault, Tells}
+use Rattle.ipmd_verify.specs.Verifying.{VerifiesFile, RefusesToVerifyFile}
 use Rattle.ipmd.specs.Replays.{Replays, RefusesToReplay}
 use Rattle.ipmd.specs.Serving.{Serves, RefusesToPrepare, RefusesToServe}
 
@@ -23,8 +26,9 @@ abbrev pub DoesAlone : List (List ℕ) → Option OfflineReport → Option (List
 DoesAlone words (Some report) given held holds = (options : OfflineOptions) × AsksFor words (Offline options) × Filters options report given held holds
 DoesAlone words None given held holds =
     ((source : PolicySource) × AsksFor words (CheckPolicy source) × CountsPolicy source held holds)
-    ⊎ (((path : Bor (List ℕ)) × AsksFor words (Replay path) × Replays held holds)
-    ⊎ ((shown : Error) × AsksFor words (Show shown) × Shows (kind_of shown) held holds))
+    ⊎ (((options : ReplayOptions) × AsksFor words (Replay options) × Replays held holds)
+    ⊎ (((options : VerifyOptions) × AsksFor words (Verify options) × VerifiesFile options.quiet held holds)
+    ⊎ ((shown : Error) × AsksFor words (Show shown) × Shows (kind_of shown) held holds)))
 
 -- the words ask for nothing, or memory ran out
 abbrev pub RefusesCommandLine : List (List ℕ) → ProgramFault → Type 0
@@ -36,9 +40,10 @@ FailsAlone words e given held holds =
     (RefusesCommandLine words e × Keeps held holds)
     ⊎ (((source : PolicySource) × AsksFor words (CheckPolicy source) × RefusesToCount source e held holds)
     ⊎ (((options : OfflineOptions) × AsksFor words (Offline options) × RefusesToFilter options e given held holds)
-    ⊎ (((path : Bor (List ℕ)) × AsksFor words (Replay path) × RefusesToReplay e held holds)
+    ⊎ (((options : ReplayOptions) × AsksFor words (Replay options) × RefusesToReplay e held holds)
     ⊎ (((path : Bor (List ℕ)) × AsksFor words (Serve path) × RefusesToPrepare e × Keeps held holds)
-    ⊎ ((shown : Error) × AsksFor words (Show shown) × RefusesToShow (kind_of shown) e held holds)))))
+    ⊎ (((options : VerifyOptions) × AsksFor words (Verify options) × RefusesToVerifyFile options.quiet e held holds)
+    ⊎ ((shown : Error) × AsksFor words (Show shown) × RefusesToShow (kind_of shown) e held holds))))))
 
 -- ---- what is done
 

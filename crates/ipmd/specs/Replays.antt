@@ -10,7 +10,7 @@ use Rattle.mediator_calls.specs.Mediation.{Mediation, started}
 use Rattle.mediator_core.specs.Runs.{Runs}
 use Rattle.mediator_core.specs.Headline.{HistoryIsTheCalls, HandedIsDisclosed, HandedIsFront, DrainedIsAudited, IsBuiltFromDisclosed}
 use Rattle.ipmd_offline.specs.declared.fault.ProgramFault.{ProgramFault}
-use Rattle.ipmd_offline.specs.declared.fault.ProgramFault.TheVariants.{CommandLine, Settings, Policy, Hex, Framing, Core, Cut, Calls, BadLimits, Close, OutOfMemory, Device}
+use Rattle.ipmd_offline.specs.declared.fault.ProgramFault.TheVariants.{CommandLine, Settings, Policy, Hex, Framing, Core, Cut, Calls, BadLimits, Journal, History, Close, OutOfMemory, Device}
 use Rattle.ipmd_offline.specs.HexText.{WritesSome}
 
 -- These are the replies to the calls that the text lists, made one after another on a new mediator; and all that is promised of a
@@ -44,8 +44,16 @@ RefusesText Hex text = ⊥
 RefusesText (Framing why) text = ⊥
 RefusesText (Core why) text = ⊥
 RefusesText Cut text = ⊥
+RefusesText (Journal why) text = ⊥
+RefusesText (History position) text = ⊥
 RefusesText Close text = ⊥
 RefusesText Device text = ⊥
+
+-- why a journal's file isn't kept
+abbrev pub IsKeepingFault : ProgramFault → Type 0
+IsKeepingFault Device = Unit {0}
+IsKeepingFault OutOfMemory = Unit {0}
+IsKeepingFault _ = ⊥
 
 -- the calls of a text were made, and the answers were written; what a file holds isn't told here
 pub record Replays (held holds : Option (List ℕ)) : Type 0 where
@@ -61,7 +69,7 @@ pub record BeginsToAnswer (held holds : Option (List ℕ)) : Type 0 where
   pub runs : RunsText text replies
   pub written : WritesSome (answers_text replies) held holds
 
--- why the calls of a file aren't answered: the file can't be read, its text is refused, or memory ran out, and nothing was written;
+-- why the calls of a file aren't answered: the file can't be read, its text is refused, its journal can't be kept, or memory ran out, and nothing was written;
 -- or the output failed
 abbrev pub RefusesToReplay : ProgramFault → Option (List ℕ) → Option (List ℕ) → Type 0
 RefusesToReplay Device held holds = Keeps held holds ⊎ BeginsToAnswer held holds

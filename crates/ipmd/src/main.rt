@@ -7,7 +7,7 @@
 //! - `system`: [`System`], what the program asks of the system.
 //!
 //! What may be asked for, and what words ask for, is `ipmd_command_line`'s. What is done for one stream, one policy or one
-//! text is `ipmd_offline`'s, with the texts and the exit statuses of faults.
+//! text is `ipmd_offline`'s, with the texts and the exit statuses of faults; for a journal's file it is `ipmd_verify`'s.
 //!
 //! Proved of `program`: it is safe, and what it calls for all commands but `serve` returns. Its status is 0 only where it did
 //! what the words ask for (`done`): the whole input, as octets or as what its hexadecimal text spells, was filtered with the
@@ -15,13 +15,13 @@
 //! of these messages, with `--hex` a line of digits for each message that is due, and the report counts them; or the text is a
 //! policy, and its counts were written; or the calls of a list were made, and their answers written; or settings were read,
 //! the plan that they ask for was served to its end, and the counts of what was accepted and handed out were written, of a
-//! journal in which each entry has its receipt; or help or the version was written. Every other status is that of a fault with
+//! journal in which each entry has its receipt; or the text of a legal history was written; or help or the version was written. Every other status is that of a fault with
 //! its cause (`fails`): the words ask for nothing that there is, the text has this fault, the mediator or the server stopped so,
 //! or a device failed or memory ran out. What was written by then is said with it. The stream for errors grew by exactly the
 //! line of the report or of the fault, unless it failed itself (`Tells`); a policy's counts, answers, the help and the version
 //! leave it alone (`Reports`). Of a server that was run the line of its fault stands behind notes of which nothing is told.
 //!
-//! Shown by tests alone: a server's notes, and the order of faults.
+//! Shown by tests alone: a server's notes, the order of faults, and how far a journal's file was read, which `progress` is told.
 #![tactic(auto)]
 
 ghost use Rattle.std.specs.Prelude.{◌≡◌, ◌≢◌, map, IfErr, IfOk};
@@ -40,11 +40,12 @@ use crate::serve::serve;
 use crate::system::System;
 use ipmd_command_line::{Task, read_command_line};
 use ipmd_offline::{ProgramFault, check_policy, filter, show, tell};
+use ipmd_verify::{OnTerminal, Progress, verify};
 use octet_devices::Device;
 use offline_filter::OfflineReport;
 use std::convert::AsStr;
 use std::env;
-use std::io::{Read, Write};
+use std::io::{IsTerminal, Read, Write};
 use std::net::{Net, TcpListener, TcpStream};
 use std::process::ExitCode;
 use std::rt::Env;
@@ -60,6 +61,7 @@ fn main(rt: HostRuntime) -> ExitCode {
             rt.stdin(),
             &mut Device::new(rt.stdout()),
             &mut Device::new(rt.stderr()),
+            &mut OnTerminal::new(Device::new(rt.stderr()), rt.stderr().is_terminal()),
         ),
         Err(fault) => fault.report(&mut Device::new(rt.stderr())),
     };
@@ -74,7 +76,8 @@ fn words_after_name<R: Env + AllocGlobal>(rt: &R) -> Result<Vec<String>, Program
 
 /// Does what the words ask for, and answers the exit status: 0 where it is done, 1 where the input is
 /// refused, 2 for a refused command line, 3 where a device fails. `output` gets what was asked for, and
-/// `errors` the report or the fault, and a server's notes; what `errors` doesn't take is dropped.
+/// `errors` the report or the fault, and a server's notes; what `errors` doesn't take is dropped. `progress` is told how far
+/// a journal's file was read.
 #[tactic(auto, using(crate::proofs::Statuses::no_fault_is_done))]
 pub fn program<
     R: System + Net<Listener = TcpListener, Stream = TcpStream>,
@@ -82,11 +85,19 @@ pub fn program<
     I: Read + Drop,
     O: Write,
     E: Write + Send,
->(rt: &R, words: &[S], input: I, output: &mut Device<O>, errors: &mut Device<E>) -> u8
+    P: Progress,
+>(
+    rt: &R,
+    words: &[S],
+    input: I,
+    output: &mut Device<O>,
+    errors: &mut Device<E>,
+    progress: &mut P,
+) -> u8
     ensures done { result ≡ 0 → IsDone (map S.text words.now) (I.remaining input) (O.contents (device_inner output.old)) (O.contents (device_inner output.new)) (device_failed errors.new) (E.contents (device_inner errors.old)) (E.contents (device_inner errors.new)) }
     ensures fails { result ≢ 0 → (e : ProgramFault) × (result ≡ status_of e) × IsFault (map S.text words.now) e (I.remaining input) (O.contents (device_inner output.old)) (O.contents (device_inner output.new)) (device_failed errors.new) (E.contents (device_inner errors.old)) (E.contents (device_inner errors.new)) }
 {
-    match run(rt, words, input, output, errors) {
+    match run(rt, words, input, output, errors, progress) {
         Ok(Some(report)) => {
             tell(report, errors);
             DONE
@@ -104,12 +115,14 @@ fn run<
     I: Read + Drop,
     O: Write,
     E: Write + Send,
+    P: Progress,
 >(
     rt: &R,
     words: &[S],
     input: I,
     output: &mut Device<O>,
     errors: &mut Device<E>,
+    progress: &mut P,
 ) -> Result<Option<OfflineReport>, ProgramFault>
     ensures ok { IfOk result (λ report. Does (map S.text words.now) report (I.remaining input) (O.contents (device_inner output.old)) (O.contents (device_inner output.new)) errors.old errors.new) }
     ensures err { IfErr result (λ e. FailsFor (map S.text words.now) e (I.remaining input) (O.contents (device_inner output.old)) (O.contents (device_inner output.new)) errors.old errors.new) }
@@ -120,12 +133,16 @@ fn run<
             check_policy(rt, source, output)?;
             Ok(None)
         }
-        Task::Replay(path) => {
-            replay(rt, path, output)?;
+        Task::Replay(options) => {
+            replay(rt, &options, output)?;
             Ok(None)
         }
         Task::Serve(path) => {
             serve(rt, path, output, errors)?;
+            Ok(None)
+        }
+        Task::Verify(options) => {
+            verify(rt, &options, output, progress)?;
             Ok(None)
         }
         Task::Show(shown) => {

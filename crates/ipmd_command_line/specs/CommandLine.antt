@@ -8,8 +8,10 @@ use Rattle.clap.specs.declared.builder.value_parser.ValueParser.TheVariants.{Sig
 use Rattle.clap.specs.declared.error.kind.ErrorKind.{ErrorKind}
 use Rattle.clap.specs.declared.error.kind.ErrorKind.TheVariants.{DisplayHelp, DisplayVersion}
 use Rattle.ipmd_command_line.specs.declared.task.OfflineOptions.{OfflineOptions}
+use Rattle.ipmd_command_line.specs.declared.task.ReplayOptions.{ReplayOptions}
+use Rattle.ipmd_command_line.specs.declared.task.VerifyOptions.{VerifyOptions}
 use Rattle.ipmd_command_line.specs.declared.task.Task.{Task}
-use Rattle.ipmd_command_line.specs.declared.task.Task.TheVariants.{Offline, CheckPolicy, Replay, Serve, Show}
+use Rattle.ipmd_command_line.specs.declared.task.Task.TheVariants.{Offline, CheckPolicy, Replay, Serve, Verify, Show}
 use Rattle.ipmd_command_line.specs.declared.fault.CommandLineFault.{CommandLineFault}
 use Rattle.ipmd_command_line.specs.declared.fault.CommandLineFault.TheVariants.{Refused, OutOfMemory}
 use Rattle.ipmd_command_line.specs.declared.task.PolicySource.{PolicySource}
@@ -46,10 +48,13 @@ abbrev pub check_policy_command : App
 check_policy_command = with_policy (new_app (codes "check-policy"))
 
 abbrev pub replay_command : App
-replay_command = with_rule (new_app (codes "replay")) (needed (codes "calls"))
+replay_command = with_rule (with_rule (new_app (codes "replay")) (needed (codes "calls"))) (valued (codes "journal"))
 
 abbrev pub serve_command : App
 serve_command = with_rule (new_app (codes "serve")) (needed (codes "settings"))
+
+abbrev pub verify_command : App
+verify_command = with_rule (with_rule (new_app (codes "verify")) (needed (codes "journal"))) (flag (codes "quiet"))
 
 -- the words begin after the program's name
 abbrev pub top_command : App
@@ -57,7 +62,8 @@ top_command = record (new_app (codes "ipmd")) { top = record (new_app (codes "ip
 
 abbrev pub ipmd_command : App
 ipmd_command =
-    with_subcommand (with_subcommand (with_subcommand (with_subcommand top_command offline_command.top) check_policy_command.top) replay_command.top) serve_command.top
+    with_subcommand (with_subcommand (with_subcommand (with_subcommand (with_subcommand top_command
+    offline_command.top) check_policy_command.top) replay_command.top) serve_command.top) verify_command.top
 
 -- ---- what is asked for
 
@@ -87,12 +93,21 @@ pub record AreOptions (options : OfflineOptions) (rows : List Row) : Type 0 wher
   pub audit : first_of (codes "audit") rows ≡ option_map (λ path. path.now) options.audit
   pub hex : IsFlag (codes "hex") rows options.hex
 
+pub record AreReplayOptions (options : ReplayOptions) (rows : List Row) : Type 0 where
+  pub calls : first_of (codes "calls") rows ≡ Some options.calls.now
+  pub journal : first_of (codes "journal") rows ≡ option_map (λ path. path.now) options.journal
+
+pub record AreVerifyOptions (options : VerifyOptions) (rows : List Row) : Type 0 where
+  pub journal : first_of (codes "journal") rows ≡ Some options.journal.now
+  pub quiet : IsFlag (codes "quiet") rows options.quiet
+
 -- the command that was named, and its options
 abbrev pub IsCommand : Task → Text → List Row → Type 0
 IsCommand (Offline options) name rows = (name ≡ codes "offline") × AreOptions options rows
 IsCommand (CheckPolicy source) name rows = (name ≡ codes "check-policy") × IsSource source rows
-IsCommand (Replay path) name rows = (name ≡ codes "replay") × (first_of (codes "calls") rows ≡ Some path.now)
+IsCommand (Replay options) name rows = (name ≡ codes "replay") × AreReplayOptions options rows
 IsCommand (Serve path) name rows = (name ≡ codes "serve") × (first_of (codes "settings") rows ≡ Some path.now)
+IsCommand (Verify options) name rows = (name ≡ codes "verify") × AreVerifyOptions options rows
 IsCommand (Show text) name rows = ⊥
 
 abbrev pub IsCommandIn : Task → Option (Text × List Row) → Type 0
@@ -110,8 +125,9 @@ abbrev pub AsksFor : List Text → Task → Type 0
 AsksFor words (Show text) = IsAmong (kind_of text) (fault_of ipmd_command words) × (is_shown (kind_of text) ≡ true)
 AsksFor words (Offline options) = IsCommandIn (Offline options) (subcommand_of ipmd_command words)
 AsksFor words (CheckPolicy source) = IsCommandIn (CheckPolicy source) (subcommand_of ipmd_command words)
-AsksFor words (Replay path) = IsCommandIn (Replay path) (subcommand_of ipmd_command words)
+AsksFor words (Replay options) = IsCommandIn (Replay options) (subcommand_of ipmd_command words)
 AsksFor words (Serve path) = IsCommandIn (Serve path) (subcommand_of ipmd_command words)
+AsksFor words (Verify options) = IsCommandIn (Verify options) (subcommand_of ipmd_command words)
 
 -- the words ask for nothing: the parser says so, or no command is what they name with its options
 abbrev pub RefusesWords : List Text → CommandLineFault → Type 0

@@ -1,14 +1,16 @@
 //! What words ask for.
 ghost use Rattle.std.specs.Prelude.{◌≡◌, false, map, option_map, IfErr, IfOk, IfSome, IsSome};
 ghost use Rattle.ipmd_command_line.specs.declared.task.OfflineOptions.{OfflineOptions};
+ghost use Rattle.ipmd_command_line.specs.declared.task.ReplayOptions.{ReplayOptions};
+ghost use Rattle.ipmd_command_line.specs.declared.task.VerifyOptions.{VerifyOptions};
 ghost use Rattle.ipmd_command_line.specs.declared.task.Task.{Task};
 ghost use Rattle.ipmd_command_line.specs.declared.task.PolicySource.{PolicySource};
 ghost use Rattle.clap.specs.Words.{app_of, first_of, found_of, rows_of, rule_of, subcommand_rows_of};
-ghost use Rattle.ipmd_command_line.specs.CommandLine.{AreOptions, AsksFor, IsCommandIn, IsSource, RefusesWords, check_policy_command, ipmd_command, offline_command, replay_command, serve_command, valued, with_policy};
+ghost use Rattle.ipmd_command_line.specs.CommandLine.{AreOptions, AreReplayOptions, AreVerifyOptions, AsksFor, IsCommandIn, IsSource, RefusesWords, check_policy_command, ipmd_command, offline_command, replay_command, serve_command, valued, verify_command, with_policy};
 
 use crate::fault::CommandLineFault;
 use crate::help;
-use crate::task::{OfflineOptions, PolicySource, Task};
+use crate::task::{OfflineOptions, PolicySource, ReplayOptions, Task, VerifyOptions};
 use clap::error::ErrorKind;
 use clap::{Arg, ArgAction, ArgMatches, Command, value_parser};
 use std::alloc::{AllocError, Global};
@@ -24,6 +26,8 @@ const CHECK_POLICY: &str = "check-policy";
 const REPLAY: &str = "replay";
 
 const SERVE: &str = "serve";
+
+const VERIFY: &str = "verify";
 
 const POLICY: &str = "policy";
 
@@ -42,6 +46,10 @@ const HEX: &str = "hex";
 const CALLS: &str = "calls";
 
 const SETTINGS: &str = "settings";
+
+const JOURNAL: &str = "journal";
+
+const QUIET: &str = "quiet";
 
 /// What the words after the program's name ask for.
 ///
@@ -89,8 +97,9 @@ fn task_of<'a>(matches: &ArgMatches<'a>) -> Option<Task<'a>>
     match matches.subcommand()? {
         (OFFLINE, chosen) => Some(Task::Offline(offline_options(chosen)?)),
         (CHECK_POLICY, chosen) => Some(Task::CheckPolicy(policy_source(chosen)?)),
-        (REPLAY, chosen) => Some(Task::Replay(value_of(chosen, CALLS)?)),
+        (REPLAY, chosen) => Some(Task::Replay(replay_options(chosen)?)),
         (SERVE, chosen) => Some(Task::Serve(value_of(chosen, SETTINGS)?)),
+        (VERIFY, chosen) => Some(Task::Verify(verify_options(chosen)?)),
         _ => None,
     }
 }
@@ -107,6 +116,28 @@ fn offline_options<'a>(chosen: &ArgMatches<'a>) -> Option<OfflineOptions<'a>>
         target: chosen.get_one::<u16>(TARGET)?,
         audit: chosen.get_str(AUDIT),
         hex: chosen.get_flag(HEX),
+    })
+}
+
+/// The options of `ipmd replay`.
+fn replay_options<'a>(chosen: &ArgMatches<'a>) -> Option<ReplayOptions<'a>>
+    ensures found { IfSome result (λ options. AreReplayOptions options (rows_of (found_of chosen.now))) }
+    ensures only { (options : ReplayOptions) → AreReplayOptions options (rows_of (found_of chosen.now)) → IsSome result }
+{
+    Some(ReplayOptions {
+        calls: chosen.get_str(CALLS)?,
+        journal: chosen.get_str(JOURNAL),
+    })
+}
+
+/// The options of `ipmd verify`.
+fn verify_options<'a>(chosen: &ArgMatches<'a>) -> Option<VerifyOptions<'a>>
+    ensures found { IfSome result (λ options. AreVerifyOptions options (rows_of (found_of chosen.now))) }
+    ensures only { (options : VerifyOptions) → AreVerifyOptions options (rows_of (found_of chosen.now)) → IsSome result }
+{
+    Some(VerifyOptions {
+        journal: chosen.get_str(JOURNAL)?,
+        quiet: chosen.get_flag(QUIET),
     })
 }
 
@@ -144,7 +175,8 @@ fn whole_command<'a>(alloc: Global) -> Result<Command<'a>, AllocError>
         .subcommand(offline_command(alloc)?)?
         .subcommand(check_policy_command(alloc)?)?
         .subcommand(replay_command(alloc)?)?
-        .subcommand(serve_command(alloc)?)
+        .subcommand(serve_command(alloc)?)?
+        .subcommand(verify_command(alloc)?)
 }
 
 fn offline_command<'a>(alloc: Global) -> Result<Command<'a>, AllocError>
@@ -199,14 +231,17 @@ fn replay_command<'a>(alloc: Global) -> Result<Command<'a>, AllocError>
     ensures { IfOk result (λ command. app_of command ≡ replay_command) }
 {
     Command::new(alloc, REPLAY)
-        .override_usage("ipmd replay --calls <FILE>")
+        .override_usage("ipmd replay --calls <FILE> [--journal <FILE>]")
         .about("Makes a list of calls on a new mediator, and says what each is answered")
         .after_help(help::REPLAY)
         .arg(
             option(alloc, CALLS, "FILE")
                 .required(true)
                 .help("The file with the calls, one a line"),
-        )
+        )?
+        .arg(option(alloc, JOURNAL, "FILE").help(
+            "Where to keep the journal of what was accepted, for ipmd verify",
+        ))
 }
 
 fn serve_command<'a>(alloc: Global) -> Result<Command<'a>, AllocError>
@@ -222,6 +257,26 @@ fn serve_command<'a>(alloc: Global) -> Result<Command<'a>, AllocError>
             option(alloc, SETTINGS, "FILE")
                 .required(true)
                 .help("The file with the settings, in TOML"),
+        )
+}
+
+fn verify_command<'a>(alloc: Global) -> Result<Command<'a>, AllocError>
+    ensures { IfOk result (λ command. app_of command ≡ verify_command) }
+{
+    Command::new(alloc, VERIFY)
+        .override_usage("ipmd verify --journal <FILE> [--quiet]")
+        .about("Says whether a journal's history is legal, and what it discloses to whom")
+        .after_help(help::VERIFY)
+        .arg(
+            option(alloc, JOURNAL, "FILE")
+                .required(true)
+                .help("The journal's file"),
+        )?
+        .arg(
+            Arg::new(alloc, QUIET)
+                .long(QUIET)
+                .action(ArgAction::SetTrue)
+                .help("Leave out the audit, and say nothing of how far the file was read"),
         )
 }
 

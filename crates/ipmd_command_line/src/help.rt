@@ -8,7 +8,9 @@ Begin with a policy, see that it is one, and filter a stream by it:
 What several subscribers would see, or a change of policy would do, is rehearsed by
   ipmd replay --calls calls.txt
 Exporters and collectors that are there now are served over TCP by
-  ipmd serve --settings settings.toml";
+  ipmd serve --settings settings.toml
+Whoever has the file of a mediator's journal may check it by
+  ipmd verify --journal run.journal";
 
 /// Below the help of `ipmd offline`.
 pub const OFFLINE: &str = "\
@@ -116,11 +118,14 @@ is answered
   ok 1
   ok none
 
+With --journal the file gets an entry for each call that was accepted and for each subscription that
+was cut, as ipmd verify reads them.
+
 What standard error says where no call is answered:
   ipmd: calls line N   line N asks for nothing that there is
   ipmd: BadLimits      a limit is 0, or QUEUE is above 1000000, SHAPES above 65280, AUDIT above
                        10000000, ENTRIES above 100000000 or OCTETS above 1099511627776
-  ipmd: device         the file can't be read or isn't UTF-8, or the output fails
+  ipmd: device         a file can't be read or written or isn't UTF-8, or the output fails
   ipmd: OutOfMemory    no memory is left
 
 Exit status: 0 each call was answered, 1 refused or out of memory, 2 wrong command line, 3 device.";
@@ -171,3 +176,30 @@ What standard error says last where the run fails, and what to do:
   ipmd: close                what was received isn't what the journal has; this is never expected
 
 Exit status: 0 done, 1 refused or out of memory, 2 wrong command line, 3 device.";
+
+/// Below the help of `ipmd verify`.
+pub const VERIFY: &str = "\
+A journal names, in their order, all that changed a mediator: sessions, messages, policies,
+subscriptions, advances of the clock, and cuts. The file is legal where each entry is one that a
+mediator may have accepted where it stands. Then standard output has a line for each subscription,
+and behind these the lines of the audit, as in ipmd offline --help:
+  sub 1 acme disclosed 1     subscription 1, of acme: the history discloses one record to it
+  5 0 1 cut                  at entry 5 (the first is 0) subscription 1 was cut
+Nothing is written of a file that is refused.
+
+Example:
+  ipmd verify --journal run.journal > found.txt
+
+What standard error says, and what it means:
+  ipmd: journal BadMagic       the file does not begin with IPMJ: it is no journal
+  ipmd: journal BadVersion     it is one of another version
+  ipmd: journal Truncated      the file ends inside what it announces
+  ipmd: journal BadEntry       an entry is none, or octets stand behind the last one
+  ipmd: journal BadHistory P   the file is a journal, and no mediator accepts entry P (the first is
+                               0) after the entries before it
+  ipmd: device                 the file can't be opened or read, or the output fails
+  ipmd: OutOfMemory            no memory is left
+A fault of the file goes before one of the history. On a terminal standard error shows meanwhile
+how many entries were read.
+
+Exit status: 0 legal, 1 refused or out of memory, 2 wrong command line, 3 device.";

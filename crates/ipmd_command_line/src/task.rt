@@ -23,6 +23,24 @@ pub struct OfflineOptions<'a> {
     pub hex: bool,
 }
 
+/// What `ipmd replay` is to do.
+#[derive(Clone, Copy, Debug)]
+pub struct ReplayOptions<'a> {
+    /// The file with the calls.
+    pub calls: &'a str,
+    /// The file that gets the journal of what was accepted; where there is none, the journal is dropped.
+    pub journal: Option<&'a str>,
+}
+
+/// What `ipmd verify` is to do.
+#[derive(Clone, Copy, Debug)]
+pub struct VerifyOptions<'a> {
+    /// The journal's file.
+    pub journal: &'a str,
+    /// Whether the audit is left out.
+    pub quiet: bool,
+}
+
 /// What a command line asks for.
 #[derive(Debug, Drop)]
 pub enum Task<'a> {
@@ -30,10 +48,12 @@ pub enum Task<'a> {
     Offline(OfflineOptions<'a>),
     /// To say whether a text is a policy.
     CheckPolicy(PolicySource<'a>),
-    /// To make the calls that the file at this path lists.
-    Replay(&'a str),
+    /// To make the calls that a file lists.
+    Replay(ReplayOptions<'a>),
     /// To serve exporters and collectors, as the settings in the file at this path say.
     Serve(&'a str),
+    /// To verify a journal's file.
+    Verify(VerifyOptions<'a>),
     /// To show the help or the version.
     Show(clap::Error),
 }

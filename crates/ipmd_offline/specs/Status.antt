@@ -19,10 +19,14 @@ use Rattle.call_lists.specs.declared.fault.CallsFault.TheVariants as calls
 use Rattle.serve_settings.specs.Names.{text_of_fault as text_of_settings}
 use Rattle.serve_settings.specs.declared.fault.SettingsFault.{SettingsFault}
 use Rattle.serve_settings.specs.declared.fault.SettingsFault.TheVariants as settings
+use Rattle.journal_files.specs.FaultTexts.{text_of_fault as text_of_journal}
+use Rattle.journal_files.specs.declared.fault.JournalFault.TheVariants as journal
+use Rattle.journal_files.specs.declared.read_fault.ReadFault.{ReadFault}
+use Rattle.journal_files.specs.declared.read_fault.ReadFault.TheVariants as reading
 use Rattle.mediator_calls.specs.declared.fault.RunFault.{RunFault}
 use Rattle.mediator_calls.specs.declared.fault.RunFault.TheVariants as run
 use Rattle.ipmd_offline.specs.declared.fault.ProgramFault.{ProgramFault}
-use Rattle.ipmd_offline.specs.declared.fault.ProgramFault.TheVariants.{CommandLine, Settings, Policy, Hex, Framing, Core, Cut, Calls, BadLimits, Close, OutOfMemory, Device}
+use Rattle.ipmd_offline.specs.declared.fault.ProgramFault.TheVariants.{CommandLine, Settings, Policy, Hex, Framing, Core, Cut, Calls, BadLimits, Journal, History, Close, OutOfMemory, Device}
 
 -- 1: what was read is refused, or memory runs out; 2: the command line is refused; 3: a file, a stream or an address fails
 abbrev pub status_of : ProgramFault → ℕ
@@ -35,6 +39,8 @@ status_of (Core _) = 1
 status_of Cut = 1
 status_of (Calls _) = 1
 status_of BadLimits = 1
+status_of (Journal _) = 1
+status_of (History _) = 1
 status_of Close = 1
 status_of OutOfMemory = 1
 status_of Device = 3
@@ -50,6 +56,8 @@ text_of (Core why) = Some (codes "ipmd: " ++ text_of_fault why)
 text_of Cut = Some (codes "ipmd: Cut")
 text_of (Calls line) = Some (codes "ipmd: calls line " ++ decimal line)
 text_of BadLimits = Some (codes "ipmd: BadLimits")
+text_of (Journal why) = Some (codes "ipmd: journal " ++ text_of_journal why)
+text_of (History position) = Some (codes "ipmd: journal BadHistory " ++ decimal position)
 text_of Close = Some (codes "ipmd: close")
 text_of OutOfMemory = Some (codes "ipmd: OutOfMemory")
 text_of Device = Some (codes "ipmd: device")
@@ -113,3 +121,12 @@ calls_fault_of calls.OutOfMemory = OutOfMemory
 abbrev pub run_fault_of : RunFault → ProgramFault
 run_fault_of run.BadLimits = BadLimits
 run_fault_of run.OutOfMemory = OutOfMemory
+
+-- why no more was read of a journal's file; want of memory is no fault of the file
+abbrev pub read_fault_of : ReadFault → ProgramFault
+read_fault_of reading.Read = Device
+read_fault_of (reading.File journal.OutOfMemory) = OutOfMemory
+read_fault_of (reading.File journal.BadMagic) = Journal journal.BadMagic
+read_fault_of (reading.File journal.BadVersion) = Journal journal.BadVersion
+read_fault_of (reading.File journal.Truncated) = Journal journal.Truncated
+read_fault_of (reading.File journal.BadEntry) = Journal journal.BadEntry

@@ -3,6 +3,7 @@ ghost use Rattle.std.specs.Prelude.{◌≡◌};
 
 use call_lists::CallsFault;
 use ipmd_command_line::CommandLineFault;
+use journal_files::{JournalFault, ReadFault};
 use mediator_calls::RunFault;
 use octet_devices::{Device, Failed, WriteStopped};
 use offline_filter::{Fault, FramingFault, OfflineFault};
@@ -43,6 +44,10 @@ pub enum ProgramFault {
     Calls(usize),
     /// The limits of a list of calls are out of their ranges.
     BadLimits,
+    /// The octets are no journal's file.
+    Journal(JournalFault),
+    /// A journal's entry at this position is none that a mediator may have accepted there. All entries before it are.
+    History(u64),
     /// What was served isn't given back: a receipt doesn't stand in the journal.
     Close,
     /// Want of memory.
@@ -72,6 +77,8 @@ impl Display for ProgramFault {
             ProgramFault::Cut => f.write_str("ipmd: Cut"),
             ProgramFault::Calls(line) => write!(f, "ipmd: calls line {line}"),
             ProgramFault::BadLimits => f.write_str("ipmd: BadLimits"),
+            ProgramFault::Journal(why) => write!(f, "ipmd: journal {why}"),
+            ProgramFault::History(at) => write!(f, "ipmd: journal BadHistory {at}"),
             ProgramFault::Close => f.write_str("ipmd: close"),
             ProgramFault::OutOfMemory => f.write_str("ipmd: OutOfMemory"),
             ProgramFault::Device => f.write_str("ipmd: device"),
@@ -109,6 +116,8 @@ impl ProgramFault {
             | ProgramFault::Cut
             | ProgramFault::Calls(_)
             | ProgramFault::BadLimits
+            | ProgramFault::Journal(_)
+            | ProgramFault::History(_)
             | ProgramFault::Close
             | ProgramFault::OutOfMemory => REFUSED,
             ProgramFault::Device => DEVICE_FAILED,
@@ -278,6 +287,21 @@ impl From<RunFault> for ProgramFault {
         match fault {
             RunFault::BadLimits => ProgramFault::BadLimits,
             RunFault::OutOfMemory => ProgramFault::OutOfMemory,
+        }
+    }
+}
+
+impl From<ReadFault> for ProgramFault {
+    ghost use Rattle.std.specs.Prelude.{◌≡◌};
+    ghost use Rattle.ipmd_offline.specs.Status.{read_fault_of};
+
+    ghost from_gives = { λ f e. e ≡ read_fault_of f };
+
+    fn from(fault: ReadFault) -> ProgramFault {
+        match fault {
+            ReadFault::Read => ProgramFault::Device,
+            ReadFault::File(JournalFault::OutOfMemory) => ProgramFault::OutOfMemory,
+            ReadFault::File(why) => ProgramFault::Journal(why),
         }
     }
 }

@@ -27,7 +27,7 @@ past_number_read : (width n : ℕ) (fault : JournalFault) (a rest : List ℕ) �
 unfolding past_number
 past_number_read width n fault a rest is = rw (number_read width n a rest is, eq-eqb n n refl) refl
 
-head_read : (count : ℕ) (rest : List ℕ) → count < 2 ^ 64 → head_of (head_octets count ++ rest) ≡ found count rest
+pub head_read : (count : ℕ) (rest : List ℕ) → count < 2 ^ 64 → head_of (head_octets count ++ rest) ≡ found count rest
 unfolding head_of
 head_read count rest below =
     rw (

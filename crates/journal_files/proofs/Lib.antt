@@ -13,3 +13,4 @@ pub mod Stopping
 pub mod TooLong
 pub mod Answering
 pub mod Stays
+pub mod FileWriting

@@ -1,5 +1,5 @@
 -- What is read at the front, and a fault that shows there, stay as they are whatever follows, but that a file is cut off.
-use Rattle.std.proofs.Common.{◌≡◌, ℕ, Bool, true, false, cond, ltb, eqb, List, ◌++◌, length, take, drop, Option, Some, None, Result, Ok, Err, refl, sym, ap, ◌∙◌, length-append, arith}
+use Rattle.std.proofs.Common.{◌≡◌, ℕ, Bool, true, false, cond, ltb, eqb, List, [], ◌++◌, length, take, drop, Option, Some, None, Result, Ok, Err, refl, sym, ap, subst, ◌∙◌, append-nil, length-append, arith}
 use Rattle.std.specs.Str.{is_utf8}
 use Rattle.std.proofs.lemmas.Bool.{ltb-false, le-ltb, ne_eqb, eqb-false}
 use Rattle.std.proofs.lemmas.List.{take-append-le}
@@ -11,9 +11,9 @@ use Rattle.event_journal.specs.declared.entry.Entry.{Entry}
 use Rattle.event_journal.specs.declared.entry.Entry.TheVariants.{Open, Close, Edit, Subscribe, Unsubscribe, Advance, Cut}
 use Rattle.journal_files.specs.declared.fault.JournalFault.{JournalFault}
 use Rattle.journal_files.specs.declared.fault.JournalFault.TheVariants.{BadMagic, BadVersion, Truncated, BadEntry}
-use Rattle.journal_files.specs.Format.{magic, version}
+use Rattle.journal_files.specs.Format.{magic, version, octets_of}
 use Rattle.journal_files.specs.Reading.{Found, front_of, number_of, past_number, head_of, numbered, message_of, edit_of, subscribe_of, entry_by, entry_of, is_past}
-use Rattle.journal_files.specs.Streaming.{Place, FaultStays, HeadStays, next_of, step_of}
+use Rattle.journal_files.specs.Streaming.{Place, IsReadBack, FaultStays, HeadStays, next_of, step_of}
 
 -- a result of the octets, and one of the octets with more behind them
 abbrev Same : {A : Type 0} → List ℕ → Found A → Found A → Type 0
@@ -94,6 +94,12 @@ kind_stays kind octets more =
 entry_stays : Stays entry_of
 unfolding entry_of
 entry_stays octets more = stays_bind more (number_of 1 octets) (number_of 1 (octets ++ more)) _ (number_stays 1 octets more) (λ kind rest. kind_stays kind rest more)
+
+-- octets that are an entry and nothing else are those by which it is written
+pub read_alone : (held rest : List ℕ) (entry : Entry) → entry_of held ≡ Ok (entry, rest) → held ≡ octets_of entry ++ rest → rest ≡ [] → IsReadBack entry
+read_alone held rest entry is whole none =
+    let alone : octets_of entry ≡ held = sym (append-nil (octets_of entry)) ∙ ap (λ t. octets_of entry ++ t) (sym none) ∙ sym whole in
+    λ more. rw alone (subst (λ r. Same more r (entry_of (held ++ more))) is (entry_stays held more) ∙ ap (λ t. Ok (entry, t ++ more)) none)
 
 past_stays : (entry : Entry) (rest more : List ℕ) (b : Bool) → Same more (cond b (Err BadEntry) (Ok (entry, rest))) (cond b (Err BadEntry) (Ok (entry, rest ++ more)))
 past_stays entry rest more true = λ other. refl

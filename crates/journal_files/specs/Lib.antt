@@ -3,6 +3,7 @@ pub use Rattle.event_journal.specs.Spelled
 pub use Rattle.event_journal.specs.Sizes
 pub use Rattle.octet_devices.specs.Written
 pub mod Format
+pub mod FaultTexts
 pub mod Reading
 pub mod Laws
 pub mod Seen

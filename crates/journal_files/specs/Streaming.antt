@@ -69,11 +69,16 @@ pub record Loses (given left : Option (List ℕ)) : Type 0 where
   pub piece : List ℕ
   pub consumed : Consumes given left piece
 
+-- the octets by which an entry is written are read as that entry, whatever follows
+abbrev pub IsReadBack : Entry → Type 0
+IsReadBack entry = (rest : List ℕ) → entry_of (octets_of entry ++ rest) ≡ Ok (entry, rest)
+
 -- an entry was read, by the octets by which it is written
 pub record TakesEntry (old : Place) (given left : Option (List ℕ)) (entry : Entry) (new : Place) : Type 0 where
   pub some : 0 < old.left
   pub consumed : Consumes given left (octets_of entry)
   pub within : is_past old.count old.octets entry ≡ false
+  pub read_back : IsReadBack entry
   pub place : new ≡ behind old entry
 
 -- all entries were read, and the source is at its end

@@ -1,6 +1,6 @@
 -- What was written to a sink where a file could not be written further.
-use Rattle.std.specs.Prelude.{◌≡◌, ℕ, Bool, List, Option}
-use Rattle.std.specs.Io.KnownBytes.{Keeps}
+use Rattle.std.specs.Prelude.{◌≡◌, ℕ, Bool, List, Option, take}
+use Rattle.std.specs.Io.KnownBytes.{Appends, Keeps}
 use Rattle.octet_devices.specs.Written.{WritesFront}
 use Rattle.journal_files.specs.declared.writing.WriteFault.{WriteFault}
 use Rattle.journal_files.specs.declared.writing.WriteFault.TheVariants.{Write, OutOfMemory}
@@ -9,3 +9,7 @@ use Rattle.journal_files.specs.declared.writing.WriteFault.TheVariants.{Write, O
 abbrev pub Stops : WriteFault → Option (List ℕ) → Option (List ℕ) → List ℕ → Bool → Bool → Type 0
 Stops (Write sent) old new due was_failed has_failed = WritesFront old new due sent has_failed
 Stops OutOfMemory old new due was_failed has_failed = Keeps old new × (has_failed ≡ was_failed)
+
+-- a front of the octets that are due was written
+abbrev pub WritesSome : Option (List ℕ) → Option (List ℕ) → List ℕ → Type 0
+WritesSome old new due = (n : ℕ) × Appends old new (take n due)

@@ -1,27 +1,42 @@
 //! Why octets are no journal file.
 
 use std::alloc::{AllocError, AllocFailed};
-use thiserror::Error;
+use std::error::Error;
+use std::fmt::{self, Display, Formatter, Write};
 
 /// Why octets are no journal file. The first fault from the front is named; its text is its name.
-#[derive(Clone, Copy, Debug, PartialEq, Eq, Error)]
+#[derive(Clone, Copy, Debug, PartialEq, Eq)]
 pub enum JournalFault {
     /// The file doesn't begin with the letters `IPMJ`.
-    #[error("BadMagic")]
     BadMagic,
     /// The version of the format isn't 1.
-    #[error("BadVersion")]
     BadVersion,
     /// The file ends before what was begun, or announced.
-    #[error("Truncated")]
     Truncated,
     /// An entry of no kind, a text that isn't UTF-8, a name that is none, an entry past the greatest limits of a
     /// journal, or octets behind the last entry.
-    #[error("BadEntry")]
     BadEntry,
     /// Want of memory: it says nothing of the file.
-    #[error("OutOfMemory")]
     OutOfMemory,
+}
+
+impl Error for JournalFault {}
+
+impl Display for JournalFault {
+    ghost use Rattle.std.specs.Prelude.{Some};
+    ghost use Rattle.journal_files.specs.FaultTexts.{text_of_fault};
+
+    ghost output = { λ fault. Some (text_of_fault fault) };
+
+    fn fmt<W: Write>(&self, f: &mut Formatter<W>) -> fmt::Result {
+        f.write_str(match self {
+            JournalFault::BadMagic => "BadMagic",
+            JournalFault::BadVersion => "BadVersion",
+            JournalFault::Truncated => "Truncated",
+            JournalFault::BadEntry => "BadEntry",
+            JournalFault::OutOfMemory => "OutOfMemory",
+        })
+    }
 }
 
 impl From<AllocError> for JournalFault {

@@ -3,7 +3,7 @@
 //!
 //! - `encoding`: [`encode`], the file of a journal, in memory.
 //! - `decoding`: [`decode`], the journal that a file says, or the file's first fault.
-//! - `writing`: [`JournalWriter`] writes a file to a sink, and [`WriteFault`] says how far it came.
+//! - `writing`: [`write_journal`] and [`JournalWriter`] write a file to a sink, and [`WriteFault`] says how far it came.
 //! - `reading`: [`JournalReader`] reads a file from a source.
 //! - `fault`: [`JournalFault`], why octets are no journal file; `read_fault`: [`ReadFault`], also why none were read.
 //! - `laws`: what is written is read back, what is read is written back, and a file is read step by step.
@@ -11,12 +11,12 @@
 //!
 //! Proved: `encode` gives the octets of the journal's file. `decode` answers what the reading definition computes, with
 //! the file's first fault (`exact`); the octets that it accepts are those by which the journal is written (`same`), and
-//! the file of each history within the greatest limits is accepted (`only`). A [`JournalWriter`] writes exactly these
-//! octets (`written`), and at a fault says which front of them. A [`JournalReader`] hands out an entry exactly by its own
-//! octets and consumes none past them (`ok`); a fault is the one that the octets consumed show, and a file is cut off only
-//! where the source is at its end (`err`). Both keep room for the octets of one entry. Laws: `entry_read_back`,
-//! `entry_written_back`, `file_read_back`, `file_written_back`, `file_grows`, `step_by_step`,
-//! `fault_stays`.
+//! the file of each history within the greatest limits is accepted (`only`). A [`JournalWriter`] and [`write_journal`]
+//! write exactly these octets (`written`), and at a fault a front of them (`err`). A [`JournalReader`] hands out an entry
+//! exactly by its own octets, which are read as that entry whatever follows, and consumes none past them (`ok`); a fault
+//! is the one that the octets consumed show, and a file is cut off only where the source is at its end (`err`). Both keep
+//! room for the octets of one entry. Laws: `entry_read_back`, `entry_written_back`, `file_read_back`,
+//! `file_written_back`, `file_grows`, `step_by_step`, `fault_stays`.
 #![tactic(auto)]
 
 mod decoding;
@@ -39,4 +39,4 @@ pub use laws::{
 };
 pub use read_fault::ReadFault;
 pub use reading::JournalReader;
-pub use writing::{JournalWriter, WriteFault};
+pub use writing::{JournalWriter, WriteFault, write_journal};

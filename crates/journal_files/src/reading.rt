@@ -1,5 +1,5 @@
 //! Reading a journal file from a source, entry by entry.
-ghost use Rattle.std.specs.Prelude.{◌≡◌, ◌+◌, OnOk, IfOk, IfErr, MatchOption};
+ghost use Rattle.std.specs.Prelude.{◌≡◌, ◌+◌, ◌<◌, ◌^◌, OnOk, IfOk, IfErr, MatchOption};
 ghost use Rattle.std.specs.Io.KnownBytes.{Consumes};
 ghost use Rattle.journal_files.specs.Format.{head_octets};
 ghost use Rattle.journal_files.specs.Reading.{head_of};
@@ -50,6 +50,7 @@ impl JournalReader {
     /// The source failed, the file has a fault there, or memory ran out.
     pub fn start<R: Source>(alloc: Global, source: &mut R) -> Result<JournalReader, ReadFault>
         ensures ok { IfOk result (λ r. (r.count ≡ 0) × (r.octets ≡ 0) × Consumes (R.remaining source.old) (R.remaining source.new) (head_octets r.left)) }
+        ensures few { IfOk result (λ r. r.left < 2 ^ 64) }
         ensures stays { OnOk result (R.has_failed source.new ≡ R.has_failed source.old) }
         ensures err { IfErr result (λ e. StopsReading e head_of (R.remaining source.old) (R.remaining source.new) (R.has_failed source.old) (R.has_failed source.new)) }
     {

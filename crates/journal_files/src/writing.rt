@@ -2,11 +2,11 @@
 ghost use Rattle.std.specs.Prelude.{◌≡◌, ◌+◌, ◌<◌, OnOk, OnErr, IfOk, IfErr};
 ghost use Rattle.std.specs.Io.KnownBytes.{Appends};
 ghost use Rattle.event_journal.specs.Spelled.{IsSpelled};
-ghost use Rattle.journal_files.specs.Format.{head_octets, octets_of};
-ghost use Rattle.journal_files.specs.Writing.{Stops};
+ghost use Rattle.journal_files.specs.Format.{head_octets, octets_of, file_octets};
+ghost use Rattle.journal_files.specs.Writing.{Stops, WritesSome};
 
 use crate::encoding::{put_entry, put_head};
-use event_journal::Entry;
+use event_journal::{Entry, Journal};
 use octet_devices::{Sink, write_all};
 use std::alloc::{AllocError, Global};
 use std::marker::Model;
@@ -98,6 +98,29 @@ impl JournalWriter {
         self.left -= 1;
         Ok(())
     }
+}
+
+/// Writes the file of a journal to a sink, an entry at a time.
+///
+/// # Errors
+/// The sink failed, or memory ran out. A front of the file was written, and the fault says how many octets it has of the entry
+/// that could not be written.
+pub fn write_journal<S: Sink>(
+    alloc: Global,
+    journal: &Journal,
+    sink: &mut S,
+) -> Result<(), WriteFault>
+    ensures written { OnOk result (Appends (S.contents sink.old) (S.contents sink.new) (file_octets journal.now.entries)) }
+    ensures stays { OnOk result (S.has_failed sink.new ≡ S.has_failed sink.old) }
+    ensures err { OnErr result (WritesSome (S.contents sink.old) (S.contents sink.new) (file_octets journal.now.entries)) }
+{
+    let mut writer = JournalWriter::start(alloc, journal.len(), sink)?;
+    let mut position = 0;
+    'entries: while let Some(entry) = journal.get(position) {
+        writer.put(entry, sink)?;
+        position += 1;
+    }
+    Ok(())
 }
 
 /// Writes all of the octets.

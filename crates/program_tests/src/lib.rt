@@ -5,6 +5,7 @@
 //! - `answers`: of `admin_lines`, with answers that no server is brought to give.
 //! - `offline`: of `offline_filter`, with reads that are counted, and the names of faults.
 //! - `devices`: of `ipmd_offline`, on devices that fail; `memory`: where memory is refused.
+//! - `verifying`: of `ipmd_verify`, on both.
 //!
 //! What no clause says is shown too: that a call succeeds while there is memory. Where it is refused memory it is made again,
 //! and answers as if nothing had happened.
@@ -20,3 +21,5 @@ mod memory;
 mod offline;
 #[cfg(test)]
 mod settings;
+#[cfg(test)]
+mod verifying;

@@ -1,8 +1,9 @@
-use Rattle.std.proofs.Common.{map, subst, sym}
+use Rattle.std.proofs.Common.{map, refl, subst, sym}
 use Rattle.octet_devices.specs.Device.{device_inner}
 use Rattle.offline_filter.proofs.Receiving.{err_gives}
 use Rattle.ipmd.specs.Serving.{FailsToServe}
-use Rattle.ipmd.proofs.Endings.{unserved}
+use Rattle.ipmd_offline.specs.Runs.{RefusesToFilter}
+use Rattle.ipmd.proofs.Endings.{unfiltered, unserved}
 use Rattle.ipmd.proofs.run.Goals as goal
 
 pub returns-in_err-serve-in-Serve-clause-err : goal.returns-in_err-serve-in-Serve-clause-err
@@ -13,3 +14,13 @@ returns-in_err-serve-in-Serve-clause-err g c =
     (λ e is. unserved (map g.S.AsStr.text c.args.words.now) c.in-Serve.path e (g.I.Read.remaining c.args.input) held holds c.args.errors.now c.serve.new.errors
     (rw c.in-Serve.is at c.in_ok-options.ensures.asked)
     (subst (λ x. FailsToServe x held holds c.args.errors.now c.serve.new.errors) (sym is) c.in_err-serve-in-Serve.ensures.err))
+
+pub returns-in_err-filter-in-Offline-clause-err : goal.returns-in_err-filter-in-Offline-clause-err
+returns-in_err-filter-in-Offline-clause-err g c =
+    let given = g.I.Read.remaining c.args.input in
+    let held = g.O.Write.contents (device_inner c.args.output.now) in
+    let holds = g.O.Write.contents (device_inner c.filter.new.output) in
+    err_gives c.from_residual-in_err-filter-in-Offline.result c.from_residual-in_err-filter-in-Offline.ensures
+    (λ e is. unfiltered (map g.S.AsStr.text c.args.words.now) c.in-Offline.options e given held holds c.args.errors.now c.args.errors.now refl
+    (rw c.in-Offline.is at c.in_ok-options.ensures.asked)
+    (subst (λ x. RefusesToFilter c.in-Offline.options x given held holds) (sym is) c.in_err-filter-in-Offline.ensures.err))

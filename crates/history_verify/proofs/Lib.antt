@@ -1,0 +1,17 @@
+pub mod Stays
+pub mod ExporterLaws
+pub mod LegalLaws
+pub mod CutsPast
+pub mod FeedLaws
+pub mod KeyLaws
+pub mod SubscriberLaws
+pub mod StepLaws
+pub mod SumLaws
+pub mod FewRecords
+pub mod GivingLaws
+pub mod Appends
+pub mod UnborneLaws
+pub mod Judging
+pub mod TakenLaws
+pub mod BeginLaws
+pub mod EmptyShares

@@ -1,0 +1,8 @@
+use Rattle.std.proofs.Common.{map, take}
+use Rattle.std.specs.List.{AllByRecursion}
+use Rattle.live_subscriptions.specs.Table.{shown}
+use Rattle.history_verify.proofs.EmptyShares.{HasSome}
+use Rattle.history_verify.proofs.judged.first_empty.Given as goal
+
+abbrev pub invariant-shares : goal.invariant-shares
+invariant-shares l = AllByRecursion HasSome (map shown (take l.place l.shares))

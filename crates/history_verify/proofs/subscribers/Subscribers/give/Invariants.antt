@@ -1,0 +1,7 @@
+use Rattle.std.proofs.Common.{map, take}
+use Rattle.live_subscriptions.specs.Table.{shown}
+use Rattle.history_verify.specs.Parts.{HasCounted}
+use Rattle.history_verify.proofs.subscribers.Subscribers.give.Given as goal
+
+abbrev pub invariant-shares : goal.invariant-shares
+invariant-shares l = HasCounted (map shown (take l.share-index l.shares)) l.fn.self l.self

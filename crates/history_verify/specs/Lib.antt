@@ -1,0 +1,11 @@
+pub use Rattle.mediator_history.specs.Sessions
+pub use Rattle.mediator_history.specs.Subscriptions
+pub use Rattle.mediator_history.specs.Disclosed
+pub use Rattle.mediator_history.specs.Auditing
+pub mod Legal
+pub mod FaultTexts
+pub mod Counts
+pub mod Answers
+pub mod Parts
+pub mod Sharing
+pub mod Standing

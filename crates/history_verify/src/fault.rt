@@ -1,0 +1,41 @@
+//! Why a history isn't verified.
+
+use std::alloc::AllocError;
+use std::error::Error;
+use std::fmt::{self, Display, Formatter, Write};
+
+/// Why a history isn't verified. Its text is its name.
+#[derive(Clone, Copy, Debug, PartialEq, Eq)]
+pub enum VerifyFault {
+    /// The entry at this position is none that a mediator may have accepted there. All entries before it are.
+    BadHistory { position: u64 },
+    /// Want of memory.
+    OutOfMemory,
+}
+
+impl Error for VerifyFault {}
+
+impl Display for VerifyFault {
+    ghost use Rattle.std.specs.Prelude.{Some};
+    ghost use Rattle.history_verify.specs.FaultTexts.{text_of_fault};
+
+    ghost output = { λ fault. Some (text_of_fault fault) };
+
+    fn fmt<W: Write>(&self, f: &mut Formatter<W>) -> fmt::Result {
+        f.write_str(match self {
+            VerifyFault::BadHistory { .. } => "BadHistory",
+            VerifyFault::OutOfMemory => "OutOfMemory",
+        })
+    }
+}
+
+impl From<AllocError> for VerifyFault {
+    ghost use Rattle.std.specs.Prelude.{◌≡◌};
+    ghost use Rattle.history_verify.specs.declared.fault.VerifyFault.TheVariants.{OutOfMemory};
+
+    ghost from_gives = { λ _ e. e ≡ OutOfMemory };
+
+    fn from(_e: AllocError) -> VerifyFault {
+        VerifyFault::OutOfMemory
+    }
+}

@@ -1,0 +1,55 @@
+//! What an entry would do, found out before anything is changed.
+ghost use Rattle.std.specs.Prelude.{◌≡◌, ℕ, List, map, Option, None, IfOk, IfSome, IfNone};
+ghost use Rattle.ipfix_template.specs.DataRecord.{DataRecord};
+ghost use Rattle.live_subscriptions.specs.Table.{shown};
+ghost use Rattle.history_verify.specs.Sharing.{stamp, IsFirstEmptyShare};
+
+use disclosure_audit::AuditEntry;
+use live_subscriptions::Share;
+use record_sharing::Note;
+use running_groups::Tally;
+use std::alloc::{AllocError, Global};
+
+/// What a message gives, counts and keeps back.
+#[derive(Drop)]
+pub(crate) struct Judged {
+    pub(crate) shares: Vec<Share>,
+    pub(crate) tallies: Vec<Tally>,
+    /// The audit's entries.
+    pub(crate) entries: Vec<AuditEntry>,
+}
+
+/// The place of the first share without a record.
+pub(crate) fn first_empty(shares: &[Share]) -> Option<usize>
+    ensures { IsFirstEmptyShare (map shown shares.now) result }
+{
+    'shares: for (place, share) in shares.iter().enumerate() {
+        if share.given.is_empty() {
+            return Some(place);
+        }
+    }
+    None
+}
+
+/// The audit's entries of notes of the message at a position.
+///
+/// # Errors
+/// Want of memory.
+pub(crate) fn stamped(
+    alloc: Global,
+    notes: Vec<Note>,
+    position: u64,
+) -> Result<Vec<AuditEntry>, AllocError>
+    ensures { IfOk result (λ v. v.items ≡ map (stamp position) notes.items) }
+{
+    let mut entries = Vec::with_capacity(alloc, notes.len())?;
+    'notes: for Note { index, sub, what } in notes {
+        entries.push_reserved(AuditEntry {
+            position,
+            index,
+            sub,
+            what,
+        });
+    }
+    Ok(entries)
+}

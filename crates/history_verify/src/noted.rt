@@ -1,0 +1,85 @@
+//! What the audit names of a history.
+ghost use Rattle.std.specs.Prelude.{◌≡◌, ◌++◌, ◌∷◌, ◌≤◌, ◌+◌, [], true, length, List, OnOk, OnErr, if◌then◌else◌};
+ghost use Rattle.std.specs.Vec.{vec_capacity};
+ghost use Rattle.disclosure_audit.specs.declared.entry.AuditEntry.{AuditEntry as OneEntry};
+
+use disclosure_audit::AuditEntry;
+use std::alloc::{AllocError, Global};
+
+/// The audit's entries, where they are wanted; else none is kept, so that memory doesn't grow with them. Contracts say by
+/// `AreNoted` of which list.
+#[derive(Drop)]
+pub(crate) struct Noted {
+    wanted: bool,
+    entries: Vec<AuditEntry>,
+}
+
+impl Noted {
+    ghost use Rattle.history_verify.specs.Parts.{AreNoted, HasRoomToNote};
+
+    /// No entry.
+    pub(crate) fn new(alloc: Global, wanted: bool) -> Noted
+        ensures none { AreNoted result [] }
+        ensures wanted { result.wanted ≡ wanted }
+    {
+        Noted {
+            wanted,
+            entries: Vec::new(alloc),
+        }
+    }
+
+    /// Makes room for so many entries.
+    ///
+    /// # Errors
+    /// Want of memory.
+    pub(crate) fn reserve(&mut self, more: usize) -> Result<(), AllocError>
+        ensures same { (list : List OneEntry) → AreNoted self.old list → AreNoted self.new list }
+        ensures room { OnOk result (HasRoomToNote self.new more) }
+        ensures wanted { self.new.wanted ≡ self.old.wanted }
+    {
+        if self.wanted {
+            self.entries.reserve(more)?;
+        }
+        Ok(())
+    }
+
+    /// Notes entries, in room that was made. It takes no memory.
+    pub(crate) fn append(&mut self, entries: Vec<AuditEntry>)
+        requires room { HasRoomToNote self.old (length entries.items) }
+        ensures more { (list : List OneEntry) → AreNoted self.old list → AreNoted self.new (list ++ entries.items) }
+        ensures wanted { self.new.wanted ≡ self.old.wanted }
+    {
+        if self.wanted {
+            append(&mut self.entries, entries);
+        }
+    }
+
+    /// Notes an entry, in room that was made. It takes no memory.
+    pub(crate) fn push(&mut self, entry: AuditEntry)
+        requires room { HasRoomToNote self.old 1 }
+        ensures more { (list : List OneEntry) → AreNoted self.old list → AreNoted self.new (list ++ entry ∷ []) }
+        ensures wanted { self.new.wanted ≡ self.old.wanted }
+    {
+        if self.wanted {
+            self.entries.push_reserved(entry);
+        }
+    }
+
+    /// The entries.
+    pub(crate) fn into_entries(self) -> Vec<AuditEntry>
+        ensures { (list : List OneEntry) → AreNoted self list → result.items ≡ (if self.wanted then list else []) }
+    {
+        let Noted { wanted: _, entries } = self;
+        entries
+    }
+}
+
+/// Appends entries, in room that was reserved. It takes no memory.
+fn append(audit: &mut Vec<AuditEntry>, entries: Vec<AuditEntry>)
+    requires room { length audit.old.items + length entries.items ≤ vec_capacity audit.old }
+    ensures { audit.new.items ≡ audit.old.items ++ entries.items }
+{
+    for entry in entries {
+        audit.push_reserved(entry);
+    }
+}

@@ -1,0 +1,437 @@
+//! What is kept of the entries so far.
+ghost use Rattle.std.specs.Prelude.{◌≡◌, ◌≢◌, ◌∷◌, ◌++◌, ◌+◌, ◌<◌, ◌≤◌, ◌↔◌, [], ℕ, List, length, map, true, ◌^◌, IsTrue, IfOk, IfErr, IfSome, IfNone, OnOk, OnErr};
+ghost use Rattle.event_journal.specs.declared.entry.Entry.{Entry};
+ghost use Rattle.event_journal.specs.declared.entry.Entry.TheVariants.{Open, Close, Message, Edit, Subscribe, Unsubscribe, Advance, Cut};
+ghost use Rattle.history_verify.specs.Standing.{Stands, StandsShort, IsSameReplay, IsTaken, TakesNext, RefusesEntry, RefusesNext, MayCut};
+
+use crate::exporters::Exporters;
+use crate::fault::VerifyFault;
+use crate::judged::{Judged, first_empty, stamped};
+use crate::noted::Noted;
+use crate::subscribers::Subscribers;
+use crate::sums::Sums;
+use crate::verified::Verified;
+use bytes::Bytes;
+use disclosure_audit::{AuditEntry, What};
+use ipfix_session::{ReadError, Reading};
+use policy_text::{FaultKind, Name, Policy};
+use record_sharing::{InForce, Shares};
+use std::alloc::{AllocError, Global};
+
+/// What is kept of a history: what decides of its next entry, and what it disclosed. Contracts say by `Stands` of which
+/// histories it is.
+///
+/// Behind the last entry that is no cut stand the cuts that wait to be borne out by the next one that is none: of these all
+/// is done, but that the groups of their subscriptions are kept.
+#[derive(Drop)]
+pub(crate) struct Replay {
+    alloc: Global,
+    /// How many entries there were.
+    position: u64,
+    /// The policy in force, and the time of the clock.
+    in_force: InForce,
+    exporters: Exporters,
+    subscribers: Subscribers,
+    sums: Sums,
+    audit: Noted,
+    /// The numbers of the subscriptions whose cuts wait.
+    waiting: Vec<u64>,
+}
+
+impl Replay {
+    /// Before any entry; the audit's entries are kept where they are wanted.
+    ///
+    /// # Errors
+    /// Want of memory.
+    pub(crate) fn new(alloc: Global, audit: bool) -> Result<Replay, AllocError>
+        ensures stands { IfOk result (λ r. Stands r []) }
+        ensures wanted { IfOk result (λ r. r.audit.wanted ≡ audit) }
+    {
+        Ok(Replay {
+            alloc,
+            position: 0,
+            in_force: InForce::nothing(alloc)?,
+            exporters: Exporters::new(alloc),
+            subscribers: Subscribers::new(alloc),
+            sums: Sums::new(alloc),
+            audit: Noted::new(alloc, audit),
+            waiting: Vec::new(alloc),
+        })
+    }
+
+    /// How many entries there were: the position of the next one.
+    pub(crate) fn position(&self) -> u64
+        ensures { result ≡ self.now.position }
+    {
+        self.position
+    }
+
+    /// How many cuts wait.
+    pub(crate) fn waiting(&self) -> u64
+        ensures { result ≡ length self.now.waiting.items }
+    {
+        self.waiting.len() as u64
+    }
+
+    /// The position of the first cut that waits, and that of the next entry where none does.
+    pub(crate) fn first_waiting(&self) -> u64
+        requires short { StandsShort self.now }
+        ensures { result + length self.now.waiting.items ≡ self.now.position }
+    {
+        self.position - self.waiting()
+    }
+
+    /// What is said where the next entry is no cut, and none that may stand there: the first cut that waits isn't borne out by
+    /// it, and where none waits it is itself the first bad one.
+    pub(crate) fn bad(&self) -> VerifyFault
+        requires short { StandsShort self.now }
+        ensures { (entry : Entry) (h : List Entry) → Stands self.now h → (IsAccepted h entry → ⊥) → RefusesEntry result self.now h entry }
+    {
+        VerifyFault::BadHistory {
+            position: self.first_waiting(),
+        }
+    }
+
+    /// Takes a session that begins, where no cut waits.
+    ///
+    /// # Errors
+    /// The number isn't the next; or want of memory.
+    pub(crate) fn open(&mut self, session: u64) -> Result<(), VerifyFault>
+        requires short { StandsShort self.old }
+        ensures ok { OnOk result (TakesNext self.old (Open session) self.new) }
+        ensures err { IfErr result (λ e. RefusesNext e self.old (Open session)) }
+        ensures same { OnErr result (IsSameReplay self.old self.new) }
+        ensures wanted { self.new.audit.wanted ≡ self.old.audit.wanted }
+    {
+        if !self.exporters.is_next(session) {
+            return Err(self.bad());
+        }
+        self.exporters.open(session)?;
+        self.position += 1;
+        Ok(())
+    }
+
+    /// Takes a session that ends, where no cut waits.
+    ///
+    /// # Errors
+    /// It isn't open.
+    pub(crate) fn close(&mut self, session: u64) -> Result<(), VerifyFault>
+        requires short { StandsShort self.old }
+        ensures ok { OnOk result (TakesNext self.old (Close session) self.new) }
+        ensures err { IfErr result (λ e. RefusesNext e self.old (Close session)) }
+        ensures same { OnErr result (IsSameReplay self.old self.new) }
+        ensures wanted { self.new.audit.wanted ≡ self.old.audit.wanted }
+    {
+        if !self.exporters.is_open(session) {
+            return Err(self.bad());
+        }
+        self.exporters.close(session);
+        self.position += 1;
+        Ok(())
+    }
+
+    /// Takes a policy that comes into force, where no cut waits.
+    ///
+    /// # Errors
+    /// The text is none of a policy; or want of memory.
+    pub(crate) fn edit(&mut self, text: &str) -> Result<(), VerifyFault>
+        requires short { StandsShort self.old }
+        ensures ok { OnOk result (TakesNext self.old (Edit text.now) self.new) }
+        ensures err { IfErr result (λ e. RefusesNext e self.old (Edit text.now)) }
+        ensures same { OnErr result (IsSameReplay self.old self.new) }
+        ensures wanted { self.new.audit.wanted ≡ self.old.audit.wanted }
+    {
+        let policy = self.read_policy(text)?;
+        self.in_force = InForce::since(self.alloc, policy, self.in_force.clock())?;
+        self.position += 1;
+        Ok(())
+    }
+
+    /// The policy that a text spells.
+    ///
+    /// # Errors
+    /// It spells none; or want of memory.
+    fn read_policy(&self, text: &str) -> Result<Policy, VerifyFault>
+        requires short { StandsShort self.now }
+        ensures ok { IfOk result (λ policy. policy_of text.now ≡ Ok policy) }
+        ensures err { IfErr result (λ e. RefusesNext e self.now (Edit text.now)) }
+    {
+        match Policy::parse(self.alloc, text) {
+            Ok(policy) => Ok(policy),
+            Err(fault) => {
+                if fault.kind == FaultKind::OutOfMemory {
+                    return Err(VerifyFault::OutOfMemory);
+                }
+                Err(self.bad())
+            }
+        }
+    }
+
+    /// Takes a subscription that begins, where no cut waits.
+    ///
+    /// # Errors
+    /// The number isn't the next, or a live subscription has the name; or want of memory.
+    pub(crate) fn subscribe(&mut self, sub: u64, name: &Name) -> Result<(), VerifyFault>
+        requires short { StandsShort self.old }
+        ensures ok { OnOk result (TakesNext self.old (Subscribe sub name.now) self.new) }
+        ensures err { IfErr result (λ e. RefusesNext e self.old (Subscribe sub name.now)) }
+        ensures same { OnErr result (IsSameReplay self.old self.new) }
+        ensures wanted { self.new.audit.wanted ≡ self.old.audit.wanted }
+    {
+        if !self.subscribers.is_next(sub) || self.subscribers.is_taken(name.as_str()) {
+            return Err(self.bad());
+        }
+        self.subscribers.begin(sub, name)?;
+        self.position += 1;
+        Ok(())
+    }
+
+    /// Takes a subscription that ends, where no cut waits.
+    ///
+    /// # Errors
+    /// It isn't live.
+    pub(crate) fn unsubscribe(&mut self, sub: u64) -> Result<(), VerifyFault>
+        requires short { StandsShort self.old }
+        ensures ok { OnOk result (TakesNext self.old (Unsubscribe sub) self.new) }
+        ensures err { IfErr result (λ e. RefusesNext e self.old (Unsubscribe sub)) }
+        ensures same { OnErr result (IsSameReplay self.old self.new) }
+        ensures wanted { self.new.audit.wanted ≡ self.old.audit.wanted }
+    {
+        if !self.subscribers.is_live(sub) {
+            return Err(self.bad());
+        }
+        self.subscribers.end(sub);
+        self.sums.remove_one(sub);
+        self.position += 1;
+        Ok(())
+    }
+
+    /// Whether a cut may stand here, if what follows bears it out.
+    pub(crate) fn may_cut(&self, sub: u64) -> bool
+        ensures { (h : List Entry) → Stands self.now h → IsTrue result ↔ MayCut h sub }
+    {
+        let last = self.waiting.last().copied();
+        last.unwrap_or(0) < sub && self.subscribers.is_served(sub)
+    }
+
+    /// Takes a cut, which then waits.
+    ///
+    /// # Errors
+    /// Want of memory.
+    pub(crate) fn cut(&mut self, sub: u64) -> Result<(), AllocError>
+        requires short { StandsShort self.old }
+        ensures ok { OnOk result ((h : List Entry) → Stands self.old h → MayCut h sub → Stands self.new (h ++ Cut sub ∷ [])) }
+        ensures same { OnErr result (IsSameReplay self.old self.new) }
+        ensures wanted { self.new.audit.wanted ≡ self.old.audit.wanted }
+    {
+        self.waiting.reserve(1)?;
+        self.audit.reserve(1)?;
+        self.waiting.push_reserved(sub);
+        self.audit.push(AuditEntry {
+            position: self.position,
+            index: 0,
+            sub,
+            what: What::Cut,
+        });
+        self.subscribers.cut(sub);
+        self.position += 1;
+        Ok(())
+    }
+
+    /// What the history disclosed, and what its audit names, where no cut waits.
+    pub(crate) fn into_verified(self) -> Verified
+        ensures { (h : List Entry) → Stands self h → self.waiting.items ≡ [] → IsVerified self.audit.wanted h result }
+    {
+        let Replay {
+            alloc: _,
+            position: _,
+            in_force: _,
+            exporters: _,
+            subscribers,
+            sums: _,
+            audit,
+            waiting: _,
+        } = self;
+        Verified {
+            subs: subscribers.into_counts(),
+            audit: audit.into_entries(),
+        }
+    }
+}
+
+ghost use Rattle.std.specs.Prelude.{Ok};
+ghost use Rattle.policy_text.specs.Parsing.{policy_of};
+ghost use Rattle.history_verify.specs.Legal.{IsAccepted};
+ghost use Rattle.history_verify.specs.Answers.{IsVerified};
+
+impl Replay {
+    ghost use Rattle.mediator_history.specs.Disclosed.{given_at};
+    ghost use Rattle.ipfix_session.specs.ReadAhead.{IsReadingOf};
+    ghost use Rattle.live_subscriptions.specs.Table.{shown};
+    ghost use Rattle.running_groups.specs.Adding.{tallied};
+    ghost use Rattle.std.specs.List.{AllByRecursion};
+    ghost use Rattle.history_verify.specs.Standing.{StandsOver, IsReadOf, IsFirstOr};
+    ghost use Rattle.history_verify.specs.Sharing.{IsJudged};
+
+    /// What is read of the next message of a session.
+    ///
+    /// # Errors
+    /// It isn't the next of an open session, or has no meaning; or want of memory.
+    pub(crate) fn read(
+        &self,
+        session: u64,
+        number: u64,
+        octets: &Bytes,
+    ) -> Result<Reading, VerifyFault>
+        requires short { StandsShort self.now }
+        ensures ok { IfOk result (λ reading. (h : List Entry) → Stands self.now h → IsReadOf h session number octets.now reading) }
+        ensures few { IfOk result (λ reading. length reading.meaning.records ≤ 2 ^ 32) }
+        ensures err { IfErr result (λ e. RefusesNext e self.now (Message session number octets.now)) }
+    {
+        let Some(open) = self.exporters.in_turn(session, number) else {
+            return Err(self.bad());
+        };
+        see_octets(octets);
+        match open.session.read(octets) {
+            Ok(reading) => Ok(reading),
+            Err(ReadError::OutOfMemory) => Err(VerifyFault::OutOfMemory),
+            Err(ReadError::Malformed(_)) => Err(self.bad()),
+            Err(ReadError::RecordOverrun) => Err(self.bad()),
+        }
+    }
+
+    /// The place of the first cut that waits and to whose subscription a message would give nothing, were it not cut.
+    ///
+    /// # Errors
+    /// Want of memory.
+    pub(crate) fn unborne_by(&mut self, reading: &Reading) -> Result<Option<usize>, AllocError>
+        requires short { StandsShort self.old }
+        requires few { length reading.now.meaning.records ≤ 2 ^ 32 }
+        ensures same { self.new ≡ self.old }
+        ensures within { IfOk result (λ place. IfSome place (λ n. n < length self.old.waiting.items)) }
+        ensures first { IfOk result (λ place. (settled h : List Entry) (session number : ℕ) (octets : List ℕ) → StandsOver self.old settled h → IsReadOf h session number octets reading.now
+            → IsFirstOr (λ sub. given_at sub settled (Message session number octets)) self.old.waiting.items place) }
+    {
+        let (domain, records) = (reading.header().domain, reading.records());
+        let cut = self.subscribers.those(&self.waiting)?;
+        let shares = Shares::of_records(self.alloc, &mut self.in_force, domain, records, &cut)?;
+        Ok(first_empty(&shares.shares))
+    }
+
+    /// What a message gives to those that are served, what counts for them, and what the audit names.
+    ///
+    /// # Errors
+    /// Want of memory.
+    pub(crate) fn judge(&mut self, reading: &Reading) -> Result<Judged, AllocError>
+        requires few { length reading.now.meaning.records ≤ 2 ^ 32 }
+        ensures same { self.new ≡ self.old }
+        ensures judged { IfOk result (λ j. (h : List Entry) (session number : ℕ) (octets : List ℕ) → Stands self.old h → IsReadOf h session number octets reading.now
+            → IsJudged h (Message session number octets) j) }
+    {
+        let (domain, records) = (reading.header().domain, reading.records());
+        let served = self.subscribers.served_if(!records.is_empty())?;
+        let shares = Shares::of_records(self.alloc, &mut self.in_force, domain, records, &served)?;
+        Ok(Judged {
+            shares: shares.shares,
+            tallies: shares.tallies,
+            entries: stamped(self.alloc, shares.notes, self.position)?,
+        })
+    }
+
+    /// Takes the message that was read and judged: the cuts that wait are borne out by it.
+    ///
+    /// # Errors
+    /// Want of memory.
+    pub(crate) fn message(
+        &mut self,
+        session: u64,
+        reading: Reading,
+        judged: Judged,
+    ) -> Result<(), AllocError>
+        requires short { StandsShort self.old }
+        requires few { length reading.meaning.records ≤ 2 ^ 32 }
+        requires planned { (settled h : List Entry) × (number : ℕ) × (octets : List ℕ) × StandsOver self.old settled h × IsReadOf h session number octets reading × IsJudged h (Message session number octets) judged }
+        ensures ok { OnOk result ((settled h : List Entry) (number : ℕ) (octets : List ℕ) → StandsOver self.old settled h → IsReadOf h session number octets reading
+            → AllByRecursion (λ sub. given_at sub settled (Message session number octets) ≢ []) self.old.waiting.items
+            → IsJudged h (Message session number octets) judged → IsTaken self.new h (Message session number octets)) }
+        ensures same { OnErr result (IsSameReplay self.old self.new) }
+        ensures wanted { self.new.audit.wanted ≡ self.old.audit.wanted }
+    {
+        let Judged {
+            shares,
+            tallies,
+            entries,
+        } = judged;
+        self.audit.reserve(entries.len())?;
+        self.exporters.make_room(session, &reading)?;
+        let reserved = self.sums.reserve(&tallies)?;
+        self.exporters.keep(session, reading);
+        self.subscribers.give(&shares);
+        self.sums.remove(&self.waiting);
+        self.waiting.clear();
+        self.position += 1;
+        self.sums.add(reserved);
+        self.audit.append(entries);
+        Ok(())
+    }
+}
+
+impl Replay {
+    ghost use Rattle.mediator_history.specs.Disclosed.{given_at};
+    ghost use Rattle.std.specs.List.{AllByRecursion};
+    ghost use Rattle.history_verify.specs.Standing.{StandsOver, IsFirstOr};
+
+    /// Whether the clock may come to stand at this time.
+    pub(crate) fn may_advance(&self, t: u64) -> bool
+        ensures { (h : List Entry) → Stands self.now h → IsTrue result ↔ IsAccepted h (Advance t) }
+    {
+        self.in_force.clock() <= t
+    }
+
+    /// The place of the first cut that waits and to whose subscription an advance of the clock would give nothing, were it not
+    /// cut.
+    ///
+    /// # Errors
+    /// Want of memory.
+    pub(crate) fn unborne_at(&self, t: u64) -> Result<Option<usize>, AllocError>
+        ensures within { IfOk result (λ place. IfSome place (λ n. n < length self.now.waiting.items)) }
+        ensures first { IfOk result (λ place. (settled h : List Entry) → StandsOver self.now settled h → IsFirstOr (λ sub. given_at sub settled (Advance t)) self.now.waiting.items place) }
+    {
+        'waiting: for (place, sub) in self.waiting.iter().enumerate() {
+            let share = self.sums.closing_of(*sub, t)?;
+            if share.given.is_empty() {
+                return Ok(Some(place));
+            }
+        }
+        Ok(None)
+    }
+
+    /// Takes an advance of the clock: the cuts that wait are borne out by it.
+    ///
+    /// # Errors
+    /// Want of memory.
+    pub(crate) fn advance(&mut self, t: u64) -> Result<(), AllocError>
+        requires short { StandsShort self.old }
+        requires accepted { (h : List Entry) → Stands self.old h → IsAccepted h (Advance t) }
+        ensures ok { OnOk result ((settled h : List Entry) → StandsOver self.old settled h → IsAccepted h (Advance t)
+            → AllByRecursion (λ sub. given_at sub settled (Advance t) ≢ []) self.old.waiting.items → IsTaken self.new h (Advance t)) }
+        ensures same { OnErr result (IsSameReplay self.old self.new) }
+        ensures wanted { self.new.audit.wanted ≡ self.old.audit.wanted }
+    {
+        let shares = self.sums.closing(t)?;
+        self.subscribers.give_served(&shares);
+        self.sums.remove(&self.waiting);
+        self.waiting.clear();
+        self.position += 1;
+        self.sums.close(t);
+        self.in_force.advance(t);
+        Ok(())
+    }
+}
+
+ghost use Rattle.sequences.specs.Octets.{AreOctets};
+
+/// Octets are less than 256, by their type.
+fn see_octets(message: &[u8])
+    ensures { AreOctets message.now }
+{}

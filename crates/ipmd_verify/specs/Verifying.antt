@@ -1,0 +1,63 @@
+-- What `ipmd verify` writes of a journal's file.
+use Rattle.std.specs.Prelude.{◌≡◌, ◌⊎◌, ℕ, Bool, List, [], ◌∷◌, ◌++◌, codes, Option, if◌then◌else◌}
+use Rattle.std.specs.Fmt.{decimal}
+use Rattle.std.specs.List.{flat_map}
+use Rattle.std.specs.Io.KnownBytes.{Appends, Keeps}
+use Rattle.disclosure_audit.specs.declared.entry.AuditEntry.{AuditEntry}
+use Rattle.disclosure_audit.specs.Lines.{line_of}
+use Rattle.event_journal.specs.declared.entry.Entry.{Entry}
+use Rattle.mediator_history.specs.Auditing.{audit_list}
+use Rattle.history_verify.specs.declared.count.Count.{Count}
+use Rattle.history_verify.specs.Counts.{counts_of}
+use Rattle.history_verify.specs.Legal.{IsLegal}
+use Rattle.ipmd_offline.specs.declared.fault.ProgramFault.{ProgramFault}
+use Rattle.ipmd_offline.specs.declared.fault.ProgramFault.TheVariants.{Device}
+use Rattle.ipmd_offline.specs.HexText.{WritesSome}
+use Rattle.ipmd_verify.specs.Found.{Says, RefusesFile}
+
+-- ---- the text
+
+-- how much was disclosed to a subscription
+abbrev pub count_line : Count → List ℕ
+count_line count = codes "sub " ++ decimal count.sub ++ codes " " ++ count.name ++ codes " disclosed " ++ decimal count.disclosed ++ 10 ∷ []
+
+abbrev pub count_lines : List Count → List ℕ
+count_lines counts = flat_map count_line counts
+
+abbrev pub audit_lines : List AuditEntry → List ℕ
+audit_lines entries = flat_map line_of entries
+
+-- a line for each subscription, and unless it is to be quiet the audit's lines
+abbrev pub text_of : Bool → List Count → List AuditEntry → List ℕ
+text_of quiet counts entries = count_lines counts ++ (if quiet then [] else audit_lines entries)
+
+-- what a history discloses, and what its audit names
+abbrev pub told_of : Bool → List Entry → List ℕ
+told_of quiet h = text_of quiet (counts_of h) (audit_list h)
+
+-- ---- what is written
+
+-- the file says a legal history, and all of its text was written
+pub record Verifies (quiet : Bool) (given held holds : Option (List ℕ)) : Type 0 where
+  pub history : List Entry
+  pub said : Says given history
+  pub legal : IsLegal history
+  pub written : Appends held holds (told_of quiet history)
+
+-- the same, and a front of its text was written, or all of it
+pub record BeginsToTell (quiet : Bool) (given held holds : Option (List ℕ)) : Type 0 where
+  pub history : List Entry
+  pub said : Says given history
+  pub legal : IsLegal history
+  pub written : WritesSome (told_of quiet history) held holds
+
+-- the file is refused, and nothing was written; or the output failed
+abbrev pub RefusesToVerify : Bool → ProgramFault → Option (List ℕ) → Option (List ℕ) → Option (List ℕ) → Type 0
+RefusesToVerify quiet e given held holds = (RefusesFile e given × Keeps held holds) ⊎ ((e ≡ Device) × BeginsToTell quiet given held holds)
+
+-- what a file holds isn't told here
+abbrev pub VerifiesFile : Bool → Option (List ℕ) → Option (List ℕ) → Type 0
+VerifiesFile quiet held holds = (given : Option (List ℕ)) × Verifies quiet given held holds
+
+abbrev pub RefusesToVerifyFile : Bool → ProgramFault → Option (List ℕ) → Option (List ℕ) → Type 0
+RefusesToVerifyFile quiet e held holds = (given : Option (List ℕ)) × RefusesToVerify quiet e given held holds

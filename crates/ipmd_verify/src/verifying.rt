@@ -1,0 +1,64 @@
+//! `ipmd verify`.
+ghost use Rattle.std.specs.Prelude.{IfErr, OnOk};
+ghost use Rattle.octet_devices.specs.Device.{device_inner};
+ghost use Rattle.ipmd_verify.specs.Verifying.{Verifies, VerifiesFile, RefusesToVerify, RefusesToVerifyFile};
+
+use crate::progress::Progress;
+use crate::reading::read_history;
+use crate::telling::text_of;
+use ipmd_command_line::VerifyOptions;
+use ipmd_offline::{ProgramFault, write_text};
+use octet_devices::Device;
+use std::alloc::Global;
+use std::fs;
+use std::io::{BufReader, Read, Write};
+use std::rt::Files;
+
+/// How many octets of the file are read at once.
+const FILE_BUFFER: usize = 65_536;
+
+/// Verifies the journal in a file, and writes what it disclosed and, unless this is to be quiet, what its audit names.
+///
+/// # Errors
+/// `Device` where the file can't be opened, and what `verify_input` refuses.
+pub fn verify<R: Files + AllocGlobal, O: Write, P: Progress>(
+    rt: &R,
+    options: &VerifyOptions<'_>,
+    output: &mut Device<O>,
+    progress: &mut P,
+) -> Result<(), ProgramFault>
+    ensures ok { OnOk result (VerifiesFile options.entry.now.quiet (O.contents (device_inner output.old)) (O.contents (device_inner output.new))) }
+    ensures err { IfErr result (λ e. RefusesToVerifyFile options.entry.now.quiet e (O.contents (device_inner output.old)) (O.contents (device_inner output.new))) }
+{
+    let file = fs::open(rt, options.journal)?;
+    let input = BufReader::with_capacity(rt.alloc(), FILE_BUFFER, file)?;
+    verify_input(rt.alloc(), options.quiet, input, output, progress)
+}
+
+/// Verifies the journal whose file a stream is, and writes what it disclosed and, unless this is to be quiet, what its
+/// audit names. `progress` is told how far it was read, unless this is to be quiet.
+///
+/// # Errors
+/// In this order: `Device` where the stream fails, and `Journal`, the file's first fault; `History`, the first entry that may
+/// not stand where it does; then `Device` where the output fails, and a front of what was due may have been written; and
+/// `OutOfMemory`. At each of the others nothing was written.
+pub fn verify_input<I: Read + Drop, O: Write, P: Progress>(
+    alloc: Global,
+    quiet: bool,
+    input: I,
+    output: &mut Device<O>,
+    progress: &mut P,
+) -> Result<(), ProgramFault>
+    ensures ok { OnOk result (Verifies quiet (I.remaining input) (O.contents (device_inner output.old)) (O.contents (device_inner output.new))) }
+    ensures err { IfErr result (λ e. RefusesToVerify quiet e (I.remaining input) (O.contents (device_inner output.old)) (O.contents (device_inner output.new))) }
+{
+    if quiet {
+        progress.silence();
+    }
+    let mut source = Device::new(input);
+    let read = read_history(alloc, !quiet, &mut source, progress);
+    progress.end();
+    let verified = read?;
+    let text = text_of(alloc, quiet, &verified)?;
+    write_text(output, text.as_str())
+}
