@@ -36,6 +36,9 @@ REFUSED = [
     ("two policies", [*OFFLINE, "--policy", "a"], ONE_POLICY),
     ("no settings", ["serve"], "--settings <FILE>"),
     ("no journal", ["verify", "--quiet"], "--journal <FILE>"),
+    ("no subscription", ["explain", "--journal", "a"], "--sub <N>"),
+    ("a subscription that is no number", ["explain", "--journal", "a", "--sub", "acme"], "invalid value 'acme' for '--sub <N>'"),
+    ("an index out of range", ["explain", "--journal", "a", "--sub", "1", "--index", "4294967296"], "invalid value '4294967296'"),
     ("two journals", ["verify", "--journal", "a", "--journal", "b"], "cannot be used multiple times"),
     (
         "usage of the command: check-policy",
@@ -71,6 +74,8 @@ SHOWN = [
     ("offline --help: what becomes of aggregates", ["offline", "--help"], "no advance closes them here"),
     ("verify --help: options", ["verify", "--help"], "--quiet"),
     ("help verify", ["help", "verify"], "\n  ipmd verify --journal run.journal"),
+    ("explain --help: options", ["explain", "--help"], "--position <P>"),
+    ("help explain", ["help", "explain"], "\n  ipmd explain --journal run.journal --sub 1 --position 5"),
     ("check-policy --help: examples", ["check-policy", "--help"], "\n  ipmd check-policy --policy-text"),
     (
         "serve --help: the levels of the notes",

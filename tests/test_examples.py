@@ -50,6 +50,8 @@ class Examples(ProgramTest):
             with self.subTest(path.parent.name):
                 journal = self.file("run.journal", bytes.fromhex(path.read_text()))
                 self.expect_ran(run(["verify", "--journal", journal]), 0, (path.parent / "found.txt").read_text(), "")
+                asked = run(["explain", "--journal", journal, "--sub", "2", "--position", "6"])
+                self.expect_ran(asked, 0, (path.parent / "explained.txt").read_text(), "")
                 listed = subprocess.run([path.parent / "entries", journal], capture_output=True, text=True, check=True)
                 self.assertEqual(len(listed.stdout.splitlines()), 7)
 

@@ -12,7 +12,7 @@ use std::alloc::{AllocError, Global};
 
 /// The open sessions, and how many were opened. Contracts say by `AreExporters` of which histories.
 #[derive(Drop)]
-pub(crate) struct Exporters {
+pub struct Exporters {
     sessions: Sessions,
     opened: u64,
 }
@@ -21,7 +21,7 @@ impl Exporters {
     ghost use Rattle.history_verify.specs.Parts.{AreExporters, SameExporters, IsTurn, IsInTurn, HasRoomToKeep};
 
     /// Before any entry.
-    pub(crate) fn new(alloc: Global) -> Exporters
+    pub fn new(alloc: Global) -> Exporters
         ensures { AreExporters result [] }
     {
         Exporters {
@@ -31,7 +31,7 @@ impl Exporters {
     }
 
     /// Whether this is the number of the next session.
-    pub(crate) fn is_next(&self, session: u64) -> bool
+    pub fn is_next(&self, session: u64) -> bool
         ensures { IsTrue result ↔ (session ≡ self.now.opened + 1) }
     {
         session.checked_sub(1) == Some(self.opened)
@@ -41,7 +41,7 @@ impl Exporters {
     ///
     /// # Errors
     /// Want of memory, and then nothing has changed.
-    pub(crate) fn open(&mut self, session: u64) -> Result<(), AllocError>
+    pub fn open(&mut self, session: u64) -> Result<(), AllocError>
         requires next { session ≡ self.old.opened + 1 }
         ensures ok { OnOk result ((h : List Entry) → AreExporters self.old h → AreExporters self.new (h ++ Open session ∷ [])) }
         ensures err { OnErr result (SameExporters self.old self.new) }
@@ -52,21 +52,21 @@ impl Exporters {
     }
 
     /// Whether a session is open.
-    pub(crate) fn is_open(&self, session: u64) -> bool
+    pub fn is_open(&self, session: u64) -> bool
         ensures { (h : List Entry) → AreExporters self.now h → result ≡ is_open session h }
     {
         self.sessions.get(session).is_some()
     }
 
     /// Closes a session.
-    pub(crate) fn close(&mut self, session: u64)
+    pub fn close(&mut self, session: u64)
         ensures { (h : List Entry) → AreExporters self.old h → AreExporters self.new (h ++ Close session ∷ []) }
     {
         self.sessions.close(session);
     }
 
     /// The session, where it is open and this is the number of its next message.
-    pub(crate) fn in_turn(&self, session: u64, number: u64) -> Option<&OpenSession>
+    pub fn in_turn(&self, session: u64, number: u64) -> Option<&OpenSession>
         ensures found { IfSome result (λ o. IsInTurn self.now session number o.now) }
         ensures none { IfNone result ((h : List Entry) → AreExporters self.now h → IsTurn h session number → ⊥) }
     {
@@ -82,7 +82,7 @@ impl Exporters {
     ///
     /// # Errors
     /// Want of memory. The sessions stay, whatever the answer.
-    pub(crate) fn make_room(&mut self, session: u64, reading: &Reading) -> Result<(), AllocError>
+    pub fn make_room(&mut self, session: u64, reading: &Reading) -> Result<(), AllocError>
         ensures same { SameExporters self.old self.new }
         ensures room { OnOk result (HasRoomToKeep self.new session reading.now) }
     {
@@ -90,7 +90,7 @@ impl Exporters {
     }
 
     /// Keeps what was read of a session's next message, in room that was made for it. It takes no memory.
-    pub(crate) fn keep(&mut self, session: u64, reading: Reading)
+    pub fn keep(&mut self, session: u64, reading: Reading)
         requires room { IsSomeAnd (at_key session self.old.sessions) (λ o. HasRoomFor o.session reading) }
         requires count { IfSome (at_key session self.old.sessions) (λ o. o.accepted + 1 < 2 ^ 64) }
         ensures { (h : List Entry) (number : ℕ) (octets : List ℕ) → AreExporters self.old h → is_open session h ≡ true → IsReadingOf (messages_of session h) octets reading

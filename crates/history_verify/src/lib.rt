@@ -23,6 +23,7 @@ mod verified;
 mod verifier;
 
 pub use count::Count;
+pub use exporters::Exporters;
 pub use fault::VerifyFault;
 pub use verified::{Verified, verify};
 pub use verifier::Verifier;

@@ -3,10 +3,14 @@ use Rattle.std.proofs.Common.{◌≡◌, ℕ, List, Bool, Option, inl, inr, ap, 
 use Rattle.std.specs.Borrow.{Bor}
 use Rattle.ipmd_command_line.specs.CommandLine.{AsksFor}
 use Rattle.ipmd_command_line.specs.declared.task.OfflineOptions.{OfflineOptions}
-use Rattle.ipmd_command_line.specs.declared.task.Task.TheVariants.{Offline, Serve}
+use Rattle.ipmd_command_line.specs.declared.task.VerifyOptions.{VerifyOptions}
+use Rattle.ipmd_command_line.specs.declared.task.ExplainOptions.{ExplainOptions}
+use Rattle.ipmd_command_line.specs.declared.task.Task.TheVariants.{Offline, Serve, Verify, Explain}
 use Rattle.ipmd_offline.specs.declared.fault.ProgramFault.{ProgramFault}
 use Rattle.ipmd_offline.specs.Runs.{RefusesToFilter}
 use Rattle.ipmd_offline.specs.Status.{line_of_fault, Tells}
+use Rattle.ipmd_verify.specs.Verifying.{RefusesToVerifyFile}
+use Rattle.ipmd_explain.specs.Answers.{RefusesToExplainFile, question_of}
 use Rattle.ipmd.specs.Program.{FailsFor, IsFault}
 use Rattle.ipmd.specs.Serving.{FailsToServe}
 
@@ -20,6 +24,16 @@ unserved words path e given held holds before after asks (inr refuses) = inr (pa
 pub unfiltered : {D : Type 0} (words : List (List ℕ)) (options : OfflineOptions) (e : ProgramFault) (given held holds : Option (List ℕ)) (before after : D)
     → after ≡ before → AsksFor words (Offline options) → RefusesToFilter options e given held holds → FailsFor words e given held holds before after
 unfiltered words options e given held holds before after same asks refuses = inl (same, inr (inr (inl (options, asks, refuses))))
+
+-- a journal was not verified
+pub unverified : {D : Type 0} (words : List (List ℕ)) (options : VerifyOptions) (e : ProgramFault) (given held holds : Option (List ℕ)) (before after : D)
+    → after ≡ before → AsksFor words (Verify options) → RefusesToVerifyFile options.quiet e held holds → FailsFor words e given held holds before after
+unverified words options e given held holds before after same asks refuses = inl (same, inr (inr (inr (inr (inr (inl (options, asks, refuses)))))))
+
+-- or not explained
+pub unexplained : {D : Type 0} (words : List (List ℕ)) (options : ExplainOptions) (e : ProgramFault) (given held holds : Option (List ℕ)) (before after : D)
+    → after ≡ before → AsksFor words (Explain options) → RefusesToExplainFile (question_of options) e held holds → FailsFor words e given held holds before after
+unexplained words options e given held holds before after same asks refuses = inl (same, inr (inr (inr (inr (inr (inr (inl (options, asks, refuses))))))))
 
 -- it was a fault, and then that was said
 pub blamed : {D : Type 0} (holds_of : D → Option (List ℕ)) (words : List (List ℕ)) (e : ProgramFault) (given held holds : Option (List ℕ)) (before after : D) (has_failed : Bool) (tells : Option (List ℕ))

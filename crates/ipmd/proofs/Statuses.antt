@@ -1,7 +1,7 @@
 -- A fault's status is never that of a run that was done.
 use Rattle.std.proofs.Common.{arith, ◌≡◌}
 use Rattle.ipmd_offline.specs.declared.fault.ProgramFault.{ProgramFault}
-use Rattle.ipmd_offline.specs.declared.fault.ProgramFault.TheVariants.{CommandLine, Settings, Policy, Hex, Framing, Core, Cut, Calls, BadLimits, Journal, History, Close, OutOfMemory, Device}
+use Rattle.ipmd_offline.specs.declared.fault.ProgramFault.TheVariants.{CommandLine, Settings, Policy, Hex, Framing, Core, Cut, Calls, BadLimits, Journal, History, Absent, Close, OutOfMemory, Device}
 use Rattle.ipmd_offline.specs.Status.{status_of}
 
 pub no_fault_is_done : (e : ProgramFault) → status_of e ≡ 0 → ⊥
@@ -16,6 +16,7 @@ no_fault_is_done (Calls n) h = absurd (omega arith)
 no_fault_is_done BadLimits h = absurd (omega arith)
 no_fault_is_done (Journal why) h = absurd (omega arith)
 no_fault_is_done (History position) h = absurd (omega arith)
+no_fault_is_done (Absent what) h = absurd (omega arith)
 no_fault_is_done Close h = absurd (omega arith)
 no_fault_is_done OutOfMemory h = absurd (omega arith)
 no_fault_is_done Device h = absurd (omega arith)

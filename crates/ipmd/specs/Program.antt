@@ -10,12 +10,14 @@ use Rattle.ipmd_command_line.specs.declared.fault.CommandLineFault.{CommandLineF
 use Rattle.ipmd_command_line.specs.declared.task.ReplayOptions.{ReplayOptions}
 use Rattle.ipmd_command_line.specs.declared.task.OfflineOptions.{OfflineOptions}
 use Rattle.ipmd_command_line.specs.declared.task.VerifyOptions.{VerifyOptions}
-use Rattle.ipmd_command_line.specs.declared.task.Task.TheVariants.{Offline, CheckPolicy, Replay, Serve, Verify, Show}
+use Rattle.ipmd_command_line.specs.declared.task.ExplainOptions.{ExplainOptions}
+use Rattle.ipmd_command_line.specs.declared.task.Task.TheVariants.{Offline, CheckPolicy, Replay, Serve, Verify, Explain, Show}
 use Rattle.ipmd_command_line.specs.declared.task.PolicySource.{PolicySource}
 use Rattle.ipmd_offline.specs.declared.fault.ProgramFault.{ProgramFault}
 use Rattle.ipmd_offline.specs.Runs.{CountsPolicy, Filters, RefusesToCount, RefusesToFilter, RefusesToShow, Shows, line_of_report}
 use Rattle.ipmd_offline.specs.Status.{command_line_fault_of, line_of_fault, Tells}
 use Rattle.ipmd_verify.specs.Verifying.{VerifiesFile, RefusesToVerifyFile}
+use Rattle.ipmd_explain.specs.Answers.{ExplainsFile, RefusesToExplainFile, question_of}
 use Rattle.ipmd.specs.Replays.{Replays, RefusesToReplay}
 use Rattle.ipmd.specs.Serving.{Serves, RefusesToPrepare, RefusesToServe}
 
@@ -28,7 +30,8 @@ DoesAlone words None given held holds =
     ((source : PolicySource) × AsksFor words (CheckPolicy source) × CountsPolicy source held holds)
     ⊎ (((options : ReplayOptions) × AsksFor words (Replay options) × Replays held holds)
     ⊎ (((options : VerifyOptions) × AsksFor words (Verify options) × VerifiesFile options.quiet held holds)
-    ⊎ ((shown : Error) × AsksFor words (Show shown) × Shows (kind_of shown) held holds)))
+    ⊎ (((options : ExplainOptions) × AsksFor words (Explain options) × ExplainsFile (question_of options) held holds)
+    ⊎ ((shown : Error) × AsksFor words (Show shown) × Shows (kind_of shown) held holds))))
 
 -- the words ask for nothing, or memory ran out
 abbrev pub RefusesCommandLine : List (List ℕ) → ProgramFault → Type 0
@@ -43,7 +46,8 @@ FailsAlone words e given held holds =
     ⊎ (((options : ReplayOptions) × AsksFor words (Replay options) × RefusesToReplay e held holds)
     ⊎ (((path : Bor (List ℕ)) × AsksFor words (Serve path) × RefusesToPrepare e × Keeps held holds)
     ⊎ (((options : VerifyOptions) × AsksFor words (Verify options) × RefusesToVerifyFile options.quiet e held holds)
-    ⊎ ((shown : Error) × AsksFor words (Show shown) × RefusesToShow (kind_of shown) e held holds))))))
+    ⊎ (((options : ExplainOptions) × AsksFor words (Explain options) × RefusesToExplainFile (question_of options) e held holds)
+    ⊎ ((shown : Error) × AsksFor words (Show shown) × RefusesToShow (kind_of shown) e held holds)))))))
 
 -- ---- what is done
 

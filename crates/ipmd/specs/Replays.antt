@@ -10,7 +10,7 @@ use Rattle.mediator_calls.specs.Mediation.{Mediation, started}
 use Rattle.mediator_core.specs.Runs.{Runs}
 use Rattle.mediator_core.specs.Headline.{HistoryIsTheCalls, HandedIsDisclosed, HandedIsFront, DrainedIsAudited, IsBuiltFromDisclosed}
 use Rattle.ipmd_offline.specs.declared.fault.ProgramFault.{ProgramFault}
-use Rattle.ipmd_offline.specs.declared.fault.ProgramFault.TheVariants.{CommandLine, Settings, Policy, Hex, Framing, Core, Cut, Calls, BadLimits, Journal, History, Close, OutOfMemory, Device}
+use Rattle.ipmd_offline.specs.declared.fault.ProgramFault.TheVariants.{CommandLine, Settings, Policy, Hex, Framing, Core, Cut, Calls, BadLimits, Journal, History, Absent, Close, OutOfMemory, Device}
 use Rattle.ipmd_offline.specs.HexText.{WritesSome}
 
 -- These are the replies to the calls that the text lists, made one after another on a new mediator; and all that is promised of a
@@ -46,6 +46,7 @@ RefusesText (Core why) text = ⊥
 RefusesText Cut text = ⊥
 RefusesText (Journal why) text = ⊥
 RefusesText (History position) text = ⊥
+RefusesText (Absent what) text = ⊥
 RefusesText Close text = ⊥
 RefusesText Device text = ⊥
 

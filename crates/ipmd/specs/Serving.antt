@@ -13,7 +13,7 @@ use Rattle.mediator_server.specs.declared.listening.ListenFault.{ListenFault}
 use Rattle.mediator_server.specs.declared.listening.ListenFault.TheVariants as listen
 use Rattle.shared_mediator.specs.declared.closing.Closed.{Closed}
 use Rattle.ipmd_offline.specs.declared.fault.ProgramFault.{ProgramFault}
-use Rattle.ipmd_offline.specs.declared.fault.ProgramFault.TheVariants.{CommandLine, Settings, Policy, Hex, Framing, Core, Cut, Calls, BadLimits, Journal, History, Close, OutOfMemory, Device}
+use Rattle.ipmd_offline.specs.declared.fault.ProgramFault.TheVariants.{CommandLine, Settings, Policy, Hex, Framing, Core, Cut, Calls, BadLimits, Journal, History, Absent, Close, OutOfMemory, Device}
 use Rattle.ipmd_offline.specs.HexText.{WritesSome}
 use Rattle.ipmd_offline.specs.Status.{core_fault_of}
 
@@ -59,6 +59,7 @@ RefusesToPrepare (Calls n) = ⊥
 RefusesToPrepare BadLimits = ⊥
 RefusesToPrepare (Journal why) = ⊥
 RefusesToPrepare (History position) = ⊥
+RefusesToPrepare (Absent what) = ⊥
 RefusesToPrepare Close = ⊥
 
 -- ---- serving

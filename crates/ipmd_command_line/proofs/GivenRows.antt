@@ -1,10 +1,15 @@
 -- What a getter of the parser answers is what the rows of its matches have.
-use Rattle.std.proofs.Common.{refl, codes, sym, subst, ap, Result, Ok, Err, List, ℕ, Option, Some, None, option_map, ◌≡◌, ◌∙◌}
+use Rattle.std.proofs.Common.{refl, codes, sym, subst, ap, arith, get_or, Result, Ok, Err, List, ℕ, Option, Some, None, option_map, ◌≡◌, ◌∙◌}
 use Rattle.std.specs.Borrow.{Bor}
-use Rattle.clap.specs.Words.{ReadsOne, Row, Text, first_of, first_value, found_of, one_of, one_text, rows_of}
+use Rattle.std.specs.Prelude.{IsSome}
+use Rattle.clap.specs.Words.{ReadsOne, Row, Text, first_of, first_value, found_of, one_of, one_text, rows_of, subcommand_of}
 use Rattle.clap.specs.declared.parser.matches.ArgMatches.{ArgMatches}
 use Rattle.std.specs.Str.Parse.{ParsesUnsigned}
-use Rattle.ipmd_command_line.specs.CommandLine.{IsNumber, IsSource}
+use Rattle.clap.specs.declared.error.Error.{Error}
+use Rattle.ipmd_command_line.specs.declared.task.ExplainOptions.{ExplainOptions}
+use Rattle.ipmd_command_line.specs.declared.task.Task.{Task}
+use Rattle.ipmd_command_line.specs.declared.task.Task.TheVariants.{Offline, CheckPolicy, Replay, Serve, Verify, Explain, Show}
+use Rattle.ipmd_command_line.specs.CommandLine.{AreExplainOptions, AsksFor, IsCommand, IsCommandIn, IsMaybeNumber, IsNumber, IsSource, ipmd_command}
 use Rattle.ipmd_command_line.specs.declared.task.PolicySource.{PolicySource}
 use Rattle.ipmd_command_line.specs.declared.task.PolicySource.TheVariants.{File, Text as PolicyText}
 use Rattle.clap.proofs.WalkLemmas.{first_value-rows, one_text-rows}
@@ -69,3 +74,51 @@ pub given_value : (m : ArgMatches) (id : Text) (got : Option (Bor (List ℕ))) (
 given_value m id got value is has missed =
     let bad : Some value ≡ None = sym has ∙ given_row m id got None is missed in
     cc
+
+-- an option that was given has a value, so it is a number or the rows have none
+pub maybe_missed : (k : ℕ) (m : ArgMatches) (id : Text) (got : Option (Bor (List ℕ))) (s : Bor (List ℕ)) → option_map (λ s. s.now) got ≡ first_value (found_of m) id → got ≡ Some s
+    → ((n : ℕ) → IsNumber k id (rows_of (found_of m)) n → ⊥) → (o : Option ℕ) → IsMaybeNumber k id (rows_of (found_of m)) o → ⊥
+maybe_missed k m id got s is given none (Some n) so = none n so
+maybe_missed k m id got s is given none None so =
+    let bad : None ≡ Some s.now = sym so ∙ given_row m id got (Some s) is given in
+    cc
+
+-- ---- what commands ask for
+
+-- a command is no other
+apart : (name : Text) (a b : Text) → name ≡ a → name ≡ b → (get_or a 0 0 ≡ get_or b 0 0 → ⊥) → ⊥
+apart name a b here there other = other (ap (λ t. get_or t 0 0) (sym here ∙ there))
+
+-- where the options of `explain` are none, nothing is asked for
+pub explain_missed : (name : Text) (rows : List Row) → name ≡ codes "explain" → ((options : ExplainOptions) → AreExplainOptions options rows → ⊥) → (task : Task) → IsCommand task name rows → ⊥
+explain_missed name rows same none (Offline options) is = apart name (codes "offline") (codes "explain") is.0 same (λ n. absurd (omega (arith, n)))
+explain_missed name rows same none (CheckPolicy source) is = apart name (codes "check-policy") (codes "explain") is.0 same (λ n. absurd (omega (arith, n)))
+explain_missed name rows same none (Replay path) is = apart name (codes "replay") (codes "explain") is.0 same (λ n. absurd (omega (arith, n)))
+explain_missed name rows same none (Serve path) is = apart name (codes "serve") (codes "explain") is.0 same (λ n. absurd (omega (arith, n)))
+explain_missed name rows same none (Verify options) is = apart name (codes "verify") (codes "explain") is.0 same (λ n. absurd (omega (arith, n)))
+explain_missed name rows same none (Explain options) is = none options is.1
+explain_missed name rows same none (Show text) is = is
+
+shows_none : (text : Error) (o : Option (Text × List Row)) → IsCommandIn (Show text) o → ⊥
+shows_none text None is = is
+shows_none text (Some command) is = is
+
+-- the command that the words name is asked for
+pub asks_for : (words : List Text) (task : Task) → IsCommandIn task (subcommand_of ipmd_command words) → AsksFor words task
+asks_for words (Offline options) is = is
+asks_for words (CheckPolicy source) is = is
+asks_for words (Replay path) is = is
+asks_for words (Serve path) is = is
+asks_for words (Verify options) is = is
+asks_for words (Explain options) is = is
+asks_for words (Show text) is = absurd (shows_none text (subcommand_of ipmd_command words) is)
+
+some_none : {A : Type 0} (o : Option A) → o ≡ None → IsSome o → ⊥
+some_none None is there = absurd cc
+some_none (Some a) is there = absurd cc
+
+-- so in the rows of the command that was named
+pub explain_refused : (o : Option (Text × List Row)) (name : Text) (rows : List Row) (got : Option ExplainOptions) → o ≡ Some (name, rows) → name ≡ codes "explain" → got ≡ None
+    → ((options : ExplainOptions) → AreExplainOptions options rows → IsSome got) → (task : Task) → IsCommandIn task o → ⊥
+explain_refused o name rows got is same missed only task so =
+    explain_missed name rows same (λ options are. some_none got missed (only options are)) task (subst (IsCommandIn task) is so)

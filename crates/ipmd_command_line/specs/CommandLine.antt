@@ -1,17 +1,18 @@
 -- The command line: what may be asked for, and what the words after the program's name ask for. How words are read where these
 -- are the commands and their options is clap's.
-use Rattle.std.specs.Prelude.{◌≡◌, ◌⊎◌, ◌^◌, ◌<◌, ℕ, Bool, true, false, List, [], ◌∷◌, Option, Some, None, option_map, codes, pos}
+use Rattle.std.specs.Prelude.{◌≡◌, ◌⊎◌, ◌^◌, ◌-◌, ◌<◌, ℕ, Bool, true, false, List, [], ◌∷◌, Option, Some, None, option_map, codes, pos}
 use Rattle.std.specs.Str.Parse.{IsNumeral, digits_value, without_leading_plus}
 use Rattle.clap.specs.Words.{App, Row, Rule, Text, IsAmong, fault_of, first_of, kind_of, new_app, new_rule, one_of, subcommand_of, with_rule, with_subcommand}
 use Rattle.clap.specs.declared.builder.action.ArgAction.TheVariants.{SetTrue}
-use Rattle.clap.specs.declared.builder.value_parser.ValueParser.TheVariants.{Signed}
+use Rattle.clap.specs.declared.builder.value_parser.ValueParser.TheVariants.{Signed, Unsigned}
 use Rattle.clap.specs.declared.error.kind.ErrorKind.{ErrorKind}
 use Rattle.clap.specs.declared.error.kind.ErrorKind.TheVariants.{DisplayHelp, DisplayVersion}
 use Rattle.ipmd_command_line.specs.declared.task.OfflineOptions.{OfflineOptions}
 use Rattle.ipmd_command_line.specs.declared.task.ReplayOptions.{ReplayOptions}
 use Rattle.ipmd_command_line.specs.declared.task.VerifyOptions.{VerifyOptions}
+use Rattle.ipmd_command_line.specs.declared.task.ExplainOptions.{ExplainOptions}
 use Rattle.ipmd_command_line.specs.declared.task.Task.{Task}
-use Rattle.ipmd_command_line.specs.declared.task.Task.TheVariants.{Offline, CheckPolicy, Replay, Serve, Verify, Show}
+use Rattle.ipmd_command_line.specs.declared.task.Task.TheVariants.{Offline, CheckPolicy, Replay, Serve, Verify, Explain, Show}
 use Rattle.ipmd_command_line.specs.declared.fault.CommandLineFault.{CommandLineFault}
 use Rattle.ipmd_command_line.specs.declared.fault.CommandLineFault.TheVariants.{Refused, OutOfMemory}
 use Rattle.ipmd_command_line.specs.declared.task.PolicySource.{PolicySource}
@@ -31,6 +32,23 @@ needed name = record (valued name) { required = true }
 abbrev pub number : Text → Text → ℕ → Rule
 number name default most = record (valued name) { defaults = default ∷ []; parser = Some (Signed (pos 0) (pos most)) }
 
+-- the greatest numbers that 64, 32 and 16 bits hold
+abbrev pub greatest_of_64_bits : ℕ
+greatest_of_64_bits = 2 ^ 64 - 1
+
+abbrev pub greatest_of_32_bits : ℕ
+greatest_of_32_bits = 2 ^ 32 - 1
+
+abbrev pub greatest_of_16_bits : ℕ
+greatest_of_16_bits = 2 ^ 16 - 1
+
+-- an option whose value is a number of at most 2^64 - 1, and one whose is at most so much
+abbrev pub long_number : Text → Rule
+long_number name = record (valued name) { parser = Some (Unsigned 0 greatest_of_64_bits) }
+
+abbrev pub short_number : Text → ℕ → Rule
+short_number name most = record (valued name) { parser = Some (Signed (pos 0) (pos most)) }
+
 -- an option without a value
 abbrev pub flag : Text → Rule
 flag name = record (new_rule name) { long = Some name; action = Some SetTrue }
@@ -42,7 +60,7 @@ with_policy app = with_rule (with_rule app (valued (codes "policy"))) (valued (c
 abbrev pub offline_command : App
 offline_command =
     with_rule (with_rule (with_rule (with_rule (with_rule (with_policy (new_app (codes "offline")))
-    (needed (codes "subscriber"))) (number (codes "now") (codes "0") 4294967295)) (number (codes "target") (codes "1400") 65535)) (valued (codes "audit"))) (flag (codes "hex"))
+    (needed (codes "subscriber"))) (number (codes "now") (codes "0") greatest_of_32_bits)) (number (codes "target") (codes "1400") greatest_of_16_bits)) (valued (codes "audit"))) (flag (codes "hex"))
 
 abbrev pub check_policy_command : App
 check_policy_command = with_policy (new_app (codes "check-policy"))
@@ -56,14 +74,19 @@ serve_command = with_rule (new_app (codes "serve")) (needed (codes "settings"))
 abbrev pub verify_command : App
 verify_command = with_rule (with_rule (new_app (codes "verify")) (needed (codes "journal"))) (flag (codes "quiet"))
 
+abbrev pub explain_command : App
+explain_command =
+    with_rule (with_rule (with_rule (with_rule (new_app (codes "explain"))
+    (needed (codes "journal"))) (record (long_number (codes "sub")) { required = true })) (long_number (codes "position"))) (short_number (codes "index") greatest_of_32_bits)
+
 -- the words begin after the program's name
 abbrev pub top_command : App
 top_command = record (new_app (codes "ipmd")) { top = record (new_app (codes "ipmd")).top { no_binary_name = true; has_version = true; subcommand_required = true } }
 
 abbrev pub ipmd_command : App
 ipmd_command =
-    with_subcommand (with_subcommand (with_subcommand (with_subcommand (with_subcommand top_command
-    offline_command.top) check_policy_command.top) replay_command.top) serve_command.top) verify_command.top
+    with_subcommand (with_subcommand (with_subcommand (with_subcommand (with_subcommand (with_subcommand top_command
+    offline_command.top) check_policy_command.top) replay_command.top) serve_command.top) verify_command.top) explain_command.top
 
 -- ---- what is asked for
 
@@ -101,6 +124,17 @@ pub record AreVerifyOptions (options : VerifyOptions) (rows : List Row) : Type 0
   pub journal : first_of (codes "journal") rows ≡ Some options.journal.now
   pub quiet : IsFlag (codes "quiet") rows options.quiet
 
+-- an option that need not be given has such a value where it is
+abbrev pub IsMaybeNumber : ℕ → Text → List Row → Option ℕ → Type 0
+IsMaybeNumber bits id rows None = first_of id rows ≡ None
+IsMaybeNumber bits id rows (Some n) = IsNumber bits id rows n
+
+pub record AreExplainOptions (options : ExplainOptions) (rows : List Row) : Type 0 where
+  pub journal : first_of (codes "journal") rows ≡ Some options.journal.now
+  pub sub : IsNumber 64 (codes "sub") rows options.sub
+  pub position : IsMaybeNumber 64 (codes "position") rows options.position
+  pub index : IsMaybeNumber 32 (codes "index") rows options.index
+
 -- the command that was named, and its options
 abbrev pub IsCommand : Task → Text → List Row → Type 0
 IsCommand (Offline options) name rows = (name ≡ codes "offline") × AreOptions options rows
@@ -108,6 +142,7 @@ IsCommand (CheckPolicy source) name rows = (name ≡ codes "check-policy") × Is
 IsCommand (Replay options) name rows = (name ≡ codes "replay") × AreReplayOptions options rows
 IsCommand (Serve path) name rows = (name ≡ codes "serve") × (first_of (codes "settings") rows ≡ Some path.now)
 IsCommand (Verify options) name rows = (name ≡ codes "verify") × AreVerifyOptions options rows
+IsCommand (Explain options) name rows = (name ≡ codes "explain") × AreExplainOptions options rows
 IsCommand (Show text) name rows = ⊥
 
 abbrev pub IsCommandIn : Task → Option (Text × List Row) → Type 0
@@ -128,6 +163,7 @@ AsksFor words (CheckPolicy source) = IsCommandIn (CheckPolicy source) (subcomman
 AsksFor words (Replay options) = IsCommandIn (Replay options) (subcommand_of ipmd_command words)
 AsksFor words (Serve path) = IsCommandIn (Serve path) (subcommand_of ipmd_command words)
 AsksFor words (Verify options) = IsCommandIn (Verify options) (subcommand_of ipmd_command words)
+AsksFor words (Explain options) = IsCommandIn (Explain options) (subcommand_of ipmd_command words)
 
 -- the words ask for nothing: the parser says so, or no command is what they name with its options
 abbrev pub RefusesWords : List Text → CommandLineFault → Type 0

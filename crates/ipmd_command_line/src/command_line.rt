@@ -1,16 +1,19 @@
 //! What words ask for.
-ghost use Rattle.std.specs.Prelude.{◌≡◌, false, map, option_map, IfErr, IfOk, IfSome, IsSome};
+ghost use Rattle.std.specs.Prelude.{◌≡◌, ℕ, Option, codes, false, map, option_map, IfErr, IfOk, IfSome, IsSome};
 ghost use Rattle.ipmd_command_line.specs.declared.task.OfflineOptions.{OfflineOptions};
 ghost use Rattle.ipmd_command_line.specs.declared.task.ReplayOptions.{ReplayOptions};
 ghost use Rattle.ipmd_command_line.specs.declared.task.VerifyOptions.{VerifyOptions};
+ghost use Rattle.ipmd_command_line.specs.declared.task.ExplainOptions.{ExplainOptions};
 ghost use Rattle.ipmd_command_line.specs.declared.task.Task.{Task};
 ghost use Rattle.ipmd_command_line.specs.declared.task.PolicySource.{PolicySource};
 ghost use Rattle.clap.specs.Words.{app_of, first_of, found_of, rows_of, rule_of, subcommand_rows_of};
-ghost use Rattle.ipmd_command_line.specs.CommandLine.{AreOptions, AreReplayOptions, AreVerifyOptions, AsksFor, IsCommandIn, IsSource, RefusesWords, check_policy_command, ipmd_command, offline_command, replay_command, serve_command, valued, verify_command, with_policy};
+ghost use Rattle.ipmd_command_line.specs.CommandLine.{AreExplainOptions, AreOptions, AreReplayOptions, AreVerifyOptions, AsksFor, IsCommandIn, IsMaybeNumber, IsSource, RefusesWords, check_policy_command, explain_command, ipmd_command, offline_command, replay_command, serve_command, valued, verify_command, with_policy};
 
 use crate::fault::CommandLineFault;
 use crate::help;
-use crate::task::{OfflineOptions, PolicySource, ReplayOptions, Task, VerifyOptions};
+use crate::task::{
+    ExplainOptions, OfflineOptions, PolicySource, ReplayOptions, Task, VerifyOptions,
+};
 use clap::error::ErrorKind;
 use clap::{Arg, ArgAction, ArgMatches, Command, value_parser};
 use std::alloc::{AllocError, Global};
@@ -28,6 +31,8 @@ const REPLAY: &str = "replay";
 const SERVE: &str = "serve";
 
 const VERIFY: &str = "verify";
+
+const EXPLAIN: &str = "explain";
 
 const POLICY: &str = "policy";
 
@@ -50,6 +55,12 @@ const SETTINGS: &str = "settings";
 const JOURNAL: &str = "journal";
 
 const QUIET: &str = "quiet";
+
+const SUB: &str = "sub";
+
+const POSITION: &str = "position";
+
+const INDEX: &str = "index";
 
 /// What the words after the program's name ask for.
 ///
@@ -100,6 +111,7 @@ fn task_of<'a>(matches: &ArgMatches<'a>) -> Option<Task<'a>>
         (REPLAY, chosen) => Some(Task::Replay(replay_options(chosen)?)),
         (SERVE, chosen) => Some(Task::Serve(value_of(chosen, SETTINGS)?)),
         (VERIFY, chosen) => Some(Task::Verify(verify_options(chosen)?)),
+        (EXPLAIN, chosen) => Some(Task::Explain(explain_options(chosen)?)),
         _ => None,
     }
 }
@@ -141,6 +153,41 @@ fn verify_options<'a>(chosen: &ArgMatches<'a>) -> Option<VerifyOptions<'a>>
     })
 }
 
+/// The options of `ipmd explain`.
+fn explain_options<'a>(chosen: &ArgMatches<'a>) -> Option<ExplainOptions<'a>>
+    ensures found { IfSome result (λ options. AreExplainOptions options (rows_of (found_of chosen.now))) }
+    ensures only { (options : ExplainOptions) → AreExplainOptions options (rows_of (found_of chosen.now)) → IsSome result }
+{
+    Some(ExplainOptions {
+        journal: chosen.get_str(JOURNAL)?,
+        sub: chosen.get_one::<u64>(SUB)?,
+        position: position_of(chosen)?,
+        index: index_of(chosen)?,
+    })
+}
+
+/// The position of the one message that is to be explained, if there is one.
+fn position_of(chosen: &ArgMatches<'_>) -> Option<Option<u64>>
+    ensures found { IfSome result (λ position. IsMaybeNumber 64 (codes "position") (rows_of (found_of chosen.now)) position) }
+    ensures only { (position : Option ℕ) → IsMaybeNumber 64 (codes "position") (rows_of (found_of chosen.now)) position → IsSome result }
+{
+    match chosen.get_str(POSITION) {
+        Some(_) => Some(Some(chosen.get_one::<u64>(POSITION)?)),
+        None => Some(None),
+    }
+}
+
+/// The place in its message of the one record that is to be explained, if there is one.
+fn index_of(chosen: &ArgMatches<'_>) -> Option<Option<u32>>
+    ensures found { IfSome result (λ index. IsMaybeNumber 32 (codes "index") (rows_of (found_of chosen.now)) index) }
+    ensures only { (index : Option ℕ) → IsMaybeNumber 32 (codes "index") (rows_of (found_of chosen.now)) index → IsSome result }
+{
+    match chosen.get_str(INDEX) {
+        Some(_) => Some(Some(chosen.get_one::<u32>(INDEX)?)),
+        None => Some(None),
+    }
+}
+
 /// Where the policy comes from, where exactly one option names it.
 fn policy_source<'a>(chosen: &ArgMatches<'a>) -> Option<PolicySource<'a>>
     ensures found { IfSome result (λ source. IsSource source (rows_of (found_of chosen.now))) }
@@ -176,7 +223,8 @@ fn whole_command<'a>(alloc: Global) -> Result<Command<'a>, AllocError>
         .subcommand(check_policy_command(alloc)?)?
         .subcommand(replay_command(alloc)?)?
         .subcommand(serve_command(alloc)?)?
-        .subcommand(verify_command(alloc)?)
+        .subcommand(verify_command(alloc)?)?
+        .subcommand(explain_command(alloc)?)
 }
 
 fn offline_command<'a>(alloc: Global) -> Result<Command<'a>, AllocError>
@@ -277,6 +325,38 @@ fn verify_command<'a>(alloc: Global) -> Result<Command<'a>, AllocError>
                 .long(QUIET)
                 .action(ArgAction::SetTrue)
                 .help("Leave out the audit, and say nothing of how far the file was read"),
+        )
+}
+
+fn explain_command<'a>(alloc: Global) -> Result<Command<'a>, AllocError>
+    ensures { IfOk result (λ command. app_of command ≡ explain_command) }
+{
+    Command::new(alloc, EXPLAIN)
+        .override_usage("ipmd explain --journal <FILE> --sub <N> [--position <P>] [--index <I>]")
+        .about(
+            "Says what a subscription saw of each record of a journal's file, and by which rules",
+        )
+        .after_help(help::EXPLAIN)
+        .arg(
+            option(alloc, JOURNAL, "FILE")
+                .required(true)
+                .help("The journal's file"),
+        )?
+        .arg(
+            option(alloc, SUB, "N")
+                .required(true)
+                .value_parser(value_parser!(u64))
+                .help("The number of the subscription"),
+        )?
+        .arg(
+            option(alloc, POSITION, "P")
+                .value_parser(value_parser!(u64))
+                .help("Explain the message at this position alone, from 0"),
+        )?
+        .arg(
+            option(alloc, INDEX, "I")
+                .value_parser(value_parser!(u32))
+                .help("Explain the record at this place in its message alone, from 0"),
         )
 }
 

@@ -10,7 +10,9 @@ What several subscribers would see, or a change of policy would do, is rehearsed
 Exporters and collectors that are there now are served over TCP by
   ipmd serve --settings settings.toml
 Whoever has the file of a mediator's journal may check it by
-  ipmd verify --journal run.journal";
+  ipmd verify --journal run.journal
+and may ask what a subscriber saw of each record, and by which rules:
+  ipmd explain --journal run.journal --sub 1";
 
 /// Below the help of `ipmd offline`.
 pub const OFFLINE: &str = "\
@@ -203,3 +205,32 @@ A fault of the file goes before one of the history. On a terminal standard error
 how many entries were read.
 
 Exit status: 0 legal, 1 refused or out of memory, 2 wrong command line, 3 device.";
+
+/// Below the help of `ipmd explain`.
+pub const EXPLAIN: &str = "\
+Of each record of each message that came while the subscription was served, a line says what it
+saw of it, by the policy that was in force there, and which rule decided that:
+  position 5 index 0: 192.0.2.77:49153 -> 198.51.100.9:443; rule 2 passes it; sourceIPv4Address cut
+  to 24 bits by rule 5; sourceTransportPort removed by rule 7; octetDeltaCount kept by rule 8
+(on one line). Positions are those of entries in the file, an index is a place in a message, and
+both begin at 0. Where from and to a record's flow goes stands there if it has addresses and ports.
+What else a line may say:
+  withheld by rule 3
+  rule 2 passes it; ingressInterface removed by rule 3; withheld, since a scope field is removed by
+  rule 3
+  rule 2 passes it; octetDeltaCount removed by rule 3; withheld, since all is removed by rule 3
+  counted in the aggregate AGGREGATE by rule 4
+  withheld by rule 4: the aggregate AGGREGATE finds no time in it, or no key, or it is late
+Each field of a record that passes is named. Where no rule decides, the words `no rule matches it`
+stand for `by rule N`.
+
+Example:
+  ipmd explain --journal run.journal --sub 1 --position 5
+
+What standard error says, and what it means:
+  ipmd: journal NoSubscription N  no subscription with this number ever began
+  ipmd: journal NoMessage P       no message stands at this position
+  ipmd: journal NoRecord P I      the message there has no record at this place
+and what ipmd verify --help has. The file is read twice: it is verified before anything is written.
+
+Exit status: 0 explained, 1 refused or out of memory, 2 wrong command line, 3 device.";

@@ -1,7 +1,8 @@
 //! The command line of `ipmd`: what may be asked for, and what words ask for. It does nothing of it, and knows
 //! neither messages nor policies.
 //!
-//! - `task`: [`Task`], what is asked for, with [`OfflineOptions`], [`VerifyOptions`] and [`PolicySource`].
+//! - `task`: [`Task`], what is asked for, with [`OfflineOptions`], [`VerifyOptions`],
+//!   [`ExplainOptions`] and [`PolicySource`].
 //! - `command_line`: [`read_command_line`] and [`VERSION`].
 //! - `help`: what the help says below the options.
 //! - `fault`: [`CommandLineFault`].
@@ -21,4 +22,4 @@ mod task;
 
 pub use command_line::{VERSION, read_command_line};
 pub use fault::CommandLineFault;
-pub use task::{OfflineOptions, PolicySource, ReplayOptions, Task, VerifyOptions};
+pub use task::{ExplainOptions, OfflineOptions, PolicySource, ReplayOptions, Task, VerifyOptions};

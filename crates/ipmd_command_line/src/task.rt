@@ -41,6 +41,19 @@ pub struct VerifyOptions<'a> {
     pub quiet: bool,
 }
 
+/// What `ipmd explain` is to do.
+#[derive(Clone, Copy, Debug)]
+pub struct ExplainOptions<'a> {
+    /// The journal's file.
+    pub journal: &'a str,
+    /// The number of the subscription.
+    pub sub: u64,
+    /// The position of the one message that is explained; where there is none, all are.
+    pub position: Option<u64>,
+    /// The place in its message of the one record that is explained; where there is none, all are.
+    pub index: Option<u32>,
+}
+
 /// What a command line asks for.
 #[derive(Debug, Drop)]
 pub enum Task<'a> {
@@ -54,6 +67,8 @@ pub enum Task<'a> {
     Serve(&'a str),
     /// To verify a journal's file.
     Verify(VerifyOptions<'a>),
+    /// To explain what a subscription saw, by a journal's file.
+    Explain(ExplainOptions<'a>),
     /// To show the help or the version.
     Show(clap::Error),
 }

@@ -1,3 +1,4 @@
+pub mod Absent
 pub mod Status
 pub mod HexText
 pub mod Runs

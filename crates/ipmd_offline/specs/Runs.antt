@@ -17,7 +17,7 @@ use Rattle.ipmd_command_line.specs.declared.task.OfflineOptions.{OfflineOptions}
 use Rattle.ipmd_command_line.specs.declared.task.PolicySource.{PolicySource}
 use Rattle.ipmd_command_line.specs.declared.task.PolicySource.TheVariants.{File, Text}
 use Rattle.ipmd_offline.specs.declared.fault.ProgramFault.{ProgramFault}
-use Rattle.ipmd_offline.specs.declared.fault.ProgramFault.TheVariants.{CommandLine, Settings, Policy, Hex, Framing, Core, Cut, Calls, BadLimits, Journal, History, Close, OutOfMemory, Device}
+use Rattle.ipmd_offline.specs.declared.fault.ProgramFault.TheVariants.{CommandLine, Settings, Policy, Hex, Framing, Core, Cut, Calls, BadLimits, Journal, History, Absent, Close, OutOfMemory, Device}
 use Rattle.ipmd_offline.specs.HexText.{SpelledBy, SpellsNothing, lines_of, WritesLines, WritesSome, WritesSomeLines}
 use Rattle.call_lists.specs.LineEnds.{with_line_ends}
 use Rattle.ipmd_offline.specs.Status.{offline_fault_of}
@@ -66,6 +66,7 @@ RefusesToCount source (Calls n) held holds = ⊥
 RefusesToCount source BadLimits held holds = ⊥
 RefusesToCount source (Journal why) held holds = ⊥
 RefusesToCount source (History position) held holds = ⊥
+RefusesToCount source (Absent what) held holds = ⊥
 RefusesToCount source Close held holds = ⊥
 
 -- ---- help and the version

@@ -25,8 +25,9 @@ use Rattle.journal_files.specs.declared.read_fault.ReadFault.{ReadFault}
 use Rattle.journal_files.specs.declared.read_fault.ReadFault.TheVariants as reading
 use Rattle.mediator_calls.specs.declared.fault.RunFault.{RunFault}
 use Rattle.mediator_calls.specs.declared.fault.RunFault.TheVariants as run
+use Rattle.ipmd_offline.specs.Absent.{text_of_absent}
 use Rattle.ipmd_offline.specs.declared.fault.ProgramFault.{ProgramFault}
-use Rattle.ipmd_offline.specs.declared.fault.ProgramFault.TheVariants.{CommandLine, Settings, Policy, Hex, Framing, Core, Cut, Calls, BadLimits, Journal, History, Close, OutOfMemory, Device}
+use Rattle.ipmd_offline.specs.declared.fault.ProgramFault.TheVariants.{CommandLine, Settings, Policy, Hex, Framing, Core, Cut, Calls, BadLimits, Journal, History, Absent, Close, OutOfMemory, Device}
 
 -- 1: what was read is refused, or memory runs out; 2: the command line is refused; 3: a file, a stream or an address fails
 abbrev pub status_of : ProgramFault → ℕ
@@ -41,6 +42,7 @@ status_of (Calls _) = 1
 status_of BadLimits = 1
 status_of (Journal _) = 1
 status_of (History _) = 1
+status_of (Absent _) = 1
 status_of Close = 1
 status_of OutOfMemory = 1
 status_of Device = 3
@@ -58,6 +60,7 @@ text_of (Calls line) = Some (codes "ipmd: calls line " ++ decimal line)
 text_of BadLimits = Some (codes "ipmd: BadLimits")
 text_of (Journal why) = Some (codes "ipmd: journal " ++ text_of_journal why)
 text_of (History position) = Some (codes "ipmd: journal BadHistory " ++ decimal position)
+text_of (Absent what) = Some (codes "ipmd: journal " ++ text_of_absent what)
 text_of Close = Some (codes "ipmd: close")
 text_of OutOfMemory = Some (codes "ipmd: OutOfMemory")
 text_of Device = Some (codes "ipmd: device")

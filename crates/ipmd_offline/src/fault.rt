@@ -23,6 +23,34 @@ const BAD_COMMAND_LINE: u8 = 2;
 /// The exit status where a file or a stream fails.
 const DEVICE_FAILED: u8 = 3;
 
+/// What a journal was asked for, and doesn't have. Its text is its name, with the numbers that were asked for.
+#[derive(Clone, Copy, Debug, PartialEq, Eq)]
+pub enum Absent {
+    /// A subscription with this number never began.
+    Subscription(u64),
+    /// No message stands at this position.
+    Message(u64),
+    /// The message at this position has no record at this place.
+    Record { position: u64, index: u32 },
+}
+
+impl Error for Absent {}
+
+impl Display for Absent {
+    ghost use Rattle.std.specs.Prelude.{Some};
+    ghost use Rattle.ipmd_offline.specs.Absent.{text_of_absent};
+
+    ghost output = { λ absent. Some (text_of_absent absent) };
+
+    fn fmt<W: fmt::Write>(&self, f: &mut Formatter<W>) -> fmt::Result {
+        match self {
+            Absent::Subscription(sub) => write!(f, "NoSubscription {sub}"),
+            Absent::Message(position) => write!(f, "NoMessage {position}"),
+            Absent::Record { position, index } => write!(f, "NoRecord {position} {index}"),
+        }
+    }
+}
+
 /// Why a run ends without having done what was asked. Its text is what the program says of it.
 #[derive(Debug, Drop)]
 pub enum ProgramFault {
@@ -48,6 +76,8 @@ pub enum ProgramFault {
     Journal(JournalFault),
     /// A journal's entry at this position is none that a mediator may have accepted there. All entries before it are.
     History(u64),
+    /// A journal doesn't have what was to be explained.
+    Absent(Absent),
     /// What was served isn't given back: a receipt doesn't stand in the journal.
     Close,
     /// Want of memory.
@@ -78,7 +108,8 @@ impl Display for ProgramFault {
             ProgramFault::Calls(line) => write!(f, "ipmd: calls line {line}"),
             ProgramFault::BadLimits => f.write_str("ipmd: BadLimits"),
             ProgramFault::Journal(why) => write!(f, "ipmd: journal {why}"),
-            ProgramFault::History(at) => write!(f, "ipmd: journal BadHistory {at}"),
+            ProgramFault::History(position) => { write!(f, "ipmd: journal BadHistory {position}") }
+            ProgramFault::Absent(what) => write!(f, "ipmd: journal {what}"),
             ProgramFault::Close => f.write_str("ipmd: close"),
             ProgramFault::OutOfMemory => f.write_str("ipmd: OutOfMemory"),
             ProgramFault::Device => f.write_str("ipmd: device"),
@@ -118,6 +149,7 @@ impl ProgramFault {
             | ProgramFault::BadLimits
             | ProgramFault::Journal(_)
             | ProgramFault::History(_)
+            | ProgramFault::Absent(_)
             | ProgramFault::Close
             | ProgramFault::OutOfMemory => REFUSED,
             ProgramFault::Device => DEVICE_FAILED,

@@ -6,7 +6,7 @@
 //! - `showing`: [`show`], the help and the version.
 //! - `report`: [`tell`], what is said of a stream that was filtered.
 //! - `output`: [`write_text`]; and messages as lines of hexadecimal digits.
-//! - `fault`: [`ProgramFault`].
+//! - `fault`: [`ProgramFault`], with [`Absent`].
 //! - `policy_source`: the text of a policy, from where it comes.
 //! - `hex_input`: a stream as hexadecimal text.
 //!
@@ -37,7 +37,7 @@ mod report;
 mod showing;
 
 pub use check::check_policy;
-pub use fault::ProgramFault;
+pub use fault::{Absent, ProgramFault};
 pub use filtering::filter;
 pub use output::write_text;
 pub use report::tell;

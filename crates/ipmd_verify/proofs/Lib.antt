@@ -1,1 +1,1 @@
-mod ReadingLaws
+pub mod ReadingLaws

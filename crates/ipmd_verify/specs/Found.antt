@@ -7,7 +7,7 @@ use Rattle.history_verify.specs.declared.verified.Verified.{Verified}
 use Rattle.history_verify.specs.Legal.{IsFirstBad}
 use Rattle.history_verify.specs.Answers.{IsVerified}
 use Rattle.ipmd_offline.specs.declared.fault.ProgramFault.{ProgramFault}
-use Rattle.ipmd_offline.specs.declared.fault.ProgramFault.TheVariants.{CommandLine, Settings, Policy, Hex, Framing, Core, Cut, Calls, BadLimits, Journal, History, Close, OutOfMemory, Device}
+use Rattle.ipmd_offline.specs.declared.fault.ProgramFault.TheVariants.{CommandLine, Settings, Policy, Hex, Framing, Core, Cut, Calls, BadLimits, Journal, History, Absent, Close, OutOfMemory, Device}
 
 -- the file says this history; of a file that isn't known nothing is said
 abbrev pub Says : Option (List ℕ) → List Entry → Type 0
@@ -38,6 +38,7 @@ pub record IsBadAt (given : Option (List ℕ)) (position : ℕ) : Type 0 where
 abbrev pub RefusesFile : ProgramFault → Option (List ℕ) → Type 0
 RefusesFile (Journal why) given = IsNoFile given why
 RefusesFile (History position) given = IsBadAt given position
+RefusesFile (Absent what) given = ⊥
 RefusesFile OutOfMemory given = Unit {0}
 RefusesFile Device given = Unit {0}
 RefusesFile (CommandLine e) given = ⊥

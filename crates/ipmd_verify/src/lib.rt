@@ -22,4 +22,5 @@ mod telling;
 mod verifying;
 
 pub use progress::{OnTerminal, Progress};
+pub use reading::{fault_of, refusal};
 pub use verifying::{verify, verify_input};

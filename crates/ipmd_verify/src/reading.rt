@@ -50,7 +50,9 @@ pub(crate) fn read_history<S: Source, P: Progress>(
 }
 
 /// Why a file is refused that is read so far, and whose history a verifier refuses: a fault of the file goes before.
-fn refusal<S: Source>(
+///
+/// It reads what is left of the file.
+pub fn refusal<S: Source>(
     reader: &mut JournalReader,
     source: &mut S,
     fault: VerifyFault,
@@ -96,7 +98,7 @@ fn feed(verifier: &mut Verifier, entry: Entry) -> Result<(), VerifyFault>
 }
 
 /// The program's word for a verifier's fault.
-fn fault_of(fault: VerifyFault) -> ProgramFault
+pub fn fault_of(fault: VerifyFault) -> ProgramFault
     ensures { result ≡ verify_fault_of fault }
 {
     match fault {

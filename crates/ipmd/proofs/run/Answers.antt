@@ -3,7 +3,9 @@ use Rattle.octet_devices.specs.Device.{device_inner}
 use Rattle.offline_filter.proofs.Receiving.{err_gives}
 use Rattle.ipmd.specs.Serving.{FailsToServe}
 use Rattle.ipmd_offline.specs.Runs.{RefusesToFilter}
-use Rattle.ipmd.proofs.Endings.{unfiltered, unserved}
+use Rattle.ipmd_verify.specs.Verifying.{RefusesToVerifyFile}
+use Rattle.ipmd_explain.specs.Answers.{RefusesToExplainFile, question_of}
+use Rattle.ipmd.proofs.Endings.{unexplained, unfiltered, unserved, unverified}
 use Rattle.ipmd.proofs.run.Goals as goal
 
 pub returns-in_err-serve-in-Serve-clause-err : goal.returns-in_err-serve-in-Serve-clause-err
@@ -24,3 +26,23 @@ returns-in_err-filter-in-Offline-clause-err g c =
     (λ e is. unfiltered (map g.S.AsStr.text c.args.words.now) c.in-Offline.options e given held holds c.args.errors.now c.args.errors.now refl
     (rw c.in-Offline.is at c.in_ok-options.ensures.asked)
     (subst (λ x. RefusesToFilter c.in-Offline.options x given held holds) (sym is) c.in_err-filter-in-Offline.ensures.err))
+
+pub returns-in_err-verify-in-Verify-clause-err : goal.returns-in_err-verify-in-Verify-clause-err
+returns-in_err-verify-in-Verify-clause-err g c =
+    let given = g.I.Read.remaining c.args.input in
+    let held = g.O.Write.contents (device_inner c.args.output.now) in
+    let holds = g.O.Write.contents (device_inner c.verify.new.output) in
+    err_gives c.from_residual-in_err-verify-in-Verify.result c.from_residual-in_err-verify-in-Verify.ensures
+    (λ e is. unverified (map g.S.AsStr.text c.args.words.now) c.in-Verify.options e given held holds c.args.errors.now c.args.errors.now refl
+    (rw c.in-Verify.is at c.in_ok-options.ensures.asked)
+    (subst (λ x. RefusesToVerifyFile c.in-Verify.options.quiet x held holds) (sym is) c.in_err-verify-in-Verify.ensures.err))
+
+pub returns-in_err-explain-in-Explain-clause-err : goal.returns-in_err-explain-in-Explain-clause-err
+returns-in_err-explain-in-Explain-clause-err g c =
+    let given = g.I.Read.remaining c.args.input in
+    let held = g.O.Write.contents (device_inner c.args.output.now) in
+    let holds = g.O.Write.contents (device_inner c.explain.new.output) in
+    err_gives c.from_residual-in_err-explain-in-Explain.result c.from_residual-in_err-explain-in-Explain.ensures
+    (λ e is. unexplained (map g.S.AsStr.text c.args.words.now) c.in-Explain.options e given held holds c.args.errors.now c.args.errors.now refl
+    (rw c.in-Explain.is at c.in_ok-options.ensures.asked)
+    (subst (λ x. RefusesToExplainFile (question_of c.in-Explain.options) x held holds) (sym is) c.in_err-explain-in-Explain.ensures.err))

@@ -4,7 +4,7 @@ use Rattle.clap.specs.Words.{Rule, app_of, new_app, rule_of, with_rule}
 use Rattle.clap.specs.declared.builder.action.ArgAction.TheVariants.{SetTrue}
 use Rattle.clap.specs.declared.builder.arg.Arg.{Arg}
 use Rattle.clap.specs.declared.builder.value_parser.ValueParser.{ValueParser}
-use Rattle.ipmd_command_line.specs.CommandLine.{flag, needed, number, valued, with_policy}
+use Rattle.ipmd_command_line.specs.CommandLine.{flag, greatest_of_16_bits, greatest_of_32_bits, needed, number, valued, with_policy}
 use Rattle.ipmd_command_line.proofs.command_line.offline_command.Goals as goal
 
 abbrev is_global : Arg → Bool
@@ -23,12 +23,12 @@ returns c =
     ap rule_of c.help.ensures ∙ ap rule_of c.required.ensures ∙ ap (λ (r : Rule). record r { required = true }) c.option.ensures.rule in
     let subscriber_local : c.help.result.global ≡ false = ap is_global c.help.ensures ∙ ap is_global c.required.ensures ∙ c.option.ensures.local in
     let read_now = c.value_parser-2.ensures.given in
-    let now : rule_of c.help-2.result ≡ number (codes "now") (codes "0") 4294967295 =
+    let now : rule_of c.help-2.result ≡ number (codes "now") (codes "0") greatest_of_32_bits =
     ap rule_of c.help-2.ensures ∙ ap rule_of c.value_parser-2.ensures.others
     ∙ ap₂ with_parser (ap rule_of c.default_value.ensures ∙ ap (λ (r : Rule). record r { defaults = codes "0" ∷ [] }) c.option-2.ensures.rule) (read_now.1 ∙ ap Some (read_now.2 ∙ c.value_parser.ensures)) in
     let now_local : c.help-2.result.global ≡ false = ap is_global c.help-2.ensures ∙ ap is_global c.value_parser-2.ensures.others ∙ ap is_global c.default_value.ensures ∙ c.option-2.ensures.local in
     let read_target = c.value_parser-4.ensures.given in
-    let target : rule_of c.help-3.result ≡ number (codes "target") (codes "1400") 65535 =
+    let target : rule_of c.help-3.result ≡ number (codes "target") (codes "1400") greatest_of_16_bits =
     ap rule_of c.help-3.ensures ∙ ap rule_of c.value_parser-4.ensures.others
     ∙ ap₂ with_parser (ap rule_of c.default_value-2.ensures ∙ ap (λ (r : Rule). record r { defaults = codes "1400" ∷ [] }) c.option-3.ensures.rule) (read_target.1 ∙ ap Some (read_target.2 ∙ c.value_parser-3.ensures)) in
     let target_local : c.help-3.result.global ≡ false = ap is_global c.help-3.ensures ∙ ap is_global c.value_parser-4.ensures.others ∙ ap is_global c.default_value-2.ensures ∙ c.option-3.ensures.local in

@@ -2,6 +2,7 @@ use Rattle.std.proofs.Common.{ap, sym, subst, inl, inr, map, ◌≡◌, ◌∙�
 use Rattle.clap.specs.Words.{app_of, kind_of}
 use Rattle.clap.specs.declared.error.kind.ErrorKind.TheVariants.{OutOfMemory, MissingRequiredArgument}
 use Rattle.ipmd_command_line.specs.CommandLine.{IsCommandIn, RefusesWords, is_shown}
+use Rattle.ipmd_command_line.proofs.GivenRows.{asks_for}
 use Rattle.ipmd_command_line.proofs.ToldWords.{is_shown_told, not_shown_told, refusal_told, shown_remembers, subcommand_told}
 use Rattle.ipmd_command_line.proofs.command_line.read_command_line.Goals as goal
 
@@ -32,3 +33,8 @@ returns-clause-refused g c = elim c.from-in-None.ensures [
     ap is_shown c.in_ok-error-in-None.ensures.kind,
   )
 ]
+
+pub returns-in-Some-clause-asked : goal.returns-in-Some-clause-asked
+returns-in-Some-clause-asked g c =
+    asks_for (map g.S.AsStr.text c.args.words.now) c.in-Some.task (subst (IsCommandIn c.in-Some.task)
+    (subcommand_told (app_of c.in_ok-command.command) (map g.S.AsStr.text c.args.words.now) c.in-Ok.matches c.in_ok-command.ensures c.in-Ok.ensures.ok.2) c.in-Some.ensures.found)

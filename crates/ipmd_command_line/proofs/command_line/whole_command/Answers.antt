@@ -30,8 +30,10 @@ returns c =
     let replay_local = is_false _ (first_holds _ _ (second_holds _ _ (second_holds _ _ (ap is_plain c.in_ok-replay_command.ensures)))) in
     let serve_local = is_false _ (first_holds _ _ (second_holds _ _ (second_holds _ _ (ap is_plain c.in_ok-serve_command.ensures)))) in
     let verify_local = is_false _ (first_holds _ _ (second_holds _ _ (second_holds _ _ (ap is_plain c.in_ok-verify_command.ensures)))) in
+    let explain_local = is_false _ (first_holds _ _ (second_holds _ _ (second_holds _ _ (ap is_plain c.in_ok-explain_command.ensures)))) in
     let first = c.in_ok-subcommand.ensures.shape offline_local ∙ ap₂ with_subcommand top (ap (λ (a : App). a.top) c.in_ok-offline_command.ensures) in
     let second = c.in_ok-subcommand-2.ensures.shape check_local ∙ ap₂ with_subcommand first (ap (λ (a : App). a.top) c.in_ok-check_policy_command.ensures) in
     let third = c.in_ok-subcommand-3.ensures.shape replay_local ∙ ap₂ with_subcommand second (ap (λ (a : App). a.top) c.in_ok-replay_command.ensures) in
     let fourth = c.in_ok-subcommand-4.ensures.shape serve_local ∙ ap₂ with_subcommand third (ap (λ (a : App). a.top) c.in_ok-serve_command.ensures) in
-    IfOk-weaker c.subcommand-5.result _ _ (λ r h. h.shape verify_local ∙ ap₂ with_subcommand fourth (ap (λ (a : App). a.top) c.in_ok-verify_command.ensures)) c.subcommand-5.ensures
+    let fifth = c.in_ok-subcommand-5.ensures.shape verify_local ∙ ap₂ with_subcommand fourth (ap (λ (a : App). a.top) c.in_ok-verify_command.ensures) in
+    IfOk-weaker c.subcommand-6.result _ _ (λ r h. h.shape explain_local ∙ ap₂ with_subcommand fifth (ap (λ (a : App). a.top) c.in_ok-explain_command.ensures)) c.subcommand-6.ensures

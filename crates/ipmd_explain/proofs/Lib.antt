@@ -1,0 +1,3 @@
+mod StandingLaws
+mod ReadingLaws
+mod WordLaws

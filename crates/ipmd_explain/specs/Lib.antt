@@ -1,0 +1,10 @@
+pub use Rattle.mediator_history.specs.Sessions
+pub use Rattle.mediator_history.specs.Subscriptions
+pub use Rattle.mediator_history.specs.Accepted
+pub use Rattle.mediator_history.specs.Counting
+pub mod FlowWords
+pub mod Wording
+pub mod Explaining
+pub mod Standing
+pub mod Reading
+pub mod Answers
