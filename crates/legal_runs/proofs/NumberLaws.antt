@@ -9,7 +9,7 @@ use Rattle.event_journal.specs.declared.entry.Entry.TheVariants.{Open, Close, Me
 use Rattle.mediator_history.specs.Subscriptions.{subscribed_in}
 use Rattle.mediator_history.proofs.ListFilters.{all_of_filter}
 use Rattle.mediator_state.specs.Ascending.{Ascend}
-use Rattle.mediator_state.proofs.AscendLaws.{ascend_push, all_below}
+use Rattle.mediator_state.proofs.AscendLaws.{ascend_filter, ascend_push, all_below}
 use Rattle.history_verify.specs.Legal.{IsAccepted}
 
 -- these numbers are above 0 and ascend, and none is greater than there are of them
@@ -53,15 +53,7 @@ numbered_more h (Unsubscribe sub) is so = none_more h (Unsubscribe sub) refl so
 numbered_more h (Advance t) is so = none_more h (Advance t) refl so
 numbered_more h (Cut sub) is so = absurd is
 
--- ---- some of them
+-- ---- some of them, above the same number
 
-pub ascend_filter : (p : ℕ → Bool) (xs : List ℕ) → Ascend xs → Ascend (filter p xs)
-ascend_filter p [] up = tt
-ascend_filter p (x ∷ xs) up = by_test (p x) (ascend_filter p xs up.1) where
-  by_test : (b : Bool) → Ascend (filter p xs) → Ascend (cond b (x ∷ filter p xs) (filter p xs))
-  by_test true others = (all_of_filter (λ y. x < y) p xs up.0, others)
-  by_test false others = others
-
--- and above the same number
 pub ascend_above : (n : ℕ) (p : ℕ → Bool) (xs : List ℕ) → Ascend (n ∷ xs) → Ascend (n ∷ filter p xs)
 ascend_above n p xs up = (all_of_filter (λ y. n < y) p xs up.0, ascend_filter p xs up.1)

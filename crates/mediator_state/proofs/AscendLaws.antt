@@ -9,7 +9,7 @@ use Rattle.mediator_history.proofs.ListFilters.{all_of_filter}
 use Rattle.mediator_state.specs.Ascending.{Ascend}
 use Rattle.mediator_state.specs.CutOrder.{CutsBeforeAscend}
 
-ascend_filter : (p : ℕ → Bool) (xs : List ℕ) → Ascend xs → Ascend (filter p xs)
+pub ascend_filter : (p : ℕ → Bool) (xs : List ℕ) → Ascend xs → Ascend (filter p xs)
 ascend_filter p [] up = tt
 ascend_filter p (x ∷ xs) up = by_test (p x) (ascend_filter p xs up.1) where
   by_test : (b : Bool) → Ascend (filter p xs) → Ascend (cond b (x ∷ filter p xs) (filter p xs))

@@ -31,6 +31,8 @@ pub record IsCounting (old now : List (ℕ × Held)) (left : List (ℕ × List A
   pub rest : List (ℕ × List Count)
   pub split : all ≡ done ++ rest
   pub each : (q : ℕ) (before more : List Counted) → StandsFor (groups_at old q) before → added_to q done ≡ map count_of more → StandsFor (groups_at now q) (before ++ more)
+  pub spent : AllByRecursion (λ t. (held_at now t.0).ready ≡ []) done
+  pub others : (q : ℕ) → AllByRecursion (λ t. t.0 ≢ q) done → held_at now q ≡ held_at old q
   pub behind : AllByRecursion (λ r. AllByRecursion (λ o. o.0 ≢ r.0) done) rest
   pub apart : AreApart rest
   pub ready : AllReady now left rest
@@ -77,6 +79,8 @@ counting_start groups all left is tallies ready apart = record {
   rest = tallies;
   split = refl;
   each = λ q before more so adds. subst (StandsFor (groups_at groups q)) (sym (ap (λ (l : List Counted). before ++ l) (none_of more adds) ∙ append-nil before)) so;
+  spent = tt;
+  others = λ q none. refl;
   behind = apart_none tallies;
   apart = apart;
   ready = subst (λ (rs : List (ℕ × List Addition)). AllReady groups rs tallies) is ready;
@@ -103,18 +107,37 @@ Adds now now2 r = (sub : ℕ) (before more : List Counted) → IsReadyFor now r 
 abbrev pub OthersStay : List (ℕ × Held) → List (ℕ × Held) → ℕ × List Addition → Type 0
 OthersStay now now2 r = (sub q : ℕ) → StandsAt now r.0 sub → q ≢ sub → held_at now2 q ≡ held_at now q
 
+-- nothing is ready any more where it adds
+abbrev pub Spends : List (ℕ × Held) → List (ℕ × Held) → ℕ × List Addition → Type 0
+Spends now now2 r = (sub : ℕ) → StandsAt now r.0 sub → (held_at now2 sub).ready ≡ []
+
+-- nor where it was added before
+spent_stays : (sub : ℕ) (now now2 : List (ℕ × Held)) (done : List (ℕ × List Count)) → ((q : ℕ) → q ≢ sub → held_at now2 q ≡ held_at now q) → AllByRecursion (λ o. o.0 ≢ sub) done
+    → AllByRecursion (λ t. (held_at now t.0).ready ≡ []) done → AllByRecursion (λ t. (held_at now2 t.0).ready ≡ []) done
+spent_stays sub now now2 [] others apart spent = tt
+spent_stays sub now now2 (t ∷ ts) others apart spent = (ap (λ (h : Held). h.ready) (others t.0 apart.0) ∙ spent.0, spent_stays sub now now2 ts others apart.1 spent.1)
+
+-- what holds of all holds of the first ones, and of the last
+all_front : {X : Type 0} (P : X → Type 0) (xs : List X) (x : X) → AllByRecursion P (xs ++ x ∷ []) → AllByRecursion P xs × P x
+all_front P [] x all = (tt, all.0)
+all_front P (y ∷ ys) x all = let rest = all_front P ys x all.1 in ((all.0, rest.0), rest.1)
+
 -- one more of the tallies
 one_counted : (old now now2 : List (ℕ × Held)) (left : List (ℕ × List Addition)) (all done rest : List (ℕ × List Count)) (r : ℕ × List Addition) (t : ℕ × List Count)
     → all ≡ done ++ t ∷ rest
     → ((q : ℕ) (before more : List Counted) → StandsFor (groups_at old q) before → added_to q done ≡ map count_of more → StandsFor (groups_at now q) (before ++ more))
+    → AllByRecursion (λ d. (held_at now d.0).ready ≡ []) done
+    → ((q : ℕ) → AllByRecursion (λ d. d.0 ≢ q) done → held_at now q ≡ held_at old q)
     → AllByRecursion (λ o. AllByRecursion (λ d. d.0 ≢ o.0) done) (t ∷ rest) → AreApart (t ∷ rest) → AllReady now (r ∷ left) (t ∷ rest)
-    → Adds now now2 r → OthersStay now now2 r → PlacesStay now now2
+    → Adds now now2 r → Spends now now2 r → OthersStay now now2 r → PlacesStay now now2
     → IsCounting old now2 left all
-one_counted old now now2 left all done rest r t split each behind apart ready adds others places = record {
+one_counted old now now2 left all done rest r t split each spent first behind apart ready adds spends others places = record {
   done = done ++ t ∷ [];
   rest = rest;
   split = split ∙ sym (append_assoc done (t ∷ []) rest);
   each = λ q before more stands counts. by_number q before more stands (sym (added_push q done t) ∙ counts) behind.0 (t.0 == q) refl;
+  spent = all_push (λ d. (held_at now2 d.0).ready ≡ []) done t (spent_stays t.0 now now2 done (λ q other. others t.0 q ready.0.0 other) behind.0 spent) (spends t.0 ready.0.0);
+  others = λ q none. let ends = all_front (λ d. d.0 ≢ q) done t none in others t.0 q ready.0.0 (λ same. ends.1 (sym same)) ∙ first q ends.0;
   behind = apart_more done t rest behind.1 apart.0;
   apart = apart.1;
   ready = ready_stays t.0 now now2 left rest places (λ q other. others t.0 q ready.0.0 other) apart.0 ready.1;
@@ -136,9 +159,9 @@ one_counted old now now2 left all done rest r t split each behind apart ready ad
         (each q before more stands (sym (append-nil (added_to q done)) ∙ ap (λ (b : Bool). added_to q done ++ cond b t.1 []) (sym is) ∙ counts))
 
 pub counting_next : (old now now2 : List (ℕ × Held)) (all left left2 : List (ℕ × List Addition)) (r : ℕ × List Addition) → left ≡ r ∷ left2
-    → Adds now now2 r → OthersStay now now2 r → PlacesStay now now2
+    → Adds now now2 r → Spends now now2 r → OthersStay now now2 r → PlacesStay now now2
     → CountsOn old now all left → CountsOn old now2 all left2
-counting_next old now now2 all left left2 r is adds others places so tallies ready apart =
+counting_next old now now2 all left left2 r is adds spends others places so tallies ready apart =
     let here = so tallies ready apart in
     by here.rest here.split here.behind here.apart (subst (λ (rs : List (ℕ × List Addition)). AllReady now rs here.rest) is here.ready)
   where
@@ -146,20 +169,34 @@ counting_next old now now2 all left left2 r is adds others places so tallies rea
         → AllReady now (r ∷ left2) rest → IsCounting old now2 left2 tallies
     by [] split behind alone made = absurd made
     by (t ∷ ts) split behind alone made =
-        one_counted old now now2 left2 tallies (so tallies ready apart).done ts r t split (so tallies ready apart).each behind alone made adds others places
+        one_counted old now now2 left2 tallies (so tallies ready apart).done ts r t split (so tallies ready apart).each (so tallies ready apart).spent (so tallies ready apart).others behind alone made adds spends others places
 
 -- all were added to
 pub counting_end : (old now : List (ℕ × Held)) (all left : List (ℕ × List Addition)) → CountsOn old now all left → left ≡ []
-    → (tallies : List (ℕ × List Count)) → AllReady old all tallies → AreApart tallies
-    → (q : ℕ) (before more : List Counted) → StandsFor (groups_at old q) before → added_to q tallies ≡ map count_of more → StandsFor (groups_at now q) (before ++ more)
-counting_end old now all left so none tallies ready apart q before more stands adds =
-    let here = so tallies ready apart in
-    let last : here.rest ≡ [] = by here.rest (subst (λ (rs : List (ℕ × List Addition)). AllReady now rs here.rest) none here.ready) in
-    here.each q before more stands (ap (added_to q) (sym (here.split ∙ ap (λ (l : List (ℕ × List Count)). here.done ++ l) last ∙ append-nil here.done)) ∙ adds)
+    → (tallies : List (ℕ × List Count)) → AllReady old all tallies → AreApart tallies → (so : IsCounting old now [] tallies) × (tallies ≡ so.done)
+counting_end old now all left so none tallies ready apart =
+    let here : IsCounting old now [] tallies = subst (λ (rs : List (ℕ × List Addition)). IsCounting old now rs tallies) none (so tallies ready apart) in
+    (here, here.split ∙ ap (λ (l : List (ℕ × List Count)). here.done ++ l) (by here.rest here.ready) ∙ append-nil here.done)
   where
     by : (rest : List (ℕ × List Count)) → AllReady now [] rest → rest ≡ []
     by [] made = refl
     by (t ∷ ts) made = absurd made
+
+pub all_added : (old now : List (ℕ × Held)) (all left : List (ℕ × List Addition)) → CountsOn old now all left → left ≡ []
+    → (tallies : List (ℕ × List Count)) → AllReady old all tallies → AreApart tallies
+    → (q : ℕ) (before more : List Counted) → StandsFor (groups_at old q) before → added_to q tallies ≡ map count_of more → StandsFor (groups_at now q) (before ++ more)
+all_added old now all left so none tallies ready apart q before more stands adds =
+    let end = counting_end old now all left so none tallies ready apart in end.0.each q before more stands (ap (added_to q) (sym end.1) ∙ adds)
+
+pub all_spent : (old now : List (ℕ × Held)) (all left : List (ℕ × List Addition)) → CountsOn old now all left → left ≡ []
+    → (tallies : List (ℕ × List Count)) → AllReady old all tallies → AreApart tallies → AllByRecursion (λ t. (held_at now t.0).ready ≡ []) tallies
+all_spent old now all left so none tallies ready apart =
+    let end = counting_end old now all left so none tallies ready apart in subst (λ (ts : List (ℕ × List Count)). AllByRecursion (λ t. (held_at now t.0).ready ≡ []) ts) (sym end.1) end.0.spent
+
+pub others_kept : (old now : List (ℕ × Held)) (all left : List (ℕ × List Addition)) → CountsOn old now all left → left ≡ []
+    → (tallies : List (ℕ × List Count)) → AllReady old all tallies → AreApart tallies → (q : ℕ) → AllByRecursion (λ t. t.0 ≢ q) tallies → held_at now q ≡ held_at old q
+others_kept old now all left so none tallies ready apart q away =
+    let end = counting_end old now all left so none tallies ready apart in end.0.others q (subst (λ (ts : List (ℕ × List Count)). AllByRecursion (λ t. t.0 ≢ q) ts) end.1 away)
 
 -- ---- what is made ready, one subscription after another
 

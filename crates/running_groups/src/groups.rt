@@ -1,6 +1,6 @@
 //! The table of the groups that are still open.
 ghost use Rattle.std.specs.Prelude.{◌≡◌, ◌≢◌, ◌≤◌, ◌+◌, ◌++◌, ℕ, List, [], length, map, eqb, IfOk, OnErr};
-ghost use Rattle.std.specs.List.{IsDistinct};
+ghost use Rattle.std.specs.List.{AllByRecursion, IsDistinct};
 ghost use Rattle.std.specs.Map.{keys_of};
 ghost use Rattle.flow_aggregate.specs.Groups.{Counted};
 ghost use Rattle.flow_aggregate.specs.Running.{places, nothing_held, StandsFor, staying, Held};
@@ -90,18 +90,19 @@ impl RunningGroups {
     /// those that are wanting. What was reserved before is so no more.
     ///
     /// # Errors
-    /// Want of memory. No sum changes, whatever the answer.
+    /// Want of memory; then nothing is reserved. No sum changes, whatever the answer.
     pub fn reserve(&mut self, tallies: &[Tally]) -> Result<Vec<Reserved>, AllocError>
         ensures same { (q : ℕ) → groups_at self.new q ≡ groups_at self.old q }
         ensures ok { IfOk result (λ reserved. AreApart (map tallied tallies.now) → AllReady self.new (map reserved_for reserved.items) (map tallied tallies.now)) }
         ensures few { (q : ℕ) → length (held_at self.new q).ready ≤ length (added_to q (map tallied tallies.now)) }
+        ensures err { OnErr result ((q : ℕ) → (held_at self.new q).ready ≡ []) }
     {
         self.release();
-        let mut reserved = Vec::with_capacity(self.alloc, tallies.len())?;
-        'tallies: for tally in tallies {
-            reserved.push_reserved(self.reserve_one(tally)?);
+        let reserved = self.reserve_each(tallies);
+        if reserved.is_err() {
+            self.release();
         }
-        Ok(reserved)
+        reserved
     }
 
     /// Takes out the groups that were made for what wasn't added. It takes no memory. What was reserved before is so no more.
@@ -121,9 +122,14 @@ impl RunningGroups {
     /// Adds what the last `reserve` made ready. It looks nothing up and takes no memory.
     pub fn add_reserved(&mut self, reserved: Vec<Reserved>)
         requires { AreCountable self.old (map reserved_for reserved.items) }
-        ensures { (tallies : List (ℕ × List Count)) → AllReady self.old (map reserved_for reserved.items) tallies → AreApart tallies
+        ensures adds { (tallies : List (ℕ × List Count)) → AllReady self.old (map reserved_for reserved.items) tallies → AreApart tallies
             → (q : ℕ) (before more : List Counted) → StandsFor (groups_at self.old q) before → added_to q tallies ≡ map count_of more
             → StandsFor (groups_at self.new q) (before ++ more) }
+        // Nothing is ready then for those that were added to, and others are held as before.
+        ensures ready { (tallies : List (ℕ × List Count)) → AllReady self.old (map reserved_for reserved.items) tallies → AreApart tallies
+            → AllByRecursion (λ t. (held_at self.new t.0).ready ≡ []) tallies }
+        ensures others { (tallies : List (ℕ × List Count)) → AllReady self.old (map reserved_for reserved.items) tallies → AreApart tallies
+            → (q : ℕ) → AllByRecursion (λ t. t.0 ≢ q) tallies → held_at self.new q ≡ held_at self.old q }
     {
         'reserved: for one in reserved {
             self.add_one(one);
@@ -172,6 +178,20 @@ impl RunningGroups {
 }
 
 impl RunningGroups {
+    /// Makes ready for each of these, where nothing is reserved yet.
+    fn reserve_each(&mut self, tallies: &[Tally]) -> Result<Vec<Reserved>, AllocError>
+        requires { (q : ℕ) → (held_at self.old q).ready ≡ [] }
+        ensures same { (q : ℕ) → groups_at self.new q ≡ groups_at self.old q }
+        ensures ok { IfOk result (λ reserved. AreApart (map tallied tallies.now) → AllReady self.new (map reserved_for reserved.items) (map tallied tallies.now)) }
+        ensures few { (q : ℕ) → length (held_at self.new q).ready ≤ length (added_to q (map tallied tallies.now)) }
+    {
+        let mut reserved = Vec::with_capacity(self.alloc, tallies.len())?;
+        'tallies: for tally in tallies {
+            reserved.push_reserved(self.reserve_one(tally)?);
+        }
+        Ok(reserved)
+    }
+
     /// Makes ready for what is added to the groups of one subscription. What was reserved for it before is so no more.
     fn reserve_one(&mut self, tally: &Tally) -> Result<Reserved, AllocError>
         ensures same { (q : ℕ) → groups_at self.new q ≡ groups_at self.old q }
@@ -212,6 +232,7 @@ impl RunningGroups {
         requires { (sub : ℕ) × (counts : List Count) × IsReadyFor self.old (reserved_for reserved) (sub, counts) }
         ensures adds { (sub : ℕ) (before more : List Counted) → IsReadyFor self.old (reserved_for reserved) (sub, map count_of more) → StandsFor (groups_at self.old sub) before
             → StandsFor (groups_at self.new sub) (before ++ more) }
+        ensures ready { (sub : ℕ) → StandsAt self.old reserved.place sub → (held_at self.new sub).ready ≡ [] }
         ensures others { (sub q : ℕ) → StandsAt self.old reserved.place sub → q ≢ sub → held_at self.new q ≡ held_at self.old q }
         ensures places { keys_of self.new ≡ keys_of self.old }
     {

@@ -31,6 +31,14 @@ returns-clause-adds c sub before more ready stands = elim c.match-get_index_mut.
   | in_default w ↦ absurd (nowhere c.self.inside.by_number.entries c.args.reserved.place sub (search rules) (at_table c.args.self.now c.self.inside.by_number.entries c.args.reserved.place sub c.self.view_is ready.0))
 ]
 
+pub returns-clause-ready : goal.returns-clause-ready
+returns-clause-ready c sub at = elim c.match-get_index_mut.branch [
+  | in-Some w ↦ rw w.self-inside-is
+      (ap (λ (h : Held). h.ready) (held_after c.args.self.now c.self.inside.by_number.entries c.args.reserved.place sub w.in-Some.groups.now w.add_reserved.new.self c.self.view_is at c.self.invariant (search rules))
+      ∙ w.add_reserved.ensures.ready)
+  | in_default w ↦ absurd (nowhere c.self.inside.by_number.entries c.args.reserved.place sub (search rules) (at_table c.args.self.now c.self.inside.by_number.entries c.args.reserved.place sub c.self.view_is at))
+]
+
 pub returns-clause-others : goal.returns-clause-others
 returns-clause-others c sub q at other = elim c.match-get_index_mut.branch [
   | in-Some w ↦ rw w.self-inside-is

@@ -2,7 +2,7 @@ use Rattle.std.proofs.Common.{◌∙◌, ap, arith, map}
 use Rattle.std.proofs.lemmas.List.{map_push}
 use Rattle.running_groups.specs.Adding.{tallied, reserved_for}
 use Rattle.running_groups.proofs.AddingLaws.{reserving_next, reserving_few}
-use Rattle.running_groups.proofs.groups.RunningGroups.reserve.Goals as goal
+use Rattle.running_groups.proofs.groups.RunningGroups.reserve_each.Goals as goal
 
 pub tallies-preserved : goal.tallies-preserved
 tallies-preserved c =

@@ -2,7 +2,7 @@ use Rattle.std.proofs.Common.{length, map, take}
 use Rattle.std.specs.Vec.{vec_capacity}
 use Rattle.running_groups.specs.Adding.{tallied, reserved_for}
 use Rattle.running_groups.proofs.AddingLaws.{IsReserving}
-use Rattle.running_groups.proofs.groups.RunningGroups.reserve.Given as goal
+use Rattle.running_groups.proofs.groups.RunningGroups.reserve_each.Given as goal
 
 abbrev pub invariant-tallies : goal.invariant-tallies
 invariant-tallies l =
