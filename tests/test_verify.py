@@ -1,4 +1,5 @@
 """`ipmd verify`: whether a file is a journal's, whether its history is legal, and what that discloses."""
+import errno
 import os
 import subprocess
 import unittest
@@ -133,13 +134,15 @@ class Verify(ProgramTest):
         self.addCleanup(os.close, ours)
         try:
             ran = subprocess.run([program.path(), *words], stdout=subprocess.PIPE, stderr=its, timeout=LONGEST)
-            os.set_blocking(ours, False)
-            try:
-                shown = os.read(ours, 65536)
-            except BlockingIOError:
-                shown = b""
         finally:
             os.close(its)
+        shown = b""
+        try:
+            while piece := os.read(ours, 65536):
+                shown += piece
+        except OSError as why:
+            # All was read, and nobody writes any more.
+            self.assertEqual(why.errno, errno.EIO)
         return ran.returncode, ran.stdout, shown
 
     def test_terminal(self):

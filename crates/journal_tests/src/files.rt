@@ -1,10 +1,11 @@
-//! A journal file of four entries, by hand: each entry's octets as the format has them.
-ghost use Rattle.std.specs.Prelude.{IfOk};
+//! A journal file of four entries, by hand: each entry's octets as the format has them. A call that is refused memory is made
+//! again, and answers as if nothing had happened.
+ghost use Rattle.std.specs.Prelude.{◌≡◌, ◌+◌, ◌<◌, IfOk, OnOk};
 ghost use Rattle.policy_text.specs.Naming.{is_name};
 ghost use Rattle.event_journal.specs.Spelled.{IsSpelled};
 
 use bytes::Bytes;
-use event_journal::{Entry, PolicyText};
+use event_journal::{Entry, Journal, PolicyText};
 use faulty_devices::{Narrow, Schedule, Sparing};
 use journal_files::{
     JournalFault, JournalReader, JournalWriter, ReadFault, WriteFault, decode, encode,
@@ -82,11 +83,19 @@ fn message(alloc: Global) -> Result<Entry, AllocError>
     })
 }
 
+/// The journal of a file.
+fn decoded(alloc: Global, octets: &[u8]) -> Result<Journal, JournalFault> {
+    match decode(alloc, octets) {
+        Err(JournalFault::OutOfMemory) => decode(alloc, octets),
+        answer => answer,
+    }
+}
+
 #[test]
 fn a_file_of_four_entries_is_read(rt: HostRuntime) -> Result<(), Fail> {
     let file = file(rt.alloc())?;
     assert_eq!(rt; file.len(), 202);
-    let journal = decode(rt.alloc(), file.as_slice())?;
+    let journal = decoded(rt.alloc(), file.as_slice())?;
     assert_eq!(rt; journal.len(), 4);
     assert_eq!(rt; journal.octets(), 188);
     assert!(rt; journal.get(0) == Some(&edit(rt.alloc())?));
@@ -96,11 +105,19 @@ fn a_file_of_four_entries_is_read(rt: HostRuntime) -> Result<(), Fail> {
     Ok(())
 }
 
+/// The file of a journal.
+fn encoded(alloc: Global, journal: &Journal) -> Result<Vec<u8>, AllocError> {
+    match encode(alloc, journal) {
+        Ok(file) => Ok(file),
+        Err(_) => encode(alloc, journal),
+    }
+}
+
 #[test]
 fn what_was_read_is_written(rt: HostRuntime) -> Result<(), Fail> {
     let file = file(rt.alloc())?;
-    let journal = decode(rt.alloc(), file.as_slice())?;
-    assert!(rt; encode(rt.alloc(), &journal)? == file);
+    let journal = decoded(rt.alloc(), file.as_slice())?;
+    assert!(rt; encoded(rt.alloc(), &journal)? == file);
     Ok(())
 }
 
@@ -120,7 +137,7 @@ static EDITS: [(&[u8], Option<&str>); 3] = [
 
 /// Whether the last edit of a file's journal has this text.
 fn is_last_edit(alloc: Global, octets: &[u8], text: Option<&str>) -> Result<bool, JournalFault> {
-    let journal = decode(alloc, octets)?;
+    let journal = decoded(alloc, octets)?;
     Ok(journal.last_edit() == text)
 }
 
@@ -134,7 +151,7 @@ fn the_last_edit_is_told(rt: HostRuntime) -> Result<(), Fail> {
 
 /// The fault of a file, if it has one.
 fn fault_of(alloc: Global, octets: &[u8]) -> Option<JournalFault> {
-    decode(alloc, octets).err()
+    decoded(alloc, octets).err()
 }
 
 #[test]
@@ -192,19 +209,66 @@ fn device(alloc: Global, calls: usize) -> Result<Device<Narrow>, AllocError> {
     Ok(Device::new(Narrow::new(alloc, 202, 7, calls, Interrupted)?))
 }
 
+/// Begins a file of four entries.
+fn start(alloc: Global, device: &mut Device<Narrow>) -> Result<JournalWriter, WriteFault>
+    ensures { IfOk result (λ writer. writer ≡ 4) }
+{
+    match JournalWriter::start(alloc, 4, device) {
+        Err(WriteFault::OutOfMemory) => JournalWriter::start(alloc, 4, device),
+        answer => answer,
+    }
+}
+
+/// Writes the next entry.
+fn put(
+    writer: &mut JournalWriter,
+    entry: &Entry,
+    device: &mut Device<Narrow>,
+) -> Result<(), WriteFault>
+    requires left { 0 < writer.old }
+    requires spelled { IsSpelled entry.now }
+    ensures left { OnOk result (writer.new + 1 ≡ writer.old) }
+{
+    match writer.put(entry, device) {
+        Err(WriteFault::OutOfMemory) => writer.put(entry, device),
+        answer => answer,
+    }
+}
+
+/// Writes four entries, of which the third is a session's begin.
+fn write_entries(
+    alloc: Global,
+    edit: &Entry,
+    subscribe: &Entry,
+    message: &Entry,
+    device: &mut Device<Narrow>,
+) -> Result<(), WriteFault>
+    requires edit { IsSpelled edit.now }
+    requires subscribe { IsSpelled subscribe.now }
+    requires message { IsSpelled message.now }
+{
+    let mut writer = start(alloc, device)?;
+    put(&mut writer, edit, device)?;
+    put(&mut writer, subscribe, device)?;
+    put(&mut writer, &Entry::Open { session: 1 }, device)?;
+    put(&mut writer, message, device)
+}
+
 /// Writes the four entries.
-fn write_all(alloc: Global, device: &mut Device<Narrow>) -> Result<(), WriteFault> {
-    let mut writer = JournalWriter::start(alloc, 4, device)?;
-    writer.put(&edit(alloc)?, device)?;
-    writer.put(&subscribe(alloc)?, device)?;
-    writer.put(&Entry::Open { session: 1 }, device)?;
-    writer.put(&message(alloc)?, device)
+fn write_all(
+    alloc: Global,
+    device: &mut Device<Narrow>,
+) -> Result<Result<(), WriteFault>, AllocError> {
+    let edit = edit(alloc)?;
+    let subscribe = subscribe(alloc)?;
+    let message = message(alloc)?;
+    Ok(write_entries(alloc, &edit, &subscribe, &message, device))
 }
 
 #[test]
 fn a_file_is_written_entry_by_entry(rt: HostRuntime) -> Result<(), Fail> {
     let mut device = device(rt.alloc(), 100)?;
-    assert!(rt; write_all(rt.alloc(), &mut device) == Ok(()));
+    assert!(rt; write_all(rt.alloc(), &mut device)? == Ok(()));
     let file = file(rt.alloc())?;
     assert!(rt; device.into_inner().octets == file);
     Ok(())
@@ -213,7 +277,7 @@ fn a_file_is_written_entry_by_entry(rt: HostRuntime) -> Result<(), Fail> {
 #[test]
 fn a_device_that_fails_says_how_much_it_took(rt: HostRuntime) -> Result<(), Fail> {
     let mut device = device(rt.alloc(), 3)?;
-    assert!(rt; write_all(rt.alloc(), &mut device) == Err(WriteFault::Write { sent: 7 }));
+    assert!(rt; write_all(rt.alloc(), &mut device)? == Err(WriteFault::Write { sent: 7 }));
     let file = file(rt.alloc())?;
     assert!(rt; Some(device.into_inner().octets.as_slice()) == file.as_slice().get(..21));
     Ok(())
@@ -231,32 +295,64 @@ fn source(octets: &[u8], calls: usize) -> Device<Sparing<'_>> {
     })
 }
 
+/// Whether the file is read from a source as these entries, and ends behind them.
+fn reads(alloc: Global, file: &[u8], due: &[Entry]) -> Result<bool, ReadFault> {
+    let mut source = source(file, 1000);
+    let mut reader = JournalReader::start(alloc, &mut source)?;
+    if reader.left() != due.len() as u64 {
+        return Ok(false);
+    }
+    for entry in due {
+        if reader.next(&mut source)?.as_ref() != Some(entry) {
+            return Ok(false);
+        }
+    }
+    Ok(reader.next(&mut source)? == None)
+}
+
+/// The same from the file's begin, where memory was refused: what was read last is lost then.
+fn reads_again(alloc: Global, file: &[u8], due: &[Entry]) -> Result<bool, ReadFault> {
+    match reads(alloc, file, due) {
+        Err(ReadFault::File(JournalFault::OutOfMemory)) => reads(alloc, file, due),
+        answer => answer,
+    }
+}
+
 #[test]
 fn a_file_is_read_entry_by_entry(rt: HostRuntime) -> Result<(), Fail> {
     let file = file(rt.alloc())?;
-    let mut source = source(file.as_slice(), 1000);
-    let Ok(mut reader) = JournalReader::start(rt.alloc(), &mut source) else {
-        return Err(Fail::new("start"));
-    };
-    assert_eq!(rt; reader.left(), 4);
-    assert!(rt; reader.next(&mut source) == Ok(Some(edit(rt.alloc())?)));
-    assert!(rt; reader.next(&mut source) == Ok(Some(subscribe(rt.alloc())?)));
-    assert!(rt; reader.next(&mut source) == Ok(Some(Entry::Open { session: 1 })));
-    assert!(rt; reader.next(&mut source) == Ok(Some(message(rt.alloc())?)));
-    assert!(rt; reader.next(&mut source) == Ok(None));
+    let due = [
+        edit(rt.alloc())?,
+        subscribe(rt.alloc())?,
+        Entry::Open { session: 1 },
+        message(rt.alloc())?,
+    ];
+    assert!(rt; reads_again(rt.alloc(), file.as_slice(), due.as_slice())?);
     Ok(())
+}
+
+/// The fault of the first entry that a source gives, if it has one; or that of what stands before it.
+fn first_fault(alloc: Global, octets: &[u8], calls: usize) -> Result<Option<ReadFault>, ReadFault> {
+    let mut source = source(octets, calls);
+    let mut reader = JournalReader::start(alloc, &mut source)?;
+    Ok(reader.next(&mut source).err())
+}
+
+/// The same, from a source of the same octets where memory was refused.
+fn fault_told(alloc: Global, octets: &[u8], calls: usize) -> Result<Option<ReadFault>, ReadFault> {
+    match first_fault(alloc, octets, calls) {
+        Err(ReadFault::File(JournalFault::OutOfMemory)) => first_fault(alloc, octets, calls),
+        Ok(Some(ReadFault::File(JournalFault::OutOfMemory))) => first_fault(alloc, octets, calls),
+        answer => answer,
+    }
 }
 
 #[test]
 fn a_source_that_fails_or_ends_is_told(rt: HostRuntime) -> Result<(), Fail> {
     let file = file(rt.alloc())?;
     let front = file.as_slice().get(..20).ok_or("front")?;
-    let mut ended = source(front, 1000);
-    let Ok(mut reader) = JournalReader::start(rt.alloc(), &mut ended) else {
-        return Err(Fail::new("start"));
-    };
-    assert!(rt; reader.next(&mut ended) == Err(ReadFault::File(JournalFault::Truncated)));
-    let mut failing = source(front, 0);
-    assert!(rt; JournalReader::start(rt.alloc(), &mut failing).err() == Some(ReadFault::Read));
+    let ended = fault_told(rt.alloc(), front, 1000);
+    assert!(rt; ended == Ok(Some(ReadFault::File(JournalFault::Truncated))));
+    assert!(rt; fault_told(rt.alloc(), front, 0) == Err(ReadFault::Read));
     Ok(())
 }

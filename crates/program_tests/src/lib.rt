@@ -5,7 +5,9 @@
 //! - `answers`: of `admin_lines`, with answers that no server is brought to give.
 //! - `offline`: of `offline_filter`, with reads that are counted, and the names of faults.
 //! - `devices`: of `ipmd_offline`, on devices that fail; `memory`: where memory is refused.
-//! - `verifying`: of `ipmd_verify`, on both.
+//! - `verifying`: of `ipmd_verify`, on both; `explaining`: of `ipmd_explain`, where memory is refused.
+//! - `journals`: of `event_journal` and `journal_files`, and `histories`: of `history_verify` and `legal_runs`, both where memory is
+//!   refused; `octets`: files of journals.
 //!
 //! What no clause says is shown too: that a call succeeds while there is memory. Where it is refused memory it is made again,
 //! and answers as if nothing had happened.
@@ -16,7 +18,15 @@ mod answers;
 #[cfg(test)]
 mod devices;
 #[cfg(test)]
+mod explaining;
+#[cfg(test)]
+mod histories;
+#[cfg(test)]
+mod journals;
+#[cfg(test)]
 mod memory;
+#[cfg(test)]
+mod octets;
 #[cfg(test)]
 mod offline;
 #[cfg(test)]

@@ -4,7 +4,10 @@
 use ipmd_command_line::{OfflineOptions, PolicySource};
 use ipmd_offline::{ProgramFault, check_policy, filter};
 use octet_devices::Device;
+use std::alloc::AllocError;
+use std::process::Abort;
 use std::rt::Files;
+use std::test::Fail;
 
 /// A message with a template of source address, source port and octet count, and one record.
 const FLOW: &[u8] =
@@ -26,6 +29,9 @@ const REMOVE_PORT: OfflineOptions<'static> = OfflineOptions {
     hex: true,
 };
 
+/// Room for what a run writes.
+const ROOM: usize = 4096;
+
 /// What a run did, and the octets that it wrote.
 #[derive(Drop)]
 struct Ran {
@@ -43,43 +49,46 @@ fn was_refused(ran: &Ran, due: &[u8]) -> bool {
     matches!(ran.answer, Err(ProgramFault::OutOfMemory)) && due.starts_with(ran.written.as_slice())
 }
 
-fn filtered<R: Files + AllocGlobal>(rt: &R) -> Ran {
-    let mut output = Device::new(Vec::new(rt.alloc()));
+fn filtered<R: Files + AllocGlobal>(rt: &R) -> Result<Ran, AllocError> {
+    let mut output = Device::new(Vec::with_capacity(rt.alloc(), ROOM)?);
     let answer = match filter(rt, &REMOVE_PORT, FLOW, &mut output) {
         Ok(_) => Ok(()),
         Err(fault) => Err(fault),
     };
-    Ran {
+    Ok(Ran {
         answer,
         written: output.into_inner(),
-    }
+    })
 }
 
-fn counted<R: Files + AllocGlobal>(rt: &R) -> Ran {
-    let mut output = Device::new(Vec::new(rt.alloc()));
+fn counted<R: Files + AllocGlobal>(rt: &R) -> Result<Ran, AllocError> {
+    let mut output = Device::new(Vec::with_capacity(rt.alloc(), ROOM)?);
     let answer = check_policy(rt, REMOVE_PORT.policy, &mut output);
-    Ran {
+    Ok(Ran {
         answer,
         written: output.into_inner(),
-    }
+    })
 }
 
 /// Whether a stream is filtered, by a second run where the first was refused memory.
-fn filters<R: Files + AllocGlobal>(rt: &R) -> bool {
-    let ran = filtered(rt);
-    is_done(&ran, WITHOUT_PORT)
-        || was_refused(&ran, WITHOUT_PORT) && is_done(&filtered(rt), WITHOUT_PORT)
+fn filters<R: Files + AllocGlobal>(rt: &R) -> Result<bool, AllocError> {
+    let ran = filtered(rt)?;
+    Ok(
+        is_done(&ran, WITHOUT_PORT)
+            || was_refused(&ran, WITHOUT_PORT) && is_done(&filtered(rt)?, WITHOUT_PORT),
+    )
 }
 
 /// Whether a policy's rules are counted, by a second run where the first was refused memory.
-fn counts<R: Files + AllocGlobal>(rt: &R) -> bool {
+fn counts<R: Files + AllocGlobal>(rt: &R) -> Result<bool, AllocError> {
     let due = b"rules 3 aggregates 0\n".as_slice();
-    let ran = counted(rt);
-    is_done(&ran, due) || was_refused(&ran, due) && is_done(&counted(rt), due)
+    let ran = counted(rt)?;
+    Ok(is_done(&ran, due) || was_refused(&ran, due) && is_done(&counted(rt)?, due))
 }
 
 #[test]
-fn each_refusal_of_memory(rt: HostRuntime) {
-    assert!(rt; filters(&rt), "offline");
-    assert!(rt; counts(&rt), "check-policy");
+fn each_refusal_of_memory(rt: HostRuntime) -> Result<(), Fail> {
+    assert!(rt; filters(&rt)?, "offline");
+    assert!(rt; counts(&rt)?, "check-policy");
+    Ok(())
 }
