@@ -5,7 +5,7 @@ use Rattle.std.specs.Option.{option_map}
 use Rattle.std.proofs.lemmas.Bool.{eqb-true, eqb-false, eq-eqb, ne_eqb}
 use Rattle.sequences.proofs.BeforeLaws.{last_of-push}
 use Rattle.ipfix_session.specs.Keeping.{at_key}
-use Rattle.ipfix_session.specs.Standing.{StandsFor, Held, Stands as HoldsFor}
+use Rattle.ipfix_session.specs.Standing.{StandsFor, Standing, Stands as HoldsFor}
 use Rattle.ipfix_session.specs.ReadAhead.{Ahead, IsReadingOf}
 use Rattle.event_journal.specs.declared.entry.Entry.{Entry}
 use Rattle.event_journal.specs.declared.entry.Entry.TheVariants.{Open, Close, Message}
@@ -175,7 +175,7 @@ session_same h session None (Some t) e is = absurd cc
 session_same h session (Some s) None e is = absurd cc
 session_same h session (Some s) (Some t) e is =
     let same : seen t ≡ seen s = some_same (seen t) (seen s) e in
-    (is.0, ap (λ (x : Seen). x.accepted) same ∙ is.1, subst (λ (x : List (ℕ × Held)). HoldsFor x (messages_of session h)) (sym (ap (λ (x : Seen). x.standing) same)) is.2)
+    (is.0, ap (λ (x : Seen). x.accepted) same ∙ is.1, subst (λ (x : Standing). HoldsFor x (messages_of session h)) (sym (ap (λ (x : Seen). x.standing) same)) is.2)
 
 pub exporters_same : (e d : Exporters) (h : List Entry) → SameExporters e d → AreExporters e h → AreExporters d h
 exporters_same e d h same so = record {

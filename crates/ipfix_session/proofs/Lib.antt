@@ -12,3 +12,5 @@ pub mod InForceLaws
 pub mod NumberLaws
 pub mod RecordLaws
 pub mod ContentLaws
+pub mod AgreementLaws
+pub mod RecordCounts

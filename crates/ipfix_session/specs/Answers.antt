@@ -1,11 +1,13 @@
--- What `apply` answers.
+-- What the calls that read a message answer.
 use Rattle.std.specs.Prelude.{◌≡◌, Bool, true, false, Result, Ok, Err}
 use Rattle.sequences.specs.Results.{FailsBut, GivesBut}
 use Rattle.ipfix_message.specs.declared.decode_error.DecodeError.{DecodeError}
 use Rattle.ipfix_message.specs.declared.decode_error.DecodeError.TheVariants as decode
 use Rattle.ipfix_session.specs.declared.read.Read.{Read}
+use Rattle.ipfix_session.specs.declared.contents.Contents.{Contents as DataContents}
 use Rattle.ipfix_session.specs.declared.read_error.ReadError.{ReadError}
 use Rattle.ipfix_session.specs.declared.read_error.ReadError.TheVariants.{Malformed, RecordOverrun, OutOfMemory}
+use Rattle.ipfix_session.specs.Contents.{Contents}
 use Rattle.ipfix_session.specs.Meaning.{Meaning}
 
 -- the fault of octets that are no message, as a session names it
@@ -20,6 +22,10 @@ read_fault decode.TemplateOverrun = Malformed decode.TemplateOverrun
 -- the answer, with its records as a list
 abbrev pub shown : Read → Meaning
 shown r = record { header = r.header; records = r.records; skips = r.skips; gap = r.gap }
+
+-- what was read elsewhere, with its records as a list
+abbrev pub held : DataContents → Contents
+held c = record { records = c.records; skips = c.skips }
 
 -- only want of memory says nothing of the octets
 abbrev pub is_memory : ReadError → Bool

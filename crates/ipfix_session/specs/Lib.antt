@@ -24,8 +24,12 @@ pub mod Tables
 pub mod Change
 pub mod Changing
 pub mod Standing
+pub mod Unchanging
 pub mod ReadAhead
 pub mod Domains
+pub mod Sharing
+pub mod Expecting
+pub mod Session
 pub mod DataSets
 pub mod Answers
 pub mod Walking

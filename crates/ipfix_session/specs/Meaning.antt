@@ -1,7 +1,7 @@
 -- What the messages of one session, which is one TCP connection, mean (RFC 7011, sections 3.1, 8 and 10.4). What is a gap is
 -- this project's own rule: a domain's first message sets the number, and so does the next one after a Data Set that was skipped
 -- for want of a template.
-use Rattle.std.specs.Prelude.{ℕ, ◌+◌, ◌%◌, ◌^◌, List, [], ◌∷◌, ◌++◌, length, reverse, map, filter, Option, Some, None, Result, Ok, Err, ◌==◌, if◌then◌else◌}
+use Rattle.std.specs.Prelude.{ℕ, ◌+◌, ◌%◌, ◌^◌, Bool, List, [], ◌∷◌, ◌++◌, length, reverse, map, filter, Option, Some, None, Result, Ok, Err, ◌==◌, if◌then◌else◌}
 use Rattle.std.specs.List.{flat_map}
 use Rattle.ipfix_template.specs.DataRecord.{DataRecord}
 use Rattle.ipfix_message.specs.declared.header.Header.{Header}
@@ -41,6 +41,10 @@ contents_of older message = read_items (items_of_domain (domain_of message) olde
 -- Data Set that was skipped for want of a template nobody knows it
 abbrev pub number_after : Header → Contents → Option ℕ
 number_after h c = if c.skips.unknown == 0 then Some ((h.sequence + length c.records) % 2 ^ 32) else None
+
+-- the same by how many records there are, and whether a Data Set was skipped for want of a template
+abbrev pub number_past : Header → ℕ → Bool → Option ℕ
+number_past h records unknown = if unknown then None else Some ((h.sequence + records) % 2 ^ 32)
 
 abbrev pub next_number : Header → Result Contents ReadError → Option ℕ
 next_number h (Ok c) = number_after h c

@@ -1,5 +1,5 @@
 //! What a message changes of its domain's templates.
-ghost use Rattle.std.specs.Prelude.{◌≡◌, ℕ, List, Some, None, false, true, ◌==◌, if◌then◌else◌, IfSome, OnOk, IsTrue};
+ghost use Rattle.std.specs.Prelude.{◌≡◌, ℕ, List, Option, Some, None, false, true, ◌==◌, if◌then◌else◌, IfSome, OnOk, IsTrue};
 ghost use Rattle.std.specs.Option.{option_map};
 ghost use Rattle.std.specs.Arc.{arc_value};
 ghost use Rattle.std.specs.Ordering.{nat_cmp};
@@ -9,6 +9,7 @@ ghost use Rattle.ipfix_template.specs.Template.{is_options};
 ghost use Rattle.ipfix_session.specs.InForce.{unless_of_kind};
 ghost use Rattle.ipfix_session.specs.Keeping.{at_key, IsKeepable};
 ghost use Rattle.ipfix_session.specs.Places.{HasPlaces};
+ghost use Rattle.ipfix_session.specs.Change.{changed, changes_none};
 
 use crate::table::Table;
 use ipfix_template::Template;
@@ -33,11 +34,12 @@ pub(crate) struct Changes {
 }
 
 impl Changes {
-    ghost use Rattle.ipfix_session.specs.Changing.{after};
+    ghost use Rattle.ipfix_session.specs.Changing.{change_of, after};
 
     /// No change.
     pub(crate) fn new(alloc: Global) -> Changes
-        ensures { (before : List (ℕ × Template)) (q : ℕ) → after result before q ≡ at_key q before }
+        ensures same { (before : List (ℕ × Template)) (q : ℕ) → after result before q ≡ at_key q before }
+        ensures nothing { (found : Option Template) (q : ℕ) → changed (change_of result) q found ≡ found }
     {
         Changes {
             alloc,
@@ -46,6 +48,14 @@ impl Changes {
             plain_withdrawn: false,
             options_withdrawn: false,
         }
+    }
+
+    /// Whether nothing is changed: no ID is decided, and no kind is withdrawn. Repeated definitions change nothing.
+    pub(crate) fn is_none(&self) -> bool
+        ensures value { result ≡ changes_none (change_of self.now) }
+        ensures same { IsTrue result → (before : List (ℕ × Template)) (q : ℕ) → after self.now before q ≡ at_key q before }
+    {
+        !self.plain_withdrawn && !self.options_withdrawn && self.decided.is_empty()
     }
 
     /// The template that an ID has after the changes.

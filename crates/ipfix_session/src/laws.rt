@@ -50,3 +50,18 @@ pub fn records_are_read()
     ensures found { (t : Template) (octets : List ℕ) (rows : List (List (List ℕ))) → IsAccepted t → AreOctets octets → records_in t octets ≡ Ok rows → AreRecords t octets rows }
     ensures only { (t : Template) (octets : List ℕ) (rows : List (List (List ℕ))) → IsAccepted t → AreRecords t octets rows → records_in t octets ≡ Ok rows }
 {}
+
+ghost use Rattle.ipfix_message.specs.Reading.{items_of};
+ghost use Rattle.ipfix_session.specs.Meaning.{items_of_domain, contents_of};
+ghost use Rattle.ipfix_session.specs.Unchanging.{BringNoTemplates, AgreeOn, in_force_after};
+
+/// What a message holds that brings no template depends on the templates of its Data Sets alone: after other messages of its
+/// session it holds the same, where the IDs of its Data Sets have the same templates then.
+pub fn same_templates_read_the_same()
+    ensures items { (older newer : List Item) (message : List ℕ) (said : List Item) → BringNoTemplates said
+        → AgreeOn (λ id. template_in_force id older) (λ id. template_in_force id newer) said
+        → contents_after older message said ≡ contents_after newer message said }
+    ensures messages { (older newer : List (List ℕ)) (message : List ℕ) (said : List Item) → items_of message ≡ Ok said → BringNoTemplates said
+        → AgreeOn (in_force_after (domain_of message) older) (in_force_after (domain_of message) newer) said
+        → contents_of older message ≡ contents_of newer message }
+{}

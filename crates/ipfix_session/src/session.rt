@@ -1,28 +1,33 @@
 //! A session: the messages of one exporter, one after another.
-ghost use Rattle.std.specs.Prelude.{◌≡◌, ◌+◌, ◌≤◌, ◌++◌, ℕ, List, [], ◌∷◌, length, reverse, IfOk, OnOk, OnErr};
+ghost use Rattle.std.specs.Prelude.{◌≡◌, ◌≢◌, ◌+◌, ◌≤◌, ◌<◌, ◌^◌, ◌++◌, ℕ, List, [], ◌∷◌, length, reverse, not, ◌==◌, if◌then◌else◌, Ok, None, IfOk, OnOk, OnErr};
 ghost use Rattle.std.specs.Option.{option_copied};
 ghost use Rattle.ipfix_octets.specs.MessageFormat.{longest_message};
 ghost use Rattle.ipfix_message.specs.declared.item.Item.{Item};
+ghost use Rattle.ipfix_message.specs.Reading.{header_of};
 ghost use Rattle.ipfix_session.specs.InForce.{template_in_force};
-ghost use Rattle.ipfix_session.specs.Contents.{contents_after};
-ghost use Rattle.ipfix_session.specs.Meaning.{items_of_domain, number_after, gap_between, meaning_of};
-ghost use Rattle.ipfix_session.specs.Keeping.{Keeps, AreInForce, StandIn};
-ghost use Rattle.ipfix_session.specs.Standing.{kept_of, StandsFor};
+ghost use Rattle.ipfix_session.specs.Contents.{Contents, contents_after};
+ghost use Rattle.ipfix_session.specs.Meaning.{items_of_domain, contents_of, number_after, number_past, expected_number, gap_between, meaning_of};
+ghost use Rattle.ipfix_session.specs.Keeping.{at_key, Keeps, AreInForce, StandIn};
+ghost use Rattle.ipfix_session.specs.Standing.{kept_of, templates_of, StandsFor, Knows};
+ghost use Rattle.ipfix_session.specs.Unchanging.{HasNoTemplates};
 ghost use Rattle.ipfix_session.specs.ReadAhead.{IsReadingOf, HasRoomFor};
 ghost use Rattle.ipfix_message.specs.Reading as decoding;
 ghost use Rattle.ipfix_session.specs.Answers.{Gives, NamesFault, shown};
-ghost use Rattle.ipfix_session.specs.Walking.{contents_in};
 ghost use Rattle.ipfix_session.specs.Settling.{contents_read, afterwards};
 
-use crate::domains::Domains;
-use crate::read::{Gap, Read};
+use crate::changes::Changes;
+use crate::numbers::Numbers;
+use crate::read::{Gap, Read, Skips};
 use crate::read_error::ReadError;
 use crate::reading::Reading;
 use crate::table::Table;
-use crate::walk::{Walk, walk_items};
+use crate::tables::Tables;
+use crate::templates::Templates;
+use crate::walk::walk_items;
 use bytes::Bytes;
 use ipfix_message::{Header, Item, items, read_header};
 use ipfix_template::Template;
+use record_runs::Records;
 use std::alloc::{AllocError, Global};
 use std::marker::Model;
 
@@ -31,11 +36,12 @@ const SEQUENCE_NUMBERS: u64 = 1 << 32;
 
 /// The messages of one exporter over one connection: of each Observation Domain the templates in force
 /// and the sequence number that its next message is to have (RFC 7011, sections 3.1 and 8). Contracts see
-/// as `standing` the list of domains with what is kept of each, beside it the room that is made, and say by
-/// `StandsFor` for which messages it stands.
+/// as `standing` the templates of each domain and the number expected of each, beside it the room that is made, and say
+/// by `StandsFor` for which messages it stands.
 pub struct Session {
     alloc: Global,
-    domains: Domains,
+    numbers: Numbers,
+    tables: Tables,
 }
 
 impl Drop for Session {
@@ -43,7 +49,8 @@ impl Drop for Session {
     fn drop(self) {
         let Session {
             alloc: _,
-            domains: _,
+            numbers: _,
+            tables: _,
         } = self;
     }
 }
@@ -53,9 +60,9 @@ impl Model for Session {
 
     ghost Value = { Kept };
 
-    ghost use Rattle.ipfix_session.specs.Domains.{session_of};
+    ghost use Rattle.ipfix_session.specs.Session.{session_of};
 
-    ghost view = { λ s. session_of s.domains };
+    ghost view = { λ s. session_of s.numbers s.tables };
 }
 
 impl Session {
@@ -65,7 +72,8 @@ impl Session {
     {
         Session {
             alloc,
-            domains: Domains::new(alloc),
+            numbers: Numbers::new(alloc),
+            tables: Tables::new(alloc),
         }
     }
 
@@ -113,7 +121,8 @@ impl Session {
         self.read_message(header, message, said)
     }
 
-    /// Makes room for what a message changes, so that to keep it takes no memory.
+    /// Makes room for what a message changes, so that to keep it takes no memory. Where it changes templates that are
+    /// shared, the session gets its own: a copy is made only where somebody still owns the shared ones too.
     ///
     /// # Errors
     /// Want of memory. The session stands for the same messages, whatever the answer.
@@ -121,7 +130,8 @@ impl Session {
         ensures standing { self.new.standing ≡ self.old.standing }
         ensures room { OnOk result (HasRoomFor self.new reading.now) }
     {
-        self.domains
+        self.numbers.make_place(reading.read.header.domain)?;
+        self.tables
             .make_room(self.alloc, reading.read.header.domain, &reading.changes)
     }
 
@@ -139,7 +149,8 @@ impl Session {
             changes,
             next,
         } = reading;
-        self.domains.settle(read.header.domain, changes, next);
+        self.numbers.fill(read.header.domain, next);
+        self.tables.settle(read.header.domain, changes);
         read
     }
 
@@ -148,9 +159,87 @@ impl Session {
         ensures { (messages : List (List ℕ)) → StandsFor self.now messages
             → option_copied result ≡ template_in_force id (items_of_domain domain messages) }
     {
-        match self.domains.get(domain) {
-            Some(kept) => kept.templates.template(id),
-            None => None,
+        self.tables.all().template(domain, id)
+    }
+
+    /// Shares the templates, so that [`templates`](Session::templates) makes no copy of them until a message changes one.
+    ///
+    /// # Errors
+    /// Want of memory. The session stands for the same messages, whatever the answer.
+    pub fn share(&mut self) -> Result<(), AllocError>
+        ensures standing { self.new.standing ≡ self.old.standing }
+        ensures shared { OnOk result (self.new.room.own ≡ None) }
+    {
+        self.tables.share(self.alloc)
+    }
+
+    /// The templates as they stand now, by which messages can be read without the session. They are the session's very
+    /// ones where it shares them, and else a copy: so call [`share`](Session::share) before.
+    ///
+    /// # Errors
+    /// Want of memory.
+    pub fn templates(&self) -> Result<Templates, AllocError>
+        ensures same { IfOk result (λ t. t ≡ self.now.standing.templates) }
+        ensures knows { (older : List (List ℕ)) → StandsFor self.now older → IfOk result (λ t. Knows t older) }
+    {
+        let tables = self.tables.for_one_more(self.alloc)?;
+        Ok(Templates::new(self.alloc, tables))
+    }
+
+    /// Takes in the next message where it was read elsewhere and brings no template: `header` is its header, `records` says
+    /// how many records it holds, and `unknown` whether a Data Set was skipped for want of a template. The answer is set
+    /// where its sequence number is not the one that is expected.
+    ///
+    /// # Errors
+    /// Want of memory, and then nothing is changed.
+    pub fn note(
+        &mut self,
+        header: &Header,
+        records: u32,
+        unknown: bool,
+    ) -> Result<Option<Gap>, AllocError>
+        ensures gap { (older : List (List ℕ)) → StandsFor self.old older
+            → IfOk result (λ gap. gap ≡ gap_between (expected_number header.now.domain older) header.now.sequence) }
+        // Where it is the next message after those that the session stands for, the session then stands for them and it.
+        ensures stands { (older : List (List ℕ)) (message : List ℕ) (c : Contents) → StandsFor self.old older
+            → header_of message ≡ header.now → HasNoTemplates message → contents_of older message ≡ Ok c
+            → length c.records ≡ records → unknown ≡ not (c.skips.unknown == 0) → OnOk result (StandsFor self.new (message ∷ older)) }
+        // Whatever was read, the templates stay, and so do the numbers of the other domains.
+        ensures templates { self.new.standing.templates ≡ self.old.standing.templates }
+        ensures number { OnOk result ((q : ℕ) → at_key q self.new.standing.expected
+            ≡ (if q == header.now.domain then number_past header.now records unknown else at_key q self.old.standing.expected)) }
+        ensures err { OnErr result (self.new.standing ≡ self.old.standing) }
+    {
+        let expected = self.numbers.get(header.domain);
+        let next = number_past(*header, u64::from(records), unknown);
+        self.numbers.set(header.domain, next)?;
+        Ok(gap_between(expected, header.sequence))
+    }
+
+    /// What was read elsewhere of the next message, which brings no template, as [`make_room`](Session::make_room) and
+    /// [`keep`](Session::keep) take it. It takes no memory.
+    pub fn reading_of(&self, header: Header, records: Records, skips: Skips) -> Reading
+        ensures meaning { result.meaning ≡ record {
+          header = header;
+          records = records;
+          skips = skips;
+          gap = gap_between (kept_of header.domain self.now.standing).expected header.sequence;
+        } }
+        ensures reading { (older : List (List ℕ)) (message : List ℕ) → StandsFor self.now older
+            → header_of message ≡ header → HasNoTemplates message
+            → contents_of older message ≡ Ok (record { records = records; skips = skips }) → IsReadingOf older message result }
+    {
+        let next = number_after(header, &records, skips);
+        let gap = gap_between(self.numbers.get(header.domain), header.sequence);
+        Reading {
+            read: Read {
+                header,
+                records,
+                skips,
+                gap,
+            },
+            changes: Changes::new(self.alloc),
+            next,
         }
     }
 
@@ -164,7 +253,8 @@ impl Session {
     {
         Ok(Session {
             alloc: self.alloc,
-            domains: self.domains.clone()?,
+            numbers: self.numbers.clone()?,
+            tables: self.tables.clone()?,
         })
     }
 
@@ -186,10 +276,11 @@ impl Session {
         ensures next { IfOk result (λ r. r.next ≡ number_after header (contents_read r)) }
     {
         let empty = Table::new(self.alloc);
-        let (base, expected) = self.domains.held(header.domain, &empty);
+        let base = self.tables.all().table(header.domain, &empty);
+        let expected = self.numbers.get(header.domain);
         let walk = walk_items(self.alloc, base, message, said)?;
         Ok(Reading {
-            next: number_after(header, &walk),
+            next: number_after(header, &walk.records, walk.skips),
             changes: walk.changes,
             read: Read {
                 header,
@@ -203,13 +294,21 @@ impl Session {
 
 /// The sequence number of the message after one with this header: its own and its records, unless a Data
 /// Set was skipped for want of a template.
-fn number_after(header: Header, walk: &Walk) -> Option<u32>
-    ensures { result ≡ number_after header (contents_in walk.now) }
+fn number_after(header: Header, records: &Records, skips: Skips) -> Option<u32>
+    ensures { result ≡ number_after header (record { records = records.now; skips = skips }) }
 {
-    if walk.skips.unknown != 0 {
+    number_past(header, records.len() as u64, skips.unknown != 0)
+}
+
+/// The same by how many records there are, and whether a Data Set was skipped for want of a template.
+fn number_past(header: Header, records: u64, unknown: bool) -> Option<u32>
+    requires { records < 2 ^ 63 }
+    ensures { result ≡ number_past header records unknown }
+{
+    if unknown {
         return None;
     }
-    let next = u64::from(header.sequence) + walk.records.len() as u64;
+    let next = u64::from(header.sequence) + records;
     Some((next % SEQUENCE_NUMBERS) as u32)
 }
 

@@ -5,7 +5,7 @@ use Rattle.std.specs.Option.{option_map}
 use Rattle.std.specs.List.{AllByRecursion}
 use Rattle.ipfix_template.specs.DataRecord.{DataRecord}
 use Rattle.ipfix_session.specs.Keeping.{at_key}
-use Rattle.ipfix_session.specs.Standing.{Held, Stands as HoldsFor}
+use Rattle.ipfix_session.specs.Standing.{Standing as SessionStanding, Stands as HoldsFor}
 use Rattle.subscriber_stream.specs.declared.limits.Limits.{Limits}
 use Rattle.subscriber_stream.specs.Shapes.{shapes_after}
 use Rattle.subscriber_stream.specs.Standing.{Standing, StandsAt, HasRoom, queued}
@@ -44,7 +44,7 @@ session_same h session None (Some t) e is = absurd cc
 session_same h session (Some s) None e is = absurd cc
 session_same h session (Some s) (Some t) e is =
     let same : session_seen t ≡ session_seen s = some_same (session_seen t) (session_seen s) e in
-    (is.0, ap (λ (x : SeenSession). x.accepted) same ∙ is.1, subst (λ (x : List (ℕ × Held)). HoldsFor x (messages_of session h)) (sym (ap (λ (x : SeenSession). x.standing) same)) is.2)
+    (is.0, ap (λ (x : SeenSession). x.accepted) same ∙ is.1, subst (λ (x : SessionStanding). HoldsFor x (messages_of session h)) (sym (ap (λ (x : SeenSession). x.standing) same)) is.2)
 
 subscription_same : (h : List Entry) (limits : Limits) (sub : ℕ) (o n : Option Subscription) → option_map seen n ≡ option_map seen o → IsLiveAs h limits sub o → IsLiveAs h limits sub n
 subscription_same h limits sub None None e is = is

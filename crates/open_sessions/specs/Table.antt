@@ -1,13 +1,13 @@
 -- The open sessions, as contracts see them.
 use Rattle.std.specs.Prelude.{◌≡◌, ◌+◌, ℕ, List, [], ◌∷◌, Option, Some, None}
-use Rattle.ipfix_session.specs.Standing.{Held, StandsFor}
+use Rattle.ipfix_session.specs.Standing.{Standing, StandsFor}
 use Rattle.ipfix_session.specs.ReadAhead.{Ahead, IsReadingOf}
 use Rattle.open_sessions.specs.declared.open_session.OpenSession.{OpenSession}
 
 -- an open session, whatever room is made in it: how many of its messages were accepted, and what it keeps of each domain
 pub record Seen : Type 0 where
   pub accepted : ℕ
-  pub standing : List (ℕ × Held)
+  pub standing : Standing
 
 abbrev pub seen : OpenSession → Seen
 seen o = record { accepted = o.accepted; standing = o.session.standing }

@@ -78,6 +78,19 @@ impl Sessions {
         let _ = self.by_number.remove(&number);
     }
 
+    /// Has a session share its templates, where it is open, so that a snapshot of it makes no copy of them.
+    ///
+    /// # Errors
+    /// Want of memory. The sessions stand for the same messages, whatever the answer.
+    pub fn share(&mut self, number: u64) -> Result<(), AllocError>
+        ensures same { (q : ℕ) → option_map seen (at_key q self.new) ≡ option_map seen (at_key q self.old) }
+    {
+        if let Some(open) = self.by_number.get_mut(&number) {
+            open.session.share()?;
+        }
+        Ok(())
+    }
+
     /// Makes room for what a session's message changes, so that to keep it takes no memory.
     ///
     /// # Errors

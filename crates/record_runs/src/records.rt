@@ -131,3 +131,17 @@ impl Records {
         Ok(list)
     }
 }
+
+impl Clone for Records {
+    ghost use Rattle.std.specs.Prelude.{◌≡◌};
+
+    ghost is_clone = { λ r copy. copy ≡ r };
+
+    /// The same runs, of which no octet is copied.
+    fn clone(&self) -> Result<Records, AllocError> {
+        Ok(Records {
+            runs: self.runs.clone()?,
+            count: self.count,
+        })
+    }
+}

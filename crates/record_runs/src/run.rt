@@ -180,6 +180,21 @@ impl Run {
     }
 }
 
+impl Clone for Run {
+    ghost use Rattle.std.specs.Prelude.{◌≡◌};
+
+    ghost is_clone = { λ r copy. copy ≡ r };
+
+    /// One more owner of the template and of the octets, with a copy of the ends.
+    fn clone(&self) -> Result<Run, AllocError> {
+        Ok(Run {
+            template: self.template.clone()?,
+            octets: self.octets.clone()?,
+            ends: self.ends.clone()?,
+        })
+    }
+}
+
 /// Where the text at this index starts in the octets, and where it ends.
 fn place_of(octets: &[u8], ends: &[u32], index: usize) -> (usize, usize)
     requires ends { AreEnds 0 ends.now (length octets.now) }

@@ -13,7 +13,7 @@ items-init c =
     record {
       stand = rw c.into_iter-rest.ensures.rest c.requires.stand;
       room = record { done = 0; counted = record { unknown = omega arith; reserved = omega arith; refused = omega arith }; all = omega arith; fits = omega arith };
-      walks = λ older keeps. rw (c.into_iter-rest.ensures.rest, c.new-2.ensures) (walks_first c.args.message.now (after c.new.result c.args.base.now.templates) older c.args.said.items (λ q. c.new.ensures c.args.base.now.templates q ∙ keeps q));
+      walks = λ older keeps. rw (c.into_iter-rest.ensures.rest, c.new-2.ensures) (walks_first c.args.message.now (after c.new.result c.args.base.now.templates) older c.args.said.items (λ q. c.new.ensures.same c.args.base.now.templates q ∙ keeps q));
     }
 
 pub items-preserved : goal.items-preserved

@@ -1,0 +1,12 @@
+//! What the Data Sets of a message hold.
+
+use crate::read::Skips;
+use record_runs::Records;
+
+/// What a message holds, when it is read elsewhere than in its session.
+#[derive(Drop)]
+pub struct Contents {
+    /// The Data Records, in the order of the message.
+    pub records: Records,
+    pub skips: Skips,
+}
