@@ -1,0 +1,26 @@
+//! Messages that are prepared by several threads at once.
+//!
+//! It reads no message itself, and waits for nothing but the threads that it started.
+//!
+//! - [`workers`]: `prepare_all`, which prepares a list of messages and answers them in their order.
+//! - [`gate`]: `Gate`, which is told what each thread is at, and `NoGate`, which does nothing.
+//! - [`fault`]: `WorkersFault`, why a list is not prepared.
+//! - `run`: the part of the list that one thread prepares, and what the thread promises.
+//!
+//! Each thread prepares a run, messages that stand one after another. The runs are as long as each other, or one longer. So a
+//! slow message holds up its own run alone, and the list of all answers is that of one run behind that of another: this is
+//! what is proved. A counter that threads share would balance better, but no clause could say that each message was taken.
+//!
+//! Proved: for every number of workers `prepare_all` answers each message as `Prepared::prepare` does, in the order of the
+//! messages (`answers`), and BadWorkers exactly where there are none or more than 64 (`workers`). That threads overlap is shown
+//! by a test alone.
+#![tactic(auto)]
+
+pub mod fault;
+pub mod gate;
+mod run;
+pub mod workers;
+
+pub use fault::WorkersFault;
+pub use gate::{Gate, NoGate};
+pub use workers::prepare_all;

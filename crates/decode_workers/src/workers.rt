@@ -1,0 +1,135 @@
+//! Lists of messages, which several threads prepare at once.
+ghost use Rattle.std.specs.Prelude.{◌≡◌, ◌≢◌, ◌+◌, ◌<◌, ◌^◌, ◌++◌, ℕ, List, IfOk, IfErr, OnOk, Err, MatchBool, vec_len};
+ghost use Rattle.decode_workers.specs.declared.fault.WorkersFault.TheVariants.{BadWorkers};
+ghost use Rattle.decode_workers.specs.Workers.{Tables, AreAnswers, may_work};
+ghost use Rattle.decode_workers.specs.Owing.{owed_by, KnowAll};
+
+use crate::fault::WorkersFault;
+use crate::gate::Gate;
+use crate::run::{Owed, prepare_run};
+use bytes::Bytes;
+use prepared_message::{PrepareFault, Prepared, Snapshot};
+use std::alloc::{AllocError, Global};
+use std::snapshot::Snapshot as Remembered;
+use std::sync::Wait;
+use std::thread;
+use std::thread::{PromisedHandle, Scope, Threads};
+
+const MOST_WORKERS: u64 = 64;
+
+/// A thread that prepares a run.
+type Worker = PromisedHandle<Result<Vec<Result<Prepared, PrepareFault>>, AllocError>, Owed>;
+
+/// Prepares each message against the snapshot, and gives the answers in the order of the messages. The calling thread is one of
+/// the workers, and no more work than there are messages: with one worker, or one message, no thread is started. It returns
+/// once all threads that it started have ended, whatever it answers.
+///
+/// # Errors
+/// BadWorkers where there are not 1 to 64 workers; NoThread where a thread was refused; or want of memory for the lists. A
+/// message that can't be prepared, also for want of memory, has that as its answer.
+pub fn prepare_all<R: Threads + Wait + Sync, G: Gate + Sync>(
+    rt: &R,
+    snapshot: &Snapshot,
+    messages: Vec<Bytes>,
+    workers: u64,
+    gate: &G,
+) -> Result<Vec<Result<Prepared, PrepareFault>>, WorkersFault>
+    // Each message has the answer that `Prepared::prepare` gives it, in the order of the messages.
+    ensures answers { IfOk result (λ v. AreAnswers snapshot.now messages.items v.items) }
+    ensures workers { MatchBool (may_work workers) (IfErr result (λ why. why ≢ BadWorkers)) (result ≡ Err BadWorkers) }
+{
+    if workers < 1 || workers > MOST_WORKERS {
+        return Err(WorkersFault::BadWorkers);
+    }
+    let alloc = *messages.allocator();
+    let runs = messages.len().min(workers as usize);
+    if runs <= 1 {
+        return Ok(prepare_run(alloc, snapshot, gate, 0, messages)?);
+    }
+    thread::scope(thread::scope_env(), rt, |scope| {
+        prepare_in_runs(rt, alloc, snapshot, gate, scope, messages, runs)
+    })
+}
+
+/// Prepares the messages in so many runs: the first in this thread, and each other in a thread of its own.
+fn prepare_in_runs<'s, 't: 's, 'g: 's, X: 's, R: Threads, G: Gate + Sync>(
+    rt: &R,
+    alloc: Global,
+    snapshot: &'t Snapshot,
+    gate: &'g G,
+    scope: &Scope<'s, X>,
+    mut messages: Vec<Bytes>,
+    runs: usize,
+) -> Result<Vec<Result<Prepared, PrepareFault>>, WorkersFault>
+    ensures answers { IfOk result (λ v. AreAnswers snapshot.now messages.items v.items) }
+    ensures err { IfErr result (λ why. why ≢ BadWorkers) }
+{
+    let working = start_all(alloc, snapshot, gate, scope, &mut messages, runs)?;
+    let mut answers = prepare_run(alloc, snapshot, gate, 0, messages)?;
+    join_all(rt, working, &mut answers)?;
+    Ok(answers)
+}
+
+/// Takes all runs but the first off the messages, the last one first, and starts a thread for each.
+fn start_all<'s, 't: 's, 'g: 's, X: 's, G: Gate + Sync>(
+    alloc: Global,
+    snapshot: &'t Snapshot,
+    gate: &'g G,
+    scope: &Scope<'s, X>,
+    messages: &mut Vec<Bytes>,
+    runs: usize,
+) -> Result<Vec<Worker>, WorkersFault>
+    ensures all { IfOk result (λ v. messages.new.items ++ owed_by v.items ≡ messages.old.items) }
+    ensures known { IfOk result (λ v. KnowAll snapshot.now v.items) }
+    ensures err { IfErr result (λ why. why ≢ BadWorkers) }
+{
+    let mut working = Vec::new(alloc);
+    for started in 1..runs {
+        // The messages that are left are shared out among the runs that are left.
+        let first = messages.len() - messages.len() / (runs - started + 1);
+        let run = messages.split_off(first)?;
+        working.reserve(1)?;
+        working.push_reserved(start(alloc, snapshot, gate, scope, first as u64, run)?);
+    }
+    Ok(working)
+}
+
+/// Starts a thread that prepares a run.
+fn start<'s, 't: 's, 'g: 's, X: 's, G: Gate + Sync>(
+    alloc: Global,
+    snapshot: &'t Snapshot,
+    gate: &'g G,
+    scope: &Scope<'s, X>,
+    first: u64,
+    run: Vec<Bytes>,
+) -> Result<Worker, WorkersFault>
+    requires places { first + vec_len run < 2 ^ 64 }
+    ensures owed { IfOk result (λ h. (h.promise.snapshot.value ≡ snapshot.now) × (h.promise.messages.value ≡ run)) }
+    ensures err { IfErr result (λ why. why ≢ BadWorkers) }
+{
+    let owed = Owed {
+        snapshot: Remembered::of(snapshot),
+        messages: Remembered::of(&run),
+    };
+    match scope.spawn_with(owed, move || prepare_run(alloc, snapshot, gate, first, run)) {
+        Ok(worker) => Ok(worker),
+        Err(_refused) => Err(WorkersFault::NoThread),
+    }
+}
+
+/// Waits for the threads, the one that was started last before the others, and puts the answers of each behind those that are
+/// there.
+fn join_all<R: Threads>(
+    rt: &R,
+    mut working: Vec<Worker>,
+    answers: &mut Vec<Result<Prepared, PrepareFault>>,
+) -> Result<(), AllocError>
+    ensures { OnOk result ((known : Tables) (before : List (List ℕ)) → KnowAll known working.items
+        → AreAnswers known before answers.old.items → AreAnswers known (before ++ owed_by working.items) answers.new.items) }
+{
+    while let Some(worker) = working.pop() {
+        let mut more = worker.join(rt)?;
+        answers.append(&mut more)?;
+    }
+    Ok(())
+}

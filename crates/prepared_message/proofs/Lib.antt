@@ -1,0 +1,4 @@
+pub mod SetLaws
+pub mod UseLaws
+pub mod ApplyLaws
+pub mod FindLaws

@@ -1,0 +1,11 @@
+pub use Rattle.ipfix_session.specs.Answers
+pub use Rattle.ipfix_session.specs.Meaning
+pub use Rattle.ipfix_session.specs.Standing
+pub use Rattle.ipfix_session.specs.Unchanging
+pub use Rattle.ipfix_session.specs.ReadAhead
+pub mod SetIds
+pub mod Uses
+pub mod Preparation
+pub mod Seen
+pub mod Faults
+pub mod Finding

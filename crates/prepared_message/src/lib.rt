@@ -1,0 +1,30 @@
+//! Messages that are read outside their session: against a snapshot of its templates, and taken in later.
+//!
+//! It reads no template and changes none: a message that has a set of templates is refused, and goes to the session itself.
+//!
+//! - [`snapshot`]: `Snapshot`, the templates of a session as they stood.
+//! - [`prepared`]: `Prepared`, a message that was read against a snapshot: `prepare`; `apply_to` and `reading_in` for the
+//!   session that takes it in.
+//! - [`fault`]: `PrepareFault` and `ApplyFault`, why a message is not prepared, and why it is not taken in.
+//! - `found`: what is found in a message by the snapshot's templates.
+//! - `sets`: whether a message has a set of templates.
+//! - `used`: the templates that a message used.
+//!
+//! Proved: `prepare` answers the records and skips that the message holds after the messages that the snapshot stands for, or
+//! which fault it has (`gives`). Its type keeps that the message brings no template, and holds these contents wherever the
+//! templates that it used are in force. `apply_to` answers what `Session::apply` answers to the message (`means`), and the
+//! session then stands for it too (`stands`); `reading_in` gives what `Session::read` gives (`reading`). Both answer Stale
+//! only where an ID of the message has another template, or none, in the session (`stale`), and where they answer a fault
+//! nothing has changed (`err`).
+#![tactic(auto)]
+
+pub mod fault;
+mod found;
+pub mod prepared;
+mod sets;
+pub mod snapshot;
+mod used;
+
+pub use fault::{ApplyFault, PrepareFault};
+pub use prepared::Prepared;
+pub use snapshot::Snapshot;

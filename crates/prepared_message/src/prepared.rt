@@ -1,0 +1,172 @@
+//! A message that was read against a snapshot.
+ghost use Rattle.std.specs.Prelude.{◌≡◌, ◌↔◌, ℕ, List, ◌∷◌, Ok, IsTrue, IfOk, OnOk, OnErr};
+ghost use Rattle.ipfix_session.specs.Answers.{shown};
+ghost use Rattle.ipfix_session.specs.Meaning.{meaning_of};
+ghost use Rattle.ipfix_session.specs.ReadAhead.{IsReadingOf};
+ghost use Rattle.ipfix_session.specs.Standing.{StandsFor, Knows};
+ghost use Rattle.prepared_message.specs.Faults.{Gives, IsStaleOnly, prepared_from};
+ghost use Rattle.prepared_message.specs.Preparation.{AgreesWith, IsPrepared};
+ghost use Rattle.prepared_message.specs.Uses.{TablesAgree};
+
+use crate::fault::{ApplyFault, PrepareFault};
+use crate::found::{Found, read_by};
+use crate::snapshot::Snapshot;
+use crate::used::{Used, are_in_force};
+use bytes::Bytes;
+use ipfix_message::Header;
+use ipfix_session::{Contents, Read, Reading, Session};
+use record_runs::Records;
+use std::marker::Model;
+
+/// A message without a set of templates that was read against a snapshot, with the templates that it used. Its type keeps
+/// that it holds what was read wherever these templates are in force. Contracts see the message, its contents and the
+/// templates used, and say by `AgreesWith` after which messages these are in force.
+pub struct Prepared {
+    message: Bytes,
+    header: Header,
+    contents: Contents,
+    /// How many records there are.
+    count: u32,
+    uses: Vec<Used>,
+}
+
+impl Drop for Prepared {
+    // Written out: a derived one is proved anew in each crate that drops such a value.
+    fn drop(self) {
+        let Prepared {
+            message: _,
+            header: _,
+            contents: _,
+            count: _,
+            uses: _,
+        } = self;
+    }
+}
+
+impl Model for Prepared {
+    ghost use Rattle.prepared_message.specs.Preparation.{Preparation};
+
+    ghost Value = { Preparation };
+
+    ghost use Rattle.std.specs.Prelude.{◌≡◌, map, length};
+    ghost use Rattle.ipfix_message.specs.Reading.{header_of};
+    ghost use Rattle.ipfix_session.specs.Answers.{held};
+    ghost use Rattle.prepared_message.specs.Seen.{seen};
+    ghost use Rattle.prepared_message.specs.Preparation.{IsKept};
+
+    ghost view = { λ p. record { message = p.message; contents = held p.contents; used = map seen p.uses.items } };
+
+    ghost invariant = { λ p. IsKept (record { message = p.message; contents = held p.contents; used = map seen p.uses.items }) p.header p.count };
+}
+
+impl Prepared {
+    /// Reads a message against a snapshot. The values of its records are cut from the message, and not copied.
+    ///
+    /// # Errors
+    /// HasTemplates where the octets are a message with a Set 2 or 3; Malformed where they are no message, or a data
+    /// record goes past its set; or want of memory.
+    pub fn prepare(snapshot: &Snapshot, message: Bytes) -> Result<Prepared, PrepareFault>
+        // The answer is what the message holds after the messages that the snapshot stands for, or which fault it has.
+        ensures gives { (older : List (List ℕ)) → Knows snapshot.now older → Gives (λ p. p.contents) result (prepared_from older message) }
+        ensures whole { IfOk result (λ p. p.message ≡ message) }
+        // It agrees with a session exactly where that has the snapshot's templates for the Set IDs that the message uses.
+        ensures used { IfOk result (λ p. (older : List (List ℕ)) → AgreesWith older p ↔ TablesAgree snapshot.now older message) }
+        ensures prepared { IfOk result IsPrepared }
+    {
+        let Found {
+            header,
+            contents,
+            uses,
+        } = read_by(&snapshot.templates, &message)?;
+        let count = contents.records.len();
+        Ok(Prepared {
+            message,
+            header,
+            contents,
+            count: count as u32,
+            uses,
+        })
+    }
+
+    /// The message.
+    pub fn message(&self) -> &Bytes
+        ensures value { result.now ≡ self.now.message }
+        ensures prepared { IsPrepared self.now }
+    {
+        &self.message
+    }
+
+    /// The message alone.
+    pub fn into_message(self) -> Bytes
+        ensures { result ≡ self.message }
+    {
+        let Prepared {
+            message,
+            header: _,
+            contents: _,
+            count: _,
+            uses: _,
+        } = self;
+        message
+    }
+
+    /// Takes the message in as the session's next one, and answers what it means: as [`Session::apply`] does on it.
+    ///
+    /// # Errors
+    /// Stale where an ID of the message has another template in the session, or none, or one where it had none; or want of
+    /// memory. Nothing has changed then.
+    pub fn apply_to(&self, session: &mut Session) -> Result<Read, ApplyFault>
+        ensures means { (older : List (List ℕ)) → StandsFor session.old older
+            → IfOk result (λ r. meaning_of older self.now.message ≡ Ok (shown r)) }
+        ensures stands { (older : List (List ℕ)) → StandsFor session.old older
+            → OnOk result (StandsFor session.new (self.now.message ∷ older)) }
+        ensures stale { (older : List (List ℕ)) → StandsFor session.old older → IsStaleOnly result (AgreesWith older self.now) }
+        ensures err { OnErr result (session.new.standing ≡ session.old.standing) }
+    {
+        let records = self.records_in(session)?;
+        let skips = self.contents.skips;
+        let gap = session.note(&self.header, self.count, skips.unknown != 0)?;
+        Ok(Read {
+            header: self.header,
+            records,
+            skips,
+            gap,
+        })
+    }
+
+    /// What was read of the message, as the session's next one: as [`Session::read`] gives it, for
+    /// [`make_room`](Session::make_room) and [`keep`](Session::keep).
+    ///
+    /// # Errors
+    /// Stale as for [`apply_to`](Prepared::apply_to); or want of memory.
+    pub fn reading_in(&self, session: &Session) -> Result<Reading, ApplyFault>
+        ensures reading { (older : List (List ℕ)) → StandsFor session.now older → IfOk result (IsReadingOf older self.now.message) }
+        ensures stale { (older : List (List ℕ)) → StandsFor session.now older → IsStaleOnly result (AgreesWith older self.now) }
+    {
+        let records = self.records_in(session)?;
+        Ok(session.reading_of(self.header, records, self.contents.skips))
+    }
+
+    /// The records, of which no octet is copied, where the session has the templates that the message used.
+    ///
+    /// # Errors
+    /// Stale as for [`apply_to`](Prepared::apply_to); or want of memory.
+    fn records_in(&self, session: &Session) -> Result<Records, ApplyFault>
+        ensures records { IfOk result (λ r. r ≡ self.now.contents.records) }
+        ensures agrees { (older : List (List ℕ)) → StandsFor session.now older → OnOk result (AgreesWith older self.now) }
+        ensures stale { (older : List (List ℕ)) → StandsFor session.now older → IsStaleOnly result (AgreesWith older self.now) }
+    {
+        if !self.agrees_with(session) {
+            return Err(ApplyFault::Stale);
+        }
+        Ok(self.contents.records.clone()?)
+    }
+
+    /// Whether each ID of the message has the same template in the session, or none.
+    pub fn agrees_with(&self, session: &Session) -> bool
+        ensures agrees { (older : List (List ℕ)) → StandsFor session.now older → IsTrue result ↔ AgreesWith older self.now }
+        ensures prepared { IsPrepared self.now }
+    {
+        are_in_force(&self.uses, self.header.domain, session)
+    }
+}
