@@ -16,6 +16,7 @@ PASS = "policy 1\nrule for * in * from * to * pass\nrule for * in * from * to * 
 # Settings by which nothing is ever full, but for where a test says otherwise.
 ROOMY = {
     "target": 1400,
+    "workers": 2,
     "turns": 1_000_000,
     "queue": 1_000_000,
     "shapes": 100,

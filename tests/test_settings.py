@@ -14,6 +14,7 @@ USUAL = {
     "policy": NOWHERE,
     "connections": "1",
     "target": "1400",
+    "workers": "2",
     "queue": "100",
     "shapes": "100",
     "audit": "100",
@@ -30,6 +31,7 @@ REFUSED = {
     "policy": ["1979-05-27", '["policy"]'],
     "connections": ["0", "1001", "-1", '"1"', '"2"', "2.0"],
     "target": ["15", "65536", '"1400"', "1400.0"],
+    "workers": ["0", "65", "-1", '"2"', "2.0"],
     "queue": ["0", "1000001", "true", "{}"],
     "shapes": ["0", "65281", "[1]", '"100"'],
     "audit": ["0", "10000001", "{ most = 1 }", "[]"],
@@ -46,6 +48,7 @@ TAKEN = {
     "policy": ['""'],
     "connections": ["1", "1000"],
     "target": ["16", "65535"],
+    "workers": ["1", "64"],
     "queue": ["1", "1000000"],
     "shapes": ["1", "65280"],
     "audit": ["1", "10_000_000"],
@@ -64,16 +67,19 @@ NO_TOML = [
     'deliver = { acme = "a", acme = "b" }',
 ]
 
+# Settings up to the number of connections.
+FRONT = 'exporters = "e"\nadmin = "a"\npolicy = "p"\nconnections = 1\n'
+
 # Texts with several faults, and the key that is named.
 FIRST = [
     ("", "exporters"),
     ("# nothing\n", "exporters"),
     ("turns = 0\ndeliver = 1\nadmin = 1\npolicy = 1\n", "exporters"),
     ('policy = "p"\nexporters = "e"\nturns = 0\n', "admin"),
-    (
-        'exporters = "e"\nadmin = "a"\npolicy = "p"\nconnections = 1\ntarget = 16\naudit = 0\njournal_octets = 0\nqueue = 1\n',
-        "shapes",
-    ),
+    (FRONT + "workers = 0\ntarget = 15\n", "target"),
+    (FRONT + "queue = 0\nworkers = 65\ntarget = 16\n", "workers"),
+    (FRONT + "queue = 0\ntarget = 16\n", "workers"),
+    (FRONT + "target = 16\nworkers = 1\naudit = 0\njournal_octets = 0\nqueue = 1\n", "shapes"),
     ('[settings]\nexporters = "e"\nadmin = "a"\npolicy = "p"\n', "exporters"),
 ]
 

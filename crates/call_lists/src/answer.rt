@@ -183,6 +183,7 @@ fn put_details(text: &mut String, why: &Fault) -> Result<(), AllocError>
         Fault::ClockBack { last } => write!(text, " {last}"),
         Fault::AuditFull { need, room } => write!(text, " {need} {room}"),
         Fault::UnknownSession
+        | Fault::Stale
         | Fault::BadName
         | Fault::UnknownSub
         | Fault::JournalFull

@@ -33,6 +33,7 @@ pub record IsPlanOf (asked : Asked) (policy : List ℕ) (plan : Plan) : Type 0 w
   pub policy_is : string_bytes plan.policy ≡ policy
   pub connections : plan.connections ≡ asked.connections
   pub target : plan.target ≡ asked.target
+  pub workers : plan.workers ≡ asked.workers
   pub turns : plan.turns ≡ asked.turns
   pub deliver : collectors_in plan.deliver ≡ asked.collectors
 

@@ -83,6 +83,7 @@ fn plan_of(alloc: Global, settings: Settings, policy: String) -> Result<Plan, Al
         policy: _,
         connections,
         target,
+        workers,
         limits: _,
         turns,
         collectors,
@@ -94,6 +95,7 @@ fn plan_of(alloc: Global, settings: Settings, policy: String) -> Result<Plan, Al
         connections: u64::from(connections),
         target,
         turns,
+        workers,
         deliver: collectors_of(alloc, collectors)?,
     })
 }

@@ -140,6 +140,7 @@ The settings are a TOML table with all of these keys; any other is ignored:
   policy = \"policy.txt\"           the file with the first policy
   connections = 4                 how many exporter connections are accepted, 1 to 1000
   target = 1400                   the most octets of a message to a collector, 16 to 65535
+  workers = 2                     the threads that read an exporter's messages, 1 to 64
   queue = 65536                   the records that may wait for a subscription, 1 to 1000000
   shapes = 256                    the layouts of a subscription's records, 1 to 65280
   audit = 131072                  the audit entries that may wait, 1 to 10000000

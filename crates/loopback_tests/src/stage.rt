@@ -30,6 +30,9 @@ const TARGET: u16 = 1400;
 /// How often a connection is read at most.
 const TURNS: u64 = 1000;
 
+/// How many threads read an exporter's messages.
+const WORKERS: u64 = 2;
+
 /// A plan, and the door of its collector.
 #[derive(Drop)]
 pub(crate) struct Stage {
@@ -74,6 +77,7 @@ pub(crate) fn set_up<R: Net<Listener = TcpListener, Stream = TcpStream> + Abort>
         connections: 1,
         target: TARGET,
         turns: TURNS,
+        workers: WORKERS,
         deliver,
     };
     Ok(Stage { plan, door })

@@ -14,6 +14,7 @@ use Rattle.event_journal.specs.Room.{Limits as Journaled, HasRoomAfter}
 use Rattle.mediator_history.specs.Subscriptions.{begins, is_live, subscriptions_begun}
 use Rattle.mediator_history.specs.Disclosed.{disclosed}
 use Rattle.mediator_history.specs.Auditing.{audit_list}
+use Rattle.prepared_message.specs.Preparation.{Preparation}
 use Rattle.mediator_state.specs.declared.engine.Engine.{Engine}
 use Rattle.mediator_state.specs.declared.state.State.{State}
 use Rattle.mediator_state.specs.declared.fault.Fault.{Fault}
@@ -28,7 +29,7 @@ use Rattle.mediator_calls.specs.declared.limits.Limits.{Limits}
 use Rattle.mediator_calls.specs.Held.{IsHeld}
 use Rattle.mediator_calls.specs.Mediation.{Place, Mediation, started, place_at, noted_at, journal_limits}
 use Rattle.mediator_calls.specs.View.{view_of, tells, limits_of, StandsForJournal, IsKept}
-use Rattle.mediator_calls.specs.Calls.{GoesOn, Opens, Closes, AuditHolds, with_cuts, Receives, RefusesReceive, Edits, Subscribes, Unsubscribes, Advances, RefusesAdvance, Pulls, IsStatusOf, Drains}
+use Rattle.mediator_calls.specs.Calls.{GoesOn, Opens, Closes, AuditHolds, with_cuts, Receives, RefusesReceive, RefusesReceivePrepared, Edits, Subscribes, Unsubscribes, Advances, RefusesAdvance, Pulls, IsStatusOf, Drains}
 use Rattle.mediator_calls.specs.Sound.{IsSound}
 use Rattle.mediator_calls.proofs.HeldLaws.{held_start, held_open, held_close, held_edit, held_subscribe, held_unsubscribe, held_receive, held_advance, held_pull, held_drain}
 use Rattle.mediator_calls.proofs.Places.{place_is, within, unplaced_at, cuts_are, places_same}
@@ -217,11 +218,26 @@ refuses_receive fault.OutOfMemory s session number octets stands r = r
 refuses_receive fault.UnknownSession s session number octets stands r = r
 refuses_receive (fault.OutOfTurn expected) s session number octets stands r = r
 refuses_receive (fault.Malformed why) s session number octets stands r = r
+refuses_receive fault.Stale s session number octets stands r = r
 refuses_receive (fault.Policy why) s session number octets stands r = r
 refuses_receive fault.BadName s session number octets stands r = r
 refuses_receive (fault.AlreadySubscribed sub) s session number octets stands r = r
 refuses_receive fault.UnknownSub s session number octets stands r = r
 refuses_receive (fault.ClockBack last) s session number octets stands r = r
+
+pub refuses_prepared : (why : Fault) (s : State Kept) (session number : ℕ) (p : Preparation) → StandsForJournal s → state.RefusesReceivePrepared why s.chronicle.limits s.engine s.chronicle.entries session number p → RefusesReceivePrepared why (view_of s) session number p
+refuses_prepared fault.JournalFull s session number p stands r = refuses_receive fault.JournalFull s session number p.message stands r
+refuses_prepared (fault.AuditFull need room) s session number p stands r = refuses_receive (fault.AuditFull need room) s session number p.message stands r
+refuses_prepared fault.OutOfMemory s session number p stands r = r
+refuses_prepared fault.UnknownSession s session number p stands r = r
+refuses_prepared (fault.OutOfTurn expected) s session number p stands r = r
+refuses_prepared (fault.Malformed why) s session number p stands r = absurd r
+refuses_prepared fault.Stale s session number p stands r = r
+refuses_prepared (fault.Policy why) s session number p stands r = r
+refuses_prepared fault.BadName s session number p stands r = r
+refuses_prepared (fault.AlreadySubscribed sub) s session number p stands r = r
+refuses_prepared fault.UnknownSub s session number p stands r = r
+refuses_prepared (fault.ClockBack last) s session number p stands r = r
 
 -- ---- an advance of the clock
 
@@ -242,6 +258,7 @@ refuses_advance fault.OutOfMemory s time stands r = r
 refuses_advance fault.UnknownSession s time stands r = absurd r
 refuses_advance (fault.OutOfTurn expected) s time stands r = absurd r
 refuses_advance (fault.Malformed why) s time stands r = absurd r
+refuses_advance fault.Stale s time stands r = absurd r
 refuses_advance (fault.Policy why) s time stands r = absurd r
 refuses_advance fault.BadName s time stands r = absurd r
 refuses_advance (fault.AlreadySubscribed sub) s time stands r = absurd r

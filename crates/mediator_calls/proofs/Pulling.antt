@@ -107,6 +107,7 @@ refuses_core why c was sub is refused room = subst (λ (k : Counted). RefusesCor
   by_fault fault.UnknownSession r = r
   by_fault (fault.OutOfTurn expected) r = r
   by_fault (fault.Malformed why) r = r
+  by_fault fault.Stale r = r
   by_fault (fault.Policy why) r = r
   by_fault fault.BadName r = r
   by_fault (fault.AlreadySubscribed other) r = r

@@ -15,6 +15,7 @@ use Rattle.mediator_history.specs.Counting.{clock_of}
 use Rattle.mediator_history.specs.Disclosed.{disclosed}
 use Rattle.mediator_history.specs.Auditing.{audit_list}
 use Rattle.mediator_history.specs.Cuts.{cuts_before}
+use Rattle.prepared_message.specs.Preparation.{Preparation, AgreesWith}
 use Rattle.mediator_state.specs.declared.fault.Fault.{Fault}
 use Rattle.mediator_state.specs.declared.fault.Fault.TheVariants as fault
 use Rattle.mediator_state.specs.declared.receipt.Receipt.{Receipt}
@@ -79,6 +80,13 @@ RefusesReceive (fault.AuditFull need room) m session number octets =
     × ((noted : List AuditEntry) × (audit_list (m.history ++ with_cuts m (Message session number octets)) ≡ audit_list m.history ++ noted) × (need ≡ length noted))
     × (room + length (noted_at m) ≡ m.limits.audit) × (room < need)
 RefusesReceive why m session number octets = RefusesMessage why m.history session number octets
+
+-- the same of a message that was prepared elsewhere: never for its octets, and Stale where the session has other templates than
+-- those by which it was prepared
+abbrev pub RefusesReceivePrepared : Fault → Mediation → ℕ → ℕ → Preparation → Type 0
+RefusesReceivePrepared fault.Stale m session number p = IsNext m.history session number × (AgreesWith (messages_of session m.history) p → ⊥)
+RefusesReceivePrepared (fault.Malformed why) m session number p = ⊥
+RefusesReceivePrepared why m session number p = RefusesReceive why m session number p.message
 
 -- ---- the clock
 

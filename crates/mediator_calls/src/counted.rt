@@ -1,9 +1,9 @@
 //! A mediator and the counts of what it took in and handed out.
 ghost use Rattle.std.specs.Prelude.{◌≡◌, ◌≤◌, [], take, false, length, IsOk, IfOk, IfErr, OnOk, OnErr};
 ghost use Rattle.mediator_history.specs.Subscriptions.{is_live};
-ghost use Rattle.mediator_state.specs.Calls.{RefusesClose, RefusesEdit, RefusesSubscribe, RefusesUnsubscribe};
+ghost use Rattle.mediator_state.specs.Calls.{IsSnapshot, RefusesSnapshot, RefusesClose, RefusesEdit, RefusesSubscribe, RefusesUnsubscribe};
 ghost use Rattle.mediator_calls.specs.Mediation.{noted_at, journal_limits};
-ghost use Rattle.mediator_calls.specs.Calls.{Opens, RefusesOpen, Closes, Receives, RefusesReceive, Edits, Subscribes, Unsubscribes, Advances, RefusesAdvance, IsStatusOf, Drains};
+ghost use Rattle.mediator_calls.specs.Calls.{Opens, RefusesOpen, Closes, Receives, RefusesReceive, RefusesReceivePrepared, Edits, Subscribes, Unsubscribes, Advances, RefusesAdvance, IsStatusOf, Drains};
 ghost use Rattle.mediator_calls.specs.Counted.{counted_as, handed_at, handed_live, handed_of, Counts};
 ghost use Rattle.mediator_calls.specs.Handing.{HandsOut, RefusesHanding};
 
@@ -12,6 +12,7 @@ use crate::{Mediator, PullFault, SessionId, SubId, UnknownSub};
 use bytes::Bytes;
 use disclosure_audit::AuditEntry;
 use mediator_state::{Fault, Receipt, Status};
+use prepared_message::{Prepared, Snapshot};
 use std::alloc::AllocError;
 use std::marker::Model;
 
@@ -154,6 +155,38 @@ impl CountedMediator {
     {
         let _journal = self.mediator.journal();
         self.mediator.receive(session, number, message)
+    }
+
+    /// The templates of a session, as [`Mediator::snapshot`] gives them: no entry more is counted.
+    ///
+    /// # Errors
+    /// Those of [`Mediator::snapshot`].
+    pub fn snapshot(&mut self, session: SessionId) -> Result<Snapshot, Fault>
+        ensures ok { IfOk result (IsSnapshot self.old.core.history session.0) }
+        ensures same { self.new ≡ self.old }
+        ensures err { IfErr result (λ e. RefusesSnapshot e self.old.core.history session.0) }
+    {
+        self.mediator.snapshot(session)
+    }
+
+    /// Accepts a session's next message that was prepared, as [`Mediator::receive_prepared`] does: one entry more is counted.
+    ///
+    /// # Errors
+    /// Those of [`Mediator::receive_prepared`].
+    pub fn receive_prepared(
+        &mut self,
+        session: SessionId,
+        number: u64,
+        prepared: Prepared,
+    ) -> Result<Receipt, (Fault, Prepared)>
+        ensures ok { IfOk result (λ receipt. Receives self.old.core session.0 number prepared.message receipt self.new.core) }
+        ensures counts { OnOk result (Counts self.old 1 0 0 self.new) }
+        ensures same { OnErr result (self.new ≡ self.old) }
+        ensures err { IfErr result (λ e. RefusesReceivePrepared e.0 self.old.core session.0 number prepared) }
+        ensures handed_back { IfErr result (λ e. e.1 ≡ prepared) }
+    {
+        let _journal = self.mediator.journal();
+        self.mediator.receive_prepared(session, number, prepared)
     }
 
     /// Puts a policy in force, as [`Mediator::edit`] does: one entry more is counted.

@@ -1,11 +1,11 @@
 //! A mediator and its calls.
 ghost use Rattle.std.specs.Prelude.{◌≡◌, [], take, true, false, IsOk, IfOk, IfErr, OnOk, OnErr};
 ghost use Rattle.mediator_history.specs.Subscriptions.{is_live};
-ghost use Rattle.mediator_state.specs.Calls.{RefusesClose, RefusesEdit, RefusesSubscribe, RefusesUnsubscribe, RefusesPull};
+ghost use Rattle.mediator_state.specs.Calls.{IsSnapshot, RefusesSnapshot, RefusesClose, RefusesEdit, RefusesSubscribe, RefusesUnsubscribe, RefusesPull};
 ghost use Rattle.mediator_calls.specs.Mediation.{started, noted_at, journal_limits};
 ghost use Rattle.mediator_calls.specs.Limited.{AreAllowed, RefusesLimits};
 ghost use Rattle.mediator_calls.specs.Sound.{IsSound};
-ghost use Rattle.mediator_calls.specs.Calls.{Opens, RefusesOpen, Closes, Receives, RefusesReceive, Edits, Subscribes, Unsubscribes, Advances, RefusesAdvance, Pulls, IsStatusOf, Drains};
+ghost use Rattle.mediator_calls.specs.Calls.{Opens, RefusesOpen, Closes, Receives, RefusesReceive, RefusesReceivePrepared, Edits, Subscribes, Unsubscribes, Advances, RefusesAdvance, Pulls, IsStatusOf, Drains};
 
 use crate::finished::Finished;
 use crate::{Limits, RunFault, SessionId, SubId, UnknownSub};
@@ -13,6 +13,7 @@ use bytes::Bytes;
 use disclosure_audit::AuditEntry;
 use event_journal::Journal;
 use mediator_state::{Fault, Receipt, State, Status};
+use prepared_message::{Prepared, Snapshot};
 use std::alloc::{AllocError, Global};
 use std::marker::Model;
 
@@ -123,6 +124,39 @@ impl Mediator {
         ensures err { IfErr result (λ e. RefusesReceive e self.old session.0 number message) }
     {
         self.state.receive(session.0, number, message)
+    }
+
+    /// The templates of an open session as they stand, by which its messages can be prepared without the mediator
+    /// ([`Prepared::prepare`]). Whatever their number, it costs one owner more.
+    ///
+    /// # Errors
+    /// No session with this number is open, or memory ran out.
+    pub fn snapshot(&mut self, session: SessionId) -> Result<Snapshot, Fault>
+        ensures ok { IfOk result (IsSnapshot self.old.history session.0) }
+        ensures same { self.new ≡ self.old }
+        ensures err { IfErr result (λ e. RefusesSnapshot e self.old.history session.0) }
+    {
+        self.state.snapshot(session.0)
+    }
+
+    /// Accepts the next message of a session that was prepared without the mediator, as [`receive`](Mediator::receive) accepts
+    /// it.
+    ///
+    /// # Errors
+    /// Those of `receive`, but for a malformed message; and in its place Stale, only where an ID of the message has another
+    /// template in the session, or none, than by which it was prepared. The message is handed back.
+    pub fn receive_prepared(
+        &mut self,
+        session: SessionId,
+        number: u64,
+        prepared: Prepared,
+    ) -> Result<Receipt, (Fault, Prepared)>
+        ensures ok { IfOk result (λ receipt. Receives self.old session.0 number prepared.message receipt self.new) }
+        ensures same { OnErr result (self.new ≡ self.old) }
+        ensures err { IfErr result (λ e. RefusesReceivePrepared e.0 self.old session.0 number prepared) }
+        ensures handed_back { IfErr result (λ e. e.1 ≡ prepared) }
+    {
+        self.state.receive_prepared(session.0, number, prepared)
     }
 
     /// Puts the policy of a text in force, and answers how many edits there were. What was accepted before is judged by the

@@ -13,6 +13,7 @@ pub use Rattle.admin_lines.specs.Answers as AdminAnswers
 pub mod Faults
 pub mod FaultTexts
 pub mod Serving
+pub mod Preparing
 pub mod Delivering
 pub mod CommandInput
 pub mod Answering

@@ -1,16 +1,32 @@
 //! An exporter's stream.
-ghost use Rattle.std.specs.Prelude.{◌≡◌, false, length, IfOk, IfErr, OnOk};
+ghost use Rattle.std.specs.Prelude.{◌≡◌, ◌++◌, ◌∷◌, [], ℕ, List, false, length, IfOk, IfErr, IfSome, OnOk, OnErr};
+ghost use Rattle.std.specs.Vec.Iter.{into_iter_items};
+ghost use Rattle.event_journal.specs.declared.entry.Entry.TheVariants.{Message};
 ghost use Rattle.mediator_server.specs.Serving.{Offers, RefusesAmong, Reaches, StopsServing, Serves};
+ghost use Rattle.mediator_server.specs.Preparing.{ArePreparations};
 ghost use Rattle.mediator_server.specs.Faults.{reader_after};
 
 use crate::fault::ServeFault;
 use bytes::Bytes;
-use mediator_state::Receipt;
+use decode_workers::{NoGate, prepare_all};
+use mediator_state::{Fault, Receipt};
 use message_intake::Intake;
 use octet_devices::Source;
+use prepared_message::{PrepareFault, Prepared};
 use shared_mediator::{EntryLedger, ExporterHandle, RecordLedger, SharedMediator};
 use std::alloc::Global;
 use std::sync::Wait;
+use std::thread::Threads;
+use std::vec::IntoIter;
+
+/// How a stream is read.
+#[derive(Clone, Copy, Debug, PartialEq, Eq)]
+pub(crate) struct Pace {
+    /// By so many reads at most.
+    pub(crate) turns: u64,
+    /// What one read brought by so many threads.
+    pub(crate) workers: u64,
+}
 
 /// What the messages of a stream brought: the records in them, and the gaps in their sequence numbers.
 #[derive(Clone, Copy, Debug, PartialEq, Eq)]
@@ -37,19 +53,21 @@ impl Counts {
 }
 
 /// Serves an exporter's connection: reads its stream (RFC 7011, section 10.4) to its end by at most so many reads, offers each
-/// message of it, and answers how many they are. Whatever comes, the handle's session is closed then; where the mediator
-/// refuses that, it stays open.
+/// message of it, and answers how many they are. The messages that one read made whole are prepared by so many workers, 1 to 64,
+/// without the lock, and those that can't be are read under it. Whatever comes, the handle's session is closed then; where the
+/// mediator refuses that, it stays open.
 ///
 /// # Errors
 /// The reader failed; the stream is faulty, or ends inside a message; or its end isn't read within `turns` reads; or a message
 /// is refused, or memory ran out. The messages before that were offered.
-pub fn serve_exporter<E: EntryLedger, H: RecordLedger, R: Source>(
-    rt: &impl Wait,
+pub fn serve_exporter<E: EntryLedger, H: RecordLedger, R: Source, T: Threads + Wait + Sync>(
+    rt: &T,
     alloc: Global,
     shared: &SharedMediator<E, H>,
     handle: &mut ExporterHandle<E>,
     reader: &mut R,
     turns: u64,
+    workers: u64,
 ) -> Result<u64, ServeFault>
     requires reader { R.has_failed reader.old ≡ false }
     ensures serves { IfOk result (λ offered. Serves turns offered (R.remaining reader.old) (R.remaining reader.new) handle.old handle.new) }
@@ -63,7 +81,7 @@ pub fn serve_exporter<E: EntryLedger, H: RecordLedger, R: Source>(
         shared,
         handle,
         reader,
-        turns,
+        Pace { turns, workers },
         &mut Counts::none(),
     )
 }
@@ -72,22 +90,22 @@ pub fn serve_exporter<E: EntryLedger, H: RecordLedger, R: Source>(
 ///
 /// # Errors
 /// Those of [`serve_exporter`].
-pub(crate) fn serve_counting<E: EntryLedger, H: RecordLedger, R: Source>(
-    rt: &impl Wait,
+pub(crate) fn serve_counting<E: EntryLedger, H: RecordLedger, R: Source, T: Threads + Wait + Sync>(
+    rt: &T,
     alloc: Global,
     shared: &SharedMediator<E, H>,
     handle: &mut ExporterHandle<E>,
     reader: &mut R,
-    turns: u64,
+    pace: Pace,
     counts: &mut Counts,
 ) -> Result<u64, ServeFault>
     requires reader { R.has_failed reader.old ≡ false }
-    ensures serves { IfOk result (λ offered. Serves turns offered (R.remaining reader.old) (R.remaining reader.new) handle.old handle.new) }
+    ensures serves { IfOk result (λ offered. Serves pace.turns offered (R.remaining reader.old) (R.remaining reader.new) handle.old handle.new) }
     ensures sound { OnOk result (R.has_failed reader.new ≡ false) }
-    ensures stops { IfErr result (λ e. StopsServing e turns (R.remaining reader.old) (R.remaining reader.new) handle.old handle.new) }
+    ensures stops { IfErr result (λ e. StopsServing e pace.turns (R.remaining reader.old) (R.remaining reader.new) handle.old handle.new) }
     ensures fails { IfErr result (λ e. R.has_failed reader.new ≡ reader_after e) }
 {
-    let served = offer_stream(rt, alloc, shared, handle, reader, turns, counts);
+    let served = offer_stream(rt, alloc, shared, handle, reader, pace, counts);
     // Whether the session could be closed changes nothing of what was served.
     let _closed = handle.end(rt, shared);
     served
@@ -97,32 +115,66 @@ pub(crate) fn serve_counting<E: EntryLedger, H: RecordLedger, R: Source>(
 ///
 /// # Errors
 /// Those of [`serve_exporter`].
-fn offer_stream<E: EntryLedger, H: RecordLedger, R: Source>(
-    rt: &impl Wait,
+fn offer_stream<E: EntryLedger, H: RecordLedger, R: Source, T: Threads + Wait + Sync>(
+    rt: &T,
     alloc: Global,
     shared: &SharedMediator<E, H>,
     handle: &mut ExporterHandle<E>,
     reader: &mut R,
-    turns: u64,
+    pace: Pace,
     counts: &mut Counts,
 ) -> Result<u64, ServeFault>
     requires reader { R.has_failed reader.old ≡ false }
-    ensures serves { IfOk result (λ offered. Serves turns offered (R.remaining reader.old) (R.remaining reader.new) handle.old handle.new) }
+    ensures serves { IfOk result (λ offered. Serves pace.turns offered (R.remaining reader.old) (R.remaining reader.new) handle.old handle.new) }
     ensures sound { OnOk result (R.has_failed reader.new ≡ false) }
-    ensures stops { IfErr result (λ e. StopsServing e turns (R.remaining reader.old) (R.remaining reader.new) handle.old handle.new) }
+    ensures stops { IfErr result (λ e. StopsServing e pace.turns (R.remaining reader.old) (R.remaining reader.new) handle.old handle.new) }
     ensures fails { IfErr result (λ e. R.has_failed reader.new ≡ reader_after e) }
 {
     let before = handle.kept().len();
-    let mut intake = Intake::new(alloc, turns)?;
+    let mut intake = Intake::new(alloc, pace.turns)?;
     'reads: loop {
         let Some(messages) = intake.next(reader)? else {
             return Ok((handle.kept().len() - before) as u64);
         };
-        offer_each(rt, shared, handle, messages, counts)?;
+        let answers = prepare_piece(rt, shared, handle, &messages, pace.workers);
+        offer_each(rt, shared, handle, messages, answers, counts)?;
     }
 }
 
-/// Offers messages, one after another.
+/// Prepares the messages of one piece without the lock, as far as that succeeds: there may be fewer answers than messages.
+fn prepare_piece<E: EntryLedger, H: RecordLedger, T: Threads + Wait + Sync>(
+    rt: &T,
+    shared: &SharedMediator<E, H>,
+    handle: &ExporterHandle<E>,
+    messages: &Vec<Bytes>,
+    workers: u64,
+) -> Vec<Result<Prepared, PrepareFault>>
+    ensures { ArePreparations messages.now.items result.items }
+{
+    match prepare_by_workers(rt, shared, handle, messages, workers) {
+        Some(answers) => answers,
+        None => Vec::new(*messages.allocator()),
+    }
+}
+
+/// The same; nothing where the session has no snapshot to give, or the workers are refused.
+fn prepare_by_workers<E: EntryLedger, H: RecordLedger, T: Threads + Wait + Sync>(
+    rt: &T,
+    shared: &SharedMediator<E, H>,
+    handle: &ExporterHandle<E>,
+    messages: &Vec<Bytes>,
+    workers: u64,
+) -> Option<Vec<Result<Prepared, PrepareFault>>>
+    ensures { IfSome result (λ answers. ArePreparations messages.now.items answers.items) }
+{
+    let snapshot = handle.snapshot(rt, shared).ok()?;
+    let Ok(copies) = messages.clone() else {
+        return None;
+    };
+    prepare_all(rt, &snapshot, copies, workers, &NoGate).ok()
+}
+
+/// Offers messages, one after another: as they were prepared, or plainly those that weren't.
 ///
 /// # Errors
 /// The refusal of the first that is refused.
@@ -131,13 +183,48 @@ fn offer_each<E: EntryLedger, H: RecordLedger>(
     shared: &SharedMediator<E, H>,
     handle: &mut ExporterHandle<E>,
     messages: Vec<Bytes>,
+    answers: Vec<Result<Prepared, PrepareFault>>,
     counts: &mut Counts,
 ) -> Result<(), ServeFault>
+    requires prepared { ArePreparations messages.items answers.items }
     ensures ok { OnOk result (Offers handle.old handle.new messages.items) }
     ensures err { IfErr result (λ e. RefusesAmong e handle.old handle.new messages.items) }
 {
+    let mut answers = answers.into_iter();
     'messages: for message in messages {
-        counts.add(&handle.offer(rt, shared, message)?);
+        let prepared = next_prepared(&mut answers);
+        counts.add(&offer_one(rt, shared, handle, prepared, message)?);
     }
     Ok(())
+}
+
+/// The next message as it was prepared, if it was.
+fn next_prepared(answers: &mut IntoIter<Result<Prepared, PrepareFault>>) -> Option<Prepared>
+    ensures { (message : List ℕ) (messages : List (List ℕ)) → ArePreparations (message ∷ messages) (into_iter_items answers.old)
+        → IfSome result (λ p. p.message ≡ message) × ArePreparations messages (into_iter_items answers.new) }
+{
+    answers.next()?.ok()
+}
+
+/// Offers a message as it was prepared; or plainly where it wasn't, or the session has other templates by then.
+fn offer_one<E: EntryLedger, H: RecordLedger>(
+    rt: &impl Wait,
+    shared: &SharedMediator<E, H>,
+    handle: &mut ExporterHandle<E>,
+    prepared: Option<Prepared>,
+    message: Bytes,
+) -> Result<Receipt, Fault>
+    requires prepared { IfSome prepared (λ p. p.message ≡ message) }
+    ensures kept { IfOk result (λ receipt. handle.new.kept ≡ handle.old.kept ++ record { position = receipt.position; entry = Message handle.old.session (length handle.old.kept) message } ∷ []) }
+    ensures session { handle.new.session ≡ handle.old.session }
+    ensures same { OnErr result (handle.new ≡ handle.old) }
+{
+    let Some(prepared) = prepared else {
+        return handle.offer(rt, shared, message);
+    };
+    match handle.offer_prepared(rt, shared, prepared) {
+        Ok(receipt) => Ok(receipt),
+        Err((Fault::Stale, _prepared)) => handle.offer(rt, shared, message),
+        Err((fault, _prepared)) => Err(fault),
+    }
 }

@@ -15,6 +15,8 @@ pub struct Plan {
     pub target: u16,
     /// How often a connection is read at most.
     pub turns: u64,
+    /// How many threads read an exporter's messages, 1 to 64.
+    pub workers: u64,
     /// To whom is delivered, in the order in which they are subscribed.
     pub deliver: Vec<Collector>,
 }

@@ -3,7 +3,7 @@
 use crate::admin::serve_admin;
 use crate::delivery::deliver;
 use crate::doors::{self, Came, Doors, Guest, Line, Lines};
-use crate::exporter::{Counts, serve_counting};
+use crate::exporter::{Counts, Pace, serve_counting};
 use crate::listening::ListenFault;
 use crate::machine_clock::MachineClock;
 use crate::notes;
@@ -138,7 +138,7 @@ fn run<
     thread::scope(thread::scope_env(), rt, |scope| {
         let mut delivering = Vec::new(alloc);
         let served = match start_deliveries(rt, shared, plan, scope, outlets, &mut delivering) {
-            Ok(()) => serve_doors(rt, alloc, shared, plan.turns, admin, doors),
+            Ok(()) => serve_doors(rt, alloc, shared, pace_of(plan), admin, doors),
             Err(fault) => Err(fault),
         };
         admin.stop(rt, shared);
@@ -231,13 +231,21 @@ fn deliver_to<E: EntryLedger, H: RecordLedger, R: Wait + Clock + Log>(
     Delivered { delivery, admin }
 }
 
+/// How the plan has the exporters' streams read.
+const fn pace_of(plan: &Plan) -> Pace {
+    Pace {
+        turns: plan.turns,
+        workers: plan.workers,
+    }
+}
+
 /// What the threads of those who come in share.
 #[derive(Drop)]
 struct Hall<'m, E: EntryLedger, H: RecordLedger> {
     alloc: Global,
     shared: &'m SharedMediator<E, H>,
     lines: Lines,
-    turns: u64,
+    pace: Pace,
 }
 
 /// Serves who comes in by the doors, each in a thread of its own, until all who are wanted have come and ended; and answers the
@@ -250,7 +258,7 @@ fn serve_doors<
     rt: &R,
     alloc: Global,
     shared: &SharedMediator<E, H>,
-    turns: u64,
+    pace: Pace,
     admin: &mut AdminHandle<E>,
     doors: Doors,
 ) -> Result<Vec<ExporterHandle<E>>, ListenFault> {
@@ -258,7 +266,7 @@ fn serve_doors<
         alloc,
         shared,
         lines: Lines::new(alloc),
-        turns,
+        pace,
     };
     let hall = &hall;
     thread::scope(thread::scope_env(), rt, |scope| {
@@ -345,7 +353,7 @@ fn receive_exporters<
 }
 
 /// Serves an exporter's connection, and answers its handle, where a session could be opened for it.
-fn serve_exporter_line<E: EntryLedger, H: RecordLedger, R: Wait + Log>(
+fn serve_exporter_line<E: EntryLedger, H: RecordLedger, R: Threads + Wait + Log + Sync>(
     rt: &R,
     hall: &Hall<'_, E, H>,
     line: Line,
@@ -362,7 +370,7 @@ fn serve_exporter_line<E: EntryLedger, H: RecordLedger, R: Wait + Log>(
                 hall.shared,
                 &mut handle,
                 &mut reader,
-                hall.turns,
+                hall.pace,
                 &mut counts,
             );
             notes::exporter_ends(rt, peer, handle.kept().len(), counts, served);
@@ -396,7 +404,7 @@ fn serve_admin_line<E: EntryLedger, H: RecordLedger, R: Wait + Log>(
         admin,
         &mut reader,
         &mut writer,
-        hall.turns,
+        hall.pace.turns,
     );
     notes::admin_ends(rt, peer, answered);
     hall.lines.close(rt, line);

@@ -70,6 +70,7 @@ closing_audit fault.JournalFull limits count sizes e h t c entries counts f r la
 closing_audit fault.UnknownSession limits count sizes e h t c entries counts f r lacks = absurd lacks
 closing_audit (fault.OutOfTurn expected) limits count sizes e h t c entries counts f r lacks = absurd lacks
 closing_audit (fault.Malformed why) limits count sizes e h t c entries counts f r lacks = absurd lacks
+closing_audit fault.Stale limits count sizes e h t c entries counts f r lacks = absurd lacks
 closing_audit (fault.Policy why) limits count sizes e h t c entries counts f r lacks = absurd lacks
 closing_audit fault.BadName limits count sizes e h t c entries counts f r lacks = absurd lacks
 closing_audit (fault.AlreadySubscribed sub) limits count sizes e h t c entries counts f r lacks = absurd lacks

@@ -20,6 +20,8 @@ use Rattle.mediator_history.specs.Auditing.{audit_at, audit_list, cut_entries}
 use Rattle.mediator_history.specs.Cuts.{cuts_before, after_cuts}
 use Rattle.mediator_history.proofs.CutLaws.{audit-cuts}
 use Rattle.mediator_history.proofs.HistoryLaws.{audit-push}
+use Rattle.ipfix_session.specs.ReadAhead.{Ahead}
+use Rattle.prepared_message.specs.Preparation.{Preparation}
 use Rattle.mediator_state.specs.declared.engine.Engine.{Engine}
 use Rattle.mediator_state.specs.declared.plan.Plan.{Plan}
 use Rattle.mediator_state.specs.declared.receipt.Receipt.{Receipt}
@@ -28,9 +30,9 @@ use Rattle.mediator_state.specs.declared.fault.Fault.TheVariants as fault
 use Rattle.mediator_state.specs.declared.state.State.{State}
 use Rattle.mediator_state.specs.Standing.{Stands, StandsSomewhere}
 use Rattle.mediator_state.specs.Seen.{waiting_of, IsSameEngine}
-use Rattle.mediator_state.specs.Planning.{IsPlan, IsNext, RefusesMessage}
+use Rattle.mediator_state.specs.Planning.{IsPlan, IsNext, IsNextReading, RefusesMessage}
 use Rattle.mediator_state.specs.Accepting.{LacksAudit, HasRoomForPlan, IsPlannedFor, receipt_of}
-use Rattle.mediator_state.specs.Calls.{StandsFor, StandsForSome, AuditHolds, Accepts, LacksRoom, LacksRoomAfter, with_cuts, HasMeaning, RefusesReceive, Receives, IsFree, RefusesEdit, RefusesSubscribe}
+use Rattle.mediator_state.specs.Calls.{StandsFor, StandsForSome, AuditHolds, Accepts, LacksRoom, LacksRoomAfter, with_cuts, HasMeaning, RefusesReceive, RefusesReceivePrepared, Receives, IsFree, RefusesEdit, RefusesSubscribe}
 use Rattle.mediator_state.proofs.SameLaws.{stands_same, plan_same}
 use Rattle.event_journal.specs.declared.limits.TheConstants.{MOST_ENTRIES}
 
@@ -66,6 +68,7 @@ lacks_after fault.OutOfMemory limits count octets h more c lacks = room_after li
 lacks_after fault.UnknownSession limits count octets h more c lacks = absurd lacks
 lacks_after (fault.OutOfTurn expected) limits count octets h more c lacks = absurd lacks
 lacks_after (fault.Malformed why) limits count octets h more c lacks = absurd lacks
+lacks_after fault.Stale limits count octets h more c lacks = absurd lacks
 lacks_after (fault.Policy why) limits count octets h more c lacks = absurd lacks
 lacks_after fault.BadName limits count octets h more c lacks = absurd lacks
 lacks_after (fault.AlreadySubscribed sub) limits count octets h more c lacks = absurd lacks
@@ -118,12 +121,29 @@ refused_message fault.OutOfMemory limits e h session number octets r = r
 refused_message fault.UnknownSession limits e h session number octets r = r
 refused_message (fault.OutOfTurn expected) limits e h session number octets r = r
 refused_message (fault.Malformed why) limits e h session number octets r = r
+refused_message fault.Stale limits e h session number octets r = r
 refused_message (fault.Policy why) limits e h session number octets r = r
 refused_message fault.BadName limits e h session number octets r = r
 refused_message (fault.AlreadySubscribed sub) limits e h session number octets r = r
 refused_message fault.UnknownSub limits e h session number octets r = r
 refused_message (fault.ClockBack last) limits e h session number octets r = r
 refused_message (fault.AuditFull need room) limits e h session number octets r = absurd r
+
+-- so it is where the message was prepared, which then has a meaning
+pub refused_as_prepared : (why : Fault) (limits : Journaled) (e : Engine) (h : List Entry) (session number : ℕ) (p : Preparation) (reading : Ahead) → IsNextReading h session number p.message reading → RefusesReceive why limits e h session number p.message
+    → RefusesReceivePrepared why limits e h session number p
+refused_as_prepared fault.JournalFull limits e h session number p reading read r = r
+refused_as_prepared fault.OutOfMemory limits e h session number p reading read r = r
+refused_as_prepared fault.UnknownSession limits e h session number p reading read r = r
+refused_as_prepared (fault.OutOfTurn expected) limits e h session number p reading read r = r
+refused_as_prepared (fault.Malformed why) limits e h session number p reading read r = let means = read.read.means in let fails = r.1 in absurd cc
+refused_as_prepared fault.Stale limits e h session number p reading read r = absurd r
+refused_as_prepared (fault.Policy why) limits e h session number p reading read r = r
+refused_as_prepared fault.BadName limits e h session number p reading read r = r
+refused_as_prepared (fault.AlreadySubscribed sub) limits e h session number p reading read r = r
+refused_as_prepared fault.UnknownSub limits e h session number p reading read r = r
+refused_as_prepared (fault.ClockBack last) limits e h session number p reading read r = r
+refused_as_prepared (fault.AuditFull need room) limits e h session number p reading read r = r
 
 -- what was found out of a message before it is accepted
 pub record IsFound (e : Engine) (h : List Entry) (session number : ℕ) (octets : List ℕ) (p : Plan) (entries : List Entry) : Type 0 where
@@ -159,6 +179,7 @@ refused_audit fault.JournalFull limits count sizes e h session number octets p e
 refused_audit fault.UnknownSession limits count sizes e h session number octets p entries c f r lacks = absurd lacks
 refused_audit (fault.OutOfTurn expected) limits count sizes e h session number octets p entries c f r lacks = absurd lacks
 refused_audit (fault.Malformed why) limits count sizes e h session number octets p entries c f r lacks = absurd lacks
+refused_audit fault.Stale limits count sizes e h session number octets p entries c f r lacks = absurd lacks
 refused_audit (fault.Policy why) limits count sizes e h session number octets p entries c f r lacks = absurd lacks
 refused_audit fault.BadName limits count sizes e h session number octets p entries c f r lacks = absurd lacks
 refused_audit (fault.AlreadySubscribed sub) limits count sizes e h session number octets p entries c f r lacks = absurd lacks
@@ -266,6 +287,7 @@ refused_subscribe fault.OutOfMemory limits count sizes h name n written next is 
 refused_subscribe fault.UnknownSession limits count sizes h name n written next is c named free lacks = absurd lacks
 refused_subscribe (fault.OutOfTurn expected) limits count sizes h name n written next is c named free lacks = absurd lacks
 refused_subscribe (fault.Malformed why) limits count sizes h name n written next is c named free lacks = absurd lacks
+refused_subscribe fault.Stale limits count sizes h name n written next is c named free lacks = absurd lacks
 refused_subscribe (fault.Policy why) limits count sizes h name n written next is c named free lacks = absurd lacks
 refused_subscribe fault.BadName limits count sizes h name n written next is c named free lacks = absurd lacks
 refused_subscribe (fault.AlreadySubscribed sub) limits count sizes h name n written next is c named free lacks = absurd lacks
@@ -282,6 +304,7 @@ refused_edit fault.OutOfMemory limits count sizes h text written policy is c spe
 refused_edit fault.UnknownSession limits count sizes h text written policy is c spelled lacks = absurd lacks
 refused_edit (fault.OutOfTurn expected) limits count sizes h text written policy is c spelled lacks = absurd lacks
 refused_edit (fault.Malformed why) limits count sizes h text written policy is c spelled lacks = absurd lacks
+refused_edit fault.Stale limits count sizes h text written policy is c spelled lacks = absurd lacks
 refused_edit (fault.Policy why) limits count sizes h text written policy is c spelled lacks = absurd lacks
 refused_edit fault.BadName limits count sizes h text written policy is c spelled lacks = absurd lacks
 refused_edit (fault.AlreadySubscribed sub) limits count sizes h text written policy is c spelled lacks = absurd lacks
@@ -304,6 +327,10 @@ refused_memory e limits h name is named free = rw is (named, free)
 pub err_gives : {X E : Type 0} {P Q : E → Type 0} (r : Result X E) → IsErr r × IsErrAnd r P → ((e : E) → P e → Q e) → IfErr r Q
 err_gives (Ok x) known f = tt
 err_gives (Err e) known f = f e known.1
+
+pub if_err_gives : {X E : Type 0} {P Q : E → Type 0} (r : Result X E) → IfErr r P → ((e : E) → P e → Q e) → IfErr r Q
+if_err_gives (Ok x) known f = tt
+if_err_gives (Err e) known f = f e known
 
 pub on_err : {X E P : Type 0} (r : Result X E) → P → OnErr r P
 on_err (Ok x) p = tt

@@ -22,7 +22,7 @@ use Rattle.ipfix_template.specs.DataRecord.{DataRecord}
 use Rattle.ipfix_session.specs.Contents.{Contents}
 use Rattle.ipfix_session.specs.Keeping.{at_key}
 use Rattle.ipfix_session.specs.Meaning.{Meaning, meaning_of, contents_of, read_items, items_of_domain, domain_of, gap_of}
-use Rattle.ipfix_session.specs.ReadAhead.{IsReadingOf}
+use Rattle.ipfix_session.specs.ReadAhead.{Ahead, IsReadingOf}
 use Rattle.ipfix_session.specs.Standing.{StandsFor}
 use Rattle.ipfix_session.specs.declared.read_error.ReadError.{ReadError}
 use Rattle.flow_aggregate.specs.Counts.{Count, count_of}
@@ -62,7 +62,7 @@ use Rattle.mediator_state.specs.declared.plan.Judged.{Judged}
 use Rattle.mediator_state.specs.declared.plan.Plan.{Plan}
 use Rattle.mediator_state.specs.Standing.{Stands, IsSession, IsLiveAs}
 use Rattle.mediator_state.specs.Seen.{waiting_in, waiting_of}
-use Rattle.mediator_state.specs.Planning.{lacks, has, stamp, share_at, tally_at, AreTallied, HasRoomIn, AreStreamed, IsJudged, IsJudgedFor, IsInTurn, IsPlan}
+use Rattle.mediator_state.specs.Planning.{lacks, has, stamp, share_at, tally_at, AreTallied, HasRoomIn, AreStreamed, IsJudged, IsJudgedFor, IsInTurn, IsNextReading, IsPlan}
 
 -- ---- lists
 
@@ -560,22 +560,26 @@ short_message older octets m are means = sized (ltb (length octets) 16) (eqb (nu
 pub means_few : (older : List (List ℕ)) (octets : List ℕ) (m : Meaning) → AreOctets octets → meaning_of older octets ≡ Ok m → length m.records ≤ 65535
 means_few older octets m are means = omega (arith, few_records older octets, ap (λ r. length (records_meant r)) means, short_message older octets m are means)
 
-pub planned : (e : Engine) (h : List Entry) (number : ℕ) (octets : List ℕ) (p : Plan) (o : OpenSession) (j : Judged)
-    → Stands e h → IsInTurn e p.session number o → ((older : List (List ℕ)) → StandsFor o.session older → IsReadingOf older octets p.reading)
+pub next_reading : (e : Engine) (h : List Entry) (session number : ℕ) (octets : List ℕ) (reading : Ahead) (o : OpenSession) → Stands e h → IsInTurn e session number o
+    → ((older : List (List ℕ)) → StandsFor o.session older → IsReadingOf older octets reading) → IsNextReading h session number octets reading
+next_reading e h session number octets reading o so is reads =
+    let turn : IsTurn h session number o = turn_of e h session number o so is in
+    record { next = record { opened = turn.opened; turn = turn.turn }; read = reads (messages_of session h) turn.stands }
+
+pub planned : (e : Engine) (h : List Entry) (session number : ℕ) (octets : List ℕ) (p : Plan) (j : Judged) → p.session ≡ session → IsNextReading h session number octets p.reading
     → IsJudgedFor e h p.reading.meaning j → p.cuts ≡ j.cuts → p.shares ≡ j.shares → p.tallies ≡ j.tallies → p.entries ≡ j.entries
     → IsPlan e h number octets p
-planned e h number octets p o j so is reads judged cuts shares tallies entries =
-    let turn : IsTurn h p.session number o = turn_of e h p.session number o so is in
-    let read : IsReadingOf (messages_of p.session h) octets p.reading = reads (messages_of p.session h) turn.stands in
+planned e h session number octets p j is next judged cuts shares tallies entries =
+    let here : IsNextReading h p.session number octets p.reading = subst (λ (s : ℕ). IsNextReading h s number octets p.reading) (sym is) next in
     record {
-      opened = turn.opened;
-      turn = turn.turn;
-      read = read;
+      opened = here.next.opened;
+      turn = here.next.turn;
+      read = here.read;
       judged = subst (λ v. IsJudged e h (Message p.session number octets) v.items (map shown p.shares.items) p.entries.items) (sym cuts)
           (subst (λ v. IsJudged e h (Message p.session number octets) j.cuts.items (map shown v.items) p.entries.items) (sym shares)
           (subst (λ v. IsJudged e h (Message p.session number octets) j.cuts.items (map shown j.shares.items) v.items) (sym entries)
-          (judged p.session number octets read.means).0));
+          (judged p.session number octets here.read.means).0));
       tallied_are = subst (λ v. AreTallied (after_cuts h v.items) (Message p.session number octets) (map tallied p.tallies.items)) (sym cuts)
           (subst (λ v. AreTallied (after_cuts h j.cuts.items) (Message p.session number octets) (map tallied v.items)) (sym tallies)
-          (judged p.session number octets read.means).1);
+          (judged p.session number octets here.read.means).1);
     }

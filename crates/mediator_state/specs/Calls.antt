@@ -1,6 +1,9 @@
 -- What the calls of a state answer, and what they leave.
 use Rattle.std.specs.Prelude.{◌≡◌, ◌≢◌, ℕ, ◌+◌, ◌≤◌, ◌<◌, true, false, not, List, [], ◌∷◌, ◌++◌, length, take, drop, Option, Ok, Err}
+use Rattle.ipfix_template.specs.declared.template.Template.{Template}
 use Rattle.ipfix_session.specs.Meaning.{Meaning, meaning_of}
+use Rattle.ipfix_session.specs.Standing.{Knows}
+use Rattle.prepared_message.specs.Preparation.{Preparation, AgreesWith}
 use Rattle.policy_text.specs.Policies.{Meaning as Policy}
 use Rattle.policy_text.specs.Parsing.{policy_of}
 use Rattle.policy_text.specs.Naming.{is_name}
@@ -111,6 +114,23 @@ RefusesReceive (fault.AuditFull need room) limits e h session number octets =
     × ((noted : List AuditEntry) × (audit_list (h ++ with_cuts e h (Message session number octets)) ≡ audit_list h ++ noted) × (need ≡ length noted))
     × (room + length e.audit.standing.entries ≡ e.audit.limit) × (room < need)
 RefusesReceive why limits e h session number octets = RefusesMessage why h session number octets
+
+-- what is received of a message that was prepared elsewhere: refused as the message itself is, but never for its octets, and
+-- where the session has other templates than those by which it was prepared
+abbrev pub RefusesReceivePrepared : Fault → Journaled → Engine → List Entry → ℕ → ℕ → Preparation → Type 0
+RefusesReceivePrepared fault.Stale limits e h session number p = IsNext h session number × (AgreesWith (messages_of session h) p → ⊥)
+RefusesReceivePrepared (fault.Malformed why) limits e h session number p = ⊥
+RefusesReceivePrepared why limits e h session number p = RefusesReceive why limits e h session number p.message
+
+-- the session is open, and these templates are in force after its messages
+pub record IsSnapshot (h : List Entry) (session : ℕ) (snapshot : List (ℕ × List (ℕ × Template))) : Type 0 where
+  pub opened : is_open session h ≡ true
+  pub knows : Knows snapshot (messages_of session h)
+
+abbrev pub RefusesSnapshot : Fault → List Entry → ℕ → Type 0
+RefusesSnapshot fault.UnknownSession h session = is_open session h ≡ false
+RefusesSnapshot fault.OutOfMemory h session = is_open session h ≡ true
+RefusesSnapshot _ h session = ⊥
 
 -- ---- the clock
 

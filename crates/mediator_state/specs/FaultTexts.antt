@@ -1,12 +1,13 @@
 -- What is said of a fault: its name.
 use Rattle.std.specs.Prelude.{ℕ, List, codes}
 use Rattle.mediator_state.specs.declared.fault.Fault.{Fault}
-use Rattle.mediator_state.specs.declared.fault.Fault.TheVariants.{UnknownSession, OutOfTurn, Malformed, Policy, BadName, AlreadySubscribed, UnknownSub, ClockBack, JournalFull, AuditFull, OutOfMemory}
+use Rattle.mediator_state.specs.declared.fault.Fault.TheVariants.{UnknownSession, OutOfTurn, Malformed, Stale, Policy, BadName, AlreadySubscribed, UnknownSub, ClockBack, JournalFull, AuditFull, OutOfMemory}
 
 abbrev pub text_of_fault : Fault → List ℕ
 text_of_fault UnknownSession = codes "UnknownSession"
 text_of_fault (OutOfTurn expected) = codes "OutOfTurn"
 text_of_fault (Malformed why) = codes "Malformed"
+text_of_fault Stale = codes "Stale"
 text_of_fault (Policy why) = codes "Policy"
 text_of_fault BadName = codes "BadName"
 text_of_fault (AlreadySubscribed sub) = codes "AlreadySubscribed"

@@ -4,7 +4,7 @@ use Rattle.std.specs.List.{AllByRecursion}
 use Rattle.ipfix_template.specs.DataRecord.{DataRecord}
 use Rattle.ipfix_session.specs.Keeping.{at_key}
 use Rattle.ipfix_session.specs.Meaning.{Meaning, meaning_of}
-use Rattle.ipfix_session.specs.ReadAhead.{IsReadingOf}
+use Rattle.ipfix_session.specs.ReadAhead.{Ahead, IsReadingOf}
 use Rattle.flow_aggregate.specs.Counts.{Count, count_of}
 use Rattle.subscriber_stream.specs.Standing.{HasRoom}
 use Rattle.stream_meaning.specs.Served.{IsStreamable}
@@ -25,6 +25,7 @@ use Rattle.running_groups.specs.Adding.{tallied}
 use Rattle.record_sharing.specs.Sharing.{share_of}
 use Rattle.open_sessions.specs.declared.open_session.OpenSession.{OpenSession}
 use Rattle.live_subscriptions.specs.Table.{Table, at, lacks_room_at}
+use Rattle.prepared_message.specs.Preparation.{Preparation, AgreesWith}
 use Rattle.mediator_state.specs.declared.engine.Engine.{Engine}
 use Rattle.mediator_state.specs.declared.fault.Fault.{Fault}
 use Rattle.mediator_state.specs.declared.fault.Fault.TheVariants as fault
@@ -100,6 +101,11 @@ pub record IsNext (h : List Entry) (session number : ℕ) : Type 0 where
   pub opened : is_open session h ≡ true
   pub turn : number ≡ length (messages_of session h)
 
+-- this was read of the octets, as those of the next message of an open session
+pub record IsNextReading (h : List Entry) (session number : ℕ) (octets : List ℕ) (reading : Ahead) : Type 0 where
+  pub next : IsNext h session number
+  pub read : IsReadingOf (messages_of session h) octets reading
+
 -- a message is refused so for itself: its session, its number, its octets, in this order; memory runs out only for the next message
 -- of an open session
 abbrev pub RefusesMessage : Fault → List Entry → ℕ → ℕ → List ℕ → Type 0
@@ -108,3 +114,12 @@ RefusesMessage fault.OutOfMemory h session number octets = IsNext h session numb
 RefusesMessage fault.UnknownSession h session number octets = RefusesTurn fault.UnknownSession h session number
 RefusesMessage (fault.OutOfTurn expected) h session number octets = RefusesTurn (fault.OutOfTurn expected) h session number
 RefusesMessage _ h session number octets = ⊥
+
+-- a message that was prepared elsewhere is refused so for itself: its session, its number, the templates by which it was prepared,
+-- in this order
+abbrev pub RefusesPrepared : Fault → List Entry → ℕ → ℕ → Preparation → Type 0
+RefusesPrepared fault.Stale h session number p = IsNext h session number × (AgreesWith (messages_of session h) p → ⊥)
+RefusesPrepared fault.OutOfMemory h session number p = IsNext h session number
+RefusesPrepared fault.UnknownSession h session number p = RefusesTurn fault.UnknownSession h session number
+RefusesPrepared (fault.OutOfTurn expected) h session number p = RefusesTurn (fault.OutOfTurn expected) h session number
+RefusesPrepared _ h session number p = ⊥

@@ -22,6 +22,7 @@ use ipfix_session::Reading;
 use live_subscriptions::{Share, Subscriptions};
 use open_sessions::Sessions;
 use policy_text::Policy;
+use prepared_message::Snapshot;
 use record_sharing::InForce;
 use running_groups::{Reserved, RunningGroups};
 use std::alloc::{AllocError, Global};
@@ -70,6 +71,8 @@ impl Engine {
     ghost use Rattle.live_subscriptions.specs.Table.{at};
     ghost use Rattle.mediator_state.specs.Standing.{Stands, StandsSomewhere, HasHistory, AreInRange};
     ghost use Rattle.mediator_state.specs.Seen.{IsSameEngine, IsUntouched, place_of};
+    ghost use Rattle.mediator_state.specs.Calls.{IsSnapshot, RefusesSnapshot};
+    ghost use Rattle.std.specs.Prelude.{IfErr};
 
     /// Before any entry: the policy has no rules.
     pub(crate) fn new(alloc: Global, limits: Limits, audit: u32) -> Result<Engine, AllocError>
@@ -118,6 +121,25 @@ impl Engine {
         self.sessions.open(number)?;
         self.opened = number;
         Ok(())
+    }
+
+    /// The templates of an open session as they stand, which the session shares then.
+    ///
+    /// # Errors
+    /// The session isn't open; or memory ran out.
+    pub(crate) fn snapshot(&mut self, number: u64) -> Result<Snapshot, Fault>
+        ensures ok { IfOk result (λ snapshot. (h : List Entry) → Stands self.old h → IsSnapshot h number snapshot) }
+        ensures same { IsSameEngine self.old self.new }
+        ensures err { IfErr result (λ e. (h : List Entry) → Stands self.old h → RefusesSnapshot e h number) }
+    {
+        if !self.is_open(number) {
+            return Err(Fault::UnknownSession);
+        }
+        self.sessions.share(number)?;
+        match self.sessions.get(number) {
+            Some(open) => Ok(Snapshot::of(&open.session)?),
+            None => Err(Fault::UnknownSession),
+        }
     }
 
     /// Whether a session is open.

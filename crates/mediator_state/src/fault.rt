@@ -2,6 +2,7 @@
 
 use ipfix_session::ReadError;
 use policy_text::PolicyFault;
+use prepared_message::ApplyFault;
 use std::alloc::AllocError;
 use std::error::Error;
 use std::fmt::{self, Display, Formatter, Write};
@@ -16,6 +17,9 @@ pub enum Fault {
     OutOfTurn { expected: u64 },
     /// The octets are no message of the session.
     Malformed(ReadError),
+    /// A prepared message has an ID whose template in the session isn't the one by which it was prepared. It can be prepared
+    /// anew.
+    Stale,
     /// The text is no policy.
     Policy(PolicyFault),
     /// The text is no name.
@@ -47,6 +51,7 @@ impl Display for Fault {
             Fault::UnknownSession => "UnknownSession",
             Fault::OutOfTurn { .. } => "OutOfTurn",
             Fault::Malformed(_) => "Malformed",
+            Fault::Stale => "Stale",
             Fault::Policy(_) => "Policy",
             Fault::BadName => "BadName",
             Fault::AlreadySubscribed { .. } => "AlreadySubscribed",
@@ -80,6 +85,20 @@ impl From<ReadError> for Fault {
         match fault {
             ReadError::OutOfMemory => Fault::OutOfMemory,
             ReadError::Malformed(_) | ReadError::RecordOverrun => Fault::Malformed(fault),
+        }
+    }
+}
+
+impl From<ApplyFault> for Fault {
+    ghost use Rattle.mediator_state.specs.Refusals.{stale_refusal};
+    ghost use Rattle.std.specs.Prelude.{◌≡◌};
+
+    ghost from_gives = { λ a e. e ≡ stale_refusal a };
+
+    fn from(fault: ApplyFault) -> Fault {
+        match fault {
+            ApplyFault::Stale => Fault::Stale,
+            ApplyFault::OutOfMemory => Fault::OutOfMemory,
         }
     }
 }

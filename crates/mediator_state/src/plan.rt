@@ -18,6 +18,7 @@ use disclosure_audit::AuditEntry;
 use ipfix_session::Reading;
 use live_subscriptions::{Served, Share, Subscriptions};
 use open_sessions::OpenSession;
+use prepared_message::Prepared;
 use record_runs::Records;
 use record_sharing::{InForce, Note, Shares};
 use running_groups::Tally;
@@ -41,30 +42,57 @@ pub(crate) struct Plan {
 }
 
 impl Engine {
-    ghost use Rattle.mediator_state.specs.Standing.{Stands, StandsSomewhere};
-    ghost use Rattle.mediator_state.specs.Planning.{IsPlan, RefusesMessage, IsInTurn, RefusesTurn, IsJudgedFor};
+    ghost use Rattle.mediator_state.specs.Standing.{Stands};
+    ghost use Rattle.mediator_state.specs.Planning.{IsPlan, IsNextReading, RefusesMessage, RefusesPrepared, IsInTurn, RefusesTurn, IsJudgedFor};
 
-    /// What the message would do as the next entry, with the cuts before it, where so many entries stand already.
+    /// Reads the next message of a session, and keeps nothing of it.
     ///
     /// # Errors
     /// The session isn't open; or the message has another number than its next, or is malformed; or memory ran out.
+    pub(crate) fn read(&self, session: u64, number: u64, message: &Bytes) -> Result<Reading, Fault>
+        ensures ok { IfOk result (λ reading. (h : List Entry) → Stands self.now h → IsNextReading h session number message.now reading) }
+        ensures err { IfErr result (λ e. (h : List Entry) → Stands self.now h → RefusesMessage e h session number message.now) }
+    {
+        let open = self.in_turn(session, number)?;
+        Ok(open.session.read(message)?)
+    }
+
+    /// What is read of the next message of a session that was prepared elsewhere.
+    ///
+    /// # Errors
+    /// The session isn't open; or the message has another number than its next, or was prepared by other templates than the
+    /// session's; or memory ran out.
+    pub(crate) fn read_prepared(
+        &self,
+        session: u64,
+        number: u64,
+        prepared: &Prepared,
+    ) -> Result<Reading, Fault>
+        ensures ok { IfOk result (λ reading. (h : List Entry) → Stands self.now h → IsNextReading h session number prepared.now.message reading) }
+        ensures err { IfErr result (λ e. (h : List Entry) → Stands self.now h → RefusesPrepared e h session number prepared.now) }
+    {
+        let open = self.in_turn(session, number)?;
+        Ok(prepared.reading_in(&open.session)?)
+    }
+
+    /// What the next message of a session would do as the next entry, with the cuts before it, where so many entries stand
+    /// already.
+    ///
+    /// # Errors
+    /// Want of memory.
     pub(crate) fn plan(
         &mut self,
         position: u64,
         session: u64,
-        number: u64,
-        message: &Bytes,
-    ) -> Result<Plan, Fault>
-        requires somewhere { StandsSomewhere self.old position }
+        reading: Reading,
+    ) -> Result<Plan, AllocError>
+        requires few { length reading.meaning.records ≤ 2 ^ 32 }
         requires short { position ≤ MOST_ENTRIES }
-        ensures ok { IfOk result (λ p. (h : List Entry) → Stands self.old h → length h ≡ position → IsPlan self.old h number message.now p) }
+        ensures ok { IfOk result (λ p. (h : List Entry) (number : ℕ) (octets : List ℕ) → Stands self.old h → length h ≡ position
+            → IsNextReading h session number octets reading → IsPlan self.old h number octets p) }
         ensures session { IfOk result (λ p. p.session ≡ session) }
-        ensures err { IfErr result (λ e. (h : List Entry) → Stands self.old h → RefusesMessage e h session number message.now) }
         ensures same { self.new ≡ self.old }
     {
-        let open = self.in_turn(session, number)?;
-        let reading = open.session.read(message)?;
-        see_octets(message);
         let judged = self.judge(position, &reading)?;
         Ok(Plan {
             session,
@@ -218,7 +246,7 @@ fn share_left(
 }
 
 /// Octets are less than 256, by their type.
-fn see_octets(message: &[u8])
+pub(crate) fn see_octets(message: &[u8])
     ensures { AreOctets message.now }
 {}
 

@@ -9,11 +9,14 @@ ghost use Rattle.mediator_history.specs.Auditing.{audit_list};
 
 use crate::engine::Engine;
 use crate::fault::Fault;
+use crate::plan::see_octets;
 use crate::receipt::{Receipt, Status};
 use bytes::Bytes;
 use disclosure_audit::AuditEntry;
 use event_journal::{Chronicle, Entry, PolicyText};
+use ipfix_session::Reading;
 use policy_text::{FaultKind, Name, Policy, PolicyFault, is_name};
+use prepared_message::{Prepared, Snapshot};
 use std::alloc::{AllocError, Global};
 use std::slice::from_ref;
 use subscriber_stream::PullError;
@@ -149,8 +152,9 @@ impl<C: Chronicle + Drop> State<C> {
 }
 
 impl<C: Chronicle + Drop> State<C> {
-    ghost use Rattle.mediator_state.specs.Calls.{StandsFor, StandsForSome, Receives, RefusesReceive, Edits, RefusesEdit, Subscribes, RefusesSubscribe, Unsubscribes, RefusesUnsubscribe, Advances, RefusesAdvance};
+    ghost use Rattle.mediator_state.specs.Calls.{StandsFor, StandsForSome, Receives, RefusesReceive, RefusesReceivePrepared, IsSnapshot, RefusesSnapshot, Edits, RefusesEdit, Subscribes, RefusesSubscribe, Unsubscribes, RefusesUnsubscribe, Advances, RefusesAdvance};
     ghost use Rattle.mediator_state.specs.Seen.{IsUntouched, place_of};
+    ghost use Rattle.mediator_state.specs.Planning.{IsNextReading};
 
     /// Accepts the next message of a session: each subscription that is served is given what the policy in force discloses
     /// to it, and the audit names what is kept back. A subscription whose limits leave no room for what it would be given is
@@ -167,8 +171,91 @@ impl<C: Chronicle + Drop> State<C> {
         ensures journaled { C.limits self.new.chronicle ≡ C.limits self.old.chronicle }
         ensures err { IfErr result (λ e. (h : List Entry) → StandsFor C.tells self.old h → RefusesReceive e (C.limits self.old.chronicle) self.old.engine h session number message) }
     {
+        let reading = self.engine.read(session, number, &message)?;
+        self.take_in(session, number, message, reading)
+    }
+
+    /// The templates of an open session as they stand, by which its messages can be prepared without this state. It costs one
+    /// owner more of what the session shares from then on, whatever the number of its templates.
+    ///
+    /// # Errors
+    /// The session isn't open; or memory ran out.
+    pub fn snapshot(&mut self, session: u64) -> Result<Snapshot, Fault>
+        ensures ok { IfOk result (λ snapshot. (h : List Entry) → StandsFor C.tells self.old h → IsSnapshot h session snapshot) }
+        ensures same { (h : List Entry) → StandsFor C.tells self.old h → StandsFor C.tells self.new h }
+        ensures untouched { IsUntouched self.old.engine self.new.engine }
+        ensures journaled { C.limits self.new.chronicle ≡ C.limits self.old.chronicle }
+        ensures err { IfErr result (λ e. (h : List Entry) → StandsFor C.tells self.old h → RefusesSnapshot e h session) }
+    {
+        self.engine.snapshot(session)
+    }
+
+    /// Accepts the next message of a session that was prepared elsewhere, as [`receive`](State::receive) accepts it.
+    ///
+    /// # Errors
+    /// Those of `receive`, but for a malformed message; and in their place Stale, only where an ID of the message has another
+    /// template in the session than by which it was prepared. The message is handed back.
+    pub fn receive_prepared(
+        &mut self,
+        session: u64,
+        number: u64,
+        prepared: Prepared,
+    ) -> Result<Receipt, (Fault, Prepared)>
+        requires stands { StandsForSome C.tells self.old }
+        ensures ok { IfOk result (λ r. (h : List Entry) → StandsFor C.tells self.old h → Receives C.tells C.limits self.old h session number prepared.message r self.new) }
+        ensures untouched { IsUntouched self.old.engine self.new.engine }
+        ensures same { OnErr result ((h : List Entry) → StandsFor C.tells self.old h → StandsFor C.tells self.new h) }
+        ensures journaled { C.limits self.new.chronicle ≡ C.limits self.old.chronicle }
+        ensures err { IfErr result (λ e. (h : List Entry) → StandsFor C.tells self.old h → RefusesReceivePrepared e.0 (C.limits self.old.chronicle) self.old.engine h session number prepared) }
+        ensures handed_back { IfErr result (λ e. e.1 ≡ prepared) }
+    {
+        match self.take_prepared(session, number, &prepared) {
+            Ok(receipt) => Ok(receipt),
+            Err(fault) => Err((fault, prepared)),
+        }
+    }
+
+    /// The same of a message that is lent.
+    fn take_prepared(
+        &mut self,
+        session: u64,
+        number: u64,
+        prepared: &Prepared,
+    ) -> Result<Receipt, Fault>
+        requires stands { StandsForSome C.tells self.old }
+        ensures ok { IfOk result (λ r. (h : List Entry) → StandsFor C.tells self.old h → Receives C.tells C.limits self.old h session number prepared.now.message r self.new) }
+        ensures untouched { IsUntouched self.old.engine self.new.engine }
+        ensures same { OnErr result ((h : List Entry) → StandsFor C.tells self.old h → StandsFor C.tells self.new h) }
+        ensures journaled { C.limits self.new.chronicle ≡ C.limits self.old.chronicle }
+        ensures err { IfErr result (λ e. (h : List Entry) → StandsFor C.tells self.old h → RefusesReceivePrepared e (C.limits self.old.chronicle) self.old.engine h session number prepared.now) }
+    {
+        let reading = self.engine.read_prepared(session, number, prepared)?;
+        let message = prepared.message().clone()?;
+        self.take_in(session, number, message, reading)
+    }
+
+    /// Accepts the next message of a session, which is read.
+    ///
+    /// # Errors
+    /// The journal is full, or the audit; or memory ran out.
+    fn take_in(
+        &mut self,
+        session: u64,
+        number: u64,
+        message: Bytes,
+        reading: Reading,
+    ) -> Result<Receipt, Fault>
+        requires stands { StandsForSome C.tells self.old }
+        requires read { (h : List Entry) → StandsFor C.tells self.old h → IsNextReading h session number message reading }
+        ensures ok { IfOk result (λ r. (h : List Entry) → StandsFor C.tells self.old h → Receives C.tells C.limits self.old h session number message r self.new) }
+        ensures untouched { IsUntouched self.old.engine self.new.engine }
+        ensures same { OnErr result ((h : List Entry) → StandsFor C.tells self.old h → StandsFor C.tells self.new h) }
+        ensures journaled { C.limits self.new.chronicle ≡ C.limits self.old.chronicle }
+        ensures err { IfErr result (λ e. (h : List Entry) → StandsFor C.tells self.old h → RefusesReceive e (C.limits self.old.chronicle) self.old.engine h session number message) }
+    {
+        see_octets(&message);
         let position = self.chronicle.len();
-        let plan = self.engine.plan(position, session, number, &message)?;
+        let plan = self.engine.plan(position, session, reading)?;
         let message = Entry::Message {
             session,
             number,

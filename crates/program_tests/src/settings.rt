@@ -7,13 +7,13 @@ use std::test::Fail;
 /// Settings with keys in another order, some that nobody asks for, and a table under its header.
 const WRITTEN: &str = "\
 title = \"edge\"
-workers = 0
 turns = 5000
 journal_octets = 1_000_000
 journal_entries = 1000
 audit = 102
 shapes = 101
 queue = 100
+workers = 3
 target = 1400
 connections = 2
 policy = \"policy.txt\"
@@ -69,6 +69,7 @@ fn has_texts(settings: &Settings) -> bool {
 fn has_numbers(settings: &Settings) -> bool {
     settings.connections == 2
         && settings.target == 1400
+        && settings.workers == 3
         && settings.limits == LIMITS
         && settings.turns == 5000
 }

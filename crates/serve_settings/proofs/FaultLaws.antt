@@ -4,7 +4,7 @@ use Rattle.sequences.specs.Results.{◌>>=◌}
 use Rattle.toml.specs.Data.{Members}
 use Rattle.toml.specs.Parse.{parse_document}
 use Rattle.serve_settings.specs.declared.key.Key.{Key}
-use Rattle.serve_settings.specs.declared.key.Key.TheVariants.{Exporters, Admin, Policy, Connections, Target, Queue, Shapes, Audit, JournalEntries, JournalOctets, Turns, Deliver}
+use Rattle.serve_settings.specs.declared.key.Key.TheVariants.{Exporters, Admin, Policy, Connections, Target, Workers, Queue, Shapes, Audit, JournalEntries, JournalOctets, Turns, Deliver}
 use Rattle.serve_settings.specs.declared.fault.SettingsFault.{SettingsFault}
 use Rattle.serve_settings.specs.declared.fault.SettingsFault.TheVariants as fault
 use Rattle.serve_settings.specs.Asked.{Asked}
@@ -55,13 +55,14 @@ settings_in-judges table =
     step table Policy _ (text_in Policy table) _ refl (λ policy.
     step table Connections _ (number_in Connections 1 1000 table) _ refl (λ connections.
     step table Target _ (number_in Target header_octets longest_message table) _ refl (λ target.
+    step table Workers _ (number_in Workers 1 64 table) _ refl (λ workers.
     step-within table Queue _ (number_in Queue 1 MOST_QUEUE table) _ _ refl (λ queue.
     step-within table Shapes _ (number_in Shapes 1 MOST_SHAPES table) _ _ refl (λ shapes.
     step-within table Audit _ (number_in Audit 1 MOST_AUDITED table) _ _ refl (λ audit.
     step-within table JournalEntries _ (number_in JournalEntries 1 MOST_ENTRIES table) _ _ refl (λ entries.
     step-within table JournalOctets _ (number_in JournalOctets 1 MOST_OCTETS table) _ _ refl (λ octets.
     step table Turns _ (number_in Turns 1 1000000000 table) _ refl (λ turns.
-    step table Deliver [] (collectors_in Deliver table) _ refl (λ collectors. record { judged = tt }))))))))))))
+    step table Deliver [] (collectors_in Deliver table) _ refl (λ collectors. record { judged = tt })))))))))))))
 
 of_table : (text : List ℕ) (table : Members) (f : SettingsFault) → parse_document text ≡ Some table → settings_in table ≡ Err f → IsFaultOf f text
 of_table text table f parsed fails = by_first f (subst (λ (r : Result Asked SettingsFault). Judges table keys r) fails (settings_in-judges table)).judged

@@ -15,6 +15,7 @@ pub record Asked : Type 0 where
   pub policy : List ℕ
   pub connections : ℕ
   pub target : ℕ
+  pub workers : ℕ
   pub limits : Limits
   pub turns : ℕ
   pub collectors : List Pair
@@ -33,6 +34,7 @@ asked settings = record {
   policy = string_bytes settings.policy;
   connections = settings.connections;
   target = settings.target;
+  workers = settings.workers;
   limits = settings.limits;
   turns = settings.turns;
   collectors = pairs settings.collectors;

@@ -7,7 +7,7 @@ use Rattle.subscriber_stream.specs.declared.limits.TheConstants.{MOST_QUEUE, MOS
 use Rattle.disclosure_audit.specs.declared.audit.TheConstants.{MOST_ENTRIES as MOST_AUDITED}
 use Rattle.event_journal.specs.declared.limits.TheConstants.{MOST_ENTRIES, MOST_OCTETS}
 use Rattle.serve_settings.specs.declared.key.Key.{Key}
-use Rattle.serve_settings.specs.declared.key.Key.TheVariants.{Exporters, Admin, Policy, Connections, Target, Queue, Shapes, Audit, JournalEntries, JournalOctets, Turns, Deliver}
+use Rattle.serve_settings.specs.declared.key.Key.TheVariants.{Exporters, Admin, Policy, Connections, Target, Workers, Queue, Shapes, Audit, JournalEntries, JournalOctets, Turns, Deliver}
 use Rattle.serve_settings.specs.declared.fault.SettingsFault.{SettingsFault}
 use Rattle.serve_settings.specs.declared.fault.SettingsFault.TheVariants as fault
 use Rattle.serve_settings.specs.Values.{text_in, number_in, collectors_in}
@@ -19,6 +19,7 @@ has table Admin = is_some (text_in Admin table)
 has table Policy = is_some (text_in Policy table)
 has table Connections = is_some (number_in Connections 1 1000 table)
 has table Target = is_some (number_in Target header_octets longest_message table)
+has table Workers = is_some (number_in Workers 1 64 table)
 has table Queue = is_some (number_in Queue 1 MOST_QUEUE table)
 has table Shapes = is_some (number_in Shapes 1 MOST_SHAPES table)
 has table Audit = is_some (number_in Audit 1 MOST_AUDITED table)
@@ -29,7 +30,7 @@ has table Deliver = is_some (collectors_in Deliver table)
 
 -- the keys, in the order in which they are judged
 abbrev pub keys : List Key
-keys = Exporters ∷ Admin ∷ Policy ∷ Connections ∷ Target ∷ Queue ∷ Shapes ∷ Audit ∷ JournalEntries ∷ JournalOctets ∷ Turns ∷ Deliver ∷ []
+keys = Exporters ∷ Admin ∷ Policy ∷ Connections ∷ Target ∷ Workers ∷ Queue ∷ Shapes ∷ Audit ∷ JournalEntries ∷ JournalOctets ∷ Turns ∷ Deliver ∷ []
 
 -- the first key that a table lacks
 abbrev pub lacking : Members → Option Key

@@ -8,7 +8,7 @@ use Rattle.subscriber_stream.specs.declared.limits.TheConstants.{MOST_QUEUE, MOS
 use Rattle.disclosure_audit.specs.declared.audit.TheConstants.{MOST_ENTRIES as MOST_AUDITED}
 use Rattle.event_journal.specs.declared.limits.TheConstants.{MOST_ENTRIES, MOST_OCTETS}
 use Rattle.mediator_calls.specs.declared.limits.Limits.{Limits}
-use Rattle.serve_settings.specs.declared.key.Key.TheVariants.{Exporters, Admin, Policy, Connections, Target, Queue, Shapes, Audit, JournalEntries, JournalOctets, Turns}
+use Rattle.serve_settings.specs.declared.key.Key.TheVariants.{Exporters, Admin, Policy, Connections, Target, Workers, Queue, Shapes, Audit, JournalEntries, JournalOctets, Turns}
 use Rattle.serve_settings.specs.declared.fault.SettingsFault.{SettingsFault}
 use Rattle.serve_settings.specs.declared.fault.SettingsFault.TheVariants.{Toml}
 use Rattle.serve_settings.specs.Asked.{Asked}
@@ -32,6 +32,7 @@ settings_in table = do
   policy ← text_at Policy table
   connections ← number_at Connections 1 1000 table
   target ← number_at Target header_octets longest_message table
+  workers ← number_at Workers 1 64 table
   limits ← limits_in table
   turns ← number_at Turns 1 1000000000 table
   collectors ← collectors_at table
@@ -41,6 +42,7 @@ settings_in table = do
     policy = policy;
     connections = connections;
     target = target;
+    workers = workers;
     limits = limits;
     turns = turns;
     collectors = collectors;

@@ -15,6 +15,8 @@ pub enum Key {
     Connections,
     /// How long a message to a collector may be.
     Target,
+    /// How many threads read an exporter's messages.
+    Workers,
     /// The records that may wait for a subscription.
     Queue,
     /// The distinct templates of a subscription's records.
@@ -45,6 +47,7 @@ impl Key {
             Key::Policy => "policy",
             Key::Connections => "connections",
             Key::Target => "target",
+            Key::Workers => "workers",
             Key::Queue => "queue",
             Key::Shapes => "shapes",
             Key::Audit => "audit",

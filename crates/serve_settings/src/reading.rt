@@ -28,6 +28,9 @@ const LEAST_TARGET: u64 = HEADER_OCTETS as u64;
 /// The longest target: the longest message (RFC 7011, section 3.1).
 const MOST_TARGET: u64 = LONGEST_MESSAGE as u64;
 
+/// The most threads that read an exporter's messages.
+const MOST_WORKERS: u64 = 64;
+
 /// The most audit entries that may wait.
 const MOST_AUDIT: u64 = disclosure_audit::MOST_ENTRIES as u64;
 
@@ -65,6 +68,7 @@ fn settings_in(alloc: Global, table: &Table) -> Result<Settings, SettingsFault>
         policy: text_at(alloc, table, Key::Policy)?,
         connections: number_at(table, Key::Connections, 1, MOST_CONNECTIONS)? as u32,
         target: number_at(table, Key::Target, LEAST_TARGET, MOST_TARGET)? as u16,
+        workers: number_at(table, Key::Workers, 1, MOST_WORKERS)?,
         limits: limits_in(table)?,
         turns: number_at(table, Key::Turns, 1, MOST_TURNS)?,
         collectors: collectors_at(alloc, table)?,

@@ -15,6 +15,8 @@ pub struct Settings {
     pub connections: u32,
     /// How many octets a message to a collector may have, 16 to 65,535.
     pub target: u16,
+    /// How many threads read an exporter's messages, 1 to 64.
+    pub workers: u64,
     /// What the mediator may hold.
     pub limits: Limits,
     /// How often a connection is read at most, 1 to 1,000,000,000.

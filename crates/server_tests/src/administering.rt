@@ -13,6 +13,7 @@ use std::io::ErrorKind::{BrokenPipe, ConnectionReset};
 use std::process::Abort;
 use std::sync::Wait;
 use std::test::Fail;
+use std::thread::Threads;
 
 /// Room for all answers of a connection here.
 const ROOM: usize = 512;
@@ -81,7 +82,11 @@ pub(crate) fn administer<E: EntryLedger, H: RecordLedger, R: Wait + Abort>(
 }
 
 /// Plays a row, and that the journal has as many entries more.
-fn expect_row(rt: &(impl Wait + Abort), alloc: Global, row: Row) -> Result<(), AllocError> {
+fn expect_row(
+    rt: &(impl Threads + Wait + Abort + Sync),
+    alloc: Global,
+    row: Row,
+) -> Result<(), AllocError> {
     let closed = play(rt, alloc, limits_of(row.bounds), Case::Administer(row))?;
     let before = BEFORE.saturating_add(row.offered.len() as u64);
     let entries = closed.mediator.journal().len();

@@ -12,12 +12,13 @@ use mediator_core::Fault;
 use mediator_server::{ServeFault, serve_exporter};
 use message_intake::FramingFault;
 use octet_devices::Device;
-use shared_mediator::{EntryLedger, RecordLedger, SharedMediator};
+use shared_mediator::{Closed, EntryLedger, RecordLedger, SharedMediator};
 use std::alloc::{AllocError, Global};
 use std::io::ErrorKind::ConnectionReset;
 use std::process::Abort;
 use std::sync::Wait;
 use std::test::Fail;
+use std::thread::Threads;
 
 /// How many entries come before a session's messages: an edit, a subscription's begin, and the session's.
 const BEFORE: u64 = 3;
@@ -31,8 +32,12 @@ pub(crate) struct Row {
     /// How many reads come before one that fails.
     reads: usize,
     turns: u64,
+    workers: u64,
     due: Result<u64, ServeFault>,
 }
+
+/// By how many workers each stream is read.
+static WORKERS: [u64; 2] = [1, 2];
 
 const BAD_SET: Fault = Fault::Malformed(ReadError::Malformed(DecodeError::BadSetLength));
 
@@ -96,7 +101,7 @@ const ROWS: &[(
 ];
 
 /// Serves a stream: the answer is the one that is due, and the session is closed, or can't be.
-pub(crate) fn serve<E: EntryLedger, H: RecordLedger, R: Wait + Abort>(
+pub(crate) fn serve<E: EntryLedger, H: RecordLedger, R: Threads + Wait + Abort + Sync>(
     rt: &R,
     alloc: Global,
     shared: &SharedMediator<E, H>,
@@ -104,7 +109,16 @@ pub(crate) fn serve<E: EntryLedger, H: RecordLedger, R: Wait + Abort>(
 ) -> Result<Hands<E, H>, AllocError> {
     let (admin, mut exporter) = begin(rt, alloc, shared, PASS, &[])?;
     let mut reader = Device::new(Sparing::new(row.stream, row.most, row.reads, ConnectionReset));
-    let served = serve_exporter(rt, alloc, shared, &mut exporter, &mut reader, row.turns);
+    let (turns, workers) = (row.turns, row.workers);
+    let served = serve_exporter(
+        rt,
+        alloc,
+        shared,
+        &mut exporter,
+        &mut reader,
+        turns,
+        workers,
+    );
     assert!(rt; served == row.due, "{served:?}");
     let ended = exporter.end(rt, shared);
     assert!(rt; ended == Err(Fault::UnknownSession) || ended == Err(FULL));
@@ -114,20 +128,26 @@ pub(crate) fn serve<E: EntryLedger, H: RecordLedger, R: Wait + Abort>(
 #[test]
 fn streams(rt: HostRuntime) -> Result<(), Fail> {
     for (stream, most, reads, turns, due, bounds, messages) in ROWS {
-        let row = Row {
-            stream: *stream,
-            most: *most,
-            reads: *reads,
-            turns: *turns,
-            due: *due,
-        };
-        let closed = play(&rt, rt.alloc(), limits_of(*bounds), Case::Serve(row))?;
-        assert!(rt; closed.accepted == *messages);
-        let journal = closed.mediator.journal();
-        let end = journal.get(BEFORE.saturating_add(*messages));
-        let is_closed = matches!(end, Some(Entry::Close { session: 1 }));
-        let is_full = bounds.0 == journal.len();
-        assert!(rt; is_closed != is_full, "{due:?}");
+        for workers in &WORKERS {
+            let row = Row {
+                stream: *stream,
+                most: *most,
+                reads: *reads,
+                turns: *turns,
+                workers: *workers,
+                due: *due,
+            };
+            let closed = play(&rt, rt.alloc(), limits_of(*bounds), Case::Serve(row))?;
+            assert!(rt; is_closed(&closed, *messages, bounds.0), "{due:?}");
+        }
     }
     Ok(())
+}
+
+/// Whether so many messages were accepted, and the session was closed behind them, unless the journal is full then.
+fn is_closed(closed: &Closed, messages: u64, most: u64) -> bool {
+    let journal = closed.mediator.journal();
+    let end = journal.get(BEFORE.saturating_add(messages));
+    let is_closed = matches!(end, Some(Entry::Close { session: 1 }));
+    closed.accepted == messages && is_closed != (most == journal.len())
 }

@@ -13,6 +13,7 @@ use std::marker::Brand;
 use std::process::Abort;
 use std::sync::Wait;
 use std::sync::ledger::Blank;
+use std::thread::Threads;
 
 /// How many handles of each kind there may be.
 const HANDLES: u64 = 4;
@@ -37,7 +38,7 @@ pub(crate) struct Hands<E: EntryLedger, H: RecordLedger> {
 }
 
 /// Plays a case, and closes the mediator with all handles.
-pub(crate) fn play<R: Wait + Abort>(
+pub(crate) fn play<R: Threads + Wait + Abort + Sync>(
     rt: &R,
     alloc: Global,
     limits: Limits,
@@ -52,7 +53,7 @@ pub(crate) fn play<R: Wait + Abort>(
     Ok(closed.expect(rt, "closed"))
 }
 
-fn run<E: EntryLedger, H: RecordLedger, R: Wait + Abort>(
+fn run<E: EntryLedger, H: RecordLedger, R: Threads + Wait + Abort + Sync>(
     rt: &R,
     alloc: Global,
     case: Case,
@@ -77,7 +78,7 @@ fn run<E: EntryLedger, H: RecordLedger, R: Wait + Abort>(
     Ok(shared.close(exporters, deliveries, admins))
 }
 
-fn play_case<E: EntryLedger, H: RecordLedger, R: Wait + Abort>(
+fn play_case<E: EntryLedger, H: RecordLedger, R: Threads + Wait + Abort + Sync>(
     rt: &R,
     alloc: Global,
     shared: &SharedMediator<E, H>,

@@ -1,10 +1,10 @@
 //! What lies under the lock.
 ghost use Rattle.std.specs.Prelude.{◌≡◌, ◌+◌, ◌*◌, ◌<◌, [], take, true, false, length, IsOk, IfOk, IfErr, OnOk, OnErr};
 ghost use Rattle.mediator_history.specs.Subscriptions.{is_live};
-ghost use Rattle.mediator_state.specs.Calls.{RefusesClose, RefusesEdit, RefusesSubscribe, RefusesUnsubscribe};
+ghost use Rattle.mediator_state.specs.Calls.{IsSnapshot, RefusesSnapshot, RefusesClose, RefusesEdit, RefusesSubscribe, RefusesUnsubscribe};
 ghost use Rattle.mediator_calls.specs.Mediation.{noted_at, journal_limits};
 ghost use Rattle.mediator_calls.specs.Sound.{IsSound};
-ghost use Rattle.mediator_calls.specs.Calls.{Opens, Closes, Receives, RefusesReceive, Edits, Subscribes, Unsubscribes, Advances, RefusesAdvance, IsStatusOf, Drains};
+ghost use Rattle.mediator_calls.specs.Calls.{Opens, Closes, Receives, RefusesReceive, RefusesReceivePrepared, Edits, Subscribes, Unsubscribes, Advances, RefusesAdvance, IsStatusOf, Drains};
 ghost use Rattle.mediator_calls.specs.Counted.{counted_as, handed_at, handed_live};
 ghost use Rattle.mediator_calls.specs.Handing.{HandsOut, RefusesHanding, records_of};
 ghost use Rattle.shared_mediator.specs.Locked.{locked_as};
@@ -17,6 +17,7 @@ use bytes::Bytes;
 use disclosure_audit::AuditEntry;
 use mediator_calls::{CountedMediator, Handed, Mediator, PullFault, SessionId, SubId, UnknownSub};
 use mediator_state::{Fault, Receipt, Status};
+use prepared_message::{Prepared, Snapshot};
 use std::alloc::AllocError;
 use std::marker::Model;
 use std::sync::ledger::{Blank, Book, Share};
@@ -154,6 +155,41 @@ impl<E: EntryLedger, H: RecordLedger> Desk<E, H> {
         let receipt = self.counted.receive(session, number, message)?;
         self.entries.add(share, 1);
         Ok(receipt)
+    }
+
+    /// The templates of a session as they stand.
+    pub(crate) fn snapshot(&mut self, session: SessionId) -> Result<Snapshot, Fault>
+        ensures ok { IfOk result (IsSnapshot self.old.counted.core.history session.0) }
+        ensures same { self.new ≡ self.old }
+        ensures err { IfErr result (λ e. RefusesSnapshot e self.old.counted.core.history session.0) }
+    {
+        self.counted.snapshot(session)
+    }
+
+    /// Accepts a session's next message that was prepared, and adds it to a share.
+    pub(crate) fn receive_prepared(
+        &mut self,
+        share: &mut Share<E>,
+        session: SessionId,
+        number: u64,
+        prepared: Prepared,
+    ) -> Result<Receipt, (Fault, Prepared)>
+        requires part { 0 < share.old.parts }
+        ensures ok { IfOk result (λ receipt. Receives self.old.counted.core session.0 number prepared.message receipt self.new.counted.core) }
+        ensures counts { OnOk result (Adds 1 0 0 self.old self.new) }
+        ensures share { OnOk result (share.new.amount ≡ share.old.amount + 1) }
+        ensures part { share.new.parts ≡ share.old.parts }
+        ensures same { OnErr result ((self.new ≡ self.old) × (share.new ≡ share.old)) }
+        ensures err { IfErr result (λ e. RefusesReceivePrepared e.0 self.old.counted.core session.0 number prepared) }
+        ensures handed_back { IfErr result (λ e. e.1 ≡ prepared) }
+    {
+        match self.counted.receive_prepared(session, number, prepared) {
+            Ok(receipt) => {
+                self.entries.add(share, 1);
+                Ok(receipt)
+            }
+            Err(refused) => Err(refused),
+        }
     }
 
     /// Closes a session.

@@ -1,5 +1,5 @@
 //! An exporter's handle.
-ghost use Rattle.std.specs.Prelude.{◌≡◌, ◌++◌, ◌∷◌, [], length, IfOk, OnErr};
+ghost use Rattle.std.specs.Prelude.{◌≡◌, ◌++◌, ◌∷◌, [], length, IfOk, IfErr, OnErr};
 ghost use Rattle.event_journal.specs.declared.entry.Entry.TheVariants.{Message};
 ghost use Rattle.shared_mediator.specs.Locked.{exporting_as};
 ghost use Rattle.shared_mediator.specs.Handles.{AreMessages};
@@ -11,6 +11,7 @@ use entry_receipts::KeptEntry;
 use event_journal::Entry;
 use mediator_calls::SessionId;
 use mediator_state::{Fault, Receipt};
+use prepared_message::{Prepared, Snapshot};
 use std::alloc::Global;
 use std::marker::Model;
 use std::sync::Wait;
@@ -90,6 +91,59 @@ impl<E: EntryLedger> ExporterHandle<E> {
             .desk
             .lock(rt)
             .receive(&mut self.share, self.session, number, message)?;
+        shared.moved.notify_all();
+        self.kept.push_reserved(KeptEntry {
+            position: receipt.position,
+            entry: Entry::Message {
+                session: self.session.0,
+                number,
+                octets,
+            },
+        });
+        Ok(receipt)
+    }
+
+    /// The templates of its session as they stand, by which its next messages can be prepared without the lock
+    /// ([`Prepared::prepare`]). Whatever their number, it costs one owner more.
+    ///
+    /// # Errors
+    /// The session was closed; or memory ran out.
+    pub fn snapshot<H: RecordLedger>(
+        &self,
+        rt: &impl Wait,
+        shared: &SharedMediator<E, H>,
+    ) -> Result<Snapshot, Fault> {
+        shared.desk.lock(rt).snapshot(self.session)
+    }
+
+    /// Offers the session's next message, which was prepared, and keeps its receipt as [`offer`](ExporterHandle::offer) does.
+    ///
+    /// # Errors
+    /// Those of `Mediator::receive_prepared`; and memory for the receipt. Then nothing has changed, and the message is handed
+    /// back.
+    pub fn offer_prepared<H: RecordLedger>(
+        &mut self,
+        rt: &impl Wait,
+        shared: &SharedMediator<E, H>,
+        prepared: Prepared,
+    ) -> Result<Receipt, (Fault, Prepared)>
+        ensures kept { IfOk result (λ receipt. self.new.kept ≡ self.old.kept ++ record { position = receipt.position; entry = Message self.old.session (length self.old.kept) prepared.message } ∷ []) }
+        ensures session { self.new.session ≡ self.old.session }
+        ensures same { OnErr result (self.new ≡ self.old) }
+        ensures handed_back { IfErr result (λ e. e.1 ≡ prepared) }
+    {
+        let octets = match prepared.message().clone() {
+            Ok(octets) => octets,
+            Err(_) => return Err((Fault::OutOfMemory, prepared)),
+        };
+        if self.kept.reserve(1).is_err() {
+            return Err((Fault::OutOfMemory, prepared));
+        }
+        let number = self.kept.len() as u64;
+        let receipt = shared
+            .desk
+            .lock(rt)
+            .receive_prepared(&mut self.share, self.session, number, prepared)?;
         shared.moved.notify_all();
         self.kept.push_reserved(KeptEntry {
             position: receipt.position,
