@@ -31,6 +31,14 @@ class Workers(ServeTest):
         self.assertEqual(ended.status, 0, ended.notes)
         return got, next(line for line in ended.notes.splitlines() if " ended: messages " in line)
 
+    def expect_by_each(self, messages, due, counts):
+        """However many workers there are, a collector gets these records, and the note of the exporter's end has these counts."""
+        for workers in NUMBERS:
+            with self.subTest(workers=workers):
+                got, note = self.serve(workers, messages)
+                self.assertEqual(got, due)
+                self.assertTrue(note.endswith(counts), note)
+
     def test_templates_between(self):
         """Templates come, change and go between the messages of one piece: each record is read by the one in force before it."""
         piece = (
@@ -46,21 +54,13 @@ class Workers(ServeTest):
         due = [FLOW.seen(address("192.0.2.77"), port, 1500) for port in (1, 2)]
         due.append(TURNED.seen(3, address("192.0.2.78")))
         due += [FLOW.seen(address("192.0.2.77"), port, 1500) for port in (5, 6)]
-        for workers in NUMBERS:
-            with self.subTest(workers=workers):
-                got, note = self.serve(workers, piece)
-                self.assertEqual(got, due)
-                self.assertTrue(note.endswith(" messages 8 records 5 gaps 0"), note)
+        self.expect_by_each(piece, due, " messages 8 records 5 gaps 0")
 
     def test_many(self):
         """A thousand messages of one piece after another keep their order."""
         messages = [message(0, FLOW.octets())] + [message(n, FLOW.data(flow(n))) for n in range(1000)]
         due = [FLOW.seen(address("192.0.2.77"), n, 1500) for n in range(1000)]
-        for workers in NUMBERS:
-            with self.subTest(workers=workers):
-                got, note = self.serve(workers, messages)
-                self.assertEqual(got, due)
-                self.assertTrue(note.endswith(" messages 1001 records 1000 gaps 0"), note)
+        self.expect_by_each(messages, due, " messages 1001 records 1000 gaps 0")
 
     def test_bad_message(self):
         """A message that is refused ends the stream; those before it in its piece were accepted, those behind it weren't."""
