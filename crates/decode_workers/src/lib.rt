@@ -2,7 +2,8 @@
 //!
 //! It reads no message itself, and waits for nothing but the threads that it started.
 //!
-//! - [`workers`]: `prepare_all`, which prepares a list of messages and answers them in their order.
+//! - [`workers`]: `Workers`, which prepare lists of messages and answer them in their order, and keep what they worked out for
+//!   the next list; `prepare_all`, which does so once.
 //! - [`gate`]: `Gate`, which is told what each thread is at, and `NoGate`, which does nothing.
 //! - [`fault`]: `WorkersFault`, why a list is not prepared.
 //! - `run`: the part of the list that one thread prepares, and what the thread promises.
@@ -23,4 +24,4 @@ pub mod workers;
 
 pub use fault::WorkersFault;
 pub use gate::{Gate, NoGate};
-pub use workers::prepare_all;
+pub use workers::{Workers, prepare_all};

@@ -5,9 +5,17 @@ ghost use Rattle.decode_workers.specs.Workers.{IsAnswer, AreAnswers};
 use crate::gate::Gate;
 use bytes::Bytes;
 use prepared_message::{PrepareFault, Prepared, Snapshot};
+use record_sharing::Workspace;
 use std::alloc::{AllocError, Global};
 use std::snapshot::Snapshot as Remembered;
 use std::thread::Promise;
+
+/// What a thread gives back: an answer for each message of its run, and its workspace for the next one.
+#[derive(Drop)]
+pub(crate) struct Ran {
+    pub(crate) answers: Vec<Result<Prepared, PrepareFault>>,
+    pub(crate) workspace: Workspace,
+}
 
 /// Prepares the messages of a run, one after another. `first` is the place of its first message in the whole list.
 ///
@@ -19,17 +27,18 @@ pub(crate) fn prepare_run<G: Gate>(
     gate: &G,
     first: u64,
     messages: Vec<Bytes>,
-) -> Result<Vec<Result<Prepared, PrepareFault>>, AllocError>
+    mut workspace: Workspace,
+) -> Result<Ran, AllocError>
     requires places { first + vec_len messages < 2 ^ 64 }
-    ensures { IfOk result (λ v. AreAnswers snapshot.now messages.items v.items) }
+    ensures { IfOk result (λ ran. AreAnswers snapshot.now messages.items ran.answers.items) }
 {
     let mut answers = Vec::with_capacity(alloc, messages.len())?;
     let mut piece = first;
     for message in messages {
-        answers.push_reserved(prepare_piece(snapshot, gate, piece, message));
+        answers.push_reserved(prepare_piece(snapshot, gate, piece, message, &mut workspace));
         piece += 1;
     }
-    Ok(answers)
+    Ok(Ran { answers, workspace })
 }
 
 /// Prepares a message, and tells the gate before and after it.
@@ -38,11 +47,12 @@ fn prepare_piece<G: Gate>(
     gate: &G,
     piece: u64,
     message: Bytes,
+    workspace: &mut Workspace,
 ) -> Result<Prepared, PrepareFault>
     ensures { IsAnswer snapshot.now message result }
 {
     gate.enter(piece);
-    let answer = Prepared::prepare(snapshot, message);
+    let answer = Prepared::prepare_in(snapshot, message, workspace);
     gate.leave(piece);
     answer
 }
@@ -54,6 +64,6 @@ pub(crate) struct Owed {
     pub(crate) messages: Remembered<Vec<Bytes>>,
 }
 
-impl Promise<Result<Vec<Result<Prepared, PrepareFault>>, AllocError>> for Owed {
-    ghost kept_by = { λ p r. IfOk r (λ v. AreAnswers p.snapshot.value p.messages.value.items v.items) };
+impl Promise<Result<Ran, AllocError>> for Owed {
+    ghost kept_by = { λ p r. IfOk r (λ ran. AreAnswers p.snapshot.value p.messages.value.items ran.answers.items) };
 }

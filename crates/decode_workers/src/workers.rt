@@ -1,14 +1,15 @@
 //! Lists of messages, which several threads prepare at once.
-ghost use Rattle.std.specs.Prelude.{◌≡◌, ◌≢◌, ◌+◌, ◌<◌, ◌^◌, ◌++◌, ℕ, List, IfOk, IfErr, OnOk, Err, MatchBool, vec_len};
+ghost use Rattle.std.specs.Prelude.{◌≡◌, ◌≢◌, ◌+◌, ◌<◌, ◌^◌, ◌++◌, ℕ, List, IfOk, IfErr, IsOk, OnOk, Err, MatchBool, vec_len};
 ghost use Rattle.decode_workers.specs.declared.fault.WorkersFault.TheVariants.{BadWorkers};
 ghost use Rattle.decode_workers.specs.Workers.{Tables, AreAnswers, may_work};
 ghost use Rattle.decode_workers.specs.Owing.{owed_by, KnowAll};
 
 use crate::fault::WorkersFault;
 use crate::gate::Gate;
-use crate::run::{Owed, prepare_run};
+use crate::run::{Owed, Ran, prepare_run};
 use bytes::Bytes;
 use prepared_message::{PrepareFault, Prepared, Snapshot};
+use record_sharing::Workspace;
 use std::alloc::{AllocError, Global};
 use std::snapshot::Snapshot as Remembered;
 use std::sync::Wait;
@@ -18,15 +19,19 @@ use std::thread::{PromisedHandle, Scope, Threads};
 const MOST_WORKERS: u64 = 64;
 
 /// A thread that prepares a run.
-type Worker = PromisedHandle<Result<Vec<Result<Prepared, PrepareFault>>, AllocError>, Owed>;
+type Worker = PromisedHandle<Result<Ran, AllocError>, Owed>;
 
-/// Prepares each message against the snapshot, and gives the answers in the order of the messages. The calling thread is one of
-/// the workers, and no more work than there are messages: with one worker, or one message, no thread is started. It returns
-/// once all threads that it started have ended, whatever it answers.
+/// So many workers, 1 to 64. What each worked out for the messages that it prepared is kept for those to come.
+#[derive(Drop)]
+pub struct Workers {
+    count: u64,
+    idle: Vec<Workspace>,
+}
+
+/// Prepares each message against the snapshot, by workers that prepared nothing yet: see [`Workers::prepare_all`].
 ///
 /// # Errors
-/// BadWorkers where there are not 1 to 64 workers; NoThread where a thread was refused; or want of memory for the lists. A
-/// message that can't be prepared, also for want of memory, has that as its answer.
+/// BadWorkers where there are not 1 to 64 workers, and those of [`Workers::prepare_all`].
 pub fn prepare_all<R: Threads + Wait + Sync, G: Gate + Sync>(
     rt: &R,
     snapshot: &Snapshot,
@@ -38,17 +43,75 @@ pub fn prepare_all<R: Threads + Wait + Sync, G: Gate + Sync>(
     ensures answers { IfOk result (λ v. AreAnswers snapshot.now messages.items v.items) }
     ensures workers { MatchBool (may_work workers) (IfErr result (λ why. why ≢ BadWorkers)) (result ≡ Err BadWorkers) }
 {
-    if workers < 1 || workers > MOST_WORKERS {
-        return Err(WorkersFault::BadWorkers);
+    let mut workers = Workers::new(*messages.allocator(), workers)?;
+    workers.prepare_all(rt, snapshot, messages, gate)
+}
+
+impl Workers {
+    /// So many workers, which prepared nothing yet. It takes no memory.
+    ///
+    /// # Errors
+    /// BadWorkers where there are not 1 to 64.
+    pub fn new(alloc: Global, count: u64) -> Result<Workers, WorkersFault>
+        ensures { MatchBool (may_work count) (IsOk result) (result ≡ Err BadWorkers) }
+    {
+        if count < 1 || count > MOST_WORKERS {
+            return Err(WorkersFault::BadWorkers);
+        }
+        Ok(Workers {
+            count,
+            idle: Vec::new(alloc),
+        })
     }
-    let alloc = *messages.allocator();
-    let runs = messages.len().min(workers as usize);
-    if runs <= 1 {
-        return Ok(prepare_run(alloc, snapshot, gate, 0, messages)?);
+
+    /// Prepares each message against the snapshot, and gives the answers in the order of the messages. The calling thread is
+    /// one of the workers, and no more work than there are messages: with one worker, or one message, no thread is started. It
+    /// returns once all threads that it started have ended, whatever it answers.
+    ///
+    /// # Errors
+    /// NoThread where a thread was refused; or want of memory for the lists. A message that can't be prepared, also for want
+    /// of memory, has that as its answer.
+    pub fn prepare_all<R: Threads + Wait + Sync, G: Gate + Sync>(
+        &mut self,
+        rt: &R,
+        snapshot: &Snapshot,
+        messages: Vec<Bytes>,
+        gate: &G,
+    ) -> Result<Vec<Result<Prepared, PrepareFault>>, WorkersFault>
+        // Each message has the answer that `Prepared::prepare` gives it, in the order of the messages.
+        ensures answers { IfOk result (λ v. AreAnswers snapshot.now messages.items v.items) }
+        ensures err { IfErr result (λ why. why ≢ BadWorkers) }
+    {
+        let alloc = *messages.allocator();
+        let runs = messages.len().min(self.count as usize);
+        let idle = &mut self.idle;
+        if runs <= 1 {
+            let ran = prepare_run(alloc, snapshot, gate, 0, messages, next_idle(idle))?;
+            return Ok(answers_of(ran, idle));
+        }
+        thread::scope(thread::scope_env(), rt, |scope| {
+            prepare_in_runs(rt, alloc, snapshot, gate, scope, messages, runs, idle)
+        })
     }
-    thread::scope(thread::scope_env(), rt, |scope| {
-        prepare_in_runs(rt, alloc, snapshot, gate, scope, messages, runs)
-    })
+}
+
+/// A workspace that is free, or a new one.
+fn next_idle(idle: &mut Vec<Workspace>) -> Workspace {
+    match idle.pop() {
+        Some(workspace) => workspace,
+        None => Workspace::new(),
+    }
+}
+
+/// The answers of a run, whose workspace is free again. Where there is no memory to keep that, it is dropped.
+fn answers_of(ran: Ran, idle: &mut Vec<Workspace>) -> Vec<Result<Prepared, PrepareFault>>
+    ensures { result ≡ ran.answers }
+{
+    let Ran { answers, workspace } = ran;
+    if idle.reserve(1).is_ok() {
+        idle.push_reserved(workspace);
+    }
+    answers
 }
 
 /// Prepares the messages in so many runs: the first in this thread, and each other in a thread of its own.
@@ -60,13 +123,15 @@ fn prepare_in_runs<'s, 't: 's, 'g: 's, X: 's, R: Threads, G: Gate + Sync>(
     scope: &Scope<'s, X>,
     mut messages: Vec<Bytes>,
     runs: usize,
+    idle: &mut Vec<Workspace>,
 ) -> Result<Vec<Result<Prepared, PrepareFault>>, WorkersFault>
     ensures answers { IfOk result (λ v. AreAnswers snapshot.now messages.items v.items) }
     ensures err { IfErr result (λ why. why ≢ BadWorkers) }
 {
-    let working = start_all(alloc, snapshot, gate, scope, &mut messages, runs)?;
-    let mut answers = prepare_run(alloc, snapshot, gate, 0, messages)?;
-    join_all(rt, working, &mut answers)?;
+    let working = start_all(alloc, snapshot, gate, scope, &mut messages, runs, idle)?;
+    let ran = prepare_run(alloc, snapshot, gate, 0, messages, next_idle(idle))?;
+    let mut answers = answers_of(ran, idle);
+    join_all(rt, working, &mut answers, idle)?;
     Ok(answers)
 }
 
@@ -78,6 +143,7 @@ fn start_all<'s, 't: 's, 'g: 's, X: 's, G: Gate + Sync>(
     scope: &Scope<'s, X>,
     messages: &mut Vec<Bytes>,
     runs: usize,
+    idle: &mut Vec<Workspace>,
 ) -> Result<Vec<Worker>, WorkersFault>
     ensures all { IfOk result (λ v. messages.new.items ++ owed_by v.items ≡ messages.old.items) }
     ensures known { IfOk result (λ v. KnowAll snapshot.now v.items) }
@@ -89,7 +155,8 @@ fn start_all<'s, 't: 's, 'g: 's, X: 's, G: Gate + Sync>(
         let first = messages.len() - messages.len() / (runs - started + 1);
         let run = messages.split_off(first)?;
         working.reserve(1)?;
-        working.push_reserved(start(alloc, snapshot, gate, scope, first as u64, run)?);
+        let workspace = next_idle(idle);
+        working.push_reserved(start(alloc, snapshot, gate, scope, first as u64, run, workspace)?);
     }
     Ok(working)
 }
@@ -102,6 +169,7 @@ fn start<'s, 't: 's, 'g: 's, X: 's, G: Gate + Sync>(
     scope: &Scope<'s, X>,
     first: u64,
     run: Vec<Bytes>,
+    workspace: Workspace,
 ) -> Result<Worker, WorkersFault>
     requires places { first + vec_len run < 2 ^ 64 }
     ensures owed { IfOk result (λ h. (h.promise.snapshot.value ≡ snapshot.now) × (h.promise.messages.value ≡ run)) }
@@ -111,7 +179,9 @@ fn start<'s, 't: 's, 'g: 's, X: 's, G: Gate + Sync>(
         snapshot: Remembered::of(snapshot),
         messages: Remembered::of(&run),
     };
-    match scope.spawn_with(owed, move || prepare_run(alloc, snapshot, gate, first, run)) {
+    match scope.spawn_with(owed, move || {
+        prepare_run(alloc, snapshot, gate, first, run, workspace)
+    }) {
         Ok(worker) => Ok(worker),
         Err(_refused) => Err(WorkersFault::NoThread),
     }
@@ -123,12 +193,13 @@ fn join_all<R: Threads>(
     rt: &R,
     mut working: Vec<Worker>,
     answers: &mut Vec<Result<Prepared, PrepareFault>>,
+    idle: &mut Vec<Workspace>,
 ) -> Result<(), AllocError>
     ensures { OnOk result ((known : Tables) (before : List (List ℕ)) → KnowAll known working.items
         → AreAnswers known before answers.old.items → AreAnswers known (before ++ owed_by working.items) answers.new.items) }
 {
     while let Some(worker) = working.pop() {
-        let mut more = worker.join(rt)?;
+        let mut more = answers_of(worker.join(rt)?, idle);
         answers.append(&mut more)?;
     }
     Ok(())

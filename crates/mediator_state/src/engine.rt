@@ -23,9 +23,10 @@ use live_subscriptions::{Share, Subscriptions};
 use open_sessions::Sessions;
 use policy_text::Policy;
 use prepared_message::Snapshot;
-use record_sharing::InForce;
+use record_sharing::{InForce, Terms};
 use running_groups::{Reserved, RunningGroups};
 use std::alloc::{AllocError, Global};
+use std::sync::Arc;
 use subscriber_stream::{Limits, Stream};
 
 /// What a mediator keeps beside its history. Contracts say by `Stands` for which histories it stands; its calls change it
@@ -47,6 +48,8 @@ pub(crate) struct Engine {
     /// How many subscriptions began.
     begun: u64,
     pub(crate) audit: Audit,
+    /// What decided when a snapshot was taken last, for the next one. It decides nothing here.
+    terms: Option<Arc<Terms>>,
 }
 
 impl Drop for Engine {
@@ -63,6 +66,7 @@ impl Drop for Engine {
             groups: _,
             begun: _,
             audit: _,
+            terms: _,
         } = self;
     }
 }
@@ -95,6 +99,7 @@ impl Engine {
             groups: RunningGroups::new(alloc),
             begun: 0,
             audit: Audit::new(alloc, audit),
+            terms: None,
         })
     }
 
@@ -123,7 +128,7 @@ impl Engine {
         Ok(())
     }
 
-    /// The templates of an open session as they stand, which the session shares then.
+    /// The templates of an open session as they stand, which the session shares then, with the terms on which records are shared.
     ///
     /// # Errors
     /// The session isn't open; or memory ran out.
@@ -135,11 +140,31 @@ impl Engine {
         if !self.is_open(number) {
             return Err(Fault::UnknownSession);
         }
+        let terms = self.terms()?;
         self.sessions.share(number)?;
         match self.sessions.get(number) {
-            Some(open) => Ok(Snapshot::of(&open.session)?),
+            Some(open) => Ok(Snapshot::of(&open.session)?.with_terms(terms)),
             None => Err(Fault::UnknownSession),
         }
+    }
+
+    /// The terms on which records are shared now: those that were made for the last snapshot, where they still hold.
+    ///
+    /// # Errors
+    /// Want of memory.
+    fn terms(&mut self) -> Result<Arc<Terms>, AllocError>
+        ensures same { IsSameEngine self.old self.new }
+    {
+        let served = self.subscriptions.served()?;
+        if let Some(terms) = &self.terms {
+            if terms.are(&self.in_force, &served) {
+                return terms.clone();
+            }
+        }
+        let terms = Terms::of(self.alloc, &self.in_force, &served)?;
+        let terms = Arc::new(self.alloc, terms)?;
+        self.terms = Some(terms.clone()?);
+        Ok(terms)
     }
 
     /// Whether a session is open.

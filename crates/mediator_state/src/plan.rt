@@ -1,6 +1,7 @@
 //! What a message would do, found out before anything is changed.
-ghost use Rattle.std.specs.Prelude.{◌≡◌, ◌≤◌, ◌<◌, ◌+◌, ◌^◌, ◌++◌, ◌∷◌, [], ℕ, List, length, map, not, true, filter, IfOk, IfErr, OnOk};
+ghost use Rattle.std.specs.Prelude.{◌≡◌, ◌≤◌, ◌<◌, ◌+◌, ◌^◌, ◌++◌, ◌∷◌, [], ℕ, List, length, map, not, true, filter, IfOk, IfErr, IfSome, OnOk};
 ghost use Rattle.sequences.specs.Octets.{AreOctets};
+ghost use Rattle.ipfix_session.specs.Meaning.{domain_of};
 ghost use Rattle.record_sharing.specs.InForce.{InForce as Force};
 ghost use Rattle.ipfix_template.specs.DataRecord.{DataRecord};
 ghost use Rattle.event_journal.specs.declared.limits.TheConstants.{MOST_ENTRIES};
@@ -8,6 +9,7 @@ ghost use Rattle.event_journal.specs.declared.entry.Entry.{Entry};
 ghost use Rattle.live_subscriptions.specs.Table.{shown};
 ghost use Rattle.running_groups.specs.Adding.{tallied};
 ghost use Rattle.record_sharing.specs.Sharing.{shares_of, tallies_of, notes_of};
+ghost use Rattle.record_sharing.specs.Judgements.{IsJudgementOf};
 ghost use Rattle.std.specs.List.{AllByRecursion};
 ghost use Rattle.mediator_state.specs.Planning.{stamp, AreStreamed};
 
@@ -20,7 +22,7 @@ use live_subscriptions::{Served, Share, Subscriptions};
 use open_sessions::OpenSession;
 use prepared_message::Prepared;
 use record_runs::Records;
-use record_sharing::{InForce, Note, Shares};
+use record_sharing::{InForce, Judgement, Note, Shares};
 use running_groups::Tally;
 use std::alloc::{AllocError, Global};
 use stream_meaning::see_records;
@@ -69,6 +71,8 @@ impl Engine {
         prepared: &Prepared,
     ) -> Result<Reading, Fault>
         ensures ok { IfOk result (λ reading. (h : List Entry) → Stands self.now h → IsNextReading h session number prepared.now.message reading) }
+        ensures domain { IfOk result (λ reading. reading.meaning.header.domain ≡ domain_of prepared.now.message) }
+        ensures records { IfOk result (λ reading. reading.meaning.records ≡ prepared.now.contents.records) }
         ensures err { IfErr result (λ e. (h : List Entry) → Stands self.now h → RefusesPrepared e h session number prepared.now) }
     {
         let open = self.in_turn(session, number)?;
@@ -76,7 +80,7 @@ impl Engine {
     }
 
     /// What the next message of a session would do as the next entry, with the cuts before it, where so many entries stand
-    /// already.
+    /// already. What was judged of it elsewhere is taken where its terms still hold.
     ///
     /// # Errors
     /// Want of memory.
@@ -85,15 +89,17 @@ impl Engine {
         position: u64,
         session: u64,
         reading: Reading,
+        judgement: Option<Judgement>,
     ) -> Result<Plan, AllocError>
         requires few { length reading.meaning.records ≤ 2 ^ 32 }
         requires short { position ≤ MOST_ENTRIES }
+        requires judgement { IfSome judgement (IsJudgementOf reading.meaning.header.domain reading.meaning.records) }
         ensures ok { IfOk result (λ p. (h : List Entry) (number : ℕ) (octets : List ℕ) → Stands self.old h → length h ≡ position
             → IsNextReading h session number octets reading → IsPlan self.old h number octets p) }
         ensures session { IfOk result (λ p. p.session ≡ session) }
         ensures same { self.new ≡ self.old }
     {
-        let judged = self.judge(position, &reading)?;
+        let judged = self.judge(position, &reading, judgement)?;
         Ok(Plan {
             session,
             reading,
@@ -124,9 +130,15 @@ impl Engine {
     ///
     /// # Errors
     /// Want of memory.
-    fn judge(&mut self, position: u64, reading: &Reading) -> Result<Judged, AllocError>
+    fn judge(
+        &mut self,
+        position: u64,
+        reading: &Reading,
+        judgement: Option<Judgement>,
+    ) -> Result<Judged, AllocError>
         requires few { length reading.now.meaning.records ≤ 2 ^ 32 }
         requires short { position ≤ MOST_ENTRIES }
+        requires judgement { IfSome judgement (IsJudgementOf reading.now.meaning.header.domain reading.now.meaning.records) }
         ensures judged { IfOk result (λ j. (h : List Entry) → Stands self.old h → length h ≡ position → IsJudgedFor self.old h reading.now.meaning j) }
         ensures same { self.new ≡ self.old }
     {
@@ -134,7 +146,7 @@ impl Engine {
         let records = reading.records();
         let served = self.subscriptions.served()?;
         let in_force = &mut self.in_force;
-        let all = Shares::of_records(self.alloc, in_force, domain, records, &served)?;
+        let all = shares_of_all(self.alloc, in_force, domain, records, judgement, &served)?;
         let split = split_by_room(self.alloc, &self.subscriptions, &served, &all.shares)?;
         let (cuts, left) = (&split.cuts, &split.left);
         let left = share_left(self.alloc, in_force, domain, records, all, cuts, left)?;
@@ -160,6 +172,33 @@ struct Split<'a> {
 
 ghost use Rattle.live_subscriptions.specs.Table.{told, lacks_room_at};
 ghost use Rattle.mediator_state.specs.Planning.{lacks, has};
+
+/// What the records give to all that are served: what was judged elsewhere, where its terms still hold.
+///
+/// # Errors
+/// Want of memory.
+fn shares_of_all(
+    alloc: Global,
+    in_force: &mut InForce,
+    domain: u32,
+    records: &Records,
+    judgement: Option<Judgement>,
+    served: &[Served<'_>],
+) -> Result<Shares, AllocError>
+    requires few { length records.now ≤ 2 ^ 32 }
+    requires judgement { IfSome judgement (IsJudgementOf domain records.now) }
+    ensures shares { IfOk result (λ s. map shown s.shares.items ≡ shares_of domain in_force.old records.now served.now) }
+    ensures tallies { IfOk result (λ s. map tallied s.tallies.items ≡ tallies_of domain in_force.old records.now served.now) }
+    ensures notes { IfOk result (λ s. s.notes.items ≡ notes_of domain in_force.old records.now served.now) }
+    ensures stay { in_force.new ≡ in_force.old }
+{
+    if let Some(judgement) = judgement {
+        if let Some(shares) = judgement.shares_by(in_force, served) {
+            return Ok(shares);
+        }
+    }
+    Shares::of_records(alloc, in_force, domain, records, served)
+}
 
 /// What is judged, with the audit's entries of the message behind its cuts, the first of which is at a position.
 ///

@@ -6,6 +6,7 @@ ghost use Rattle.event_journal.specs.declared.entry.Entry.TheVariants.{Open, Clo
 ghost use Rattle.event_journal.specs.Room.{HasRoom};
 ghost use Rattle.mediator_history.specs.Subscriptions.{is_live};
 ghost use Rattle.mediator_history.specs.Auditing.{audit_list};
+ghost use Rattle.record_sharing.specs.Judgements.{IsJudgementOf};
 
 use crate::engine::Engine;
 use crate::fault::Fault;
@@ -17,6 +18,7 @@ use event_journal::{Chronicle, Entry, PolicyText};
 use ipfix_session::Reading;
 use policy_text::{FaultKind, Name, Policy, PolicyFault, is_name};
 use prepared_message::{Prepared, Snapshot};
+use record_sharing::Judgement;
 use std::alloc::{AllocError, Global};
 use std::slice::from_ref;
 use subscriber_stream::PullError;
@@ -172,7 +174,7 @@ impl<C: Chronicle + Drop> State<C> {
         ensures err { IfErr result (λ e. (h : List Entry) → StandsFor C.tells self.old h → RefusesReceive e (C.limits self.old.chronicle) self.old.engine h session number message) }
     {
         let reading = self.engine.read(session, number, &message)?;
-        self.take_in(session, number, message, reading)
+        self.take_in(session, number, message, reading, None)
     }
 
     /// The templates of an open session as they stand, by which its messages can be prepared without this state. It costs one
@@ -199,7 +201,7 @@ impl<C: Chronicle + Drop> State<C> {
         &mut self,
         session: u64,
         number: u64,
-        prepared: Prepared,
+        mut prepared: Prepared,
     ) -> Result<Receipt, (Fault, Prepared)>
         requires stands { StandsForSome C.tells self.old }
         ensures ok { IfOk result (λ r. (h : List Entry) → StandsFor C.tells self.old h → Receives C.tells C.limits self.old h session number prepared.message r self.new) }
@@ -209,29 +211,31 @@ impl<C: Chronicle + Drop> State<C> {
         ensures err { IfErr result (λ e. (h : List Entry) → StandsFor C.tells self.old h → RefusesReceivePrepared e.0 (C.limits self.old.chronicle) self.old.engine h session number prepared) }
         ensures handed_back { IfErr result (λ e. e.1 ≡ prepared) }
     {
-        match self.take_prepared(session, number, &prepared) {
+        match self.take_prepared(session, number, &mut prepared) {
             Ok(receipt) => Ok(receipt),
             Err(fault) => Err((fault, prepared)),
         }
     }
 
-    /// The same of a message that is lent.
+    /// The same of a message that is lent. What was judged of it is used up, once it is found to be the session's next one.
     fn take_prepared(
         &mut self,
         session: u64,
         number: u64,
-        prepared: &Prepared,
+        prepared: &mut Prepared,
     ) -> Result<Receipt, Fault>
         requires stands { StandsForSome C.tells self.old }
-        ensures ok { IfOk result (λ r. (h : List Entry) → StandsFor C.tells self.old h → Receives C.tells C.limits self.old h session number prepared.now.message r self.new) }
+        ensures ok { IfOk result (λ r. (h : List Entry) → StandsFor C.tells self.old h → Receives C.tells C.limits self.old h session number prepared.old.message r self.new) }
         ensures untouched { IsUntouched self.old.engine self.new.engine }
         ensures same { OnErr result ((h : List Entry) → StandsFor C.tells self.old h → StandsFor C.tells self.new h) }
         ensures journaled { C.limits self.new.chronicle ≡ C.limits self.old.chronicle }
-        ensures err { IfErr result (λ e. (h : List Entry) → StandsFor C.tells self.old h → RefusesReceivePrepared e (C.limits self.old.chronicle) self.old.engine h session number prepared.now) }
+        ensures err { IfErr result (λ e. (h : List Entry) → StandsFor C.tells self.old h → RefusesReceivePrepared e (C.limits self.old.chronicle) self.old.engine h session number prepared.old) }
+        ensures lent { prepared.new ≡ prepared.old }
     {
         let reading = self.engine.read_prepared(session, number, prepared)?;
         let message = prepared.message().clone()?;
-        self.take_in(session, number, message, reading)
+        let judgement = prepared.take_judgement();
+        self.take_in(session, number, message, reading, judgement)
     }
 
     /// Accepts the next message of a session, which is read.
@@ -244,8 +248,10 @@ impl<C: Chronicle + Drop> State<C> {
         number: u64,
         message: Bytes,
         reading: Reading,
+        judgement: Option<Judgement>,
     ) -> Result<Receipt, Fault>
         requires stands { StandsForSome C.tells self.old }
+        requires judgement { IfSome judgement (IsJudgementOf reading.meaning.header.domain reading.meaning.records) }
         requires read { (h : List Entry) → StandsFor C.tells self.old h → IsNextReading h session number message reading }
         ensures ok { IfOk result (λ r. (h : List Entry) → StandsFor C.tells self.old h → Receives C.tells C.limits self.old h session number message r self.new) }
         ensures untouched { IsUntouched self.old.engine self.new.engine }
@@ -255,7 +261,7 @@ impl<C: Chronicle + Drop> State<C> {
     {
         see_octets(&message);
         let position = self.chronicle.len();
-        let plan = self.engine.plan(position, session, reading)?;
+        let plan = self.engine.plan(position, session, reading, judgement)?;
         let message = Entry::Message {
             session,
             number,

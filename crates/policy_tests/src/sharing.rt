@@ -3,9 +3,10 @@ use disclosure_audit::What;
 use ipfix_session::Session;
 use live_subscriptions::Served;
 use policy_text::Policy;
-use record_sharing::{InForce, Shares};
+use record_sharing::{InForce, Shares, Terms, Workspace};
 use std::alloc::Global;
 use std::process::Abort;
+use std::sync::Arc;
 use std::test::Fail;
 
 /// A message with a template of source address, source port and octet count, and one record.
@@ -77,6 +78,49 @@ fn isolation(rt: HostRuntime) -> Result<(), Fail> {
     assert_eq!(rt;
         noted(rt.alloc(), &found)?.as_slice(),
         [(0, 1, false), (0, 2, true)].as_slice()
+    );
+    Ok(())
+}
+
+/// What is taken of what was judged elsewhere on these terms, where another policy is in force by then, or the same one.
+fn taken(alloc: Global, text: &str) -> Result<Option<Shares>, Fail> {
+    let read = Session::new(alloc).apply(FLOW)?;
+    let served = [
+        Served {
+            sub: 1,
+            name: "acme",
+        },
+        Served {
+            sub: 2,
+            name: "beta",
+        },
+    ];
+    if read.records.len() > 1 {
+        return Err(Fail::new("more than one record"));
+    }
+    let before = InForce::since(alloc, Policy::parse(alloc, POLICY)?, 0)?;
+    let terms = Arc::new(alloc, Terms::of(alloc, &before, &served)?)?;
+    let judgement = Workspace::new().judge(alloc, &terms, 7, &read.records)?;
+    let now = InForce::since(alloc, Policy::parse(alloc, text)?, 0)?;
+    Ok(judgement.shares_by(&now, &served))
+}
+
+#[test]
+fn judged_elsewhere(rt: HostRuntime) -> Result<(), Fail> {
+    match taken(rt.alloc(), POLICY)? {
+        Some(found) => assert_eq!(rt;
+            counts(rt.alloc(), &found)?.as_slice(),
+            [(1, 1), (2, 0)].as_slice()
+        ),
+        None => assert!(rt; false, "the same policy"),
+    }
+    assert!(rt;
+        taken(
+            rt.alloc(),
+            "policy 1\nrule for acme in * from * to * pass\n"
+        )?
+        .is_none(),
+        "another policy"
     );
     Ok(())
 }

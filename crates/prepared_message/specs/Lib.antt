@@ -3,6 +3,7 @@ pub use Rattle.ipfix_session.specs.Meaning
 pub use Rattle.ipfix_session.specs.Standing
 pub use Rattle.ipfix_session.specs.Unchanging
 pub use Rattle.ipfix_session.specs.ReadAhead
+pub use Rattle.record_sharing.specs.Judgements
 pub mod SetIds
 pub mod Uses
 pub mod Preparation

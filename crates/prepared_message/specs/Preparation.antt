@@ -1,11 +1,13 @@
 -- A message that was read outside its session.
-use Rattle.std.specs.Prelude.{◌≡◌, ℕ, List, Option, Ok, length}
+use Rattle.std.specs.Prelude.{◌≡◌, ℕ, List, Option, Ok, IfSome, length}
 use Rattle.ipfix_template.specs.declared.template.Template.{Template}
 use Rattle.ipfix_message.specs.declared.header.Header.{Header}
 use Rattle.ipfix_message.specs.Reading.{header_of}
 use Rattle.ipfix_session.specs.Contents.{Contents}
 use Rattle.ipfix_session.specs.Meaning.{domain_of, contents_of}
 use Rattle.ipfix_session.specs.Unchanging.{HasNoTemplates}
+use Rattle.record_sharing.specs.Judgements.{IsJudgementOf}
+use Rattle.record_sharing.specs.declared.judgement.Judgement.{Judgement}
 use Rattle.prepared_message.specs.Uses.{AreInForce}
 
 -- the message, what it was found to hold, and the IDs of its Data Sets with the templates by which it was read
@@ -28,3 +30,7 @@ pub record IsKept (p : Preparation) (header : Header) (count : ℕ) : Type 0 whe
   pub prepared : IsPrepared p
   pub headed : header_of p.message ≡ header
   pub counted : length p.contents.records ≡ count
+
+-- what was judged of the records, if it was
+abbrev pub IsJudged : Header → Contents → Option Judgement → Type 0
+IsJudged header contents judgement = IfSome judgement (IsJudgementOf header.domain contents.records)

@@ -1,10 +1,11 @@
 //! Messages that are read outside their session: against a snapshot of its templates, and taken in later.
 //!
 //! It reads no template and changes none: a message that has a set of templates is refused, and goes to the session itself.
+//! Where the snapshot has terms on which records are shared, it judges the records too; what it judged changes no answer.
 //!
-//! - [`snapshot`]: `Snapshot`, the templates of a session as they stood.
+//! - [`snapshot`]: `Snapshot`, the templates of a session as they stood, and terms.
 //! - [`prepared`]: `Prepared`, a message that was read against a snapshot: `prepare`; `apply_to` and `reading_in` for the
-//!   session that takes it in.
+//!   session that takes it in; `take_judgement`, what was judged.
 //! - [`fault`]: `PrepareFault` and `ApplyFault`, why a message is not prepared, and why it is not taken in.
 //! - `found`: what is found in a message by the snapshot's templates.
 //! - `sets`: whether a message has a set of templates.
@@ -16,6 +17,7 @@
 //! session then stands for it too (`stands`); `reading_in` gives what `Session::read` gives (`reading`). Both answer Stale
 //! only where an ID of the message has another template, or none, in the session (`stale`), and where they answer a fault
 //! nothing has changed (`err`).
+//! What `take_judgement` gives are the shares of the message's records by the terms of which it speaks (`judgement`).
 #![tactic(auto)]
 
 pub mod fault;

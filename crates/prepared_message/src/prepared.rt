@@ -1,11 +1,12 @@
 //! A message that was read against a snapshot.
-ghost use Rattle.std.specs.Prelude.{◌≡◌, ◌↔◌, ℕ, List, ◌∷◌, Ok, IsTrue, IfOk, OnOk, OnErr};
-ghost use Rattle.ipfix_session.specs.Answers.{shown};
-ghost use Rattle.ipfix_session.specs.Meaning.{meaning_of};
+ghost use Rattle.std.specs.Prelude.{◌≡◌, ◌≤◌, ◌^◌, ◌↔◌, ℕ, List, ◌∷◌, Ok, IsTrue, IfOk, IfSome, OnOk, OnErr, length};
+ghost use Rattle.ipfix_session.specs.Answers.{held, shown};
+ghost use Rattle.ipfix_session.specs.Meaning.{domain_of, meaning_of};
 ghost use Rattle.ipfix_session.specs.ReadAhead.{IsReadingOf};
 ghost use Rattle.ipfix_session.specs.Standing.{StandsFor, Knows};
 ghost use Rattle.prepared_message.specs.Faults.{Gives, IsStaleOnly, prepared_from};
-ghost use Rattle.prepared_message.specs.Preparation.{AgreesWith, IsPrepared};
+ghost use Rattle.prepared_message.specs.Preparation.{AgreesWith, IsPrepared, IsJudged};
+ghost use Rattle.record_sharing.specs.Judgements.{IsJudgementOf};
 ghost use Rattle.prepared_message.specs.Uses.{TablesAgree};
 
 use crate::fault::{ApplyFault, PrepareFault};
@@ -16,11 +17,14 @@ use bytes::Bytes;
 use ipfix_message::Header;
 use ipfix_session::{Contents, Read, Reading, Session};
 use record_runs::Records;
+use record_sharing::{Judgement, Workspace};
+use std::alloc::{AllocError, Global};
 use std::marker::Model;
 
 /// A message without a set of templates that was read against a snapshot, with the templates that it used. Its type keeps
 /// that it holds what was read wherever these templates are in force. Contracts see the message, its contents and the
-/// templates used, and say by `AgreesWith` after which messages these are in force.
+/// templates used, and say by `AgreesWith` after which messages these are in force. What was judged of its records shows in
+/// none of its answers.
 pub struct Prepared {
     message: Bytes,
     header: Header,
@@ -28,6 +32,7 @@ pub struct Prepared {
     /// How many records there are.
     count: u32,
     uses: Vec<Used>,
+    judgement: Option<Judgement>,
 }
 
 impl Drop for Prepared {
@@ -39,6 +44,7 @@ impl Drop for Prepared {
             contents: _,
             count: _,
             uses: _,
+            judgement: _,
         } = self;
     }
 }
@@ -52,15 +58,17 @@ impl Model for Prepared {
     ghost use Rattle.ipfix_message.specs.Reading.{header_of};
     ghost use Rattle.ipfix_session.specs.Answers.{held};
     ghost use Rattle.prepared_message.specs.Seen.{seen};
-    ghost use Rattle.prepared_message.specs.Preparation.{IsKept};
+    ghost use Rattle.prepared_message.specs.Preparation.{IsKept, IsJudged};
 
     ghost view = { λ p. record { message = p.message; contents = held p.contents; used = map seen p.uses.items } };
 
-    ghost invariant = { λ p. IsKept (record { message = p.message; contents = held p.contents; used = map seen p.uses.items }) p.header p.count };
+    ghost invariant = { λ p. IsKept (record { message = p.message; contents = held p.contents; used = map seen p.uses.items }) p.header p.count
+        × IsJudged p.header (held p.contents) p.judgement };
 }
 
 impl Prepared {
-    /// Reads a message against a snapshot. The values of its records are cut from the message, and not copied.
+    /// Reads a message against a snapshot. The values of its records are cut from the message, and not copied. Where the
+    /// snapshot has terms, the records are judged on them too.
     ///
     /// # Errors
     /// HasTemplates where the octets are a message with a Set 2 or 3; Malformed where they are no message, or a data
@@ -73,18 +81,38 @@ impl Prepared {
         ensures used { IfOk result (λ p. (older : List (List ℕ)) → AgreesWith older p ↔ TablesAgree snapshot.now older message) }
         ensures prepared { IfOk result IsPrepared }
     {
+        Prepared::prepare_in(snapshot, message, &mut Workspace::new())
+    }
+
+    /// The same, with what the thread worked out for the messages that it prepared before.
+    ///
+    /// # Errors
+    /// Those of [`prepare`](Prepared::prepare).
+    pub fn prepare_in(
+        snapshot: &Snapshot,
+        message: Bytes,
+        workspace: &mut Workspace,
+    ) -> Result<Prepared, PrepareFault>
+        ensures gives { (older : List (List ℕ)) → Knows snapshot.now older → Gives (λ p. p.contents) result (prepared_from older message) }
+        ensures whole { IfOk result (λ p. p.message ≡ message) }
+        ensures used { IfOk result (λ p. (older : List (List ℕ)) → AgreesWith older p ↔ TablesAgree snapshot.now older message) }
+        ensures prepared { IfOk result IsPrepared }
+    {
         let Found {
             header,
             contents,
             uses,
         } = read_by(&snapshot.templates, &message)?;
         let count = contents.records.len();
+        let alloc = snapshot.templates.allocator();
+        let judgement = judged(alloc, snapshot, workspace, &header, &contents)?;
         Ok(Prepared {
             message,
             header,
             contents,
             count: count as u32,
             uses,
+            judgement,
         })
     }
 
@@ -106,8 +134,17 @@ impl Prepared {
             contents: _,
             count: _,
             uses: _,
+            judgement: _,
         } = self;
         message
+    }
+
+    /// What was judged of the records on the snapshot's terms, if it wasn't taken yet. It takes no memory.
+    pub fn take_judgement(&mut self) -> Option<Judgement>
+        ensures judgement { IfSome result (IsJudgementOf (domain_of self.old.message) self.old.contents.records) }
+        ensures same { self.new ≡ self.old }
+    {
+        self.judgement.take()
     }
 
     /// Takes the message in as the session's next one, and answers what it means: as [`Session::apply`] does on it.
@@ -141,6 +178,8 @@ impl Prepared {
     /// Stale as for [`apply_to`](Prepared::apply_to); or want of memory.
     pub fn reading_in(&self, session: &Session) -> Result<Reading, ApplyFault>
         ensures reading { (older : List (List ℕ)) → StandsFor session.now older → IfOk result (IsReadingOf older self.now.message) }
+        ensures domain { IfOk result (λ r. r.meaning.header.domain ≡ domain_of self.now.message) }
+        ensures records { IfOk result (λ r. r.meaning.records ≡ self.now.contents.records) }
         ensures stale { (older : List (List ℕ)) → StandsFor session.now older → IsStaleOnly result (AgreesWith older self.now) }
     {
         let records = self.records_in(session)?;
@@ -168,5 +207,28 @@ impl Prepared {
         ensures prepared { IsPrepared self.now }
     {
         are_in_force(&self.uses, self.header.domain, session)
+    }
+}
+
+/// What is judged of a message's records on the snapshot's terms, where it has some.
+///
+/// # Errors
+/// Want of memory.
+fn judged(
+    alloc: Global,
+    snapshot: &Snapshot,
+    workspace: &mut Workspace,
+    header: &Header,
+    contents: &Contents,
+) -> Result<Option<Judgement>, AllocError>
+    requires few { length contents.now.records ≤ 2 ^ 32 }
+    ensures { IfOk result (IsJudged header.now (held contents.now)) }
+{
+    match &snapshot.terms {
+        Some(terms) => {
+            let records = &contents.records;
+            Ok(Some(workspace.judge(alloc, terms, header.domain, records)?))
+        }
+        None => Ok(None),
     }
 }

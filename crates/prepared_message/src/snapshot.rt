@@ -3,20 +3,27 @@ ghost use Rattle.std.specs.Prelude.{◌≡◌, ℕ, List, IfOk};
 ghost use Rattle.ipfix_session.specs.Standing.{StandsFor, Knows};
 
 use ipfix_session::{Session, Templates};
+use record_sharing::Terms;
 use std::alloc::AllocError;
 use std::marker::Model;
+use std::sync::Arc;
 
-/// The templates of a session as they stood when it was made. Messages are prepared against it while the session goes
-/// its own way. Contracts see the list of domains with the templates of each, and say by `Knows` after which messages
-/// they are in force.
+/// The templates of a session as they stood when it was made, and the terms on which records were shared then, if it was
+/// given some. Messages are prepared against it while the session and the policy go their own way. Contracts see the list
+/// of domains with the templates of each, and say by `Knows` after which messages they are in force; the terms change no
+/// answer, since what was judged by them is taken only where they still hold.
 pub struct Snapshot {
     pub(crate) templates: Templates,
+    pub(crate) terms: Option<Arc<Terms>>,
 }
 
 impl Drop for Snapshot {
     // Written out: a derived one is proved anew in each crate that drops such a value.
     fn drop(self) {
-        let Snapshot { templates: _ } = self;
+        let Snapshot {
+            templates: _,
+            terms: _,
+        } = self;
     }
 }
 
@@ -42,6 +49,21 @@ impl Snapshot {
     {
         Ok(Snapshot {
             templates: session.templates()?,
+            terms: None,
         })
+    }
+
+    /// The same, by which messages are judged too, on these terms. It takes no memory.
+    pub fn with_terms(self, terms: Arc<Terms>) -> Snapshot
+        ensures { result ≡ self }
+    {
+        let Snapshot {
+            templates,
+            terms: _,
+        } = self;
+        Snapshot {
+            templates,
+            terms: Some(terms),
+        }
     }
 }

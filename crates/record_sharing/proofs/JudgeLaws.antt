@@ -17,12 +17,12 @@ use Rattle.live_subscriptions.specs.Table.{shown}
 use Rattle.record_sharing.specs.Sharing.{blank}
 use Rattle.record_sharing.specs.Judges.{Judges, for_of, given_to, plans_for, of_template, JudgeFor, JudgesAny, AreReady, AreFor, whose, emptied, is_of}
 
-got_map : {A B : Type 0} (f : A → B) (xs : List A) (n : ℕ) (x other : A) → n < length xs → x ≡ get_or xs n other → slice_get (map f xs) n ≡ Some (f x)
+pub got_map : {A B : Type 0} (f : A → B) (xs : List A) (n : ℕ) (x other : A) → n < length xs → x ≡ get_or xs n other → slice_get (map f xs) n ≡ Some (f x)
 got_map f [] n x other l at = absurd (omega arith)
 got_map f (y ∷ ys) zero x other l at = ap (λ z. Some (f z)) (sym at)
 got_map f (y ∷ ys) (suc n) x other l at = got_map f ys n x other (omega (arith, l)) at
 
-map_twice : {A B C : Type 0} (f : A → B) (g : B → C) (xs : List A) → map g (map f xs) ≡ map (λ x. g (f x)) xs
+pub map_twice : {A B C : Type 0} (f : A → B) (g : B → C) (xs : List A) → map g (map f xs) ≡ map (λ x. g (f x)) xs
 map_twice f g [] = refl
 map_twice f g (x ∷ xs) = ap (λ ys. g (f x) ∷ ys) (map_twice f g xs)
 

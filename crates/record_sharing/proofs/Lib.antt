@@ -1,3 +1,4 @@
 pub mod SharingLaws
 pub mod KeyLaws
 pub mod JudgeLaws
+pub mod TermsLaws

@@ -11,3 +11,5 @@ pub use Rattle.flow_anonymize.specs.Classes
 pub mod InForce
 pub mod Sharing
 pub mod Judges
+pub mod Terms
+pub mod Judgements

@@ -1,32 +1,25 @@
 //! What decides over the records of a message.
-ghost use Rattle.std.specs.Prelude.{◌≡◌, ◌++◌, ◌∷◌, true, None, map, IfOk, IfSome};
+ghost use Rattle.std.specs.Prelude.{◌≡◌, ◌↔◌, ◌++◌, ◌∷◌, IsTrue, None, map, IfOk, IfSome};
 ghost use Rattle.std.specs.Prelude.{List};
-ghost use Rattle.std.specs.List.{All, AllByRecursion};
+ghost use Rattle.std.specs.List.{All};
 ghost use Rattle.policy_text.specs.declared.rule.Rule.{Rule};
 ghost use Rattle.record_sharing.specs.Judges.{AreReady};
-ghost use Rattle.ipfix_element.specs.Kinds.{kind_of};
-ghost use Rattle.policy_text.specs.Classes.{is_key_kind};
 ghost use Rattle.policy_text.specs.Policies.{nothing};
 
 use crate::judges::{Judges, place_for};
-use address_classes::AddressClasses;
-use flow_aggregate::{Count, Definition, Timing, judge_time};
+use crate::revision::Revision;
+use flow_aggregate::{Count, Timing, judge_time};
 use ipfix_template::Record;
 use live_subscriptions::Served;
-use policy_text::{AggregateDef, Policy};
+use policy_text::Policy;
 use record_runs::Run;
-use rule_table::RuleTable;
 use std::alloc::{AllocError, Global};
 use std::marker::Model;
 use std::sync::Arc;
 
-/// The policy in force, and the time to which the clock was advanced. The policy's rules are kept in a table too, with the classes
-/// that their prefixes make, its aggregates as groups share them, and what was worked out for the messages that came last.
+/// The policy in force, and the time to which the clock was advanced; with what was worked out for the messages that came last.
 pub struct InForce {
-    policy: Policy,
-    table: Arc<RuleTable>,
-    classes: Arc<AddressClasses>,
-    definitions: Vec<Definition>,
+    revision: Arc<Revision>,
     clock: u64,
     /// What judged the last messages, for those to come.
     judges: Vec<Judges>,
@@ -36,10 +29,7 @@ impl Drop for InForce {
     // Written out: a derived one is proved anew in each crate that drops such a value.
     fn drop(self) {
         let InForce {
-            policy: _,
-            table: _,
-            classes: _,
-            definitions: _,
+            revision: _,
             clock: _,
             judges: _,
         } = self;
@@ -55,14 +45,14 @@ const MOST_PLANS: usize = 8192;
 impl Model for InForce {
     ghost use Rattle.std.specs.List.{All};
     ghost use Rattle.std.specs.Arc.{arc_value};
-    ghost use Rattle.record_sharing.specs.InForce.{InForce, in_force_with, IsKept};
+    ghost use Rattle.record_sharing.specs.InForce.{InForce, in_force_with};
     ghost use Rattle.record_sharing.specs.Judges.{AreReady};
 
     ghost Value = { InForce };
 
-    ghost view = { λ f. in_force_with f.policy f.clock };
+    ghost view = { λ f. in_force_with (arc_value f.revision) f.clock };
 
-    ghost invariant = { λ f. IsKept f.policy (arc_value f.table) (arc_value f.classes) f.definitions.items × All (AreReady f.policy.rules) f.judges.items };
+    ghost invariant = { λ f. All (AreReady (arc_value f.revision).rules) f.judges.items };
 }
 
 impl InForce {
@@ -90,19 +80,33 @@ impl InForce {
     pub fn since(alloc: Global, policy: Policy, clock: u64) -> Result<InForce, AllocError>
         ensures { IfOk result (λ f. f ≡ in_force_with policy clock) }
     {
-        // The kinds of a key's elements are kept by the type of policies.
-        let _rules = policy.rules();
-        let definitions = definitions_of(alloc, policy.aggregates())?;
-        let table = RuleTable::build(alloc, &policy)?;
-        let classes = AddressClasses::of_rules(alloc, policy.rules())?;
+        let revision = Revision::of(alloc, policy)?;
         Ok(InForce {
-            policy,
-            table: Arc::new(alloc, table)?,
-            classes: Arc::new(alloc, classes)?,
-            definitions,
+            revision: Arc::new(alloc, revision)?,
             clock,
             judges: Vec::new(alloc),
         })
+    }
+
+    /// The same for another thread, with nothing worked out yet.
+    ///
+    /// # Errors
+    /// Want of memory.
+    pub(crate) fn share(&self, alloc: Global) -> Result<InForce, AllocError>
+        ensures { IfOk result (λ f. f ≡ self.now) }
+    {
+        Ok(InForce {
+            revision: self.revision.clone()?,
+            clock: self.clock,
+            judges: Vec::new(alloc),
+        })
+    }
+
+    /// Whether the policies are the same.
+    pub(crate) fn has_policy_of(&self, other: &InForce) -> bool
+        ensures { IsTrue result ↔ self.now.policy ≡ other.now.policy }
+    {
+        self.revision.is_same(&other.revision)
     }
 
     /// What decides over the records of a message of this observation domain, for these subscriptions, which were given nothing yet:
@@ -162,7 +166,7 @@ impl InForce {
         ensures judges { IfOk result (λ judges. JudgeFor judges self.now domain None served.now) }
         ensures shares { IfOk result (λ judges. judges.shares ≡ map blank served.now) }
     {
-        let (table, classes) = (self.table.clone()?, self.classes.clone()?);
+        let (table, classes) = self.revision.table()?;
         let mut judges = Judges::new(alloc, table, classes, domain);
         'served: for who in served {
             judges.add(alloc, who.sub, who.name)?;
@@ -188,7 +192,7 @@ impl InForce {
     pub(crate) fn timing(&self, place: usize, flow_record: &Record) -> Timing
         ensures { result ≡ timing_by self.now place flow_record.now }
     {
-        match self.policy.aggregates().get(place) {
+        match self.revision.aggregate(place) {
             Some(definition) => judge_time(definition, flow_record, self.clock),
             None => Timing::NoTime,
         }
@@ -209,7 +213,7 @@ impl InForce {
         let Timing::Placed { .. } = self.timing(place, flow_record) else {
             return Ok(None);
         };
-        match self.definitions.get(place) {
+        match self.revision.definition(place) {
             Some(definition) => Ok(Some(Count::of(alloc, definition, flow_record)?)),
             None => Ok(None),
         }
@@ -223,15 +227,4 @@ fn make_room(kept: &mut Vec<Judges>, subscriptions: usize)
     if kept.len() >= MOST_KEPT || kept.len().saturating_mul(subscriptions) >= MOST_PLANS {
         kept.clear();
     }
-}
-
-fn definitions_of(alloc: Global, aggregates: &[AggregateDef]) -> Result<Vec<Definition>, AllocError>
-    requires { AllByRecursion (λ a. AllByRecursion (λ e. is_key_kind (kind_of e) ≡ true) a.key) aggregates.now }
-    ensures { IfOk result (λ v. v.items ≡ aggregates.now) }
-{
-    let mut definitions = Vec::new(alloc);
-    for definition in aggregates {
-        definitions.push(Definition::of(alloc, definition)?)?;
-    }
-    Ok(definitions)
 }

@@ -11,7 +11,7 @@ returns-clause-means c = λ older stands.
     let p = c.args.self.now in
     let h = c.self.inside.header in
     let gap = c.in_ok-gap.gap in
-    let kept : IsKept p h c.self.inside.count = subst (λ (q : Preparation). IsKept q h c.self.inside.count) c.self.view_is c.self.invariant in
+    let kept : IsKept p h c.self.inside.count = subst (λ (q : Preparation). IsKept q h c.self.inside.count) c.self.view_is c.self.invariant.0 in
     let agrees : AgreesWith older p = c.in_ok-records.ensures.agrees older stands in
     is_meant older p h c.self.inside.count gap kept agrees (c.in_ok-gap.ensures.gap older stands)
     ∙ ap (λ (rs : List DataRecord). meaning_as (record { records = rs; skips = p.contents.skips }) h gap) (sym c.in_ok-records.ensures.records)
@@ -21,7 +21,7 @@ pub returns-clause-stands : goal.returns-clause-stands
 returns-clause-stands c = λ older stands.
     let p = c.args.self.now in
     let h = c.self.inside.header in
-    let kept : IsKept p h c.self.inside.count = subst (λ (q : Preparation). IsKept q h c.self.inside.count) c.self.view_is c.self.invariant in
+    let kept : IsKept p h c.self.inside.count = subst (λ (q : Preparation). IsKept q h c.self.inside.count) c.self.view_is c.self.invariant.0 in
     let agrees : AgreesWith older p = c.in_ok-records.ensures.agrees older stands in
     c.in_ok-gap.ensures.stands older p.message p.contents stands kept.headed kept.prepared.no_templates (kept.prepared.holds older agrees) kept.counted
     (ap (λ (q : Preparation). not (eqb q.contents.skips.unknown 0)) c.self.view_is)

@@ -1,4 +1,5 @@
 use Rattle.std.proofs.Common.{◌<◌, List, length, slice_get, sym, ap, subst, ◌∙◌, arith}
+use Rattle.std.specs.Arc.{arc_value}
 use Rattle.policy_text.specs.declared.rule.Rule.{Rule}
 use Rattle.record_sharing.specs.InForce.{InForce}
 use Rattle.record_sharing.specs.Judges.{Judges, AreReady, AreFor}
@@ -12,7 +13,7 @@ there c = omega (arith, c.in_ok-place.ensures.within, ap length c.deref.ensures.
 ready : (c : goal.After-remove) → AreReady c.args.self.now.policy.rules c.remove.result
 ready c =
     subst (λ (rules : List Rule). AreReady rules c.remove.result) (ap (λ (f : InForce). f.policy.rules) c.self.view_is)
-    (subst (AreReady c.self.inside.policy.rules) (sym c.remove.ensures.value) (c.self.invariant.1 c.in_ok-place.place c.remove.result (there c)))
+    (subst (AreReady (arc_value c.self.inside.revision).rules) (sym c.remove.ensures.value) (c.self.invariant c.in_ok-place.place c.remove.result (there c)))
 
 -- and is for these
 for_these : (c : goal.After-remove) → AreFor c.remove.result c.args.domain c.args.served.now

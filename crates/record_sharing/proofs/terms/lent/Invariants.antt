@@ -1,0 +1,7 @@
+use Rattle.std.proofs.Common.{◌≡◌, map, take}
+use Rattle.live_subscriptions.specs.Table.{told}
+use Rattle.record_sharing.specs.Terms.{owned}
+use Rattle.record_sharing.proofs.terms.lent.Given as goal
+
+abbrev pub invariant-subscribers : goal.invariant-subscribers
+invariant-subscribers l = map told l.served.items ≡ map owned (take l.who-index l.subscribers)

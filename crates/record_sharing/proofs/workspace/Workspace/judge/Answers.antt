@@ -1,0 +1,13 @@
+use Rattle.std.proofs.Common.{map, sym, ap, ◌∙◌}
+use Rattle.std.specs.Arc.{arc_value}
+use Rattle.live_subscriptions.specs.Table.{told}
+use Rattle.record_sharing.specs.Terms.{Terms}
+use Rattle.record_sharing.proofs.TermsLaws.{judged_alike}
+use Rattle.record_sharing.proofs.workspace.Workspace.judge.Goals as goal
+
+pub returns-clause-judgement : goal.returns-clause-judgement
+returns-clause-judgement c = λ f served is.
+    let shares = c.in_ok-shares.ensures in
+    judged_alike c.args.domain c.args.records.now c.in_ok-in_force.in_force c.deref-3.result.now (arc_value c.args.terms.now) c.in_ok-shares.shares
+    (ap (λ (t : Terms). t.in_force) (sym c.deref.ensures) ∙ sym c.in_ok-in_force.ensures) (ap (map told) c.deref-3.ensures.value ∙ c.in_ok-served.ensures ∙ ap (λ (t : Terms). t.served) c.deref-2.ensures)
+    (record { shares_are = shares.shares; tallies_are = shares.tallies; notes_are = shares.notes }) f served (sym c.in_ok-clone.ensures.cases ∙ is)

@@ -1,0 +1,17 @@
+-- The terms on which a message's records are shared. All of this is this project's own rule.
+use Rattle.std.specs.Prelude.{ℕ, List, map, string_bytes}
+use Rattle.live_subscriptions.specs.declared.served.Served.{Served}
+use Rattle.live_subscriptions.specs.Table.{told}
+use Rattle.record_sharing.specs.InForce.{InForce}
+use Rattle.record_sharing.specs.declared.terms.Subscriber.{Subscriber}
+
+-- what is in force, and the numbers and names of those that are served
+pub record Terms : Type 0 where
+  pub in_force : InForce
+  pub served : List (ℕ × List ℕ)
+
+abbrev pub owned : Subscriber → ℕ × List ℕ
+owned s = (s.sub, string_bytes s.name)
+
+abbrev pub terms_of : InForce → List Served → Terms
+terms_of f served = record { in_force = f; served = map told served }

@@ -1,0 +1,36 @@
+//! What was judged of a message's records elsewhere.
+ghost use Rattle.std.specs.Prelude.{◌≡◌, ◌↔◌, ℕ, List, IsSome, IfSome};
+ghost use Rattle.std.specs.Arc.{arc_value};
+ghost use Rattle.ipfix_template.specs.DataRecord.{DataRecord};
+ghost use Rattle.record_sharing.specs.Terms.{terms_of};
+ghost use Rattle.record_sharing.specs.Judgements.{AreSharesOf, IsJudgementOf};
+
+use crate::in_force::InForce;
+use crate::shares::Shares;
+use crate::terms::Terms;
+use live_subscriptions::Served;
+use std::sync::Arc;
+
+/// The shares of a message's records, with the terms by which they were judged. Contracts say by `IsJudgementOf` of which records
+/// they are.
+#[derive(Drop)]
+pub struct Judgement {
+    pub(crate) terms: Arc<Terms>,
+    pub(crate) shares: Shares,
+}
+
+impl Judgement {
+    /// The shares, where they were judged by what is in force, for these subscriptions. Nothing is judged.
+    pub fn shares_by(self, in_force: &InForce, served: &[Served<'_>]) -> Option<Shares>
+        ensures due { IsSome result ↔ arc_value self.terms ≡ terms_of in_force.now served.now }
+        ensures shares { (domain : ℕ) (records : List DataRecord) → IsJudgementOf domain records self
+            → IfSome result (AreSharesOf domain records in_force.now served.now) }
+    {
+        let Judgement { terms, shares } = self;
+        if terms.are(in_force, served) {
+            Some(shares)
+        } else {
+            None
+        }
+    }
+}

@@ -1,0 +1,125 @@
+//! What decides over a message's records for all that are served.
+ghost use Rattle.std.specs.Prelude.{◌≡◌, ◌↔◌, IsTrue, IfOk, map, length};
+ghost use Rattle.live_subscriptions.specs.Table.{told};
+ghost use Rattle.record_sharing.specs.Terms.{terms_of, owned};
+
+use crate::in_force::InForce;
+use live_subscriptions::Served;
+use std::alloc::{AllocError, Global};
+use std::marker::Model;
+
+/// The terms on which records are shared: the policy in force, the time of the clock, and the subscriptions that are served, as they
+/// stood when it was made. Threads can judge by it while the mediator goes its own way.
+pub struct Terms {
+    pub(crate) in_force: InForce,
+    served: Vec<Subscriber>,
+}
+
+/// A subscription that is served.
+#[derive(Drop)]
+pub(crate) struct Subscriber {
+    pub(crate) sub: u64,
+    pub(crate) name: String,
+}
+
+impl Drop for Terms {
+    // Written out: a derived one is proved anew in each crate that drops such a value.
+    fn drop(self) {
+        let Terms {
+            in_force: _,
+            served: _,
+        } = self;
+    }
+}
+
+impl Model for Terms {
+    ghost use Rattle.std.specs.Prelude.{map};
+    ghost use Rattle.record_sharing.specs.Terms.{Terms, owned};
+
+    ghost Value = { Terms };
+
+    ghost view = { λ t. record { in_force = t.in_force; served = map owned t.served.items } };
+}
+
+impl Terms {
+    /// What is in force, and these subscriptions.
+    ///
+    /// # Errors
+    /// Want of memory.
+    pub fn of(alloc: Global, in_force: &InForce, served: &[Served<'_>]) -> Result<Terms, AllocError>
+        ensures { IfOk result (λ terms. terms ≡ terms_of in_force.now served.now) }
+    {
+        let mut subscribers = Vec::new(alloc);
+        'served: for who in served {
+            subscribers.push(Subscriber {
+                sub: who.sub,
+                name: String::from_str(alloc, who.name)?,
+            })?;
+        }
+        Ok(Terms {
+            in_force: in_force.share(alloc)?,
+            served: subscribers,
+        })
+    }
+
+    /// Whether these are the terms of what is in force and these subscriptions. All is compared, so terms of another mediator are
+    /// told apart too.
+    pub fn are(&self, in_force: &InForce, served: &[Served<'_>]) -> bool
+        ensures { IsTrue result ↔ self.now ≡ terms_of in_force.now served.now }
+    {
+        self.in_force.clock() == in_force.clock()
+            && are_those(&self.served, served)
+            && self.in_force.has_policy_of(in_force)
+    }
+
+    /// The subscriptions.
+    ///
+    /// # Errors
+    /// Want of memory.
+    pub(crate) fn served(&self, alloc: Global) -> Result<Vec<Served<'_>>, AllocError>
+        ensures { IfOk result (λ served. map told served.items ≡ self.now.served) }
+    {
+        lent(alloc, &self.served)
+    }
+}
+
+/// Subscribers as they are lent.
+///
+/// # Errors
+/// Want of memory.
+fn lent<'a>(alloc: Global, subscribers: &'a [Subscriber]) -> Result<Vec<Served<'a>>, AllocError>
+    ensures { IfOk result (λ served. map told served.items ≡ map owned subscribers.now) }
+{
+    let mut served = Vec::new(alloc);
+    'subscribers: for who in subscribers {
+        served.push(Served {
+            sub: who.sub,
+            name: who.name.as_str(),
+        })?;
+    }
+    Ok(served)
+}
+
+/// Whether these are the subscriptions, with these numbers and names, in this order.
+fn are_those(subscribers: &[Subscriber], served: &[Served<'_>]) -> bool
+    ensures { IsTrue result ↔ map owned subscribers.now ≡ map told served.now }
+{
+    if subscribers.len() != served.len() {
+        return false;
+    }
+    'subscribers: for place in 0..subscribers.len() {
+        if !subscribers[place].is(&served[place]) {
+            return false;
+        }
+    }
+    true
+}
+
+impl Subscriber {
+    /// Whether it is this subscription.
+    fn is(&self, who: &Served<'_>) -> bool
+        ensures { IsTrue result ↔ owned self.now ≡ told who.now }
+    {
+        self.sub == who.sub && self.name.as_bytes() == who.name.as_bytes()
+    }
+}
