@@ -1,11 +1,11 @@
 -- Messages that are pulled and written one after another.
-use Rattle.std.proofs.Common.{◌≡◌, ℕ, ◌+◌, ◌-◌, ◌≤◌, ◌<◌, ◌^◌, Bool, true, false, List, [], ◌∷◌, ◌++◌, length, take, drop, Option, Some, None, refl, sym, ap, ◌∙◌, subst, arith, append-nil, append_assoc, length-append, get_or}
-use Rattle.std.specs.Prelude.{slice_get}
+use Rattle.std.proofs.Common.{◌≡◌, ℕ, zero, suc, ◌+◌, ◌-◌, ◌*◌, ◌≤◌, ◌<◌, ◌^◌, Bool, List, [], ◌∷◌, ◌++◌, length, take, drop, Option, Some, None, refl, sym, ap, ◌∙◌, subst, arith, append-nil, append_assoc, length-append, get_or}
 use Rattle.std.specs.List.{AllByRecursion}
 use Rattle.std.specs.Io.KnownBytes.{Appends}
 use Rattle.std.proofs.KnownBytes.{Appends-trans, Appends-nil}
-use Rattle.std.proofs.lemmas.List.{take-append-drop}
-use Rattle.std.proofs.lemmas.Option.{same_Some, slice_get-get_or}
+use Rattle.std.proofs.lemmas.List.{take-append-drop, take-append-le, take_more, take_all}
+use Rattle.std.proofs.lemmas.List.Concat.{flat_map-append, flat_map-cons}
+use Rattle.std.proofs.lemmas.Option.{same_Some}
 use Rattle.sequences.proofs.ListLaws.{take-add-append}
 use Rattle.octet_devices.specs.Written.{WritesFront}
 use Rattle.ipfix_template.specs.DataRecord.{DataRecord}
@@ -20,34 +20,11 @@ use Rattle.mediator_history.proofs.HistoryLaws.{flat_map-push}
 use Rattle.mediator_calls.specs.declared.handed.Handed.{Handed}
 use Rattle.mediator_calls.specs.declared.fault.PullFault.{PullFault}
 use Rattle.shared_mediator.specs.Locked.{Delivering}
-use Rattle.shared_mediator.specs.Handles.{IsBuilt, KeepsHanded}
+use Rattle.shared_mediator.specs.Handles.{IsBuilt, KeepsSome}
 use Rattle.mediator_server.specs.declared.fault.ServeFault.{ServeFault}
-use Rattle.mediator_server.specs.declared.fault.ServeFault.TheVariants.{Core}
+use Rattle.mediator_server.specs.declared.fault.ServeFault.TheVariants.{Write, Core}
 use Rattle.mediator_server.specs.Faults.{writer_after}
-use Rattle.mediator_server.specs.Delivering.{octets_of, IsDue, Pulls, Delivers, StopsInside, FailsToDeliver, IsLast, Fits, SendsLast, StopsSending}
-
--- ---- the last message
-
--- what is read at the last place is the last message
-pub last_at : (kept shown : List Handed) (d h : Handed) → 0 < length kept → shown ≡ kept → h ≡ get_or shown (length shown - 1) d → IsLast kept h
-last_at kept shown d h some is here = slice_get-get_or kept (length kept - 1) d (omega (arith, some)) ∙ ap Some (ap (λ t. get_or t (length t - 1) d) (sym is) ∙ sym here)
-
-pub one_last : (kept : List Handed) (h k : Handed) → IsLast kept h → IsLast kept k → k ≡ h
-one_last kept h k a b = same_Some k h (sym b ∙ a)
-
-slice_get_pushed : (before : List Handed) (h : Handed) → slice_get (before ++ h ∷ []) (length before) ≡ Some h
-slice_get_pushed [] h = refl
-slice_get_pushed (b ∷ before) h = slice_get_pushed before h
-
-pub last_pushed : (kept before : List Handed) (h : Handed) → kept ≡ before ++ h ∷ [] → IsLast kept h
-last_pushed kept before h is = ap (λ t. slice_get t (length t - 1)) is ∙ ap (slice_get (before ++ h ∷ [])) place ∙ slice_get_pushed before h
-  where
-    place : length (before ++ h ∷ []) - 1 ≡ length before
-    place = omega (arith, length-append before (h ∷ []))
-
--- where one message is the last, what is so of it is so of each that is
-pub of_last : (P : Handed → Type 0) (kept : List Handed) (h k : Handed) → IsLast kept h → P h → IsLast kept k → P k
-of_last P kept h k a p b = subst P (sym (one_last kept h k a b)) p
+use Rattle.mediator_server.specs.Delivering.{octets_of, IsDue, Pulls, Delivers, StopsInside, FailsToDeliver, Sends, StopsSending}
 
 -- ---- how long a message is
 
@@ -67,40 +44,58 @@ short_built records now target p m streamable below is = at (drop p (parts recor
         known = subst (AreKnown (after_parts empty (take p (parts records)))) e
             (known_split (take p (parts records)) (drop p (parts records)) empty (subst (AreKnown empty) (sym (take-append-drop p (parts records))) (parts_known records streamable))).1
 
--- ---- a message is pulled
+-- ---- messages are pulled
 
--- a message that is due is kept behind the others
-pub record Pulled (Shows : ℕ → Type 0) (target : ℕ) (old new : Delivering) : Type 0 where
-  pub message : Handed
-  pub due : IsDue Shows target message
+all_due : (Shows : ℕ → Type 0) (now target : ℕ) (messages : List Handed) → Shows now → AllByRecursion (IsBuilt now target) messages → AllByRecursion (IsDue Shows target) messages
+all_due Shows now target [] shown built = tt
+all_due Shows now target (h ∷ messages) shown built = (record { now = now; shown = shown; built = built.0 }, all_due Shows now target messages shown built.1)
+
+pub octets_more : (h : Handed) (messages : List Handed) → octets_of (h ∷ messages) ≡ h.message ++ octets_of messages
+octets_more h messages = flat_map-cons (λ k. k.message) h messages
+
+all_short : (now target : ℕ) (messages : List Handed) → target < 2 ^ 16 → AllByRecursion (IsBuilt now target) messages → length (octets_of messages) ≤ length messages * 65535
+all_short now target [] below built = omega arith
+all_short now target (h ∷ messages) below built =
+    let rest = all_short now target messages below built.1 in
+    let one = short_built built.0.listed now target built.0.place h.message built.0.streamable below built.0.message in
+    omega (arith, rest, one, ap length (octets_more h messages), length-append h.message (octets_of messages))
+
+-- messages that are due are kept behind the others
+pub record Pulled (Shows : ℕ → Type 0) (target : ℕ) (old new : Delivering) (messages : List Handed) : Type 0 where
+  pub due : AllByRecursion (IsDue Shows target) messages
   pub sub : new.sub ≡ old.sub
-  pub kept : new.kept ≡ old.kept ++ message ∷ []
-  pub short : length message.message < 65536
+  pub kept : new.kept ≡ old.kept ++ messages
+  pub short : length (octets_of messages) ≤ length messages * 65535
 
-pub pulled : (Shows : ℕ → Type 0) (now target : ℕ) (some_message : Bool) (old new : Delivering) → Shows now → target < 2 ^ 16 → some_message ≡ true → KeepsHanded old.kept now target some_message new.kept → new.sub ≡ old.sub
-    → Pulled Shows target old new
-pulled Shows now target some_message old new shown below is keeps same = of (subst (λ b. KeepsHanded old.kept now target b new.kept) is keeps)
-  where
-    of : (h : Handed) × IsBuilt now target h × (new.kept ≡ old.kept ++ h ∷ []) → Pulled Shows target old new
-    of k = record {
-      message = k.0;
-      due = record { now = now; shown = shown; built = k.1 };
-      sub = same;
-      kept = k.2;
-      short = short_built k.1.listed now target k.1.place k.0.message k.1.streamable below k.1.message;
-    }
-
-pub kept_same : (now target : ℕ) (some_message : Bool) (old new : Delivering) → some_message ≡ false → KeepsHanded old.kept now target some_message new.kept → new.kept ≡ old.kept
-kept_same now target some_message old new is keeps = subst (λ b. KeepsHanded old.kept now target b new.kept) is keeps
-
--- there is a message, and its octets can be counted
-pub pulled_some : (Shows : ℕ → Type 0) (target : ℕ) (old new : Delivering) → Pulled Shows target old new → 0 < length new.kept
-pulled_some Shows target old new p = omega (arith, ap length p.kept, length-append old.kept (p.message ∷ []))
-
-pub pulled_fits : (Shows : ℕ → Type 0) (target sent : ℕ) (old new : Delivering) → Pulled Shows target old new → sent ≤ 18446744073709486080 → Fits new.kept sent
-pulled_fits Shows target sent old new p few = record {
-  last = λ h is. of_last (λ k. sent + length k.message < 2 ^ 64) new.kept p.message h (last_pushed new.kept old.kept p.message p.kept) (omega (arith, few, p.short)) is;
+pub pulled : (Shows : ℕ → Type 0) (now target count : ℕ) (old new : Delivering) → Shows now → target < 2 ^ 16 → (k : KeepsSome old.kept now target count new.kept) → new.sub ≡ old.sub → Pulled Shows target old new k.messages
+pulled Shows now target count old new shown below k same = record {
+  due = all_due Shows now target k.messages shown k.built;
+  sub = same;
+  kept = k.kept;
+  short = all_short now target k.messages below k.built;
 }
+
+pub kept_same : (now target count : ℕ) (old new : Delivering) → count ≤ 0 → KeepsSome old.kept now target count new.kept → new.kept ≡ old.kept
+kept_same now target count old new none k = k.kept ∙ ap (λ t. old.kept ++ t) (empty k.messages (omega (arith, none, k.counted))) ∙ append-nil old.kept
+  where
+    empty : (hs : List Handed) → length hs ≡ 0 → hs ≡ []
+    empty [] l = refl
+    empty (h ∷ hs) l = absurd (omega (arith, l))
+
+-- those that were pulled stand behind as many as were there
+pub pulled_are : (before old shown new messages : List Handed) → before ≡ old → shown ≡ new → new ≡ old ++ messages → take (length shown - length before) (drop (length before) shown) ≡ messages
+pulled_are before old shown new messages was is kept =
+    ap (take (length shown - length before)) dropped ∙ take_all (length shown - length before) messages (omega (arith, ap length whole, ap length was, length-append old messages))
+  where
+    behind : (xs ys : List Handed) → drop (length xs) (xs ++ ys) ≡ ys
+    behind [] ys = refl
+    behind (x ∷ xs) ys = behind xs ys
+
+    whole : shown ≡ old ++ messages
+    whole = is ∙ kept
+
+    dropped : drop (length before) shown ≡ messages
+    dropped = ap (λ (xs : List Handed). drop (length xs) shown) was ∙ ap (drop (length old)) whole ∙ behind old messages
 
 -- ---- messages one after another
 
@@ -125,61 +120,136 @@ sends_same Shows target sent old d e held holds so kept sub = record {
   counted = so.counted;
 }
 
--- one was pulled
-pulls_on : (Shows : ℕ → Type 0) (target : ℕ) (old d e : Delivering) (messages : List Handed) → Pulls Shows target old d messages → (p : Pulled Shows target d e) → Pulls Shows target old e (messages ++ p.message ∷ [])
-pulls_on Shows target old d e messages so p = record {
+-- some were pulled
+all_behind : {X : Type 0} (P : X → Type 0) (xs ys : List X) → AllByRecursion P xs → AllByRecursion P ys → AllByRecursion P (xs ++ ys)
+all_behind P [] ys all then = then
+all_behind P (x ∷ xs) ys all then = (all.0, all_behind P xs ys all.1 then)
+
+pulls_on : (Shows : ℕ → Type 0) (target : ℕ) (old d e : Delivering) (messages more : List Handed) → Pulls Shows target old d messages → Pulled Shows target d e more → Pulls Shows target old e (messages ++ more)
+pulls_on Shows target old d e messages more so p = record {
   sub = p.sub ∙ so.sub;
-  kept = p.kept ∙ ap (λ t. t ++ p.message ∷ []) so.kept ∙ append_assoc old.kept messages (p.message ∷ []);
-  due = all_pushed (IsDue Shows target) messages p.message so.due p.due;
+  kept = p.kept ∙ ap (λ t. t ++ more) so.kept ∙ append_assoc old.kept messages more;
+  due = all_behind (IsDue Shows target) messages more so.due p.due;
 }
 
-octets_pushed : (messages : List Handed) (h : Handed) → octets_of (messages ++ h ∷ []) ≡ octets_of messages ++ h.message
-octets_pushed messages h = flat_map-push (λ k. k.message) messages h
+octets_joined : (messages more : List Handed) → octets_of (messages ++ more) ≡ octets_of messages ++ octets_of more
+octets_joined messages more = flat_map-append (λ k. k.message) messages more
 
 -- and written
-pub sends_on : (Shows : ℕ → Type 0) (target sent n : ℕ) (old d e : Delivering) (held holds writes : Option (List ℕ)) → Delivers Shows target sent old d held holds → Pulled Shows target d e → SendsLast e.kept sent n holds writes
-    → Delivers Shows target n old e held writes
-sends_on Shows target sent n old d e held holds writes so p sends = record {
-  messages = so.messages ++ p.message ∷ [];
-  pulls = pulls_on Shows target old d e so.messages so.pulls p;
-  written = subst (Appends held writes) (sym (octets_pushed so.messages p.message)) (Appends-trans held holds writes (octets_of so.messages) p.message.message so.written (sends.written p.message here));
-  counted = omega (arith, sends.counted p.message here, so.counted, ap length (octets_pushed so.messages p.message), length-append (octets_of so.messages) p.message.message);
+pub sends_on : (Shows : ℕ → Type 0) (target sent n : ℕ) (old d e : Delivering) (more : List Handed) (held holds writes : Option (List ℕ)) → Delivers Shows target sent old d held holds → Pulled Shows target d e more
+    → Sends (octets_of more) sent n holds writes → Delivers Shows target n old e held writes
+sends_on Shows target sent n old d e more held holds writes so p sends = record {
+  messages = so.messages ++ more;
+  pulls = pulls_on Shows target old d e so.messages more so.pulls p;
+  written = subst (Appends held writes) (sym (octets_joined so.messages more)) (Appends-trans held holds writes (octets_of so.messages) (octets_of more) so.written sends.written);
+  counted = omega (arith, sends.counted, so.counted, ap length (octets_joined so.messages more), length-append (octets_of so.messages) (octets_of more));
 }
-  where
-    here : IsLast e.kept p.message
-    here = last_pushed e.kept d.kept p.message p.kept
 
 -- ---- where it stops
 
--- the writer failed inside the message
-pub sends_inside : (f : ServeFault) (Shows : ℕ → Type 0) (target sent : ℕ) (old d e : Delivering) (held holds writes : Option (List ℕ)) (failed : Bool) → Delivers Shows target sent old d held holds → Pulled Shows target d e
-    → StopsSending f e.kept sent holds writes failed → FailsToDeliver f Shows target old e held writes failed
-sends_inside f Shows target sent old d e held holds writes failed so p stops = rw stops.is inside
-  where
-    front : WritesFront holds writes p.message.message stops.front failed
-    front = stops.inside p.message (last_pushed e.kept d.kept p.message p.kept)
+-- behind octets that were written the writer failed inside others
+front_behind : (before due : List ℕ) (front : ℕ) (held holds writes : Option (List ℕ)) (failed : Bool) → Appends held holds before → WritesFront holds writes due front failed
+    → WritesFront held writes (before ++ due) (length before + front) failed
+front_behind before due front held holds writes failed so stops = record {
+  short = omega (arith, stops.short, length-append before due);
+  written = subst (Appends held writes) (sym (take-add-append before due front)) (Appends-trans held holds writes before (take front due) so stops.written);
+  failed = stops.failed;
+}
 
+-- inside the messages that were pulled at once
+pub sends_inside : (f : ServeFault) (Shows : ℕ → Type 0) (target sent : ℕ) (old d e : Delivering) (more : List Handed) (held holds writes : Option (List ℕ)) (failed : Bool) → Delivers Shows target sent old d held holds → Pulled Shows target d e more
+    → length more ≤ 32 → StopsSending f (octets_of more) sent holds writes failed → FailsToDeliver f Shows target old e held writes failed
+sends_inside f Shows target sent old d e more held holds writes failed so p few stops = rw stops.is inside
+  where
     place : sent + stops.front ≡ length (octets_of so.messages) + stops.front
     place = ap (λ n. n + stops.front) so.counted
-
-    whole : WritesFront held writes (octets_of so.messages ++ p.message.message) (length (octets_of so.messages) + stops.front) failed
-    whole = record {
-      short = omega (arith, front.short, length-append (octets_of so.messages) p.message.message);
-      written = subst (Appends held writes) (sym (take-add-append (octets_of so.messages) p.message.message stops.front)) (Appends-trans held holds writes (octets_of so.messages) (take stops.front p.message.message) so.written front.written);
-      failed = front.failed;
-    }
 
     inside : StopsInside Shows target (sent + stops.front) old e held writes failed
     inside = record {
       messages = so.messages;
-      last = p.message;
-      pulls = pulls_on Shows target old d e so.messages so.pulls p;
-      written = subst (λ t. WritesFront held writes t (sent + stops.front) failed) (sym (octets_pushed so.messages p.message)) (subst (λ n. WritesFront held writes (octets_of so.messages ++ p.message.message) n failed) (sym place) whole);
+      last = more;
+      few = few;
+      pulls = pulls_on Shows target old d e so.messages more so.pulls p;
+      written = subst (λ t. WritesFront held writes t (sent + stops.front) failed) (sym (octets_joined so.messages more))
+          (subst (λ n. WritesFront held writes (octets_of so.messages ++ octets_of more) n failed) (sym place) (front_behind (octets_of so.messages) (octets_of more) stops.front held holds writes failed so.written stops.inside));
       whole = omega (arith, so.counted);
     }
 
-pub inside_fails : (f : ServeFault) (kept : List Handed) (sent : ℕ) (holds writes : Option (List ℕ)) (failed : Bool) (h : Handed) → IsLast kept h → StopsSending f kept sent holds writes failed → failed ≡ writer_after f
-inside_fails f kept sent holds writes failed h here stops = rw stops.is ((stops.inside h here).failed)
+pub inside_fails : (f : ServeFault) (octets : List ℕ) (sent : ℕ) (holds writes : Option (List ℕ)) (failed : Bool) → StopsSending f octets sent holds writes failed → failed ≡ writer_after f
+inside_fails f octets sent holds writes failed stops = rw stops.is (stops.inside.failed)
+
+-- ---- messages are written one after another
+
+-- the first so many messages were written
+pub record IsSending (messages : List Handed) (begun sent place : ℕ) (held holds : Option (List ℕ)) : Type 0 where
+  pub written : Appends held holds (octets_of (take place messages))
+  pub counted : sent ≡ begun + length (octets_of (take place messages))
+
+pub sending_starts : (messages : List Handed) (sent : ℕ) (held : Option (List ℕ)) → IsSending messages sent sent 0 held held
+sending_starts messages sent held = record { written = Appends-nil held; counted = omega arith }
+
+octets_split : (messages : List Handed) (place : ℕ) (h other : Handed) → place < length messages → h ≡ get_or messages place other
+    → octets_of messages ≡ octets_of (take place messages) ++ (h.message ++ octets_of (drop (suc place) messages))
+octets_split [] place h other l at = absurd (omega arith)
+octets_split (m ∷ messages) zero h other l at = octets_more m messages ∙ ap (λ (k : Handed). k.message ++ octets_of messages) (sym at)
+octets_split (m ∷ messages) (suc place) h other l at =
+    octets_more m messages ∙ ap (λ t. m.message ++ t) (octets_split messages place h other (omega (arith, l)) at)
+    ∙ sym (append_assoc m.message (octets_of (take place messages)) (h.message ++ octets_of (drop (suc place) messages)))
+    ∙ ap (λ t. t ++ (h.message ++ octets_of (drop (suc place) messages))) (sym (octets_more m (take place messages)))
+
+pub sending_fits : (messages : List Handed) (begun sent place : ℕ) (h other : Handed) (held holds : Option (List ℕ)) → IsSending messages begun sent place held holds → place < length messages → h ≡ get_or messages place other
+    → begun + length (octets_of messages) < 2 ^ 64 → sent + length h.message < 2 ^ 64
+sending_fits messages begun sent place h other held holds so l at fits =
+    omega (
+      arith,
+      fits,
+      so.counted,
+      ap length (octets_split messages place h other l at),
+      length-append (octets_of (take place messages)) (h.message ++ octets_of (drop (suc place) messages)),
+      length-append h.message (octets_of (drop (suc place) messages)),
+    )
+
+pub sending_more : (messages : List Handed) (begun sent n place : ℕ) (h other : Handed) (held holds writes : Option (List ℕ)) → IsSending messages begun sent place held holds → place < length messages → h ≡ get_or messages place other
+    → Sends h.message sent n holds writes → IsSending messages begun n (place + 1) held writes
+sending_more messages begun sent n place h other held holds writes so l at sends = record {
+  written = subst (Appends held writes) (sym grows) (Appends-trans held holds writes (octets_of (take place messages)) h.message so.written sends.written);
+  counted = omega (arith, sends.counted, so.counted, ap length grows, length-append (octets_of (take place messages)) h.message);
+}
+  where
+    grows : octets_of (take (place + 1) messages) ≡ octets_of (take place messages) ++ h.message
+    grows = ap octets_of (take_more messages place other l ∙ ap (λ k. take place messages ++ k ∷ []) (sym at)) ∙ flat_map-push (λ k. k.message) (take place messages) h
+
+-- so many were joined
+pub joined_more : (messages : List Handed) (place : ℕ) (h other : Handed) (octets : List ℕ) → octets ≡ octets_of (take place messages) → place < length messages → h ≡ get_or messages place other
+    → octets ++ h.message ≡ octets_of (take (place + 1) messages)
+joined_more messages place h other octets so l at =
+    ap (λ t. t ++ h.message) so ∙ sym (flat_map-push (λ (k : Handed). k.message) (take place messages) h)
+    ∙ ap octets_of (sym (take_more messages place other l ∙ ap (λ k. take place messages ++ k ∷ []) (sym at)))
+
+pub sending_ends : (messages : List Handed) (begun sent place : ℕ) (held holds : Option (List ℕ)) → IsSending messages begun sent place held holds → length messages ≤ place → Sends (octets_of messages) begun sent held holds
+sending_ends messages begun sent place held holds so over = record {
+  written = subst (λ ms. Appends held holds (octets_of ms)) (take_all place messages over) so.written;
+  counted = so.counted ∙ ap (λ ms. begun + length (octets_of ms)) (take_all place messages over);
+}
+
+pub sending_stops : (f : ServeFault) (messages : List Handed) (begun sent place : ℕ) (h other : Handed) (held holds writes : Option (List ℕ)) (failed : Bool) → IsSending messages begun sent place held holds → place < length messages
+    → h ≡ get_or messages place other → StopsSending f h.message sent holds writes failed → StopsSending f (octets_of messages) begun held writes failed
+sending_stops f messages begun sent place h other held holds writes failed so l at stops = record {
+  front = length (octets_of (take place messages)) + stops.front;
+  is = stops.is ∙ ap Write (omega (arith, so.counted));
+  inside = subst (λ t. WritesFront held writes t (length (octets_of (take place messages)) + stops.front) failed) (sym (octets_split messages place h other l at))
+      (front_behind (octets_of (take place messages)) (h.message ++ octets_of (drop (suc place) messages)) stops.front held holds writes failed so.written longer);
+}
+  where
+    rest : List ℕ
+    rest = octets_of (drop (suc place) messages)
+
+    longer : WritesFront holds writes (h.message ++ rest) stops.front failed
+    longer = record {
+      short = omega (arith, stops.inside.short, length-append h.message rest);
+      written = subst (Appends holds writes) (sym (take-append-le stops.front h.message rest (omega (arith, stops.inside.short)))) stops.inside.written;
+      failed = stops.inside.failed;
+    }
 
 -- a pull is refused
 pub refused : (f : ServeFault) (why : PullFault) (Shows : ℕ → Type 0) (target sent : ℕ) (old d e : Delivering) (held holds : Option (List ℕ)) (failed : Bool) → f ≡ Core why → e ≡ d → Delivers Shows target sent old d held holds

@@ -1,5 +1,5 @@
 -- What a delivery writes, and where it stops.
-use Rattle.std.specs.Prelude.{◌≡◌, ◌⊎◌, ℕ, ◌+◌, ◌-◌, ◌<◌, ◌≤◌, ◌^◌, Bool, List, [], ◌∷◌, ◌++◌, length, Option, Some, slice_get}
+use Rattle.std.specs.Prelude.{◌≡◌, ◌⊎◌, ℕ, ◌+◌, ◌≤◌, Bool, List, ◌++◌, length, Option}
 use Rattle.std.specs.List.{flat_map, AllByRecursion}
 use Rattle.std.specs.Io.KnownBytes.{Appends}
 use Rattle.octet_devices.specs.Written.{WritesFront}
@@ -8,6 +8,7 @@ use Rattle.entry_receipts.specs.declared.kept.KeptEntry.{KeptEntry}
 use Rattle.mediator_calls.specs.declared.handed.Handed.{Handed}
 use Rattle.shared_mediator.specs.Locked.{Delivering}
 use Rattle.shared_mediator.specs.Handles.{IsBuilt, KeepsEntry}
+use Rattle.mediator_server.specs.declared.delivery.TheConstants.{MOST_AT_ONCE}
 use Rattle.mediator_server.specs.declared.fault.ServeFault.{ServeFault}
 use Rattle.mediator_server.specs.declared.fault.ServeFault.TheVariants.{Write, Core}
 
@@ -34,12 +35,14 @@ pub record Delivers (Shows : ℕ → Type 0) (target sent : ℕ) (old new : Deli
   pub written : Appends held holds (octets_of messages)
   pub counted : sent ≡ length (octets_of messages)
 
--- messages were pulled, and the first so many octets of them were written, which end inside the last one; then the writer failed
+-- messages were pulled, and the first so many octets of them were written, which end inside the last ones, of which at most so many are
+-- pulled at once; then the writer failed
 pub record StopsInside (Shows : ℕ → Type 0) (target sent : ℕ) (old new : Delivering) (held holds : Option (List ℕ)) (has_failed : Bool) : Type 0 where
   pub messages : List Handed
-  pub last : Handed
-  pub pulls : Pulls Shows target old new (messages ++ last ∷ [])
-  pub written : WritesFront held holds (octets_of (messages ++ last ∷ [])) sent has_failed
+  pub last : List Handed
+  pub few : length last ≤ MOST_AT_ONCE
+  pub pulls : Pulls Shows target old new (messages ++ last)
+  pub written : WritesFront held holds (octets_of (messages ++ last)) sent has_failed
   pub whole : length (octets_of messages) ≤ sent
 
 -- why it stops, and what was written then: at a refusal, all that was pulled
@@ -55,21 +58,13 @@ EndsOnWrite _ sub old new = new ≡ old
 
 -- ---- what no public clause cites
 
--- the message that was kept last
-abbrev pub IsLast : List Handed → Handed → Type 0
-IsLast kept h = slice_get kept (length kept - 1) ≡ Some h
+-- the octets were written behind so many, and counted
+pub record Sends (octets : List ℕ) (sent n : ℕ) (held holds : Option (List ℕ)) : Type 0 where
+  pub written : Appends held holds octets
+  pub counted : n ≡ sent + length octets
 
--- behind so many octets, those of the last message can be counted
-pub record Fits (kept : List Handed) (sent : ℕ) : Type 0 where
-  pub last : (h : Handed) → IsLast kept h → sent + length h.message < 2 ^ 64
-
--- the last message was written behind so many octets, and its octets counted
-pub record SendsLast (kept : List Handed) (sent n : ℕ) (held holds : Option (List ℕ)) : Type 0 where
-  pub written : (h : Handed) → IsLast kept h → Appends held holds h.message
-  pub counted : (h : Handed) → IsLast kept h → n ≡ sent + length h.message
-
--- the writer failed inside the last message, behind so many octets
-pub record StopsSending (e : ServeFault) (kept : List Handed) (sent : ℕ) (held holds : Option (List ℕ)) (has_failed : Bool) : Type 0 where
+-- the writer failed inside the octets, behind so many
+pub record StopsSending (e : ServeFault) (octets : List ℕ) (sent : ℕ) (held holds : Option (List ℕ)) (has_failed : Bool) : Type 0 where
   pub front : ℕ
   pub is : e ≡ Write (sent + front)
-  pub inside : (h : Handed) → IsLast kept h → WritesFront held holds h.message front has_failed
+  pub inside : WritesFront held holds octets front has_failed

@@ -2,26 +2,31 @@
 ghost use Rattle.std.specs.Prelude.{◌≡◌, ◌+◌, ◌<◌, ◌^◌, false, length, IfOk, IfErr, OnOk};
 ghost use Rattle.std.specs.Io.KnownBytes.{Appends};
 ghost use Rattle.mediator_server.specs.Faults.{writer_after};
-ghost use Rattle.mediator_server.specs.Delivering.{Delivers, FailsToDeliver, Fits, SendsLast, StopsSending, EndsOnWrite};
+ghost use Rattle.mediator_server.specs.Delivering.{Delivers, FailsToDeliver, Sends, StopsSending, EndsOnWrite, octets_of};
 
 use crate::clock::Clock;
 use crate::fault::ServeFault;
-use mediator_calls::{PullFault, SubId};
+use mediator_calls::{Handed, PullFault, SubId};
 use octet_devices::{Sink, write_all};
 use shared_mediator::{
     AdminHandle, DeliveryHandle, EntryLedger, RecordLedger, SharedMediator, Waited,
 };
+use std::alloc::{AllocError, Global};
 use std::sync::Wait;
 
 /// The most octets of a message.
 const LONGEST_MESSAGE: u64 = ipfix_octets::message_format::LONGEST_MESSAGE as u64;
 
-/// Delivers a subscription: pulls its messages, of at most `target` octets where they can be so short, and writes them, until
-/// nothing is queued and nothing will be; and answers how many octets were sent. Where the writer fails, the subscription is
+/// How many messages are pulled at once at most.
+const MOST_AT_ONCE: u64 = 32;
+
+/// Delivers a subscription: pulls its messages, several at once, of at most `target` octets where they can be so short, and
+/// writes them, until nothing is queued and nothing will be; and answers how many octets were sent. Where the writer fails, the subscription is
 /// ended by the administrator's handle; where the mediator refuses that, it stays.
 ///
 /// # Errors
-/// The writer failed, after so many octets of all that was pulled; or the mediator refuses a pull, or the octets sent, and those
+/// The writer failed, after so many octets of all that was pulled, of which at most the messages of the last pull weren't all
+/// written; or the mediator refuses a pull, or the octets sent, and those
 /// of one message more, might not be counted in 64 bits.
 pub fn deliver<E: EntryLedger, H: RecordLedger, W: Sink, C: Clock>(
     rt: &impl Wait,
@@ -84,11 +89,12 @@ fn send_messages<E: EntryLedger, H: RecordLedger, W: Sink, C: Clock>(
 {
     let mut sent = 0u64;
     'pulls: for _ in rt.forever() {
-        if sent > u64::MAX - LONGEST_MESSAGE {
+        if sent > u64::MAX - MOST_AT_ONCE * LONGEST_MESSAGE {
             return Err(ServeFault::Core(PullFault::HandedFull));
         }
-        if handle.pull(rt, shared, clock.now(), target)? {
-            sent = send_last(handle, writer, sent)?;
+        let before = handle.kept().len();
+        if handle.pull_some(rt, shared, clock.now(), target, MOST_AT_ONCE)? > 0 {
+            sent = send_all(handle.allocator(), &handle.kept()[before..], writer, sent)?;
         } else if handle.wait(rt, shared) != Waited::Queued {
             return Ok(sent);
         }
@@ -96,23 +102,67 @@ fn send_messages<E: EntryLedger, H: RecordLedger, W: Sink, C: Clock>(
     unreachable!()
 }
 
-/// Writes the message that was pulled last behind so many octets, and answers how many were sent then.
+/// Writes messages behind so many octets, in one piece where there is memory for it, and answers how many were sent then.
 ///
 /// # Errors
 /// The writer failed, after so many octets in all.
-fn send_last<H: RecordLedger, W: Sink>(
-    handle: &DeliveryHandle<H>,
+fn send_all<W: Sink>(
+    alloc: Global,
+    messages: &[Handed],
     writer: &mut W,
     sent: u64,
 ) -> Result<u64, ServeFault>
-    requires some { 0 < length handle.now.kept }
-    requires fits { Fits handle.now.kept sent }
-    ensures ok { IfOk result (λ n. SendsLast handle.now.kept sent n (W.contents writer.old) (W.contents writer.new)) }
+    requires fits { sent + length (octets_of messages.now) < 2 ^ 64 }
+    ensures ok { IfOk result (λ n. Sends (octets_of messages.now) sent n (W.contents writer.old) (W.contents writer.new)) }
     ensures stays { OnOk result (W.has_failed writer.new ≡ W.has_failed writer.old) }
-    ensures err { IfErr result (λ e. StopsSending e handle.now.kept sent (W.contents writer.old) (W.contents writer.new) (W.has_failed writer.new)) }
+    ensures err { IfErr result (λ e. StopsSending e (octets_of messages.now) sent (W.contents writer.old) (W.contents writer.new) (W.has_failed writer.new)) }
 {
-    let kept = handle.kept();
-    let message = kept[kept.len() - 1].message.as_slice();
+    match joined(alloc, messages) {
+        Ok(octets) => send(&octets, writer, sent),
+        Err(_) => send_each(messages, writer, sent),
+    }
+}
+
+/// The octets of messages, one directly after another.
+///
+/// # Errors
+/// Want of memory.
+fn joined(alloc: Global, messages: &[Handed]) -> Result<Vec<u8>, AllocError>
+    ensures { IfOk result (λ octets. octets.items ≡ octets_of messages.now) }
+{
+    let mut octets = Vec::new(alloc);
+    'joins: for handed in messages {
+        octets.extend_from_slice(handed.message.as_slice())?;
+    }
+    Ok(octets)
+}
+
+/// Writes messages one after another, behind so many octets, and answers how many were sent then.
+///
+/// # Errors
+/// The writer failed, after so many octets in all.
+fn send_each<W: Sink>(messages: &[Handed], writer: &mut W, mut sent: u64) -> Result<u64, ServeFault>
+    requires fits { sent + length (octets_of messages.now) < 2 ^ 64 }
+    ensures ok { IfOk result (λ n. Sends (octets_of messages.now) sent n (W.contents writer.old) (W.contents writer.new)) }
+    ensures stays { OnOk result (W.has_failed writer.new ≡ W.has_failed writer.old) }
+    ensures err { IfErr result (λ e. StopsSending e (octets_of messages.now) sent (W.contents writer.old) (W.contents writer.new) (W.has_failed writer.new)) }
+{
+    'sends: for handed in messages {
+        sent = send(handed.message.as_slice(), writer, sent)?;
+    }
+    Ok(sent)
+}
+
+/// Writes a message behind so many octets, and answers how many were sent then.
+///
+/// # Errors
+/// The writer failed, after so many octets in all.
+fn send<W: Sink>(message: &[u8], writer: &mut W, sent: u64) -> Result<u64, ServeFault>
+    requires fits { sent + length message.now < 2 ^ 64 }
+    ensures ok { IfOk result (λ n. Sends message.now sent n (W.contents writer.old) (W.contents writer.new)) }
+    ensures stays { OnOk result (W.has_failed writer.new ≡ W.has_failed writer.old) }
+    ensures err { IfErr result (λ e. StopsSending e message.now sent (W.contents writer.old) (W.contents writer.new) (W.has_failed writer.new)) }
+{
     match write_all(writer, message) {
         Ok(()) => Ok(sent + message.len() as u64),
         Err(stopped) => Err(ServeFault::Write {

@@ -8,7 +8,7 @@ ghost use Rattle.mediator_server.specs.Faults.{reader_after};
 
 use crate::fault::ServeFault;
 use bytes::Bytes;
-use decode_workers::{NoGate, prepare_all};
+use decode_workers::{NoGate, Workers};
 use mediator_state::{Fault, Receipt};
 use message_intake::Intake;
 use octet_devices::Source;
@@ -132,12 +132,13 @@ fn offer_stream<E: EntryLedger, H: RecordLedger, R: Source, T: Threads + Wait + 
 {
     let before = handle.kept().len();
     let mut intake = Intake::new(alloc, pace.turns)?;
+    let mut workers = Workers::new(alloc, pace.workers).ok();
     'reads: loop {
         let Some(messages) = intake.next(reader)? else {
             return Ok((handle.kept().len() - before) as u64);
         };
-        let answers = prepare_piece(rt, shared, handle, &messages, pace.workers);
-        offer_each(rt, shared, handle, messages, answers, counts)?;
+        let answers = prepare_piece(rt, shared, handle, &messages, &mut workers);
+        offer_piece(rt, shared, handle, messages, answers, counts)?;
     }
 }
 
@@ -147,7 +148,7 @@ fn prepare_piece<E: EntryLedger, H: RecordLedger, T: Threads + Wait + Sync>(
     shared: &SharedMediator<E, H>,
     handle: &ExporterHandle<E>,
     messages: &Vec<Bytes>,
-    workers: u64,
+    workers: &mut Option<Workers>,
 ) -> Vec<Result<Prepared, PrepareFault>>
     ensures { ArePreparations messages.now.items result.items }
 {
@@ -163,15 +164,37 @@ fn prepare_by_workers<E: EntryLedger, H: RecordLedger, T: Threads + Wait + Sync>
     shared: &SharedMediator<E, H>,
     handle: &ExporterHandle<E>,
     messages: &Vec<Bytes>,
-    workers: u64,
+    workers: &mut Option<Workers>,
 ) -> Option<Vec<Result<Prepared, PrepareFault>>>
     ensures { IfSome result (λ answers. ArePreparations messages.now.items answers.items) }
 {
+    let workers = workers.as_mut()?;
     let snapshot = handle.snapshot(rt, shared).ok()?;
     let Ok(copies) = messages.clone() else {
         return None;
     };
-    prepare_all(rt, &snapshot, copies, workers, &NoGate).ok()
+    workers.prepare_all(rt, &snapshot, copies, &NoGate).ok()
+}
+
+/// Offers the messages of one piece, and wakes the deliveries then: so each wakes once for a piece, and not for each message.
+///
+/// # Errors
+/// The refusal of the first that is refused.
+fn offer_piece<E: EntryLedger, H: RecordLedger>(
+    rt: &impl Wait,
+    shared: &SharedMediator<E, H>,
+    handle: &mut ExporterHandle<E>,
+    messages: Vec<Bytes>,
+    answers: Vec<Result<Prepared, PrepareFault>>,
+    counts: &mut Counts,
+) -> Result<(), ServeFault>
+    requires prepared { ArePreparations messages.items answers.items }
+    ensures ok { OnOk result (Offers handle.old handle.new messages.items) }
+    ensures err { IfErr result (λ e. RefusesAmong e handle.old handle.new messages.items) }
+{
+    let offered = offer_each(rt, shared, handle, messages, answers, counts);
+    shared.wake();
+    offered
 }
 
 /// Offers messages, one after another: as they were prepared, or plainly those that weren't.
@@ -220,11 +243,11 @@ fn offer_one<E: EntryLedger, H: RecordLedger>(
     ensures same { OnErr result (handle.new ≡ handle.old) }
 {
     let Some(prepared) = prepared else {
-        return handle.offer(rt, shared, message);
+        return handle.offer_silently(rt, shared, message);
     };
-    match handle.offer_prepared(rt, shared, prepared) {
+    match handle.offer_prepared_silently(rt, shared, prepared) {
         Ok(receipt) => Ok(receipt),
-        Err((Fault::Stale, _prepared)) => handle.offer(rt, shared, message),
+        Err((Fault::Stale, _prepared)) => handle.offer_silently(rt, shared, message),
         Err((fault, _prepared)) => Err(fault),
     }
 }

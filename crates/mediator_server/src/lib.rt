@@ -19,7 +19,7 @@
 //!
 //! Proved of `deliver`: what it writes are the messages that its handle kept in that call, in order, each built for an Export
 //! Time that the clock may show and for the target; all of them at Ok and at a refusal, with their octets counted, and at
-//! `Write` exactly the first `sent` octets of them, which end inside the last of them (`delivers`, `stops`). `Write` stands
+//! `Write` exactly the first `sent` octets of them, which end inside those of the last pull (`delivers`, `stops`). `Write` stands
 //! only where the writer has failed (`fails`). The administrator's handle keeps nothing more but, at `Write`, the end of this
 //! subscription (`same`, `gone`).
 //!

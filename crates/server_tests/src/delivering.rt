@@ -100,16 +100,16 @@ fn all_is_sent(rt: HostRuntime) -> Result<(), Fail> {
 }
 
 /// How much a write takes, how many come before one that fails, and how many octets are written by then: messages of 36, 30 and 30
-/// octets, each by writes of its own. A write that takes nothing is one that fails. Where the journal has no room for its end, the
-/// subscription stays.
+/// octets, which are pulled at once and written in one piece. A write that takes nothing is one that fails. Where the journal has no
+/// room for its end, the subscription stays, and both records were handed out.
 const FAILING: &[(usize, usize, usize, Bounds, Option<(u32, u64)>)] = &[
     (1, 0, 0, ROOMY, None),
     (1, 36, 36, ROOMY, None),
     (1, 95, 95, ROOMY, None),
-    (7, 6, 36, ROOMY, None),
-    (7, 8, 50, ROOMY, None),
+    (7, 6, 42, ROOMY, None),
+    (7, 8, 56, ROOMY, None),
     (0, ENOUGH, 0, ROOMY, None),
-    (1, 36, 36, (4, 100, 100), Some((1, 1))),
+    (1, 36, 36, (4, 100, 100), Some((0, 2))),
 ];
 
 #[test]

@@ -66,3 +66,10 @@ pub record IsBuilt (now target : ℕ) (h : Handed) : Type 0 where
 abbrev pub KeepsHanded : List Handed → ℕ → ℕ → Bool → List Handed → Type 0
 KeepsHanded old now target false new = new ≡ old
 KeepsHanded old now target true new = (h : Handed) × IsBuilt now target h × (new ≡ old ++ h ∷ [])
+
+-- so many such messages are kept behind the others
+pub record KeepsSome (old : List Handed) (now target count : ℕ) (new : List Handed) : Type 0 where
+  pub messages : List Handed
+  pub built : AllByRecursion (IsBuilt now target) messages
+  pub kept : new ≡ old ++ messages
+  pub counted : count ≡ length messages

@@ -1,9 +1,10 @@
 //! A delivery's handle.
-ghost use Rattle.std.specs.Prelude.{◌≡◌, ◌-◌, [], true, length, slice_get, IfOk, OnErr};
+ghost use Rattle.std.specs.Prelude.{◌≡◌, ◌-◌, ◌≤◌, [], true, length, slice_get, IfOk, OnErr};
 ghost use Rattle.std.specs.Option.{option_copied};
 ghost use Rattle.shared_mediator.specs.Locked.{delivering_as};
-ghost use Rattle.shared_mediator.specs.Handles.{KeepsHanded, records_kept};
+ghost use Rattle.shared_mediator.specs.Handles.{KeepsHanded, KeepsSome, records_kept};
 
+use crate::desk::Desk;
 use crate::ledgers::{EntryLedger, RecordLedger};
 use crate::shared::SharedMediator;
 use mediator_calls::{Handed, PullFault, SubId};
@@ -69,6 +70,11 @@ impl<H: RecordLedger> DeliveryHandle<H> {
         self.sub
     }
 
+    /// What the memory of its messages' list is taken from.
+    pub fn allocator(&self) -> Global {
+        *self.kept.allocator()
+    }
+
     /// The messages that were pulled, in order.
     pub fn kept(&self) -> &[Handed]
         ensures { result.now ≡ self.now.kept }
@@ -100,14 +106,54 @@ impl<H: RecordLedger> DeliveryHandle<H> {
         ensures sub { self.new.sub ≡ self.old.sub }
         ensures same { OnErr result (self.new ≡ self.old) }
     {
+        self.pull_next(&mut shared.locked(rt), now, target)
+    }
+
+    /// Pulls the subscription's next messages as [`pull`](DeliveryHandle::pull) does, at most so many, while the lock is held
+    /// once; and answers how many there were.
+    ///
+    /// # Errors
+    /// Those of `pull` for the first message. Then nothing has changed.
+    pub fn pull_some<E: EntryLedger>(
+        &mut self,
+        rt: &impl Wait,
+        shared: &SharedMediator<E, H>,
+        now: u32,
+        target: u16,
+        most: u64,
+    ) -> Result<u64, PullFault>
+        ensures kept { IfOk result (λ count. KeepsSome self.old.kept now target count self.new.kept) }
+        ensures most { IfOk result (λ count. count ≤ most) }
+        ensures sub { self.new.sub ≡ self.old.sub }
+        ensures same { OnErr result (self.new ≡ self.old) }
+    {
+        let mut desk = shared.locked(rt);
+        let mut count = 0;
+        'pulls: while count < most {
+            match self.pull_next(&mut desk, now, target) {
+                Ok(true) => count += 1,
+                Err(fault) if count == 0 => return Err(fault),
+                Ok(false) | Err(_) => break,
+            }
+        }
+        Ok(count)
+    }
+
+    /// Pulls the next message of what lies under the lock.
+    fn pull_next<E: EntryLedger>(
+        &mut self,
+        desk: &mut Desk<E, H>,
+        now: u32,
+        target: u16,
+    ) -> Result<bool, PullFault>
+        ensures kept { IfOk result (λ some_message. KeepsHanded self.old.kept now target some_message self.new.kept) }
+        ensures sub { self.new.sub ≡ self.old.sub }
+        ensures same { OnErr result (self.new ≡ self.old) }
+    {
         if self.kept.reserve(1).is_err() {
             return Err(PullFault::Core(Fault::OutOfMemory));
         }
-        match shared
-            .desk
-            .lock(rt)
-            .pull(&mut self.share, self.sub, now, target)?
-        {
+        match desk.pull(&mut self.share, self.sub, now, target)? {
             Some(handed) => {
                 self.kept.push_reserved(handed);
                 Ok(true)
@@ -119,7 +165,7 @@ impl<H: RecordLedger> DeliveryHandle<H> {
     /// Waits until something is queued for the subscription, or nothing will be: it has ended, it was cut, or all is to
     /// stop. What of these is so first in this order is answered.
     pub fn wait<E: EntryLedger>(&self, rt: &impl Wait, shared: &SharedMediator<E, H>) -> Waited {
-        let mut desk = shared.desk.lock(rt);
+        let mut desk = shared.locked(rt);
         for _ in rt.forever() {
             if let Some(waited) = desk.waited(self.sub) {
                 return waited;

@@ -70,7 +70,7 @@ impl<E: EntryLedger> ExporterHandle<E> {
     }
 
     /// Offers the session's next message, and keeps its receipt: the message with the position in the journal that the
-    /// mediator answered.
+    /// mediator answered. The deliveries that wait are woken.
     ///
     /// # Errors
     /// Those of `Mediator::receive`; and memory for the receipt. Then nothing has changed.
@@ -84,14 +84,31 @@ impl<E: EntryLedger> ExporterHandle<E> {
         ensures session { self.new.session ≡ self.old.session }
         ensures same { OnErr result (self.new ≡ self.old) }
     {
+        let receipt = self.offer_silently(rt, shared, message)?;
+        shared.wake();
+        Ok(receipt)
+    }
+
+    /// The same, and wakes no delivery: for several messages in a row, before [`SharedMediator::wake`].
+    ///
+    /// # Errors
+    /// Those of [`offer`](ExporterHandle::offer).
+    pub fn offer_silently<H: RecordLedger>(
+        &mut self,
+        rt: &impl Wait,
+        shared: &SharedMediator<E, H>,
+        message: Bytes,
+    ) -> Result<Receipt, Fault>
+        ensures kept { IfOk result (λ receipt. self.new.kept ≡ self.old.kept ++ record { position = receipt.position; entry = Message self.old.session (length self.old.kept) message } ∷ []) }
+        ensures session { self.new.session ≡ self.old.session }
+        ensures same { OnErr result (self.new ≡ self.old) }
+    {
         let octets = message.clone()?;
         self.kept.reserve(1)?;
         let number = self.kept.len() as u64;
         let receipt = shared
-            .desk
-            .lock(rt)
+            .locked(rt)
             .receive(&mut self.share, self.session, number, message)?;
-        shared.moved.notify_all();
         self.kept.push_reserved(KeptEntry {
             position: receipt.position,
             entry: Entry::Message {
@@ -113,7 +130,7 @@ impl<E: EntryLedger> ExporterHandle<E> {
         rt: &impl Wait,
         shared: &SharedMediator<E, H>,
     ) -> Result<Snapshot, Fault> {
-        shared.desk.lock(rt).snapshot(self.session)
+        shared.locked(rt).snapshot(self.session)
     }
 
     /// Offers the session's next message, which was prepared, and keeps its receipt as [`offer`](ExporterHandle::offer) does.
@@ -122,6 +139,26 @@ impl<E: EntryLedger> ExporterHandle<E> {
     /// Those of `Mediator::receive_prepared`; and memory for the receipt. Then nothing has changed, and the message is handed
     /// back.
     pub fn offer_prepared<H: RecordLedger>(
+        &mut self,
+        rt: &impl Wait,
+        shared: &SharedMediator<E, H>,
+        prepared: Prepared,
+    ) -> Result<Receipt, (Fault, Prepared)>
+        ensures kept { IfOk result (λ receipt. self.new.kept ≡ self.old.kept ++ record { position = receipt.position; entry = Message self.old.session (length self.old.kept) prepared.message } ∷ []) }
+        ensures session { self.new.session ≡ self.old.session }
+        ensures same { OnErr result (self.new ≡ self.old) }
+        ensures handed_back { IfErr result (λ e. e.1 ≡ prepared) }
+    {
+        let receipt = self.offer_prepared_silently(rt, shared, prepared)?;
+        shared.wake();
+        Ok(receipt)
+    }
+
+    /// The same, and wakes no delivery: for several messages in a row, before [`SharedMediator::wake`].
+    ///
+    /// # Errors
+    /// Those of [`offer_prepared`](ExporterHandle::offer_prepared).
+    pub fn offer_prepared_silently<H: RecordLedger>(
         &mut self,
         rt: &impl Wait,
         shared: &SharedMediator<E, H>,
@@ -141,10 +178,8 @@ impl<E: EntryLedger> ExporterHandle<E> {
         }
         let number = self.kept.len() as u64;
         let receipt = shared
-            .desk
-            .lock(rt)
+            .locked(rt)
             .receive_prepared(&mut self.share, self.session, number, prepared)?;
-        shared.moved.notify_all();
         self.kept.push_reserved(KeptEntry {
             position: receipt.position,
             entry: Entry::Message {
@@ -165,7 +200,7 @@ impl<E: EntryLedger> ExporterHandle<E> {
         rt: &impl Wait,
         shared: &SharedMediator<E, H>,
     ) -> Result<(), Fault> {
-        shared.desk.lock(rt).close(self.session)
+        shared.locked(rt).close(self.session)
     }
 
     /// Its share.

@@ -16,14 +16,15 @@
 //! Of a handle's calls (`kept`): `offer` keeps the message, under the handle's session and with its number, at the position
 //! of the receipt that it answers; an administrator's edit, subscribe, unsubscribe and advance keep the entry of their own
 //! argument with a position; `pull` keeps a message that is built for its Export Time and target at some place of some list,
-//! and its share rises by the records in that. A refusal keeps nothing more (`same`).
+//! and its share rises by the records in that; `pull_some` keeps several. A refusal keeps nothing more (`same`).
 //!
 //! `close` answers Ok only where each receipt stands in the journal at its position, none from before `new`, no two at one
 //! position, each handle's own in their order, and where each entry since `new` that is to have a receipt has one
 //! (`receipts`); `accepted` and `handed` are the sums of what exporters and deliveries keep.
 //!
 //! No clause can say what lies under a lock at the moment at which a public call takes it, so what a call through a handle
-//! answers beyond that is shown by tests. Nothing promises that a thread gets on or that a wait ends.
+//! answers beyond that is shown by tests. Nothing promises that a thread gets on or that a wait ends. `offer` wakes the
+//! deliveries that wait; `offer_silently` leaves that to `wake`.
 #![tactic(auto)]
 
 mod admin;

@@ -11,7 +11,11 @@ use crate::ledgers::{EntryLedger, RecordLedger};
 use mediator_calls::{Mediator, SubId};
 use std::alloc::Global;
 use std::sync::ledger::Blank;
-use std::sync::{Condvar, Mutex, Wait};
+use std::sync::{Condvar, Mutex, MutexGuard, Wait};
+use std::thread::yield_now;
+
+/// How often the lock is looked for before a thread sleeps.
+const LOOKS: u32 = 200;
 
 /// A mediator under a lock. Threads call it through handles, each of which is one thread's own: exporters offer messages,
 /// deliveries pull them, administrators do the rest.
@@ -68,6 +72,23 @@ impl<E: EntryLedger, H: RecordLedger> SharedMediator<E, H> {
     {
         let share = self.desk.lock(rt).delivery(sub)?;
         Ok(DeliveryHandle::new(self.alloc, sub, share))
+    }
+
+    /// Takes the lock. Where it is held, it is looked for again for a while, as others run, before this thread sleeps: it is held
+    /// for microseconds, and to wake a thread takes longer.
+    pub(crate) fn locked(&self, rt: &impl Wait) -> MutexGuard<'_, Desk<E, H>> {
+        for _ in 0..LOOKS {
+            if let Some(desk) = self.desk.try_lock() {
+                return desk;
+            }
+            yield_now();
+        }
+        self.desk.lock(rt)
+    }
+
+    /// Wakes the deliveries that wait, so that each looks whether something is queued for it.
+    pub fn wake(&self) {
+        self.moved.notify_all();
     }
 
     /// Gives a handle for an administrator.

@@ -26,13 +26,13 @@ returns-in_default-clause-serves g c =
 
 pub reads-preserved : goal.reads-preserved
 reads-preserved g c = (
-  reads_on c.args.pace.turns c.reads.intake c.next.new.self (g.R.Source.remaining c.args.reader.now) (g.R.Source.remaining c.reads.reader) (g.R.Source.remaining c.next.new.reader) c.args.handle.now c.reads.handle c.offer_each.new.handle c.in-Some.messages.items c.reads.invariant.0 (subst (λ o. MatchOption o (Ends c.reads.intake (g.R.Source.remaining c.reads.reader) (g.R.Source.remaining c.next.new.reader) c.next.new.self) (λ out. Takes c.reads.intake (g.R.Source.remaining c.reads.reader) (g.R.Source.remaining c.next.new.reader) out.items c.next.new.self)) c.in-Some.is c.in_ok-messages.ensures.ok) c.in_ok-offer_each.ensures.ok,
+  reads_on c.args.pace.turns c.reads.intake c.next.new.self (g.R.Source.remaining c.args.reader.now) (g.R.Source.remaining c.reads.reader) (g.R.Source.remaining c.next.new.reader) c.args.handle.now c.reads.handle c.offer_piece.new.handle c.in-Some.messages.items c.reads.invariant.0 (subst (λ o. MatchOption o (Ends c.reads.intake (g.R.Source.remaining c.reads.reader) (g.R.Source.remaining c.next.new.reader) c.next.new.self) (λ out. Takes c.reads.intake (g.R.Source.remaining c.reads.reader) (g.R.Source.remaining c.next.new.reader) out.items c.next.new.self)) c.in-Some.is c.in_ok-messages.ensures.ok) c.in_ok-offer_piece.ensures.ok,
   c.in_ok-messages.ensures.sound ∙ c.reads.invariant.1,
   c.reads.invariant.2,
 )
 
-pub returns-in_err-offer_each-clause-stops : goal.returns-in_err-offer_each-clause-stops
-returns-in_err-offer_each-clause-stops g c =
-    err_gives c.from_residual-in_err-offer_each.result c.from_residual-in_err-offer_each.ensures
-    (λ e is. message_stops e c.args.pace.turns c.reads.intake c.next.new.self (g.R.Source.remaining c.args.reader.now) (g.R.Source.remaining c.reads.reader) (g.R.Source.remaining c.next.new.reader) c.args.handle.now c.reads.handle c.offer_each.new.handle c.in-Some.messages.items c.reads.invariant.0 (subst (λ o. MatchOption o (Ends c.reads.intake (g.R.Source.remaining c.reads.reader) (g.R.Source.remaining c.next.new.reader) c.next.new.self) (λ out. Takes c.reads.intake (g.R.Source.remaining c.reads.reader) (g.R.Source.remaining c.next.new.reader) out.items c.next.new.self)) c.in-Some.is c.in_ok-messages.ensures.ok)
-    (subst (λ x. RefusesAmong x c.reads.handle c.offer_each.new.handle c.in-Some.messages.items) (sym is) c.in_err-offer_each.ensures.err))
+pub returns-in_err-offer_piece-clause-stops : goal.returns-in_err-offer_piece-clause-stops
+returns-in_err-offer_piece-clause-stops g c =
+    err_gives c.from_residual-in_err-offer_piece.result c.from_residual-in_err-offer_piece.ensures
+    (λ e is. message_stops e c.args.pace.turns c.reads.intake c.next.new.self (g.R.Source.remaining c.args.reader.now) (g.R.Source.remaining c.reads.reader) (g.R.Source.remaining c.next.new.reader) c.args.handle.now c.reads.handle c.offer_piece.new.handle c.in-Some.messages.items c.reads.invariant.0 (subst (λ o. MatchOption o (Ends c.reads.intake (g.R.Source.remaining c.reads.reader) (g.R.Source.remaining c.next.new.reader) c.next.new.self) (λ out. Takes c.reads.intake (g.R.Source.remaining c.reads.reader) (g.R.Source.remaining c.next.new.reader) out.items c.next.new.self)) c.in-Some.is c.in_ok-messages.ensures.ok)
+    (subst (λ x. RefusesAmong x c.reads.handle c.offer_piece.new.handle c.in-Some.messages.items) (sym is) c.in_err-offer_piece.ensures.err))
