@@ -7,11 +7,11 @@ use crate::octets::{
 use mediator_state::{Fault, Limits};
 
 /// What goes to each port in five minutes, closed a minute after their end.
-const WEB: &str =
+pub(crate) const WEB: &str =
     "policy 1\naggregate web key destinationTransportPort interval 300 grace 60\nrule for acme in * from * to * aggregate web\n";
 
 /// The same, closed at their end.
-const WEB_AT_ONCE: &str =
+pub(crate) const WEB_AT_ONCE: &str =
     "policy 1\naggregate web key destinationTransportPort interval 300 grace 0\nrule for acme in * from * to * aggregate web\n";
 
 /// The same aggregate as the first, and everything withheld.

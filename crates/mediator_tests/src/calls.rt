@@ -9,7 +9,7 @@ use mediator_state::{Fault, Receipt, State};
 use std::alloc::{AllocError, Global};
 
 /// The Export Time of what is pulled.
-const NOW: u32 = 0x6553_f13c;
+pub(crate) const NOW: u32 = 0x6553_f13c;
 
 pub(crate) fn open<C: Chronicle + Drop>(state: &mut State<C>) -> Result<u64, Fault>
     requires stands { StandsForSome C.tells state.old }
@@ -48,7 +48,7 @@ pub(crate) fn receive<C: Chronicle + Drop>(
     }
 }
 
-fn copy(alloc: Global, octets: &[u8]) -> Result<Bytes, AllocError> {
+pub(crate) fn copy(alloc: Global, octets: &[u8]) -> Result<Bytes, AllocError> {
     match Bytes::copy_from_slice(alloc, octets) {
         Ok(message) => Ok(message),
         Err(_) => Bytes::copy_from_slice(alloc, octets),

@@ -48,7 +48,7 @@ pub(crate) struct Case {
     pub(crate) steps: &'static [Step],
 }
 
-const PASS: &str =
+pub(crate) const PASS: &str =
     "policy 1\nrule for * in * from * to * pass\nrule for * in * from * to * element * keep\n";
 
 pub(crate) const WITHHOLD: &str =

@@ -4,6 +4,10 @@
 //! - `cases`, `aggregates`: the calls of each worked case, with what they must answer; `octets`: the messages in them.
 //! - `calls`: each call, made again where memory is refused.
 //! - `worked`: the cases, carried out; `runs`: the same as lists of calls on a mediator.
+//! - `prepared`: messages that are prepared before another message of their session comes. `twins`: two mediators that get the
+//!   same calls, one of them prepared messages; `changes`: what changes between preparing and receiving; `flows`: the
+//!   messages; `steps`: all of it, many times.
+//! - `retried`: each call of a mediator, made again where memory is refused.
 #![tactic(auto)]
 
 #[cfg(test)]
@@ -13,8 +17,20 @@ mod calls;
 #[cfg(test)]
 mod cases;
 #[cfg(test)]
+mod changes;
+#[cfg(test)]
+mod flows;
+#[cfg(test)]
 mod octets;
 #[cfg(test)]
+mod prepared;
+#[cfg(test)]
+mod retried;
+#[cfg(test)]
 mod runs;
+#[cfg(test)]
+mod steps;
+#[cfg(test)]
+mod twins;
 #[cfg(test)]
 mod worked;

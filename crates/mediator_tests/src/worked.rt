@@ -50,7 +50,7 @@ fn is_pull(answer: &Result<Option<Bytes>, Fault>, wanted: &Result<Option<&[u8]>,
 }
 
 /// A text of an entry, which is made again where memory is refused.
-fn text_of(alloc: Global, entry: &AuditEntry) -> Result<String, AllocError> {
+pub(crate) fn text_of(alloc: Global, entry: &AuditEntry) -> Result<String, AllocError> {
     match line(alloc, entry) {
         Ok(text) => Ok(text),
         Err(_) => line(alloc, entry),
