@@ -3,8 +3,11 @@
 use bytes::Bytes;
 use ipfix_session::{Read, Session};
 use prepared_message::{ApplyFault, PrepareFault, Prepared, Snapshot};
+use record_sharing::{InForce, Terms};
 use std::alloc::Global;
 use std::fmt::Display;
+use std::sync::Arc;
+use std::test::Fail;
 
 /// Template 256 of sourceIPv4Address, sourceTransportPort and octetDeltaCount, in domain 7.
 const TEMPLATE: &[u8] = b"\x00\x0a\x00\x24\x65\x53\xf1\x00\x00\x00\x00\x00\x00\x00\x00\x07\
@@ -169,4 +172,35 @@ fn texts(rt: HostRuntime) {
     assert!(rt; is_shown(rt.alloc(), &PrepareFault::OutOfMemory, "OutOfMemory"));
     assert!(rt; is_shown(rt.alloc(), &ApplyFault::Stale, "Stale"));
     assert!(rt; is_shown(rt.alloc(), &ApplyFault::OutOfMemory, "OutOfMemory"));
+}
+
+/// Whether a flow is judged too where it is prepared, and whether that is so once what was judged is taken.
+fn is_judged(alloc: Global, on_terms: bool) -> Result<(bool, bool), Fail> {
+    let mut session = Session::new(alloc);
+    if !hears(&mut session, TEMPLATE) {
+        return Err(Fail::new("a template"));
+    }
+    let plain = Snapshot::of(&session)?;
+    let terms = Terms::of(alloc, &InForce::nothing(alloc)?, &[])?;
+    let snapshot = if on_terms {
+        plain.with_terms(Arc::new(alloc, terms)?)
+    } else {
+        plain
+    };
+    let Ok(mut message) = Prepared::prepare(&snapshot, Bytes::from_static(FLOW)) else {
+        return Err(Fail::new("a flow"));
+    };
+    let first = message.take_judgement().is_some();
+    Ok((first, message.take_judgement().is_some()))
+}
+
+/// A snapshot with terms has its messages judged, and each judgement is taken once.
+#[test]
+fn judged_on_terms(rt: HostRuntime) -> Result<(), Fail> {
+    assert!(rt; is_judged(rt.alloc(), true)? == (true, false), "on terms");
+    assert!(rt;
+        is_judged(rt.alloc(), false)? == (false, false),
+        "without terms"
+    );
+    Ok(())
 }
