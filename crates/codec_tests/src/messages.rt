@@ -1,6 +1,6 @@
 //! Worked cases of framing.
 use bytes::Bytes;
-use ipfix_message::{FrameError, Framer};
+use ipfix_message::{DecodeError, FrameError, Framer};
 use std::process::Abort;
 use std::test::Fail;
 
@@ -218,6 +218,23 @@ static NAMES: [(FrameError, &str); 3] = [
 fn faults_are_shown_as_their_names(rt: HostRuntime) -> Result<(), Fail> {
     for (fault, name) in &NAMES {
         assert_eq!(rt; fault.to_string(rt.alloc())?.as_str(), *name);
+    }
+    Ok(())
+}
+
+static FAULTS: [(DecodeError, &str); 6] = [
+    (DecodeError::ShortHeader, "ShortHeader"),
+    (DecodeError::BadVersion, "BadVersion"),
+    (DecodeError::BadLength, "BadLength"),
+    (DecodeError::BadSetLength, "BadSetLength"),
+    (DecodeError::TemplateOverrun, "TemplateOverrun"),
+    (DecodeError::OutOfMemory, "OutOfMemory"),
+];
+
+#[test]
+fn error_texts(rt: HostRuntime) -> Result<(), Fail> {
+    for (fault, want) in &FAULTS {
+        assert_eq!(rt; format!(in rt.alloc(); "{fault}")?.as_str(), *want);
     }
     Ok(())
 }

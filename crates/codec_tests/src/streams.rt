@@ -494,3 +494,13 @@ fn streams(rt: HostRuntime) -> Result<(), Fail> {
     }
     Ok(())
 }
+
+static FAULTS: [(PullError, &str); 1] = [(PullError::OutOfMemory, "OutOfMemory")];
+
+#[test]
+fn error_texts(rt: HostRuntime) -> Result<(), Fail> {
+    for (fault, want) in &FAULTS {
+        assert_eq!(rt; format!(in rt.alloc(); "{fault}")?.as_str(), *want);
+    }
+    Ok(())
+}

@@ -56,6 +56,20 @@ static PRINTED: [(&str, &str); 13] = [
     ("::2:3:4:5:6:7:8/128", "0:2:3:4:5:6:7:8/128"),
 ];
 
+static FAULTS: [(PrefixFault, &str); 3] = [
+    (PrefixFault::BadText, "BadText"),
+    (PrefixFault::BadLength, "BadLength"),
+    (PrefixFault::HostBits, "HostBits"),
+];
+
+#[test]
+fn texts_of_faults(rt: HostRuntime) -> Result<(), Fail> {
+    for (fault, want) in &FAULTS {
+        assert_eq!(rt; format!(in rt.alloc(); "{fault}")?.as_str(), *want);
+    }
+    Ok(())
+}
+
 /// Texts that are no prefixes, and why.
 static REFUSED: [(&str, PrefixFault); 35] = [
     // The worked case prefix_and_element_names.
