@@ -1,11 +1,12 @@
 -- What the calls add to what lies under the lock, and why they refuse.
-use Rattle.std.specs.Prelude.{◌≡◌, ℕ, ◌+◌, ◌<◌, true, false, Option, Some, None}
+use Rattle.std.specs.Prelude.{◌≡◌, ℕ, ◌+◌, ◌<◌, Bool, true, false, ◌||◌, Option, Some, None}
 use Rattle.mediator_history.specs.Subscriptions.{is_live, is_served}
-use Rattle.mediator_state.specs.declared.fault.Fault.TheVariants.{UnknownSub}
+use Rattle.mediator_state.specs.declared.fault.Fault.{Fault}
+use Rattle.mediator_state.specs.declared.fault.Fault.TheVariants.{UnknownSub, JournalFull}
 use Rattle.mediator_calls.specs.Mediation.{waiting_at}
 use Rattle.mediator_calls.specs.Calls.{RefusesOpen}
 use Rattle.mediator_calls.specs.Counted.{Counts}
-use Rattle.shared_mediator.specs.Locked.{Locked}
+use Rattle.shared_mediator.specs.Locked.{Locked, locked_as}
 use Rattle.shared_mediator.specs.declared.fault.HandleFault.{HandleFault}
 use Rattle.shared_mediator.specs.declared.fault.HandleFault.TheVariants as handle
 use Rattle.shared_mediator.specs.declared.delivery.Waited.{Waited}
@@ -20,10 +21,24 @@ pub record Makes (entries handed gone exporters deliveries admins : ℕ) (old ne
   pub deliveries_are : new.deliveries ≡ old.deliveries + deliveries
   pub admins_are : new.admins ≡ old.admins + admins
   pub stopped : new.stopped ≡ old.stopped
+  pub full : new.full ≡ old.full
 
 -- and no handle more
 abbrev pub Adds : ℕ → ℕ → ℕ → Locked → Locked → Type 0
 Adds entries handed gone old new = Makes entries handed gone 0 0 0 old new
+
+-- whether a call was refused since the journal is full
+abbrev pub is_full : Fault → Bool
+is_full JournalFull = true
+is_full _ = false
+
+abbrev pub is_full_handle : HandleFault → Bool
+is_full_handle handle.NoHandle = false
+is_full_handle (handle.Core why) = is_full why
+
+-- nothing has changed but that such a refusal is noted, if it is one
+abbrev pub noted : Bool → Locked → Locked
+noted full d = locked_as d.counted d.handles d.exporters d.deliveries d.admins d.stopped (d.full || full)
 
 -- as many of the kind were made as there may be; or the mediator opens no session
 abbrev pub RefusesExporter : HandleFault → Locked → Type 0

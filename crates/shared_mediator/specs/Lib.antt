@@ -26,6 +26,7 @@ pub use Rattle.entry_receipts.specs.Receipts
 pub use Rattle.entry_receipts.specs.Marking
 pub use Rattle.mediator_calls.specs.Counted
 pub use Rattle.mediator_calls.specs.Handing
+pub mod FaultTexts
 pub mod Locked
 pub mod Keeping
 pub mod Handles

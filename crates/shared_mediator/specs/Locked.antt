@@ -4,7 +4,8 @@ use Rattle.entry_receipts.specs.declared.kept.KeptEntry.{KeptEntry}
 use Rattle.mediator_calls.specs.declared.handed.Handed.{Handed}
 use Rattle.mediator_calls.specs.Counted.{Counted}
 
--- the counted mediator, how many handles of each kind there may be, how many were made, and whether all is to stop
+-- the counted mediator, how many handles of each kind there may be, how many were made, whether all is to stop, and whether a call was
+-- refused since the journal is full
 pub record Locked : Type 0 where
   pub counted : Counted
   pub handles : ℕ
@@ -12,15 +13,17 @@ pub record Locked : Type 0 where
   pub deliveries : ℕ
   pub admins : ℕ
   pub stopped : Bool
+  pub full : Bool
 
-abbrev pub locked_as : Counted → ℕ → ℕ → ℕ → ℕ → Bool → Locked
-locked_as counted handles exporters deliveries admins stopped = record {
+abbrev pub locked_as : Counted → ℕ → ℕ → ℕ → ℕ → Bool → Bool → Locked
+locked_as counted handles exporters deliveries admins stopped full = record {
   counted = counted;
   handles = handles;
   exporters = exporters;
   deliveries = deliveries;
   admins = admins;
   stopped = stopped;
+  full = full;
 }
 
 -- a book's total, and the parts and the amount of the share that isn't given out

@@ -1,5 +1,5 @@
 //! An administrator's handle.
-ghost use Rattle.std.specs.Prelude.{◌≡◌, [], length, IfOk, OnOk, OnErr};
+ghost use Rattle.std.specs.Prelude.{◌≡◌, ◌≤◌, [], length, vec_len, IfOk, OnOk, OnErr};
 ghost use Rattle.event_journal.specs.declared.entry.Entry.TheVariants.{Edit, Subscribe, Unsubscribe, Advance};
 ghost use Rattle.std.specs.List.{AllByRecursion};
 ghost use Rattle.shared_mediator.specs.Handles.{HasReceipt, KeepsEntry};
@@ -168,7 +168,9 @@ impl<E: EntryLedger> AdminHandle<E> {
         rt: &impl Wait,
         shared: &SharedMediator<E, H>,
         most: u32,
-    ) -> Result<Vec<AuditEntry>, AllocError> {
+    ) -> Result<Vec<AuditEntry>, AllocError>
+        ensures few { IfOk result (λ out. vec_len out ≤ most) }
+    {
         shared.desk.lock(rt).drain_audit(most)
     }
 

@@ -21,13 +21,14 @@ use mediator_calls::{CountedMediator, Mediator};
 use std::alloc::Global;
 use std::sync::ledger::Share;
 
-/// What is given back: the mediator, how many messages its exporters have receipts of, and how many records its
-/// deliveries handed out.
+/// What is given back: the mediator, how many messages its exporters have receipts of, how many records its deliveries
+/// handed out, and whether a call was refused since the journal is full.
 #[derive(Drop)]
 pub struct Closed {
     pub mediator: Mediator,
     pub accepted: u64,
     pub handed: u64,
+    pub full: bool,
 }
 
 impl<E: EntryLedger, H: RecordLedger> SharedMediator<E, H> {
@@ -70,6 +71,7 @@ impl<E: EntryLedger, H: RecordLedger> Desk<E, H> {
         ensures messages { OnOk result (AllByRecursion KeepsMessages exporters.items) }
         ensures accepted { IfOk result (λ closed. closed.accepted ≡ messages_accepted exporters.items) }
         ensures handed { IfOk result (λ closed. closed.handed ≡ records_handed deliveries.items) }
+        ensures full { IfOk result (λ closed. closed.full ≡ self.full) }
         ensures book { OnOk result (entries_kept exporters.items admins.items ≡ entries_of self.counted) }
         ensures all { OnOk result (AreAll self (length exporters.items) (length deliveries.items) (length admins.items)) }
         ensures err { IfErr result (λ e. RefusesClosing e self (length exporters.items) (length deliveries.items) (length admins.items)) }
@@ -92,6 +94,7 @@ impl<E: EntryLedger, H: RecordLedger> Desk<E, H> {
             mut handed,
             entries_left,
             handed_left,
+            full,
             ..
         } = self;
         let mut all_entries = joined_entries(entries_left, exporters, admins);
@@ -103,6 +106,7 @@ impl<E: EntryLedger, H: RecordLedger> Desk<E, H> {
             mediator: counted.into_mediator(),
             accepted,
             handed,
+            full,
         })
     }
 }

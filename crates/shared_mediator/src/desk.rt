@@ -8,7 +8,7 @@ ghost use Rattle.mediator_calls.specs.Calls.{Opens, Closes, Receives, RefusesRec
 ghost use Rattle.mediator_calls.specs.Counted.{counted_as, handed_at, handed_live};
 ghost use Rattle.mediator_calls.specs.Handing.{HandsOut, RefusesHanding, records_of};
 ghost use Rattle.shared_mediator.specs.Locked.{locked_as};
-ghost use Rattle.shared_mediator.specs.Calls.{Makes, Adds, RefusesExporter, RefusesDelivery, RefusesAdmin, IsWaited};
+ghost use Rattle.shared_mediator.specs.Calls.{Makes, Adds, RefusesExporter, RefusesDelivery, RefusesAdmin, IsWaited, is_full, is_full_handle, noted};
 
 use crate::delivery::Waited;
 use crate::fault::HandleFault;
@@ -24,8 +24,8 @@ use std::sync::ledger::{Blank, Book, Share};
 
 /// A mediator, the books of what the handles' calls added to it, and the shares that no handle has.
 ///
-/// Contracts see the counted mediator, how many handles there are and may be, and whether all is to stop. The books' totals
-/// are the mediator's counts: that is kept.
+/// Contracts see the counted mediator, how many handles there are and may be, whether all is to stop, and whether a call was
+/// refused since the journal is full. The books' totals are the mediator's counts: that is kept.
 #[derive(Drop)]
 pub(crate) struct Desk<E: EntryLedger, H: RecordLedger> {
     pub(crate) counted: CountedMediator,
@@ -34,6 +34,7 @@ pub(crate) struct Desk<E: EntryLedger, H: RecordLedger> {
     pub(crate) deliveries: u64,
     pub(crate) admins: u64,
     pub(crate) stopped: bool,
+    pub(crate) full: bool,
     pub(crate) entries: Book<E>,
     pub(crate) handed: Book<H>,
     pub(crate) entries_left: Share<E>,
@@ -46,9 +47,9 @@ impl<E: EntryLedger, H: RecordLedger> Model for Desk<E, H> {
 
     ghost Value = { Locked };
 
-    ghost view = { λ d. locked_as d.counted d.handles d.exporters d.deliveries d.admins d.stopped };
+    ghost view = { λ d. locked_as d.counted d.handles d.exporters d.deliveries d.admins d.stopped d.full };
 
-    ghost invariant = { λ d. IsKept E.all E.before H.all (locked_as d.counted d.handles d.exporters d.deliveries d.admins d.stopped) (ledgered_as d.entries.total d.entries_left.parts d.entries_left.amount) (ledgered_as d.handed.total d.handed_left.parts d.handed_left.amount) };
+    ghost invariant = { λ d. IsKept E.all E.before H.all (locked_as d.counted d.handles d.exporters d.deliveries d.admins d.stopped d.full) (ledgered_as d.entries.total d.entries_left.parts d.entries_left.amount) (ledgered_as d.handed.total d.handed_left.parts d.handed_left.amount) };
 }
 
 /// What was accepted: the entry's position in the journal, and the number that the call answers.
@@ -67,7 +68,7 @@ impl<E: EntryLedger, H: RecordLedger> Desk<E, H> {
         requires entries_parts { (entries.parts ≡ E.parts) × (E.parts ≡ E.all) × (E.all ≡ 2 * handles + 1) }
         requires handed_name { handed.name ≡ H.name }
         requires handed_parts { (handed.parts ≡ H.parts) × (H.parts ≡ H.all) × (H.all ≡ handles + 1) }
-        ensures { result ≡ locked_as (counted_as mediator (length mediator.history) 0) handles 0 0 0 false }
+        ensures { result ≡ locked_as (counted_as mediator (length mediator.history) 0) handles 0 0 0 false false }
     {
         let (entries, entries_left) = entries.open::<E>();
         let (handed, handed_left) = handed.open::<H>();
@@ -78,6 +79,7 @@ impl<E: EntryLedger, H: RecordLedger> Desk<E, H> {
             deliveries: 0,
             admins: 0,
             stopped: false,
+            full: false,
             entries,
             handed,
             entries_left,
@@ -90,7 +92,7 @@ impl<E: EntryLedger, H: RecordLedger> Desk<E, H> {
         ensures ok { IfOk result (λ given. Opens self.old.counted.core given.0.0 self.new.counted.core) }
         ensures counts { OnOk result (Makes 0 0 0 1 0 0 self.old self.new) }
         ensures share { IfOk result (λ given. (given.1.parts ≡ 1) × (given.1.amount ≡ 0)) }
-        ensures same { OnErr result (self.new ≡ self.old) }
+        ensures same { IfErr result (λ e. self.new ≡ noted (is_full_handle e) self.old) }
         ensures err { IfErr result (λ e. RefusesExporter e self.old) }
     {
         if self.exporters == self.handles {
@@ -98,7 +100,7 @@ impl<E: EntryLedger, H: RecordLedger> Desk<E, H> {
         }
         let session = match self.counted.open() {
             Ok(session) => session,
-            Err(fault) => return Err(HandleFault::Core(fault)),
+            Err(fault) => return Err(HandleFault::Core(self.note(fault))),
         };
         self.exporters += 1;
         Ok((session, self.entries_left.split_off(1, 0)))
@@ -149,12 +151,16 @@ impl<E: EntryLedger, H: RecordLedger> Desk<E, H> {
         ensures counts { OnOk result (Adds 1 0 0 self.old self.new) }
         ensures share { OnOk result (share.new.amount ≡ share.old.amount + 1) }
         ensures part { share.new.parts ≡ share.old.parts }
-        ensures same { OnErr result ((self.new ≡ self.old) × (share.new ≡ share.old)) }
+        ensures same { IfErr result (λ e. (self.new ≡ noted (is_full e) self.old) × (share.new ≡ share.old)) }
         ensures err { IfErr result (λ e. RefusesReceive e self.old.counted.core session.0 number message) }
     {
-        let receipt = self.counted.receive(session, number, message)?;
-        self.entries.add(share, 1);
-        Ok(receipt)
+        match self.counted.receive(session, number, message) {
+            Ok(receipt) => {
+                self.entries.add(share, 1);
+                Ok(receipt)
+            }
+            Err(fault) => Err(self.note(fault)),
+        }
     }
 
     /// The templates of a session as they stand.
@@ -179,7 +185,7 @@ impl<E: EntryLedger, H: RecordLedger> Desk<E, H> {
         ensures counts { OnOk result (Adds 1 0 0 self.old self.new) }
         ensures share { OnOk result (share.new.amount ≡ share.old.amount + 1) }
         ensures part { share.new.parts ≡ share.old.parts }
-        ensures same { OnErr result ((self.new ≡ self.old) × (share.new ≡ share.old)) }
+        ensures same { IfErr result (λ e. (self.new ≡ noted (is_full e.0) self.old) × (share.new ≡ share.old)) }
         ensures err { IfErr result (λ e. RefusesReceivePrepared e.0 self.old.counted.core session.0 number prepared) }
         ensures handed_back { IfErr result (λ e. e.1 ≡ prepared) }
     {
@@ -188,7 +194,7 @@ impl<E: EntryLedger, H: RecordLedger> Desk<E, H> {
                 self.entries.add(share, 1);
                 Ok(receipt)
             }
-            Err(refused) => Err(refused),
+            Err((fault, prepared)) => Err((self.note(fault), prepared)),
         }
     }
 
@@ -196,10 +202,13 @@ impl<E: EntryLedger, H: RecordLedger> Desk<E, H> {
     pub(crate) fn close(&mut self, session: SessionId) -> Result<(), Fault>
         ensures ok { OnOk result (Closes self.old.counted.core session.0 self.new.counted.core) }
         ensures counts { OnOk result (Adds 0 0 0 self.old self.new) }
-        ensures same { OnErr result (self.new ≡ self.old) }
+        ensures same { IfErr result (λ e. self.new ≡ noted (is_full e) self.old) }
         ensures err { IfErr result (λ e. RefusesClose e (journal_limits self.old.counted.core.limits) self.old.counted.core.history session.0) }
     {
-        self.counted.close(session)
+        match self.counted.close(session) {
+            Ok(()) => Ok(()),
+            Err(fault) => Err(self.note(fault)),
+        }
     }
 
     /// Builds a subscription's next message, and adds its records to a share.
@@ -251,13 +260,17 @@ impl<E: EntryLedger, H: RecordLedger> Desk<E, H> {
         ensures counts { OnOk result (Adds 1 0 0 self.old self.new) }
         ensures share { OnOk result (share.new.amount ≡ share.old.amount + 1) }
         ensures part { share.new.parts ≡ share.old.parts }
-        ensures same { OnErr result ((self.new ≡ self.old) × (share.new ≡ share.old)) }
+        ensures same { IfErr result (λ e. (self.new ≡ noted (is_full e) self.old) × (share.new ≡ share.old)) }
         ensures err { IfErr result (λ e. RefusesEdit e (journal_limits self.old.counted.core.limits) self.old.counted.core.history text.now) }
     {
         let position = self.counted.len();
-        let number = self.counted.edit(text)?;
-        self.entries.add(share, 1);
-        Ok(Accepted { position, number })
+        match self.counted.edit(text) {
+            Ok(number) => {
+                self.entries.add(share, 1);
+                Ok(Accepted { position, number })
+            }
+            Err(fault) => Err(self.note(fault)),
+        }
     }
 
     /// Begins a subscription, and adds that to a share.
@@ -268,16 +281,18 @@ impl<E: EntryLedger, H: RecordLedger> Desk<E, H> {
         ensures counts { OnOk result (Adds 1 0 0 self.old self.new) }
         ensures share { OnOk result (share.new.amount ≡ share.old.amount + 1) }
         ensures part { share.new.parts ≡ share.old.parts }
-        ensures same { OnErr result ((self.new ≡ self.old) × (share.new ≡ share.old)) }
+        ensures same { IfErr result (λ e. (self.new ≡ noted (is_full e) self.old) × (share.new ≡ share.old)) }
         ensures err { IfErr result (λ e. RefusesSubscribe e (journal_limits self.old.counted.core.limits) self.old.counted.core.history name.now) }
     {
         let position = self.counted.len();
-        let sub = self.counted.subscribe(name)?;
-        self.entries.add(share, 1);
-        Ok(Accepted {
-            position,
-            number: sub.0,
-        })
+        match self.counted.subscribe(name) {
+            Ok(sub) => {
+                self.entries.add(share, 1);
+                let number = sub.0;
+                Ok(Accepted { position, number })
+            }
+            Err(fault) => Err(self.note(fault)),
+        }
     }
 
     /// Ends a subscription, adds that to a share, and answers the entry's position.
@@ -288,13 +303,17 @@ impl<E: EntryLedger, H: RecordLedger> Desk<E, H> {
         ensures counts { OnOk result (Adds 1 0 (handed_at self.old.counted.core sub.0) self.old self.new) }
         ensures share { OnOk result (share.new.amount ≡ share.old.amount + 1) }
         ensures part { share.new.parts ≡ share.old.parts }
-        ensures same { OnErr result ((self.new ≡ self.old) × (share.new ≡ share.old)) }
+        ensures same { IfErr result (λ e. (self.new ≡ noted (is_full e) self.old) × (share.new ≡ share.old)) }
         ensures err { IfErr result (λ e. RefusesUnsubscribe e (journal_limits self.old.counted.core.limits) self.old.counted.core.history sub.0) }
     {
         let position = self.counted.len();
-        self.counted.unsubscribe(sub)?;
-        self.entries.add(share, 1);
-        Ok(position)
+        match self.counted.unsubscribe(sub) {
+            Ok(()) => {
+                self.entries.add(share, 1);
+                Ok(position)
+            }
+            Err(fault) => Err(self.note(fault)),
+        }
     }
 
     /// Advances the clock, adds that to a share, and answers the entry's position: the last one, behind the cuts that the
@@ -306,12 +325,16 @@ impl<E: EntryLedger, H: RecordLedger> Desk<E, H> {
         ensures counts { OnOk result (Adds 1 0 0 self.old self.new) }
         ensures share { OnOk result (share.new.amount ≡ share.old.amount + 1) }
         ensures part { share.new.parts ≡ share.old.parts }
-        ensures same { OnErr result ((self.new ≡ self.old) × (share.new ≡ share.old)) }
+        ensures same { IfErr result (λ e. (self.new ≡ noted (is_full e) self.old) × (share.new ≡ share.old)) }
         ensures err { IfErr result (λ e. RefusesAdvance e self.old.counted.core t) }
     {
-        self.counted.advance(t)?;
-        self.entries.add(share, 1);
-        Ok(self.counted.len() - 1)
+        match self.counted.advance(t) {
+            Ok(()) => {
+                self.entries.add(share, 1);
+                Ok(self.counted.len() - 1)
+            }
+            Err(fault) => Err(self.note(fault)),
+        }
     }
 
     /// Hands out audit entries.
@@ -334,8 +357,31 @@ impl<E: EntryLedger, H: RecordLedger> Desk<E, H> {
 
     /// All is to stop: a wait for which nothing is queued ends.
     pub(crate) fn stop(&mut self)
-        ensures { self.new ≡ locked_as self.old.counted self.old.handles self.old.exporters self.old.deliveries self.old.admins true }
+        ensures { self.new ≡ locked_as self.old.counted self.old.handles self.old.exporters self.old.deliveries self.old.admins true self.old.full }
     {
         self.stopped = true;
     }
+
+    /// Whether a call was refused since the journal is full.
+    pub(crate) fn is_full(&self) -> bool
+        ensures { result ≡ self.now.full }
+    {
+        self.full
+    }
+
+    /// Notes a refusal of the mediator, where that is that the journal is full; and hands it on.
+    fn note(&mut self, fault: Fault) -> Fault
+        ensures same { result ≡ fault }
+        ensures noted { self.new ≡ noted (is_full fault) self.old }
+    {
+        self.full = self.full || is_full(fault);
+        fault
+    }
+}
+
+/// Whether a refusal is that the journal is full.
+fn is_full(fault: Fault) -> bool
+    ensures { result ≡ is_full fault }
+{
+    matches!(fault, Fault::JournalFull)
 }

@@ -17,6 +17,11 @@ pub enum HandleFault {
 impl Error for HandleFault {}
 
 impl Display for HandleFault {
+    ghost use Rattle.std.specs.Prelude.{Option, Some};
+    ghost use Rattle.shared_mediator.specs.FaultTexts.{text_of_handle};
+
+    ghost output = { λ fault. Some (text_of_handle fault) };
+
     fn fmt<W: Write>(&self, f: &mut Formatter<W>) -> fmt::Result {
         match self {
             HandleFault::NoHandle => f.write_str("NoHandle"),
@@ -40,6 +45,11 @@ pub enum CloseFault {
 impl Error for CloseFault {}
 
 impl Display for CloseFault {
+    ghost use Rattle.std.specs.Prelude.{Option, Some};
+    ghost use Rattle.shared_mediator.specs.FaultTexts.{text_of_close};
+
+    ghost output = { λ fault. Some (text_of_close fault) };
+
     fn fmt<W: Write>(&self, f: &mut Formatter<W>) -> fmt::Result {
         f.write_str(match self {
             CloseFault::MissingHandle => "MissingHandle",

@@ -91,6 +91,11 @@ impl<E: EntryLedger, H: RecordLedger> SharedMediator<E, H> {
         self.moved.notify_all();
     }
 
+    /// Whether a call of [`exporter`](SharedMediator::exporter) or through a handle was refused since the journal is full.
+    pub fn full(&self, rt: &impl Wait) -> bool {
+        self.locked(rt).is_full()
+    }
+
     /// Gives a handle for an administrator.
     ///
     /// # Errors

@@ -36,12 +36,12 @@ pub(crate) fn calls<E: EntryLedger, H: RecordLedger, R: Wait + Abort>(
     let mut exporter = shared.exporter(rt).expect(rt, "an exporter");
     let mut delivery = shared.delivery(rt, SubId(1)).expect(rt, "a delivery");
     expect_offer(rt, alloc, shared, &mut exporter, ONE_RECORD, received(3))?;
-    expect_status(rt, shared, &admin, 1, 0);
+    expect_status(rt, shared, &admin, (1, 1, 0, false));
     let edited = admin.edit(rt, shared, WITHHOLD);
     assert!(rt; edited == Ok(2));
     expect_offer(rt, alloc, shared, &mut exporter, NEXT_RECORD, received(5))?;
-    expect_message(rt, shared, &mut delivery);
-    expect_status(rt, shared, &admin, 0, 1);
+    expect_message(rt, shared, &mut delivery, DISCLOSED, 1);
+    expect_status(rt, shared, &admin, (1, 0, 1, false));
     expect_audit(rt, alloc, shared, &admin, "5 0 1 withheld 1 rule\n")?;
     refuse_handles(rt, shared);
     refuse_admin(rt, shared, &mut admin);
@@ -84,34 +84,39 @@ fn expect_offer<E: EntryLedger, H: RecordLedger, R: Wait + Abort>(
     Ok(())
 }
 
-/// That so many records are queued for the subscription, and so many were handed out.
-fn expect_status<E: EntryLedger, H: RecordLedger, R: Wait + Abort>(
+/// How a subscription stands: its number, how many records are queued and were handed out, and whether it was cut.
+pub(crate) type Standing = (u64, u32, u64, bool);
+
+/// That a subscription stands so, with one template.
+pub(crate) fn expect_status<E: EntryLedger, H: RecordLedger, R: Wait + Abort>(
     rt: &R,
     shared: &SharedMediator<E, H>,
     admin: &AdminHandle<E>,
-    queued: u32,
-    handed: u64,
+    standing: Standing,
 ) {
+    let (sub, queued, handed, cut) = standing;
     let due = Status {
         queued,
         handed,
         shapes: 1,
-        cut: false,
+        cut,
     };
-    let answer = admin.status(rt, shared, SubId(1));
+    let answer = admin.status(rt, shared, SubId(sub));
     assert!(rt; answer == Ok(due), "{answer:?}");
 }
 
-/// That one message of one record is pulled, and no second one.
-fn expect_message<E: EntryLedger, H: RecordLedger, R: Wait + Abort>(
+/// That this message of so many records is pulled, and no second one.
+pub(crate) fn expect_message<E: EntryLedger, H: RecordLedger, R: Wait + Abort>(
     rt: &R,
     shared: &SharedMediator<E, H>,
     delivery: &mut DeliveryHandle<H>,
+    message: &[u8],
+    records: u64,
 ) {
     let first = delivery.pull(rt, shared, NOW, TARGET);
     assert!(rt; first == Ok(true));
     let is_due = match delivery.last() {
-        Some(handed) => handed.message.as_slice() == DISCLOSED && handed.records == 1,
+        Some(handed) => handed.message.as_slice() == message && handed.records == records,
         None => false,
     };
     assert!(rt; is_due);

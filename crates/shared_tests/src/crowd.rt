@@ -1,6 +1,6 @@
 //! Eight exporters with 250 messages each and nine deliveries in threads of their own, while an administrator edits, subscribes
 //! and advances the clock: each subscriber has what the journal gives it.
-use crate::octets::{NOW, flow, limits};
+use crate::octets::{NOW, START, flow, limits};
 use crate::replay::replay;
 use crate::sharing::{Case, Hands, one, share};
 use bytes::Bytes;
@@ -25,16 +25,13 @@ const EDITS: u64 = 25;
 /// Each part is then a message of its own, so that what a subscriber gets doesn't depend on when it pulls.
 pub(crate) const TARGET: u16 = 16;
 
-/// The first flow starts so many milliseconds after 1970, with an interval of five minutes.
-const START: u64 = 1_700_000_100_000;
-
 /// The last one of these names is delivered to when all else is over.
 const NAMES: &[&str] = &[
     "ada", "bob", "cyd", "dan", "eve", "fay", "gus", "hal", "late",
 ];
 
 /// Eve's flows are added up; all others get each.
-const ADDED: &str =
+pub(crate) const ADDED: &str =
     "policy 1\naggregate web key destinationTransportPort interval 300 grace 60\nrule for eve in * from * to * aggregate web\nrule for * in * from * to * pass\nrule for * in * from * to * element * keep\n";
 
 /// The same, and Bob gets nothing.

@@ -3,8 +3,9 @@
 //!
 //! - `sharing`: a case is played through the handles of a new shared mediator, which is closed then.
 //! - `octets`: the messages, the policies and the limits.
-//! - `calls`: each call once by one thread, its refusals, and handles that are missing. `waits`: what ends a wait in a thread of its
-//!   own. `crowd`: eight exporters and nine deliveries at once, and `replay`: the same journal replayed by one thread.
+//! - `calls`: each call once by one thread, its refusals, and handles that are missing. `several`: three sessions and
+//!   subscriptions, of which the second end, and an audit that is handed out by pieces. `waits`: what ends the waits of two
+//!   threads. `crowd`: eight exporters and nine deliveries at once, and `replay`: the same journal replayed by one thread.
 #![tactic(auto)]
 
 #[cfg(test)]
@@ -15,6 +16,8 @@ mod crowd;
 mod octets;
 #[cfg(test)]
 mod replay;
+#[cfg(test)]
+mod several;
 #[cfg(test)]
 mod sharing;
 #[cfg(test)]

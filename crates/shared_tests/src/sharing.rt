@@ -4,6 +4,7 @@ ghost use Rattle.mediator_calls.specs.Counted.{handed_live};
 
 use crate::calls::calls;
 use crate::crowd::crowd;
+use crate::several::{audit, several};
 use crate::waits::waits;
 use bytes::Bytes;
 use mediator_core::{Limits, Mediator, SubId};
@@ -17,6 +18,7 @@ use std::process::Abort;
 use std::sync::Wait;
 use std::sync::ledger::Blank;
 use std::thread::Threads;
+use std::time::Clock;
 
 /// What is done on a shared mediator.
 #[derive(Clone, Copy, Debug, PartialEq, Eq)]
@@ -31,6 +33,10 @@ pub(crate) enum Case {
     NoAdmin,
     /// Each end of a wait.
     Waits,
+    /// Three sessions and three subscriptions.
+    Several,
+    /// An audit that is handed out by pieces.
+    Audit,
     /// Eight exporters and nine deliveries.
     Crowd,
 }
@@ -58,7 +64,7 @@ pub(crate) struct Ended {
 }
 
 /// Plays a case with at most so many handles of each kind.
-pub(crate) fn share<R: Threads + Wait + Abort + Sync>(
+pub(crate) fn share<R: Threads + Wait + Abort + Clock + Sync>(
     rt: &R,
     alloc: Global,
     limits: Limits,
@@ -76,7 +82,7 @@ pub(crate) fn share<R: Threads + Wait + Abort + Sync>(
 fn run<
     E: EntryLedger + Send + Sync,
     H: RecordLedger + Send + Sync,
-    R: Threads + Wait + Abort + Sync,
+    R: Threads + Wait + Abort + Clock + Sync,
 >(
     rt: &R,
     alloc: Global,
@@ -110,7 +116,7 @@ fn run<
 fn play<
     E: EntryLedger + Send + Sync,
     H: RecordLedger + Send + Sync,
-    R: Threads + Wait + Abort + Sync,
+    R: Threads + Wait + Abort + Clock + Sync,
 >(
     rt: &R,
     alloc: Global,
@@ -119,6 +125,8 @@ fn play<
 ) -> Result<Hands<E, H>, AllocError> {
     match case {
         Case::Waits => waits(rt, alloc, shared),
+        Case::Several => several(rt, alloc, shared),
+        Case::Audit => audit(rt, alloc, shared),
         Case::Crowd => crowd(rt, alloc, shared),
         _ => Ok(without(calls(rt, alloc, shared)?, case)),
     }
