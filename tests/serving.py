@@ -41,10 +41,10 @@ class Run:
     """A run of `ipmd serve`, as a context: it is killed where it hasn't ended by then, or lasts too long.
 
     A collector listens for each subscriber; `doors` may give the doors, by name. `settings` are those that aren't the usual
-    ones; a value of None leaves the key out.
+    ones; a value of None leaves the key out. `files` are empty files that its folder has before, and `links` links, by name.
     """
 
-    def __init__(self, rules=PASS, subscribers=("acme",), connections=1, doors=None, longest=LONGEST, **settings):
+    def __init__(self, rules=PASS, subscribers=("acme",), connections=1, doors=None, longest=LONGEST, files=(), links=None, **settings):
         self.doors = {name: Door() for name in subscribers} | (doors or {})
         self.ports = {"exporters": free_port(), "admin": free_port()}
         self.folder = tempfile.TemporaryDirectory(prefix="ipmd-test-")
@@ -57,9 +57,14 @@ class Run:
         }
         self.settings |= ROOMY | settings
         self.rules, self.longest, self.peers = rules, longest, []
+        self.files, self.links = files, links or {}
 
     def __enter__(self):
         self.write("policy.txt", self.rules)
+        for name in self.files:
+            self.write(name, "")
+        for name, target in self.links.items():
+            os.symlink(target, self.path(name))
         self.write("settings.toml", settings_text(self.settings))
         words = [program.path(), "serve", "--settings", "settings.toml"]
         with open(self.path("output"), "wb") as output, open(self.path("notes"), "wb") as notes:

@@ -68,19 +68,17 @@ class Refusals(ServeTest):
         run.exporter().close()
         self.expect_served(run, 0, 0)
 
-    def test_no_session(self):
-        """The first exporter's message has no room in the journal, and then the second one's session has none."""
+    def test_no_room_for_a_message(self):
+        """The exporter's message has no room in the journal: it is closed, and so is who comes next."""
         run = self.start(subscribers=(), connections=2, journal_entries=2)
         # The policy and one session have room.
         first = run.exporter()
         first.send(flow_message(0))
         self.assertEqual(first.take_end(), b"")
-        second = run.exporter()
-        self.assertEqual(second.take_end(), b"")
-        run.admin().close()
+        self.assertEqual(run.exporter().take_end(), b"")
         notes = self.expect_served(run, 0, 0).notes
         self.assertIn(" failed, JournalFull: messages 0 records 0 gaps 0\n", notes)
-        self.assertIn(" refused: JournalFull\n", notes)
+        self.assertIn(" turned away: the journal is full\n", notes)
 
     def test_failed_door(self):
         """A connection can't be accepted, for want of a file descriptor: the run ends, and with it all connections."""

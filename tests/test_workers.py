@@ -12,6 +12,19 @@ WITHDRAWAL = set_of(2, bytes.fromhex("0100 0000"))
 
 NUMBERS = (1, 2, 4, 64)
 
+# How many pieces of 64 messages are sent to count the threads that read them.
+PIECES = 30
+
+# After this number the system's numbers of threads and processes begin anew.
+with open("/proc/sys/kernel/pid_max", encoding="ascii") as file:
+    MOST_THREADS = int(file.read())
+
+
+def last_thread():
+    """The number of the thread or process that the system started last: each has the next one."""
+    with open("/proc/loadavg", encoding="ascii") as file:
+        return int(file.read().split()[-1])
+
 
 def flow(port):
     return FLOW.record(address("192.0.2.77"), port, 1500)
@@ -61,6 +74,25 @@ class Workers(ServeTest):
         messages = [message(0, FLOW.octets())] + [message(n, FLOW.data(flow(n))) for n in range(1000)]
         due = [FLOW.seen(address("192.0.2.77"), n, 1500) for n in range(1000)]
         self.expect_by_each(messages, due, " messages 1001 records 1000 gaps 0")
+
+    def threads_started(self, workers):
+        """How many threads and processes the system starts while pieces of 64 messages are read, one after another."""
+        run = self.start(workers=workers)
+        collector, exporter = run.collector(), run.exporter()
+        run.admin().close()
+        exporter.send(message(0, FLOW.octets()))
+        before, octets = last_thread(), b""
+        for piece in range(PIECES):
+            exporter.send(b"".join(message(n, FLOW.data(flow(80))) for n in range(64 * piece, 64 * piece + 64)))
+            while len(records(octets)) < 64 * (piece + 1):
+                octets += collector.take_message()
+        exporter.close()
+        return (last_thread() - before) % MOST_THREADS
+
+    def test_threads(self):
+        """Each piece is read by as many threads as are asked for. What else the system starts meanwhile is far less."""
+        self.assertGreaterEqual(self.threads_started(64), PIECES * 63)
+        self.assertLess(self.threads_started(1), PIECES * 63 // 2)
 
     def test_bad_message(self):
         """A message that is refused ends the stream; those before it in its piece were accepted, those behind it weren't."""

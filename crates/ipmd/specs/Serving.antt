@@ -75,7 +75,7 @@ pub record Serves (held holds : Option (List ℕ)) : Type 0 where
   pub plan : Plan
   pub planned : IsPlanned plan
   pub closed : Closed
-  pub is_served : IsServed [] closed.mediator.history closed.accepted closed.handed
+  pub is_served : IsServed plan [] closed.mediator.history closed.accepted closed.handed
   pub written : Appends held holds (served closed)
 
 -- what the program makes of the server's faults

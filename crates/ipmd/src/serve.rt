@@ -132,7 +132,7 @@ fn run<R: System + Net<Listener = TcpListener, Stream = TcpStream>, E: Write + S
     errors: &mut Device<E>,
 ) -> Result<Closed, ProgramFault>
     requires fresh { handed_live mediator ≡ 0 }
-    ensures served { IfOk result (λ closed. IsServed mediator.history closed.mediator.history closed.accepted closed.handed) }
+    ensures served { IfOk result (λ closed. IsServed plan.now mediator.history closed.mediator.history closed.accepted closed.handed) }
     ensures err { IfErr result (λ e. (fault : ListenFault) × (e ≡ listen_fault_of fault)) }
 {
     let notes = Locked::new(rt, DeviceWriter::over(errors));

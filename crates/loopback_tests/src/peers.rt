@@ -31,23 +31,9 @@ pub(crate) fn send(rt: &impl Abort, mut stream: &TcpStream, octets: &[u8]) {
     stream.write_all(octets).expect(rt, "all is taken");
 }
 
-/// Reads so many octets.
-pub(crate) fn take(
-    rt: &impl Abort,
-    alloc: Global,
-    mut stream: &TcpStream,
-    count: usize,
-) -> Vec<u8> {
-    let mut octets = Vec::from_elem(alloc, 0, count).expect(rt, "memory");
-    stream
-        .read_exact(octets.as_mut_slice())
-        .expect(rt, "so many octets");
-    octets
-}
-
-/// That nothing more comes, and the connection is ended.
-pub(crate) fn expect_closed(rt: &impl Abort, alloc: Global, mut stream: &TcpStream) {
+/// Reads to the end.
+pub(crate) fn take_all(rt: &impl Abort, alloc: Global, mut stream: &TcpStream) -> Vec<u8> {
     let mut octets = Vec::new(alloc);
     stream.read_to_end(&mut octets).expect(rt, "an end");
-    assert!(rt; octets.is_empty());
+    octets
 }

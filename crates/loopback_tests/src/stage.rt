@@ -1,4 +1,4 @@
-//! A server that is to be run: its plan with free addresses, and the door of its collector.
+//! A server that is to be run: its plan with free addresses, and the doors of its collectors.
 
 use log::Log;
 use mediator_calls::{Limits, Mediator};
@@ -13,31 +13,36 @@ use std::thread::Threads;
 use std::time::Clock;
 
 /// All is disclosed to all.
-const PASS: &str =
+pub(crate) const PASS: &str =
     "policy 1\nrule for * in * from * to * pass\nrule for * in * from * to * element * keep\n";
 
-const ROOMY: Limits = Limits {
-    queue: 100,
+/// How a server is to be run.
+#[derive(Clone, Copy)]
+pub(crate) struct Scene {
+    pub(crate) policy: &'static str,
+    /// To whom is delivered.
+    pub(crate) subscribers: &'static [&'static str],
+    /// How many templates of a subscription may be known.
+    pub(crate) shapes: u32,
+    pub(crate) target: u16,
+    pub(crate) turns: u64,
+}
+
+/// All passes to acme, and nothing is ever full.
+pub(crate) const USUAL: Scene = Scene {
+    policy: PASS,
+    subscribers: &["acme"],
     shapes: 100,
-    audit: 100,
-    entries: 100,
-    octets: 1_000_000,
+    target: 1400,
+    turns: 1000,
 };
 
-/// The most octets of a message to the collector.
-const TARGET: u16 = 1400;
-
-/// How often a connection is read at most.
-const TURNS: u64 = 1000;
-
-/// How many threads read an exporter's messages.
-const WORKERS: u64 = 2;
-
-/// A plan, and the door of its collector.
+/// A plan, the limits of its mediator, and the doors of its collectors.
 #[derive(Drop)]
 pub(crate) struct Stage {
     pub(crate) plan: Plan,
-    pub(crate) door: TcpListener,
+    pub(crate) limits: Limits,
+    pub(crate) doors: Vec<TcpListener>,
 }
 
 /// A door on a port that was free.
@@ -59,36 +64,51 @@ fn free_address<R: Net<Listener = TcpListener, Stream = TcpStream> + Abort>(
     address_of(rt, alloc, &open_door(rt))
 }
 
-/// A server for one exporter, and acme's collector, which listens.
+/// A server for one exporter, and collectors that listen.
 pub(crate) fn set_up<R: Net<Listener = TcpListener, Stream = TcpStream> + Abort>(
     rt: &R,
     alloc: Global,
+    scene: Scene,
 ) -> Result<Stage, AllocError> {
-    let door = open_door(rt);
-    let mut deliver = Vec::new(alloc);
-    deliver.push(Collector {
-        name: String::from_str(alloc, "acme")?,
-        address: address_of(rt, alloc, &door)?,
-    })?;
+    let (mut doors, mut deliver) = (Vec::new(alloc), Vec::new(alloc));
+    for name in scene.subscribers {
+        let door = open_door(rt);
+        deliver.push(Collector {
+            name: String::from_str(alloc, *name)?,
+            address: address_of(rt, alloc, &door)?,
+        })?;
+        doors.push(door)?;
+    }
     let plan = Plan {
         exporters: free_address(rt, alloc)?,
         admin: free_address(rt, alloc)?,
-        policy: String::from_str(alloc, PASS)?,
+        policy: String::from_str(alloc, scene.policy)?,
         connections: 1,
-        target: TARGET,
-        turns: TURNS,
-        workers: WORKERS,
+        target: scene.target,
+        turns: scene.turns,
+        workers: 2,
         deliver,
     };
-    Ok(Stage { plan, door })
+    let limits = Limits {
+        queue: 100,
+        shapes: scene.shapes,
+        audit: 100,
+        entries: 100,
+        octets: 1_000_000,
+    };
+    Ok(Stage {
+        plan,
+        limits,
+        doors,
+    })
 }
 
 /// Runs a server by a plan, on a mediator of its own.
 pub(crate) fn run<
     R: Net<Listener = TcpListener, Stream = TcpStream> + Threads + Wait + Clock + Log + Sync,
->(rt: &R, alloc: Global, plan: &Plan) -> Result<Closed, ListenFault> {
-    match Mediator::new(alloc, ROOMY) {
-        Ok(mediator) => listen(rt, alloc, plan, mediator),
+>(rt: &R, alloc: Global, stage: &Stage) -> Result<Closed, ListenFault> {
+    match Mediator::new(alloc, stage.limits) {
+        Ok(mediator) => listen(rt, alloc, &stage.plan, mediator),
         Err(_) => Err(ListenFault::Core(Fault::OutOfMemory)),
     }
 }

@@ -3,3 +3,4 @@ pub mod Reading
 pub mod Sending
 pub mod Commands
 pub mod Exchanging
+pub mod SettingUp

@@ -2,6 +2,8 @@
 use Rattle.std.specs.Prelude.{ℕ, List, codes}
 use Rattle.mediator_server.specs.declared.fault.ServeFault.{ServeFault}
 use Rattle.mediator_server.specs.declared.fault.ServeFault.TheVariants as serve
+use Rattle.mediator_server.specs.declared.listening.ListenFault.{ListenFault}
+use Rattle.mediator_server.specs.declared.listening.ListenFault.TheVariants as listen
 
 abbrev pub text_of_serve : ServeFault → List ℕ
 text_of_serve serve.Read = codes "Read"
@@ -9,3 +11,10 @@ text_of_serve (serve.Write sent) = codes "Write"
 text_of_serve (serve.Framing why) = codes "Framing"
 text_of_serve serve.Turns = codes "Turns"
 text_of_serve (serve.Core why) = codes "Core"
+
+abbrev pub text_of_listen : ListenFault → List ℕ
+text_of_listen listen.Bind = codes "Bind"
+text_of_listen (listen.Connect collector) = codes "Connect"
+text_of_listen listen.NoThread = codes "NoThread"
+text_of_listen (listen.Core why) = codes "Core"
+text_of_listen (listen.Close why) = codes "Close"

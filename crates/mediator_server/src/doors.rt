@@ -29,6 +29,15 @@ pub(crate) enum Came {
     Admin(Guest),
 }
 
+impl Came {
+    /// The peer's address.
+    pub(crate) fn peer(&self) -> SocketAddr {
+        match self {
+            Came::Exporter(guest) | Came::Admin(guest) => guest.peer,
+        }
+    }
+}
+
 /// An address that is listened on until so many have come in as are wanted; then it is given up.
 #[derive(Drop)]
 struct Door {

@@ -1,5 +1,5 @@
 //! An exporter's stream.
-ghost use Rattle.std.specs.Prelude.{◌≡◌, ◌++◌, ◌∷◌, [], ℕ, List, false, length, IfOk, IfErr, IfSome, OnOk, OnErr};
+ghost use Rattle.std.specs.Prelude.{◌≡◌, ◌-◌, ◌++◌, ◌∷◌, [], ℕ, List, false, length, IfOk, IfErr, IfSome, OnOk, OnErr};
 ghost use Rattle.std.specs.Vec.Iter.{into_iter_items};
 ghost use Rattle.event_journal.specs.declared.entry.Entry.TheVariants.{Message};
 ghost use Rattle.mediator_server.specs.Serving.{Offers, RefusesAmong, Reaches, StopsServing, Serves};
@@ -21,22 +21,33 @@ use std::vec::IntoIter;
 
 /// How a stream is read.
 #[derive(Clone, Copy, Debug, PartialEq, Eq)]
-pub(crate) struct Pace {
+struct Pace {
     /// By so many reads at most.
-    pub(crate) turns: u64,
+    turns: u64,
     /// What one read brought by so many threads.
-    pub(crate) workers: u64,
+    workers: u64,
 }
 
-/// What the messages of a stream brought: the records in them, and the gaps in their sequence numbers.
+/// What an exporter's stream brought.
 #[derive(Clone, Copy, Debug, PartialEq, Eq)]
-pub(crate) struct Counts {
-    pub(crate) records: u64,
-    pub(crate) gaps: u64,
+pub struct Served {
+    /// The messages that were accepted.
+    pub messages: u64,
+    /// The Data Records in them.
+    pub records: u64,
+    /// The gaps in their Sequence Numbers (RFC 7011, section 3.1).
+    pub gaps: u64,
+}
+
+/// The records in messages, and the gaps in their sequence numbers.
+#[derive(Clone, Copy, Debug, PartialEq, Eq)]
+struct Counts {
+    records: u64,
+    gaps: u64,
 }
 
 impl Counts {
-    pub(crate) const fn none() -> Counts {
+    const fn none() -> Counts {
         Counts {
             records: 0,
             gaps: 0,
@@ -50,16 +61,27 @@ impl Counts {
             self.gaps = self.gaps.saturating_add(1);
         }
     }
+
+    /// What a stream of so many messages brought.
+    const fn of(self, messages: u64) -> Served
+        ensures { result.messages ≡ messages }
+    {
+        Served {
+            messages,
+            records: self.records,
+            gaps: self.gaps,
+        }
+    }
 }
 
 /// Serves an exporter's connection: reads its stream (RFC 7011, section 10.4) to its end by at most so many reads, offers each
-/// message of it, and answers how many they are. The messages that one read made whole are prepared by so many workers, 1 to 64,
+/// message of it, and answers what it brought. The messages that one read made whole are prepared by so many workers, 1 to 64,
 /// without the lock, and those that can't be are read under it. Whatever comes, the handle's session is closed then; where the
 /// mediator refuses that, it stays open.
 ///
 /// # Errors
 /// The reader failed; the stream is faulty, or ends inside a message; or its end isn't read within `turns` reads; or a message
-/// is refused, or memory ran out. The messages before that were offered.
+/// is refused, or memory ran out. The messages before that were offered, and what they brought is answered too.
 pub fn serve_exporter<E: EntryLedger, H: RecordLedger, R: Source, T: Threads + Wait + Sync>(
     rt: &T,
     alloc: Global,
@@ -68,47 +90,27 @@ pub fn serve_exporter<E: EntryLedger, H: RecordLedger, R: Source, T: Threads + W
     reader: &mut R,
     turns: u64,
     workers: u64,
-) -> Result<u64, ServeFault>
+) -> Result<Served, (ServeFault, Served)>
     requires reader { R.has_failed reader.old ≡ false }
-    ensures serves { IfOk result (λ offered. Serves turns offered (R.remaining reader.old) (R.remaining reader.new) handle.old handle.new) }
+    ensures serves { IfOk result (λ served. Serves turns served.messages (R.remaining reader.old) (R.remaining reader.new) handle.old handle.new) }
     ensures sound { OnOk result (R.has_failed reader.new ≡ false) }
-    ensures stops { IfErr result (λ e. StopsServing e turns (R.remaining reader.old) (R.remaining reader.new) handle.old handle.new) }
-    ensures fails { IfErr result (λ e. R.has_failed reader.new ≡ reader_after e) }
+    ensures stops { IfErr result (λ e. StopsServing e.0 turns (R.remaining reader.old) (R.remaining reader.new) handle.old handle.new) }
+    ensures counted { IfErr result (λ e. e.1.messages ≡ length handle.new.kept - length handle.old.kept) }
+    ensures fails { IfErr result (λ e. R.has_failed reader.new ≡ reader_after e.0) }
 {
-    serve_counting(
-        rt,
-        alloc,
-        shared,
-        handle,
-        reader,
-        Pace { turns, workers },
-        &mut Counts::none(),
-    )
-}
-
-/// The same, and counts what the messages bring.
-///
-/// # Errors
-/// Those of [`serve_exporter`].
-pub(crate) fn serve_counting<E: EntryLedger, H: RecordLedger, R: Source, T: Threads + Wait + Sync>(
-    rt: &T,
-    alloc: Global,
-    shared: &SharedMediator<E, H>,
-    handle: &mut ExporterHandle<E>,
-    reader: &mut R,
-    pace: Pace,
-    counts: &mut Counts,
-) -> Result<u64, ServeFault>
-    requires reader { R.has_failed reader.old ≡ false }
-    ensures serves { IfOk result (λ offered. Serves pace.turns offered (R.remaining reader.old) (R.remaining reader.new) handle.old handle.new) }
-    ensures sound { OnOk result (R.has_failed reader.new ≡ false) }
-    ensures stops { IfErr result (λ e. StopsServing e pace.turns (R.remaining reader.old) (R.remaining reader.new) handle.old handle.new) }
-    ensures fails { IfErr result (λ e. R.has_failed reader.new ≡ reader_after e) }
-{
-    let served = offer_stream(rt, alloc, shared, handle, reader, pace, counts);
+    let before = handle.kept().len();
+    let mut counts = Counts::none();
+    let pace = Pace { turns, workers };
+    let offered = offer_stream(rt, alloc, shared, handle, reader, pace, &mut counts);
     // Whether the session could be closed changes nothing of what was served.
     let _closed = handle.end(rt, shared);
-    served
+    match offered {
+        Ok(messages) => Ok(counts.of(messages)),
+        Err(fault) => {
+            let messages = handle.kept().len().saturating_sub(before);
+            Err((fault, counts.of(messages as u64)))
+        }
+    }
 }
 
 /// Reads a stream to its end, offers its messages, and answers how many they are.

@@ -44,6 +44,7 @@
 
 mod admin;
 mod clock;
+mod closing_time;
 mod command_input;
 mod delivery;
 mod doors;
@@ -58,7 +59,7 @@ mod service;
 pub use admin::serve_admin;
 pub use clock::Clock;
 pub use delivery::deliver;
-pub use exporter::serve_exporter;
+pub use exporter::{Served, serve_exporter};
 pub use fault::ServeFault;
 pub use listening::{ListenFault, listen};
 pub use plan::{Collector, Plan};

@@ -39,6 +39,11 @@ pub enum ListenFault {
 impl Error for ListenFault {}
 
 impl Display for ListenFault {
+    ghost use Rattle.std.specs.Prelude.{Option, Some};
+    ghost use Rattle.mediator_server.specs.FaultTexts.{text_of_listen};
+
+    ghost output = { λ fault. Some (text_of_listen fault) };
+
     fn fmt<W: Write>(&self, f: &mut Formatter<W>) -> fmt::Result {
         f.write_str(match self {
             ListenFault::Bind => "Bind",
@@ -85,18 +90,19 @@ impl From<HandleFault> for ListenFault {
 /// No plan needs more handles of a kind: there is no memory for so many.
 const MOST_HANDLES: u64 = 0xffff_ffff;
 
-/// How many handles of each kind a plan needs: for its exporters, or for its deliveries and the administrator.
+/// How many handles of each kind a plan needs: for its exporters; or for its deliveries, the administrator, and what sets it up.
 fn handles_for(plan: &Plan) -> u64
     ensures { result ≤ 0xffff_ffff }
 {
     let deliveries = plan.deliver.len() as u64;
-    let admins = deliveries.saturating_add(1);
+    let admins = deliveries.saturating_add(2);
     plan.connections.max(admins).min(MOST_HANDLES)
 }
 
 /// Serves a mediator on sockets as the plan says: puts the policy in force, subscribes each collector, connects to it and
 /// delivers to it, serves the exporters that connect and one connection of the administrator, each in a thread of its own; and
-/// gives the mediator back when those have ended and all that was queued is sent.
+/// gives the mediator back when those have ended and all that was queued is sent. When the journal is full, the administrator's
+/// connection ends behind its next answer, the next connection that comes is closed unread, and no more come in.
 ///
 /// A fault of a connection ends that connection alone: one that sends nonsense, or an exporter whose session can't be opened. A
 /// collector that takes nothing holds up nobody: its subscription is cut when its queue is full, and its writes fail after a while.
@@ -110,7 +116,7 @@ pub fn listen<
     R: Net<Listener = TcpListener, Stream = TcpStream> + Threads + Wait + Clock + Log + Sync,
 >(rt: &R, alloc: Global, plan: &Plan, mediator: Mediator) -> Result<Closed, ListenFault>
     requires fresh { handed_live mediator ≡ 0 }
-    ensures served { IfOk result (λ closed. IsServed mediator.history closed.mediator.history closed.accepted closed.handed) }
+    ensures served { IfOk result (λ closed. IsServed plan.now mediator.history closed.mediator.history closed.accepted closed.handed) }
 {
     let handles = handles_for(plan);
     let (entries, handed) = (Blank::new(2 * handles + 1), Blank::new(handles + 1));
@@ -137,7 +143,7 @@ fn listen_with<
     requires entries_parts { (entries.parts ≡ E.parts) × (E.parts ≡ E.all) × (E.all ≡ 2 * handles + 1) }
     requires handed_name { handed.name ≡ H.name }
     requires handed_parts { (handed.parts ≡ H.parts) × (H.parts ≡ H.all) × (H.all ≡ handles + 1) }
-    ensures served { IfOk result (λ closed. IsServed mediator.history closed.mediator.history closed.accepted closed.handed) }
+    ensures served { IfOk result (λ closed. IsServed plan.now mediator.history closed.mediator.history closed.accepted closed.handed) }
 {
     let shared = SharedMediator::<E, H>::new(alloc, mediator, handles, entries, handed);
     let Hands {

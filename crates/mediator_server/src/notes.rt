@@ -1,6 +1,6 @@
 //! The notes of a run, a line each: who came and went, and the totals.
 
-use crate::exporter::Counts;
+use crate::exporter::Served;
 use crate::fault::ServeFault;
 use crate::plan::Collector;
 use log::{Log, error, info, warn};
@@ -21,6 +21,21 @@ impl Display for Cause {
             ServeFault::Core(why) => why.fmt(f),
             fault => fault.fmt(f),
         }
+    }
+}
+
+/// What an exporter brought, as notes tell it.
+#[derive(Clone, Copy)]
+struct Brought(Served);
+
+impl Display for Brought {
+    fn fmt<W: Write>(&self, f: &mut Formatter<W>) -> fmt::Result {
+        let Served {
+            messages,
+            records,
+            gaps,
+        } = self.0;
+        write!(f, "messages {messages} records {records} gaps {gaps}")
     }
 }
 
@@ -50,23 +65,27 @@ pub(crate) fn exporter_refused(rt: &impl Log, peer: SocketAddr, why: HandleFault
     warn!(rt; "exporter {peer} refused: {why}");
 }
 
-/// An exporter's connection has ended, after so many messages were accepted.
+/// An exporter's connection has ended.
 pub(crate) fn exporter_ends(
     rt: &impl Log,
     peer: SocketAddr,
-    messages: usize,
-    counts: Counts,
-    served: Result<u64, ServeFault>,
+    ended: Result<Served, (ServeFault, Served)>,
 ) {
-    let Counts { records, gaps } = counts;
-    match served {
-        Ok(_) =>
-            info!(rt; "exporter {peer} ended: messages {messages} records {records} gaps {gaps}"),
-        Err(fault) => {
-            let why = Cause(fault);
-            warn!(rt; "exporter {peer} failed, {why}: messages {messages} records {records} gaps {gaps}")
+    match ended {
+        Ok(served) => {
+            let brought = Brought(served);
+            info!(rt; "exporter {peer} ended: {brought}")
+        }
+        Err((fault, served)) => {
+            let (why, brought) = (Cause(fault), Brought(served));
+            warn!(rt; "exporter {peer} failed, {why}: {brought}")
         }
     }
+}
+
+/// A connection is closed as it comes, since the journal is full.
+pub(crate) fn turned_away(rt: &impl Log, peer: SocketAddr) {
+    warn!(rt; "{peer} turned away: the journal is full");
 }
 
 /// The administrator has connected.

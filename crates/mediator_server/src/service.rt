@@ -1,9 +1,12 @@
 //! The threads of a server: one for each collector, each exporter and the administrator.
+ghost use Rattle.std.specs.Prelude.{◌≡◌, [], IfOk, OnOk};
+ghost use Rattle.mediator_server.specs.Listening.{SetsUp, IsSetUp};
 
 use crate::admin::serve_admin;
+use crate::closing_time::{Answers, Commands};
 use crate::delivery::deliver;
 use crate::doors::{self, Came, Doors, Guest, Line, Lines};
-use crate::exporter::{Counts, Pace, serve_counting};
+use crate::exporter::serve_exporter;
 use crate::listening::ListenFault;
 use crate::machine_clock::MachineClock;
 use crate::notes;
@@ -15,7 +18,8 @@ use shared_mediator::{
     AdminHandle, DeliveryHandle, EntryLedger, ExporterHandle, RecordLedger, SharedMediator,
 };
 use std::alloc::{AllocError, Global};
-use std::net::{Net, TcpListener, TcpStream};
+use std::cell::Cell;
+use std::net::{Net, SocketAddr, TcpListener, TcpStream};
 use std::sync::Wait;
 use std::thread;
 use std::thread::{JoinHandle, Scope, Threads};
@@ -44,7 +48,8 @@ struct Delivered<E: EntryLedger, H: RecordLedger> {
     admin: AdminHandle<E>,
 }
 
-/// Serves a shared mediator on sockets as the plan says, and answers all handles when all has ended.
+/// Serves a shared mediator on sockets as the plan says, and answers all handles when all has ended. The last of the
+/// administrators has set the plan up.
 ///
 /// # Errors
 /// Those of [`crate::listen`] but for the last.
@@ -57,31 +62,38 @@ pub(crate) fn serve<
     alloc: Global,
     shared: &SharedMediator<E, H>,
     plan: &Plan,
-) -> Result<Hands<E, H>, ListenFault> {
+) -> Result<Hands<E, H>, ListenFault>
+    ensures set_up { IfOk result (λ hands. IsSetUp plan.now hands.admins.items) }
+{
+    let mut first = shared.admin(rt)?;
+    let subs = set_up(rt, alloc, shared, &mut first, plan)?;
     let mut admin = shared.admin(rt)?;
-    let _first = admin.edit(rt, shared, plan.policy.as_str())?;
-    let subs = subscribe_all(rt, alloc, shared, &mut admin, plan)?;
     let doors = match Doors::open(rt, alloc, plan) {
         Ok(doors) => doors,
         Err(fault) => return Err(ListenFault::at_door(&fault)),
     };
     let outlets = connect_all(rt, alloc, shared, plan, subs)?;
     let mut hands = run(rt, alloc, shared, plan, &mut admin, doors, outlets)?;
-    hands.admins.reserve(1)?;
+    hands.admins.reserve(2)?;
     hands.admins.push_reserved(admin);
+    hands.admins.push_reserved(first);
     Ok(hands)
 }
 
-/// Subscribes each collector, in the order of the plan.
-fn subscribe_all<E: EntryLedger, H: RecordLedger>(
+/// Puts the plan's policy in force, and subscribes each collector, in the order of the plan.
+fn set_up<E: EntryLedger, H: RecordLedger>(
     rt: &impl Wait,
     alloc: Global,
     shared: &SharedMediator<E, H>,
     admin: &mut AdminHandle<E>,
     plan: &Plan,
-) -> Result<Vec<SubId>, ListenFault> {
+) -> Result<Vec<SubId>, ListenFault>
+    requires fresh { admin.old ≡ [] }
+    ensures set_up { OnOk result (SetsUp plan.now admin.new) }
+{
+    let _first = admin.edit(rt, shared, plan.policy.as_str())?;
     let mut subs = Vec::new(alloc);
-    for collector in &plan.deliver {
+    'collectors: for collector in plan.deliver.as_slice() {
         subs.reserve(1)?;
         let sub = admin.subscribe(rt, shared, collector.name.as_str())?;
         subs.push_reserved(sub);
@@ -138,7 +150,7 @@ fn run<
     thread::scope(thread::scope_env(), rt, |scope| {
         let mut delivering = Vec::new(alloc);
         let served = match start_deliveries(rt, shared, plan, scope, outlets, &mut delivering) {
-            Ok(()) => serve_doors(rt, alloc, shared, pace_of(plan), admin, doors),
+            Ok(()) => serve_doors(rt, alloc, shared, plan, admin, doors),
             Err(fault) => Err(fault),
         };
         admin.stop(rt, shared);
@@ -231,21 +243,13 @@ fn deliver_to<E: EntryLedger, H: RecordLedger, R: Wait + Clock + Log>(
     Delivered { delivery, admin }
 }
 
-/// How the plan has the exporters' streams read.
-const fn pace_of(plan: &Plan) -> Pace {
-    Pace {
-        turns: plan.turns,
-        workers: plan.workers,
-    }
-}
-
 /// What the threads of those who come in share.
 #[derive(Drop)]
 struct Hall<'m, E: EntryLedger, H: RecordLedger> {
     alloc: Global,
     shared: &'m SharedMediator<E, H>,
+    plan: &'m Plan,
     lines: Lines,
-    pace: Pace,
 }
 
 /// Serves who comes in by the doors, each in a thread of its own, until all who are wanted have come and ended; and answers the
@@ -258,15 +262,15 @@ fn serve_doors<
     rt: &R,
     alloc: Global,
     shared: &SharedMediator<E, H>,
-    pace: Pace,
+    plan: &Plan,
     admin: &mut AdminHandle<E>,
     doors: Doors,
 ) -> Result<Vec<ExporterHandle<E>>, ListenFault> {
     let hall = Hall {
         alloc,
         shared,
+        plan,
         lines: Lines::new(alloc),
-        pace,
     };
     let hall = &hall;
     thread::scope(thread::scope_env(), rt, |scope| {
@@ -299,7 +303,7 @@ fn receive_all<
     scope: &Scope<'s, X>,
     mut doors: Doors,
     admin: &'a mut AdminHandle<E>,
-    exporting: &mut Vec<JoinHandle<Option<ExporterHandle<E>>>>,
+    exporting: &mut Vec<JoinHandle<ExporterHandle<E>>>,
 ) -> Result<(), ListenFault> {
     let Some(guest) = receive_exporters(rt, hall, scope, &mut doors, exporting)? else {
         return Ok(());
@@ -314,7 +318,8 @@ fn receive_all<
     Ok(())
 }
 
-/// Receives exporters until the administrator comes, or nobody more is wanted.
+/// Receives exporters until the administrator comes, or nobody more is wanted: so many have come as the plan has, or the journal
+/// is full.
 fn receive_exporters<
     's,
     'r: 's,
@@ -329,58 +334,85 @@ fn receive_exporters<
     hall: &'h Hall<'m, E, H>,
     scope: &Scope<'s, X>,
     doors: &mut Doors,
-    exporting: &mut Vec<JoinHandle<Option<ExporterHandle<E>>>>,
+    exporting: &mut Vec<JoinHandle<ExporterHandle<E>>>,
 ) -> Result<Option<Guest>, ListenFault> {
     for _ in rt.forever() {
-        match doors.next(rt) {
-            Ok(Some(Came::Exporter(guest))) => {
-                exporting.reserve(1)?;
-                let line = hall.lines.add(rt, exporting.len() as u64, guest)?;
-                let Ok(thread) = scope.spawn(move || serve_exporter_line(rt, hall, line)) else {
-                    return Err(ListenFault::NoThread);
-                };
-                exporting.push_reserved(thread);
+        exporting.reserve(1)?;
+        match next_wanted(rt, hall, doors)? {
+            Some(Came::Exporter(guest)) => {
+                if let Some(handle) = admit(rt, hall, guest.peer) {
+                    let line = hall.lines.add(rt, handle.session().0, guest)?;
+                    let serving = scope.spawn(move || serve_exporter_line(rt, hall, line, handle));
+                    let Ok(thread) = serving else {
+                        return Err(ListenFault::NoThread);
+                    };
+                    exporting.push_reserved(thread);
+                } else if hall.shared.full(rt) {
+                    return Ok(None);
+                }
             }
-            Ok(Some(Came::Admin(guest))) => return Ok(Some(guest)),
-            Ok(None) => return Ok(None),
-            Err(why) => {
-                notes::cannot_accept(rt, &why);
-                return Err(ListenFault::at_door(&why));
-            }
+            Some(Came::Admin(guest)) => return Ok(Some(guest)),
+            None => return Ok(None),
         }
     }
     unreachable!()
 }
 
-/// Serves an exporter's connection, and answers its handle, where a session could be opened for it.
-fn serve_exporter_line<E: EntryLedger, H: RecordLedger, R: Threads + Wait + Log + Sync>(
+/// Who comes next, if anyone more is wanted. Who comes when the journal is full is closed unread, and the last.
+fn next_wanted<E: EntryLedger, H: RecordLedger, R: Wait + Log>(
     rt: &R,
     hall: &Hall<'_, E, H>,
-    line: Line,
+    doors: &mut Doors,
+) -> Result<Option<Came>, ListenFault> {
+    match doors.next(rt) {
+        Ok(Some(came)) if hall.shared.full(rt) => {
+            notes::turned_away(rt, came.peer());
+            Ok(None)
+        }
+        Ok(next) => Ok(next),
+        Err(why) => {
+            notes::cannot_accept(rt, &why);
+            Err(ListenFault::at_door(&why))
+        }
+    }
+}
+
+/// Opens a session for an exporter, where one can be opened.
+fn admit<E: EntryLedger, H: RecordLedger, R: Wait + Log>(
+    rt: &R,
+    hall: &Hall<'_, E, H>,
+    peer: SocketAddr,
 ) -> Option<ExporterHandle<E>> {
-    let peer = line.peer;
-    let handle = match hall.shared.exporter(rt) {
-        Ok(mut handle) => {
+    match hall.shared.exporter(rt) {
+        Ok(handle) => {
             notes::exporter_begins(rt, peer);
-            let mut reader = Device::new(line.stream());
-            let mut counts = Counts::none();
-            let served = serve_counting(
-                rt,
-                hall.alloc,
-                hall.shared,
-                &mut handle,
-                &mut reader,
-                hall.pace,
-                &mut counts,
-            );
-            notes::exporter_ends(rt, peer, handle.kept().len(), counts, served);
             Some(handle)
         }
         Err(why) => {
             notes::exporter_refused(rt, peer, why);
             None
         }
-    };
+    }
+}
+
+/// Serves an exporter's connection, and answers its handle.
+fn serve_exporter_line<E: EntryLedger, H: RecordLedger, R: Threads + Wait + Log + Sync>(
+    rt: &R,
+    hall: &Hall<'_, E, H>,
+    line: Line,
+    mut handle: ExporterHandle<E>,
+) -> ExporterHandle<E> {
+    let mut reader = Device::new(line.stream());
+    let ended = serve_exporter(
+        rt,
+        hall.alloc,
+        hall.shared,
+        &mut handle,
+        &mut reader,
+        hall.plan.turns,
+        hall.plan.workers,
+    );
+    notes::exporter_ends(rt, line.peer, ended);
     hall.lines.close(rt, line);
     handle
 }
@@ -395,33 +427,32 @@ fn serve_admin_line<E: EntryLedger, H: RecordLedger, R: Wait + Log>(
     let peer = line.peer;
     notes::admin_begins(rt, peer);
     doors::send_at_once(line.stream());
-    let mut reader = Device::new(line.stream());
-    let mut writer = Device::new(line.stream());
+    let is_last = Cell::new(false);
+    let mut commands = Commands::new(Device::new(line.stream()), &is_last);
+    let mut answers = Answers::new(rt, hall.shared, Device::new(line.stream()), &is_last);
     let answered = serve_admin(
         rt,
         hall.alloc,
         hall.shared,
         admin,
-        &mut reader,
-        &mut writer,
-        hall.pace.turns,
+        &mut commands,
+        &mut answers,
+        hall.plan.turns,
     );
     notes::admin_ends(rt, peer, answered);
     hall.lines.close(rt, line);
 }
 
-/// Waits for the end of all exporters' threads, and answers the handles of those that had a session.
+/// Waits for the end of all exporters' threads, and answers their handles.
 fn join_exporters<E: EntryLedger, R: Threads>(
     rt: &R,
     alloc: Global,
-    exporting: Vec<JoinHandle<Option<ExporterHandle<E>>>>,
+    exporting: Vec<JoinHandle<ExporterHandle<E>>>,
 ) -> Result<Vec<ExporterHandle<E>>, ListenFault> {
     let mut handles = Vec::new(alloc);
     for thread in exporting {
         handles.reserve(1)?;
-        if let Some(handle) = thread.join(rt) {
-            handles.push_reserved(handle);
-        }
+        handles.push_reserved(thread.join(rt));
     }
     Ok(handles)
 }

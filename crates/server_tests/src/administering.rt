@@ -1,14 +1,20 @@
 //! Administrators' connections: the worked session of the format, single commands and lines, ends inside a command, readers and
-//! writers that do little at a time, or fail, and limits that are reached.
-use crate::hands::{Bounds, ENOUGH, PASS, ROOMY, begin, hands, limits_of};
-use crate::octets::{FLOW_TO_80, FLOW_TO_443, ONE_RECORD};
+//! writers that do little at a time, or fail, limits that are reached, several subscriptions, and an audit of many entries.
+use crate::hands::{
+    Bounds, ENOUGH, NOTHING, PASS, ROOMY, SMALL, begin, hands, limits_of, offer_all,
+};
+use crate::octets::{FLOW_TO_80, FLOW_TO_443, NOW, ONE_RECORD, TWO_RECORDS};
 use crate::stage::{Case, Hands, play};
 use faulty_devices::{Narrow, Sparing};
+use mediator_core::SubId;
 use mediator_server::{ServeFault, serve_admin};
 use message_intake::FramingFault;
 use octet_devices::Device;
-use shared_mediator::{EntryLedger, RecordLedger, SharedMediator};
+use shared_mediator::{
+    AdminHandle, DeliveryHandle, EntryLedger, ExporterHandle, RecordLedger, SharedMediator,
+};
 use std::alloc::{AllocError, Global};
+use std::fmt::Write;
 use std::io::ErrorKind::{BrokenPipe, ConnectionReset};
 use std::process::Abort;
 use std::sync::Wait;
@@ -16,7 +22,7 @@ use std::test::Fail;
 use std::thread::Threads;
 
 /// Room for all answers of a connection here.
-const ROOM: usize = 512;
+const ROOM: usize = 8192;
 
 /// How many entries come before the messages: an edit, a subscription's begin, and a session's.
 const BEFORE: u64 = 3;
@@ -27,6 +33,8 @@ pub(crate) struct Row {
     bounds: Bounds,
     policy: &'static str,
     offered: &'static [&'static [u8]],
+    /// Whether `beta` is there too.
+    with_beta: bool,
     asked: &'static [u8],
     /// The most octets of one read.
     most: usize,
@@ -37,6 +45,8 @@ pub(crate) struct Row {
     writes: usize,
     due: Result<u64, ServeFault>,
     answered: &'static [u8],
+    /// How many audit entries are handed out behind that, each time.
+    drains: &'static [u64],
     /// How many entries the calls add to the journal.
     entries: u64,
 }
@@ -46,6 +56,7 @@ const SESSION: Row = Row {
     bounds: ROOMY,
     policy: PASS,
     offered: &[ONE_RECORD],
+    with_beta: false,
     asked: b"status 1\nsubscribe Acme\nsubscribe acme\nadvance 1000\nadvance 5\naudit 10\nunsubscribe 1\nstatus 1\n",
     most: 1,
     reads: ENOUGH,
@@ -53,6 +64,7 @@ const SESSION: Row = Row {
     writes: ENOUGH,
     due: Ok(8),
     answered: b"ok 1 0 live\nerr BadName\nerr AlreadySubscribed 1\nok\nerr ClockBack 1000\nok 0\nok\nerr UnknownSub\n",
+    drains: &[],
     entries: 2,
 };
 
@@ -63,7 +75,12 @@ pub(crate) fn administer<E: EntryLedger, H: RecordLedger, R: Wait + Abort>(
     shared: &SharedMediator<E, H>,
     row: Row,
 ) -> Result<Hands<E, H>, AllocError> {
-    let (mut admin, exporter) = begin(rt, alloc, shared, row.policy, row.offered)?;
+    let (mut admin, mut exporter) = begin(rt, alloc, shared, row.policy, row.offered)?;
+    let delivery = if row.with_beta {
+        Some(begin_beta(rt, alloc, shared, &mut admin, &mut exporter)?)
+    } else {
+        None
+    };
     let mut reader = Device::new(Sparing::new(row.asked, row.most, row.reads, ConnectionReset));
     let mut writer = Device::new(Narrow::new(alloc, ROOM, 1, row.writes, BrokenPipe)?);
     let served = serve_admin(
@@ -77,8 +94,45 @@ pub(crate) fn administer<E: EntryLedger, H: RecordLedger, R: Wait + Abort>(
     );
     assert!(rt; served == row.due, "{served:?}");
     let written = writer.into_inner().octets;
-    assert!(rt; written.as_slice() == row.answered, "{written:?}");
-    hands(alloc, exporter, admin, None)
+    let answered = answered(alloc, row)?;
+    assert!(rt; written.as_slice() == answered.as_slice(), "{written:?}");
+    hands(alloc, exporter, admin, delivery)
+}
+
+/// Behind four records that wait for `acme`: three of them are handed out, behind their template. Then `beta` is subscribed too, and
+/// six records more come.
+fn begin_beta<E: EntryLedger, H: RecordLedger, R: Wait + Abort>(
+    rt: &R,
+    alloc: Global,
+    shared: &SharedMediator<E, H>,
+    admin: &mut AdminHandle<E>,
+    exporter: &mut ExporterHandle<E>,
+) -> Result<DeliveryHandle<H>, AllocError> {
+    let mut acme = shared.delivery(rt, SubId(1)).expect(rt, "a delivery");
+    let pulled = acme.pull_some(rt, shared, NOW, SMALL, 4);
+    assert!(rt; pulled == Ok(4));
+    let sub = admin.subscribe(rt, shared, "beta");
+    assert!(rt; sub == Ok(SubId(2)));
+    offer_all(rt, alloc, shared, exporter, &[TWO_RECORDS; 3])?;
+    Ok(acme)
+}
+
+/// What is to be answered. Each audit entry is there once, oldest first: every message has two records, the first one has
+/// position 3, and all of them are withheld.
+fn answered(alloc: Global, row: Row) -> Result<Vec<u8>, AllocError> {
+    let mut text = String::new(alloc);
+    let mut entry = 6u64;
+    for count in row.drains {
+        writeln!(text, "ok {count}")?;
+        for _ in 0..*count {
+            let (position, index) = (entry / 2, entry % 2);
+            writeln!(text, "{position} {index} 1 withheld 0 rule")?;
+            entry = entry.saturating_add(1);
+        }
+    }
+    let mut octets = Vec::from_slice(alloc, row.answered)?;
+    octets.extend_from_slice(text.as_bytes())?;
+    Ok(octets)
 }
 
 /// Plays a row, and that the journal has as many entries more.
@@ -236,6 +290,42 @@ fn full_audit(rt: HostRuntime) -> Result<(), Fail> {
     row.answered =
         b"err AuditFull 1 0\nok 1\n3 0 1 aggregated 1\nok\nok 2\n4 0 1 aggregated 1\n5 0 1 cut\nok 0 0 cut\n";
     row.entries = 2;
+    expect_row(&rt, rt.alloc(), row)?;
+    Ok(())
+}
+
+/// Each answer is of the subscription that is asked for, and has its number. An edit is told how many there were, and not how many
+/// commands. Where six records may wait, `acme` has no room for the last two: the cut stands behind five messages.
+#[test]
+fn several_subscriptions(rt: HostRuntime) -> Result<(), Fail> {
+    let mut row = SESSION;
+    row.bounds = (1000, 100, 6);
+    row.offered = &[TWO_RECORDS, TWO_RECORDS];
+    row.with_beta = true;
+    row.asked =
+        b"status 1\nstatus 2\nsubscribe beta\nsubscribe cyd\nstatus 3\naudit 10\nedit 8\npolicy 1edit 8\npolicy 1\
+unsubscribe 2\nstatus 2\nstatus 1\nsubscribe beta\nstatus 4\n";
+    row.due = Ok(13);
+    row.answered =
+        b"ok 5 3 cut\nok 6 0 live\nerr AlreadySubscribed 2\nok 3\nok 0 0 live\nok 1\n8 0 1 cut\nok 2\nok 3\n\
+ok\nerr UnknownSub\nok 5 3 cut\nok 4\nok 0 0 live\n";
+    row.entries = 10;
+    expect_row(&rt, rt.alloc(), row)?;
+    Ok(())
+}
+
+/// Of two hundred audit entries each line has as many as it asks for, and the last one those that are left.
+#[test]
+fn long_audit(rt: HostRuntime) -> Result<(), Fail> {
+    let mut row = SESSION;
+    row.bounds = (1000, 200, 100);
+    row.policy = NOTHING;
+    row.offered = &[TWO_RECORDS; 100];
+    row.asked = b"audit 150\naudit 30\naudit 200\n";
+    row.due = Ok(3);
+    row.answered = b"";
+    row.drains = &[150, 30, 20];
+    row.entries = 0;
     expect_row(&rt, rt.alloc(), row)?;
     Ok(())
 }

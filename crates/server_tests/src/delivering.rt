@@ -1,21 +1,29 @@
 //! Deliveries: to writers that take all, few octets at a time or none, or fail. After a failure the subscription is gone, and
-//! else all that was queued is sent.
-use crate::hands::{Bounds, ENOUGH, PASS, ROOMY, begin, hands, limits_of};
+//! else all that was queued is sent, also what comes while the delivery waits.
+use crate::hands::{Bounds, ENOUGH, PASS, ROOMY, SMALL, begin, hands, limits_of, offer_all};
 use crate::octets::{NOW, ONE_DELIVERED, ONE_RECORD, PART_BY_PART, TWO_RECORDS};
 use crate::stage::{Case, Hands, play};
 use faulty_devices::Narrow;
-use mediator_core::{SubId, UnknownSub};
+use mediator_calls::PullFault;
+use mediator_core::{Fault, SubId, UnknownSub};
 use mediator_server::{Clock, ServeFault, deliver};
 use octet_devices::Device;
-use shared_mediator::{EntryLedger, RecordLedger, SharedMediator};
+use shared_mediator::{
+    AdminHandle, DeliveryHandle, EntryLedger, ExporterHandle, RecordLedger, SharedMediator,
+};
 use std::alloc::{AllocError, Global};
 use std::io::ErrorKind::BrokenPipe;
 use std::process::Abort;
 use std::sync::Wait;
 use std::test::Fail;
+use std::thread;
+use std::thread::Threads;
 
 /// Room for what a delivery here writes.
-const ROOM: usize = 256;
+const ROOM: usize = 2048;
+
+/// How often a thread gives way before it acts, so that the other one waits by then.
+const TURNS: u64 = 10_000;
 
 /// A clock that stands.
 #[derive(Drop)]
@@ -31,32 +39,71 @@ impl Clock for Stands {
     }
 }
 
-/// A message that is offered, how it is delivered, and what comes of it.
+/// What is done before a delivery.
+#[derive(Clone, Copy)]
+enum Act {
+    /// All is to stop.
+    Stop,
+    /// The subscription is ended.
+    End,
+    /// Nothing.
+    Leave,
+}
+
+/// Messages that are offered, how they are delivered, and what comes of it.
 #[derive(Clone, Copy)]
 pub(crate) struct Row {
-    offered: &'static [u8],
+    offered: &'static [&'static [u8]],
+    act: Act,
     target: u16,
     /// The most octets that a write takes.
     most: usize,
     /// How many writes come before one that fails.
     writes: usize,
     due: Result<u64, ServeFault>,
-    /// What is written.
-    written: &'static [u8],
+    /// What is written, where that isn't left to its count.
+    written: Option<&'static [u8]>,
     /// How many records are queued and were handed out then, where the subscription isn't gone.
     left: Option<(u32, u64)>,
 }
 
-/// Offers the message, and delivers it, where all is to stop.
+/// What a delivery answered and wrote, and its handles.
+#[derive(Drop)]
+struct Delivered<E: EntryLedger, H: RecordLedger> {
+    admin: AdminHandle<E>,
+    delivery: DeliveryHandle<H>,
+    answer: Result<u64, ServeFault>,
+    written: Vec<u8>,
+}
+
+/// Offers the messages, and delivers them.
 pub(crate) fn deliver_row<E: EntryLedger, H: RecordLedger, R: Wait + Abort>(
     rt: &R,
     alloc: Global,
     shared: &SharedMediator<E, H>,
     row: Row,
 ) -> Result<Hands<E, H>, AllocError> {
-    let (mut admin, exporter) = begin(rt, alloc, shared, PASS, &[row.offered])?;
-    let mut delivery = shared.delivery(rt, SubId(1)).expect(rt, "a delivery");
-    admin.stop(rt, shared);
+    let (mut admin, exporter) = begin(rt, alloc, shared, PASS, row.offered)?;
+    let delivery = shared.delivery(rt, SubId(1)).expect(rt, "a delivery");
+    match row.act {
+        Act::Stop => admin.stop(rt, shared),
+        Act::End => admin.unsubscribe(rt, shared, SubId(1)).expect(rt, "an end"),
+        Act::Leave => {}
+    }
+    let delivered = deliver_by(rt, alloc, shared, admin, delivery, row)?;
+    expect_delivered(rt, shared, &delivered, row);
+    hands(alloc, exporter, delivered.admin, Some(delivered.delivery))
+}
+
+/// Delivers as the row says.
+fn deliver_by<E: EntryLedger, H: RecordLedger, R: Wait + Abort>(
+    rt: &R,
+    alloc: Global,
+    shared: &SharedMediator<E, H>,
+    mut admin: AdminHandle<E>,
+    mut delivery: DeliveryHandle<H>,
+    row: Row,
+) -> Result<Delivered<E, H>, AllocError> {
     let writer = Narrow::new(alloc, ROOM, row.most, row.writes, BrokenPipe)?;
     let mut writer = Device::new(writer);
     let answer = deliver(
@@ -68,30 +115,53 @@ pub(crate) fn deliver_row<E: EntryLedger, H: RecordLedger, R: Wait + Abort>(
         row.target,
         &Stands(NOW),
     );
+    let written = writer.into_inner().octets;
+    Ok(Delivered {
+        admin,
+        delivery,
+        answer,
+        written,
+    })
+}
+
+/// What was answered, written and left is as the row says.
+fn expect_delivered<E: EntryLedger, H: RecordLedger, R: Wait + Abort>(
+    rt: &R,
+    shared: &SharedMediator<E, H>,
+    delivered: &Delivered<E, H>,
+    row: Row,
+) {
+    let answer = delivered.answer;
     assert!(rt; answer == row.due, "{answer:?}");
-    assert!(rt; writer.into_inner().octets.as_slice() == row.written);
-    let left = match admin.status(rt, shared, SubId(1)) {
+    if let Some(written) = row.written {
+        assert!(rt; delivered.written.as_slice() == written);
+    }
+    let left = match delivered.admin.status(rt, shared, SubId(1)) {
         Ok(status) => Some((status.queued, status.handed)),
         Err(UnknownSub) => None,
     };
     assert!(rt; left == row.left, "{left:?}");
-    hands(alloc, exporter, admin, Some(delivery))
 }
+
+const ONE: &[&[u8]] = &[ONE_RECORD];
+
+const TWO: &[&[u8]] = &[TWO_RECORDS];
 
 /// After a stop all that is queued is sent, and its octets are counted.
 #[test]
 fn all_is_sent(rt: HostRuntime) -> Result<(), Fail> {
     for (offered, target, most, written, records) in [
-        (ONE_RECORD, 1400, 65_536, ONE_DELIVERED, 1),
-        (TWO_RECORDS, 16, 7, PART_BY_PART, 2),
+        (ONE, 1400, 65_536, ONE_DELIVERED, 1),
+        (TWO, SMALL, 7, PART_BY_PART, 2),
     ] {
         let row = Row {
             offered,
+            act: Act::Stop,
             target,
             most,
             writes: ENOUGH,
             due: Ok(written.len() as u64),
-            written,
+            written: Some(written),
             left: Some((0, records)),
         };
         play(&rt, rt.alloc(), limits_of(ROOMY), Case::Deliver(row))?;
@@ -109,6 +179,7 @@ const FAILING: &[(usize, usize, usize, Bounds, Option<(u32, u64)>)] = &[
     (7, 6, 42, ROOMY, None),
     (7, 8, 56, ROOMY, None),
     (0, ENOUGH, 0, ROOMY, None),
+    (1, 0, 0, (4, 100, 100), Some((0, 2))),
     (1, 36, 36, (4, 100, 100), Some((0, 2))),
 ];
 
@@ -116,15 +187,141 @@ const FAILING: &[(usize, usize, usize, Bounds, Option<(u32, u64)>)] = &[
 fn failing_writers(rt: HostRuntime) -> Result<(), Fail> {
     for (most, writes, sent, bounds, left) in FAILING {
         let row = Row {
-            offered: TWO_RECORDS,
-            target: 16,
+            offered: TWO,
+            act: Act::Stop,
+            target: SMALL,
             most: *most,
             writes: *writes,
             due: Err(ServeFault::Write { sent: *sent as u64 }),
-            written: PART_BY_PART.get(..*sent).unwrap_or(&[]),
+            written: Some(PART_BY_PART.get(..*sent).unwrap_or(&[])),
             left: *left,
         };
         play(&rt, rt.alloc(), limits_of(*bounds), Case::Deliver(row))?;
     }
+    Ok(())
+}
+
+/// Forty records with their template: 41 messages, of which 32 are pulled at once.
+const FORTY: &[&[u8]] = &[TWO_RECORDS; 20];
+
+/// The second message has no room where two records may wait.
+const CUT: &[&[u8]] = &[ONE_RECORD, TWO_RECORDS];
+
+const FIRST_WRITE: Result<u64, ServeFault> = Err(ServeFault::Write { sent: 966 });
+
+const UNKNOWN: Result<u64, ServeFault> = Err(ServeFault::Core(PullFault::Core(Fault::UnknownSub)));
+
+/// What is offered, the bounds, and what is done then; how many writes of any length come before one that fails; what is answered,
+/// and what is left. The template has 36 octets, and each record 30; the first write has 32 of these messages.
+const ENDS: &[(
+    &[&[u8]],
+    Bounds,
+    Act,
+    usize,
+    Result<u64, ServeFault>,
+    Option<(u32, u64)>,
+)] = &[
+    // What isn't pulled at once is pulled then.
+    (FORTY, ROOMY, Act::Stop, ENOUGH, Ok(1236), Some((0, 40))),
+    (FORTY, ROOMY, Act::Stop, 1, FIRST_WRITE, None),
+    // A pull is refused.
+    (FORTY, ROOMY, Act::End, ENOUGH, UNKNOWN, None),
+    // A subscription that was cut has what waits for it, and then it ends without a stop.
+    (
+        CUT,
+        (1000, 100, 2),
+        Act::Leave,
+        ENOUGH,
+        Ok(66),
+        Some((0, 1)),
+    ),
+];
+
+#[test]
+fn ends(rt: HostRuntime) -> Result<(), Fail> {
+    for (offered, bounds, act, writes, due, left) in ENDS {
+        let row = Row {
+            offered: *offered,
+            act: *act,
+            target: SMALL,
+            most: 65_536,
+            writes: *writes,
+            due: *due,
+            written: None,
+            left: *left,
+        };
+        play(&rt, rt.alloc(), limits_of(*bounds), Case::Deliver(row))?;
+    }
+    Ok(())
+}
+
+/// Delivers, while the row's messages come now and then, until all is to stop.
+pub(crate) fn deliver_meanwhile<
+    E: EntryLedger + Send + Sync,
+    H: RecordLedger + Send + Sync,
+    R: Threads + Wait + Abort + Sync,
+>(
+    rt: &R,
+    alloc: Global,
+    shared: &SharedMediator<E, H>,
+    row: Row,
+) -> Result<Hands<E, H>, AllocError> {
+    let (admin, exporter) = begin(rt, alloc, shared, PASS, &[])?;
+    let delivery = shared.delivery(rt, SubId(1)).expect(rt, "a delivery");
+    thread::scope(thread::scope_env(), rt, |scope| {
+        let offering = scope.spawn(move || offer_slowly(rt, alloc, shared, exporter, row))?;
+        let delivered = deliver_by(rt, alloc, shared, admin, delivery, row)?;
+        let (second, exporter) = offering.join(rt);
+        expect_delivered(rt, shared, &delivered, row);
+        let mut all = hands(alloc, exporter, delivered.admin, Some(delivered.delivery))?;
+        all.admins.push(second)?;
+        Ok(all)
+    })
+}
+
+/// Offers the messages one after another, each after a while; and after a while more an administrator has all stop.
+fn offer_slowly<E: EntryLedger, H: RecordLedger, R: Wait + Abort>(
+    rt: &R,
+    alloc: Global,
+    shared: &SharedMediator<E, H>,
+    mut exporter: ExporterHandle<E>,
+    row: Row,
+) -> (AdminHandle<E>, ExporterHandle<E>) {
+    for octets in row.offered {
+        give_way();
+        let offered = offer_all(rt, alloc, shared, &mut exporter, &[*octets]);
+        offered.expect(rt, "memory");
+    }
+    give_way();
+    let admin = shared.admin(rt).expect(rt, "an administrator");
+    admin.stop(rt, shared);
+    (admin, exporter)
+}
+
+fn give_way() {
+    for _ in 0..TURNS {
+        thread::yield_now();
+    }
+}
+
+/// A delivery goes on where nothing is queued, and after each wait. The template has 36 octets, and each record 30.
+#[test]
+fn more_comes(rt: HostRuntime) -> Result<(), Fail> {
+    let row = Row {
+        offered: &[ONE_RECORD; 3],
+        act: Act::Leave,
+        target: SMALL,
+        most: 65_536,
+        writes: ENOUGH,
+        due: Ok(126),
+        written: None,
+        left: Some((0, 3)),
+    };
+    play(
+        &rt,
+        rt.alloc(),
+        limits_of(ROOMY),
+        Case::DeliverMeanwhile(row),
+    )?;
     Ok(())
 }

@@ -12,6 +12,12 @@ use std::sync::Wait;
 pub(crate) const PASS: &str =
     "policy 1\nrule for * in * from * to * pass\nrule for * in * from * to * element * keep\n";
 
+/// Every record is withheld.
+pub(crate) const NOTHING: &str = "policy 1\n";
+
+/// For a target so small each part is a message of its own.
+pub(crate) const SMALL: u16 = 16;
+
 /// More calls of a device than any case here makes.
 pub(crate) const ENOUGH: usize = 10_000;
 
@@ -45,11 +51,23 @@ pub(crate) fn begin<E: EntryLedger, H: RecordLedger, R: Wait + Abort>(
     let sub = admin.subscribe(rt, shared, "acme");
     assert!(rt; sub == Ok(SubId(1)));
     let mut exporter = shared.exporter(rt).expect(rt, "an exporter");
+    offer_all(rt, alloc, shared, &mut exporter, offered)?;
+    Ok((admin, exporter))
+}
+
+/// Offers messages, each of which is accepted.
+pub(crate) fn offer_all<E: EntryLedger, H: RecordLedger, R: Wait + Abort>(
+    rt: &R,
+    alloc: Global,
+    shared: &SharedMediator<E, H>,
+    exporter: &mut ExporterHandle<E>,
+    offered: &[&[u8]],
+) -> Result<(), AllocError> {
     for octets in offered {
         let message = Bytes::copy_from_slice(alloc, octets)?;
         exporter.offer(rt, shared, message).expect(rt, "a receipt");
     }
-    Ok((admin, exporter))
+    Ok(())
 }
 
 /// All handles: an exporter's, an administrator's, and a delivery's, where there is one.

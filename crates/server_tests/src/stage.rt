@@ -25,6 +25,8 @@ pub(crate) enum Case {
     Serve(serving::Row),
     /// A subscription is delivered.
     Deliver(delivering::Row),
+    /// The same, while messages are offered.
+    DeliverMeanwhile(delivering::Row),
     /// An administrator's connection is served.
     Administer(administering::Row),
 }
@@ -53,7 +55,11 @@ pub(crate) fn play<R: Threads + Wait + Abort + Sync>(
     Ok(closed.expect(rt, "closed"))
 }
 
-fn run<E: EntryLedger, H: RecordLedger, R: Threads + Wait + Abort + Sync>(
+fn run<
+    E: EntryLedger + Send + Sync,
+    H: RecordLedger + Send + Sync,
+    R: Threads + Wait + Abort + Sync,
+>(
     rt: &R,
     alloc: Global,
     case: Case,
@@ -78,7 +84,11 @@ fn run<E: EntryLedger, H: RecordLedger, R: Threads + Wait + Abort + Sync>(
     Ok(shared.close(exporters, deliveries, admins))
 }
 
-fn play_case<E: EntryLedger, H: RecordLedger, R: Threads + Wait + Abort + Sync>(
+fn play_case<
+    E: EntryLedger + Send + Sync,
+    H: RecordLedger + Send + Sync,
+    R: Threads + Wait + Abort + Sync,
+>(
     rt: &R,
     alloc: Global,
     shared: &SharedMediator<E, H>,
@@ -87,6 +97,7 @@ fn play_case<E: EntryLedger, H: RecordLedger, R: Threads + Wait + Abort + Sync>(
     match case {
         Case::Serve(row) => serving::serve(rt, alloc, shared, row),
         Case::Deliver(row) => delivering::deliver_row(rt, alloc, shared, row),
+        Case::DeliverMeanwhile(row) => delivering::deliver_meanwhile(rt, alloc, shared, row),
         Case::Administer(row) => administering::administer(rt, alloc, shared, row),
     }
 }

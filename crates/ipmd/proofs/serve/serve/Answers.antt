@@ -11,7 +11,7 @@ returns-clause-ok g c =
       plan = c.in_ok-plan.field-0.plan;
       planned = c.in_ok-plan.ensures.planned;
       closed = closed;
-      is_served = subst (λ before. IsServed before closed.mediator.history closed.accepted closed.handed) c.in_ok-plan.ensures.empty c.in_ok-closed.ensures.served;
+      is_served = subst (λ before. IsServed c.in_ok-plan.field-0.plan before closed.mediator.history closed.accepted closed.handed) c.in_ok-plan.ensures.empty c.in_ok-closed.ensures.served;
       written = written;
     })
     c.tell_closed.ensures.ok
