@@ -1,5 +1,5 @@
 -- Setting a plan up.
-use Rattle.std.proofs.Common.{◌≡◌, ℕ, ◌+◌, ◌≤◌, ◌<◌, List, [], ◌∷◌, ◌++◌, length, map, take, get_or, refl, sym, ap, ◌∙◌, subst, arith}
+use Rattle.std.proofs.Common.{◌≡◌, ℕ, ◌+◌, ◌≤◌, ◌<◌, List, [], ◌∷◌, ◌++◌, length, map, take, get_or, refl, sym, ap, ◌∙◌, subst}
 use Rattle.std.proofs.lemmas.List.{take_more, map-append, take_all}
 use Rattle.std.specs.Prelude.{string_bytes}
 use Rattle.event_journal.specs.declared.entry.Entry.{Entry}
@@ -8,7 +8,7 @@ use Rattle.entry_receipts.specs.declared.kept.KeptEntry.{KeptEntry}
 use Rattle.shared_mediator.specs.Handles.{KeepsEntry}
 use Rattle.mediator_server.specs.declared.plan.Plan.{Plan}
 use Rattle.mediator_server.specs.declared.plan.Collector.{Collector}
-use Rattle.mediator_server.specs.Listening.{AreBegins, names_in, SetsUp, IsSetUp}
+use Rattle.mediator_server.specs.Listening.{AreBegins, SetsUp, IsSetUp}
 
 -- the policy was put in force, and subscriptions were begun under these names
 pub record IsSettingUp (policy : List ℕ) (names : List (List ℕ)) (kept : List KeptEntry) : Type 0 where

@@ -9,7 +9,8 @@
 //! - `clock`: [`Clock`], which tells the Export Times.
 //! - `fault`: [`ServeFault`], why a call stops.
 //! - `listening`: [`listen`], all of this on sockets, as a [`Plan`] says. `doors` has the sockets, `service` the threads, one for
-//!   each connection, `notes` what the log is told, and `machine_clock` the clock.
+//!   each connection, `closing_time` its end where the journal is full, `notes` what the log is told, and `machine_clock` the
+//!   clock.
 //!
 //! Proved of `serve_exporter`: the messages that it adds to its handle's receipts, under the handle's session and numbered on,
 //! are those that the octets that it read are cut into (RFC 7011, section 10.4): all of them at Ok, where the stream ended
@@ -32,10 +33,11 @@
 //! and its call was made; `Turns` stands only where so many reads were made, and `CutOff` where the input ended inside a command.
 //! Where there is no memory for an answer, `err OutOfMemory` stands in its place.
 //!
-//! Proved of `listen`: at Ok the history has gone on from that of the mediator handed in, and each message, edit, begin and end of
-//! a subscription and advance of the clock in it since then has a receipt of its own; so many messages are among them, and so many
-//! records were handed out, as it answers (`served`). Beyond that it is safe. What goes over sockets, and that all ends, is shown by
-//! tests over loopback alone; `bench/interop` runs it with real tools.
+//! Proved of `listen`: at Ok the history has gone on from that of the mediator handed in, and each message, edit, begin and
+//! end of a subscription and advance of the clock in it since then has a receipt of its own; those of one handle are an edit
+//! by the plan's policy and a subscription for each of its collectors, in order; so many messages are among all, and so many
+//! records were handed out, as it answers (`served`). Beyond that it is safe. What goes over sockets, and that all ends, is
+//! shown by tests over loopback alone; `bench/interop` runs it with real tools.
 //!
 //! Shown by tests alone, in `server_tests`: that the session is closed and the subscription ended, which happens under the lock,
 //! where no clause can look; and so why a call of an administrator is refused, how a subscription stands, and what of the audit is

@@ -1,18 +1,19 @@
 -- What is so where a mediator is given back.
-use Rattle.std.proofs.Common.{◌≡◌, ℕ, ◌+◌, List, [], ◌∷◌, ◌++◌, length, map, take, drop, filter, sum_by, refl, sym, ap, ◌∙◌, subst, arith}
+use Rattle.std.proofs.Common.{◌≡◌, ℕ, ◌+◌, ◌<◌, List, [], ◌∷◌, ◌++◌, length, map, take, drop, filter, sum_by, get_or, refl, sym, ap, ◌∙◌, subst, arith, append_assoc}
 use Rattle.std.specs.List.{AllByRecursion}
-use Rattle.std.proofs.lemmas.List.{length-append}
+use Rattle.std.proofs.lemmas.List.{length-append, length-map, length-take, map-append, take-append-drop, take_more}
 use Rattle.std.proofs.lemmas.List.Concat.{flat_map-cons}
 use Rattle.std.proofs.lemmas.List.Sums.{sum_by-cons}
 use Rattle.event_journal.specs.declared.entry.Entry.{Entry}
 use Rattle.entry_receipts.specs.declared.kept.KeptEntry.{KeptEntry}
-use Rattle.entry_receipts.specs.Receipts.{all_kept, AreReceipts, AreComplete}
+use Rattle.entry_receipts.specs.Receipts.{all_kept, AreReceipts, AreComplete, IsFirstRefused}
 use Rattle.entry_receipts.specs.Marking.{Marked, AreMarked}
 use Rattle.entry_receipts.proofs.Complete.{length_all_kept, all_of_handles, complete}
 use Rattle.mediator_calls.specs.Counted.{Counted, has_receipt, entries_of}
 use Rattle.shared_mediator.specs.Locked.{Exporting}
 use Rattle.shared_mediator.specs.Handles.{HasReceipt}
-use Rattle.shared_mediator.specs.Closing.{KeepsMessages, receipts_of, entries_kept, HasReceipts}
+use Rattle.shared_mediator.specs.declared.fault.CloseFault.{CloseFault}
+use Rattle.shared_mediator.specs.Closing.{KeepsMessages, receipts_of, entries_kept, HasReceipts, IsMismatch, NamesReceipt}
 use Rattle.shared_mediator.proofs.HandleLaws.{have_receipts}
 
 -- the receipts of all are those of the exporters and those of the administrators
@@ -65,3 +66,39 @@ closes_for before h c exporters lent admins lent_admins history same same_admins
 pub none_left : (rest : List (List KeptEntry)) → length rest ≡ 0 → sum_by (λ (kept : List KeptEntry). length kept) rest ≡ 0
 none_left [] none = refl
 none_left (kept ∷ rest) none = absurd (omega (arith, none))
+
+-- ---- a receipt that isn't the journal's
+
+-- a list, and the next of its elements that a loop comes to
+around : {A : Type 0} (xs : List A) (i : ℕ) (x : A) → i < length xs → x ≡ get_or xs i x → xs ≡ take i xs ++ x ∷ drop (i + 1) xs
+around {A} xs i x low is = sym (take-append-drop (i + 1) xs) ∙ ap (λ (t : List A). t ++ drop (i + 1) xs) (take_more xs i x low ∙ ap (λ (y : A). take i xs ++ y ∷ []) (sym is)) ∙ append_assoc (take i xs) (x ∷ []) (drop (i + 1) xs)
+
+-- the next of some handles has such a receipt, behind those before it and others
+pub mismatch : (from at n position : ℕ) (h : List Entry) (others handles : List (List KeptEntry)) (i : ℕ) (kept shown : List KeptEntry) → i < length handles → kept ≡ get_or handles i kept → shown ≡ kept → at ≡ from → n ≡ length others + i
+    → IsFirstRefused at h (others ++ take i handles) shown position → IsMismatch from h (others ++ handles) n position
+mismatch from at n position h others handles i kept shown low is same from_is counted first = record {
+  before = others ++ take i handles;
+  kept = kept;
+  after = drop (i + 1) handles;
+  handles_are = ap (λ (t : List (List KeptEntry)). others ++ t) (around handles i kept low is) ∙ sym (append_assoc others (take i handles) (kept ∷ drop (i + 1) handles));
+  number = omega (arith, counted, low, length-append others (take i handles), length-take i handles);
+  first_refused = subst (λ m. IsFirstRefused m h (others ++ take i handles) kept position) from_is (subst (λ k. IsFirstRefused at h (others ++ take i handles) k position) same first);
+}
+
+-- the next of some exporters
+pub exporters_mismatch : (from at n position : ℕ) (h : List Entry) (exporters : List Exporting) (i : ℕ) (x : Exporting) (shown : List KeptEntry) → i < length exporters → x ≡ get_or exporters i x → shown ≡ x.kept → at ≡ from → n ≡ i
+    → IsFirstRefused at h (map (λ (e : Exporting). e.kept) (take i exporters)) shown position → IsMismatch from h (map (λ (e : Exporting). e.kept) exporters) n position
+exporters_mismatch from at n position h exporters i x shown low is same from_is counted first = record {
+  before = map kept_of (take i exporters);
+  kept = x.kept;
+  after = map kept_of (drop (i + 1) exporters);
+  handles_are = ap (map kept_of) (around exporters i x low is) ∙ map-append kept_of (take i exporters) (x ∷ drop (i + 1) exporters);
+  number = omega (arith, counted, low, length-map (take i exporters) kept_of, length-take i exporters);
+  first_refused = subst (λ m. IsFirstRefused m h (map kept_of (take i exporters)) x.kept position) from_is (subst (λ k. IsFirstRefused at h (map kept_of (take i exporters)) k position) same first);
+} where
+  kept_of : Exporting → List KeptEntry
+  kept_of e = e.kept
+
+-- by the journal that was lent, and by the place that the marks have
+pub names_in : (e : CloseFault) (from at : ℕ) (h j : List Entry) (handles : List (List KeptEntry)) → j ≡ h → at ≡ from → NamesReceipt e at j handles → NamesReceipt e from h handles
+names_in e from at h j handles same from_is names = subst (λ (x : List Entry). NamesReceipt e from x handles) same (subst (λ n. NamesReceipt e n j handles) from_is names)

@@ -1,11 +1,11 @@
 -- What is so where a mediator is given back.
-use Rattle.std.specs.Prelude.{◌≡◌, ℕ, List, ◌++◌, map, length, take, sum_by}
+use Rattle.std.specs.Prelude.{◌≡◌, ℕ, List, ◌∷◌, ◌++◌, map, length, take, sum_by}
 use Rattle.event_journal.specs.declared.entry.Entry.{Entry}
 use Rattle.entry_receipts.specs.declared.kept.KeptEntry.{KeptEntry}
-use Rattle.entry_receipts.specs.Receipts.{all_kept, AreReceipts, AreComplete}
+use Rattle.entry_receipts.specs.Receipts.{all_kept, AreReceipts, AreComplete, IsFirstRefused}
 use Rattle.mediator_calls.specs.Counted.{has_receipt}
 use Rattle.shared_mediator.specs.declared.fault.CloseFault.{CloseFault}
-use Rattle.shared_mediator.specs.declared.fault.CloseFault.TheVariants.{MissingHandle}
+use Rattle.shared_mediator.specs.declared.fault.CloseFault.TheVariants.{MissingHandle, Mismatch, OutOfMemory}
 use Rattle.shared_mediator.specs.Locked.{Locked, Exporting, Delivering}
 use Rattle.shared_mediator.specs.Handles.{AreMessages, records_kept}
 
@@ -46,3 +46,24 @@ pub record AreAll (d : Locked) (exporters deliveries admins : ℕ) : Type 0 wher
 abbrev pub RefusesClosing : CloseFault → Locked → ℕ → ℕ → ℕ → Type 0
 RefusesClosing MissingHandle d exporters deliveries admins = AreAll d exporters deliveries admins → ⊥
 RefusesClosing _ d exporters deliveries admins = AreAll d exporters deliveries admins
+
+-- the handle of this number has a receipt of this position, which is the first of all that is none of the history's beside those before it
+pub record IsMismatch (from : ℕ) (h : List Entry) (handles : List (List KeptEntry)) (handle position : ℕ) : Type 0 where
+  pub before : List (List KeptEntry)
+  pub kept : List KeptEntry
+  pub after : List (List KeptEntry)
+  pub handles_are : handles ≡ before ++ kept ∷ after
+  pub number : handle ≡ length before
+  pub first_refused : IsFirstRefused from h before kept position
+
+-- a mismatch names the handle and the position
+abbrev pub NamesReceipt : CloseFault → ℕ → List Entry → List (List KeptEntry) → Type 0
+NamesReceipt (Mismatch handle position) from h handles = IsMismatch from h handles handle position
+NamesReceipt MissingHandle from h handles = Unit {0}
+NamesReceipt OutOfMemory from h handles = Unit {0}
+
+-- the same, in some history that goes on from the entries before
+pub record NamesReceiptBehind (before : List Entry) (e : CloseFault) (handles : List (List KeptEntry)) : Type 0 where
+  pub history : List Entry
+  pub begins : take (length before) history ≡ before
+  pub names : NamesReceipt e (length before) history handles

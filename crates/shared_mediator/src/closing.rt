@@ -1,12 +1,12 @@
 //! The end of sharing: all handles come back, and their receipts are held against the journal.
-ghost use Rattle.std.specs.Prelude.{◌≡◌, ◌≢◌, ◌+◌, ◌++◌, List, map, length, IfOk, IfErr, OnOk};
+ghost use Rattle.std.specs.Prelude.{◌≡◌, ◌≢◌, ◌+◌, ◌<◌, ◌^◌, [], ◌++◌, List, map, length, IfOk, IfErr, OnOk};
 ghost use Rattle.std.specs.List.{AllByRecursion};
 ghost use Rattle.entry_receipts.specs.declared.kept.KeptEntry.{KeptEntry};
 ghost use Rattle.entry_receipts.specs.Marking.{Marked, AreMarked};
 ghost use Rattle.mediator_calls.specs.Counted.{entries_of};
 ghost use Rattle.shared_mediator.specs.declared.fault.CloseFault.TheVariants.{MissingHandle};
 ghost use Rattle.shared_mediator.specs.Handles.{HasReceipt};
-ghost use Rattle.shared_mediator.specs.Closing.{KeepsMessages, receipts_of, messages_accepted, entries_kept, records_handed, HasReceipts, AreAll, RefusesClosing};
+ghost use Rattle.shared_mediator.specs.Closing.{KeepsMessages, receipts_of, messages_accepted, entries_kept, records_handed, HasReceipts, AreAll, NamesReceipt, NamesReceiptBehind, RefusesClosing};
 
 use crate::admin::AdminHandle;
 use crate::delivery::DeliveryHandle;
@@ -37,7 +37,8 @@ impl<E: EntryLedger, H: RecordLedger> SharedMediator<E, H> {
     /// each handle's own in their order. So each entry since then has its receipt.
     ///
     /// # Errors
-    /// A handle is missing; a receipt doesn't stand in the journal so; or memory ran out. Nothing is given back then.
+    /// A handle is missing; a receipt doesn't stand in the journal so, where the first such is named by its handle and its
+    /// position (`names`); or memory ran out. Nothing is given back then.
     pub fn close(
         self,
         exporters: Vec<ExporterHandle<E>>,
@@ -49,6 +50,7 @@ impl<E: EntryLedger, H: RecordLedger> SharedMediator<E, H> {
         ensures messages { OnOk result (AllByRecursion KeepsMessages exporters.items) }
         ensures accepted { IfOk result (λ closed. closed.accepted ≡ messages_accepted exporters.items) }
         ensures handed { IfOk result (λ closed. closed.handed ≡ records_handed deliveries.items) }
+        ensures names { length exporters.items + length admins.items < 2 ^ 64 → IfErr result (λ e. NamesReceiptBehind E.before e (receipts_of exporters.items admins.items)) }
     {
         self.desk
             .into_inner()
@@ -74,6 +76,7 @@ impl<E: EntryLedger, H: RecordLedger> Desk<E, H> {
         ensures full { IfOk result (λ closed. closed.full ≡ self.full) }
         ensures book { OnOk result (entries_kept exporters.items admins.items ≡ entries_of self.counted) }
         ensures all { OnOk result (AreAll self (length exporters.items) (length deliveries.items) (length admins.items)) }
+        ensures names { length exporters.items + length admins.items < 2 ^ 64 → IfErr result (λ e. NamesReceiptBehind E.before e (receipts_of exporters.items admins.items)) }
         ensures err { IfErr result (λ e. RefusesClosing e self (length exporters.items) (length deliveries.items) (length admins.items)) }
     {
         if exporters.len() as u64 != self.exporters
@@ -122,6 +125,7 @@ fn check<E: EntryLedger>(
     ensures messages { OnOk result (AllByRecursion KeepsMessages exporters.now) }
     ensures entries { OnOk result (AllByRecursion (AllByRecursion HasReceipt) admins.now) }
     ensures accepted { IfOk result (λ accepted. accepted ≡ messages_accepted exporters.now) }
+    ensures names { length exporters.now + length admins.now < 2 ^ 64 → IfErr result (λ e. NamesReceipt e counted.now.from counted.now.core.history (receipts_of exporters.now admins.now)) }
     ensures err { IfErr result (λ e. e ≢ MissingHandle) }
 {
     let journal = counted.mediator().journal();
@@ -142,6 +146,7 @@ fn mark_exporters<E: EntryLedger>(
     ensures from { marks.new.from ≡ marks.old.from }
     ensures ok { OnOk result ((handles : List (List KeptEntry)) → AreMarked marks.old journal.now.entries handles → AreMarked marks.new journal.now.entries (handles ++ map (λ h. h.kept) exporters.now)) }
     ensures messages { OnOk result (AllByRecursion KeepsMessages exporters.now) }
+    ensures names { IfErr result (λ e. AreMarked marks.old journal.now.entries [] → NamesReceipt e marks.old.from journal.now.entries (map (λ h. h.kept) exporters.now)) }
     ensures err { IfErr result (λ e. e ≢ MissingHandle) }
 {
     let mut handle = 0u64;
@@ -165,6 +170,7 @@ fn mark_admins<E: EntryLedger>(
     ensures from { marks.new.from ≡ marks.old.from }
     ensures ok { OnOk result ((handles : List (List KeptEntry)) → AreMarked marks.old journal.now.entries handles → AreMarked marks.new journal.now.entries (handles ++ admins.now)) }
     ensures entries { OnOk result (AllByRecursion (AllByRecursion HasReceipt) admins.now) }
+    ensures names { first + length admins.now < 2 ^ 64 → IfErr result (λ e. (handles : List (List KeptEntry)) → AreMarked marks.old journal.now.entries handles → length handles ≡ first → NamesReceipt e marks.old.from journal.now.entries (handles ++ admins.now)) }
     ensures err { IfErr result (λ e. e ≢ MissingHandle) }
 {
     let mut handle = first;

@@ -11,7 +11,8 @@
 //! number of messages, edits, begins and ends of subscriptions and advances of the clock that came since `new`, and the
 //! other's is the number of records handed to the subscriptions that have ended and to those that are live (the type that
 //! lies under the lock keeps it). Each call under the lock answers and leaves what the mediator's does (`ok`, `same`,
-//! `err`), and adds to its handle's share just what it added to the mediator (`counts`, `share`).
+//! `err`), and adds to its handle's share just what it added to the mediator (`counts`, `share`). A call that is refused since
+//! the journal is full notes that there, and nothing else notes it (`same`, `counts`).
 //!
 //! Of a handle's calls (`kept`): `offer` keeps the message, under the handle's session and with its number, at the position
 //! of the receipt that it answers; an administrator's edit, subscribe, unsubscribe and advance keep the entry of their own
@@ -20,7 +21,8 @@
 //!
 //! `close` answers Ok only where each receipt stands in the journal at its position, none from before `new`, no two at one
 //! position, each handle's own in their order, and where each entry since `new` that is to have a receipt has one
-//! (`receipts`); `accepted` and `handed` are the sums of what exporters and deliveries keep.
+//! (`receipts`); `accepted` and `handed` are the sums of what exporters and deliveries keep. Where a receipt doesn't, it names
+//! the first such one by its handle and its position (`names`).
 //!
 //! No clause can say what lies under a lock at the moment at which a public call takes it, so what a call through a handle
 //! answers beyond that is shown by tests. Nothing promises that a thread gets on or that a wait ends. `offer` wakes the

@@ -1,4 +1,4 @@
-use Rattle.std.proofs.Common.{◌+◌, ◌<◌, ◌^◌, length, refl, sym, subst, arith}
+use Rattle.std.proofs.Common.{◌+◌, ◌<◌, ◌^◌, length, sym, subst, arith}
 use Rattle.mediator_server.specs.Delivering.{StopsSending, octets_of}
 use Rattle.mediator_server.proofs.Offering.{err_gives}
 use Rattle.mediator_server.proofs.Sending.{sending_fits, sending_stops}

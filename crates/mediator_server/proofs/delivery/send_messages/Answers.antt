@@ -1,5 +1,4 @@
-use Rattle.std.proofs.Common.{◌≡◌, ◌+◌, ◌-◌, ◌<◌, ◌^◌, List, length, take, drop, sym, ◌∙◌, subst, arith}
-use Rattle.mediator_calls.specs.declared.handed.Handed.{Handed}
+use Rattle.std.proofs.Common.{◌+◌, ◌-◌, ◌<◌, ◌^◌, length, sym, ◌∙◌, subst, arith}
 use Rattle.mediator_server.specs.Delivering.{Sends, StopsSending, octets_of}
 use Rattle.mediator_server.proofs.Offering.{err_gives}
 use Rattle.mediator_server.proofs.Sending.{pulled, pulled_are, sends_on, sends_inside}

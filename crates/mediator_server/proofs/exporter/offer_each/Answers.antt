@@ -1,5 +1,4 @@
 use Rattle.std.specs.Vec.Iter.{into_iter_items}
-use Rattle.mediator_server.specs.Preparing.{ArePreparations}
 use Rattle.mediator_server.proofs.Offering.{offers_one, offering_starts, offering_on, prepared_at, prepared_start}
 use Rattle.mediator_server.proofs.exporter.offer_each.Goals as goal
 

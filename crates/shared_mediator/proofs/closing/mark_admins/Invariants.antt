@@ -1,4 +1,4 @@
-use Rattle.std.proofs.Common.{◌≡◌, ◌++◌, List, take}
+use Rattle.std.proofs.Common.{◌≡◌, ◌+◌, ◌<◌, ◌^◌, ◌++◌, List, length, take}
 use Rattle.entry_receipts.specs.declared.kept.KeptEntry.{KeptEntry}
 use Rattle.entry_receipts.specs.Marking.{AreMarked}
 use Rattle.std.specs.List.{AllByRecursion}
@@ -10,3 +10,4 @@ invariant-loop-admin g l =
     (l.marks.from ≡ l.fn.marks.from)
     × ((handles : List (List KeptEntry)) → AreMarked l.fn.marks l.journal.entries handles → AreMarked l.marks l.journal.entries (handles ++ take l.admin-index l.admins))
     × AllByRecursion (AllByRecursion HasReceipt) (take l.admin-index l.admins)
+    × (l.fn.first + length l.admins < 2 ^ 64 → l.handle ≡ l.fn.first + l.admin-index)

@@ -10,3 +10,4 @@ invariant-loop-exporter g l =
     (l.marks.from ≡ l.fn.marks.from)
     × ((handles : List (List KeptEntry)) → AreMarked l.fn.marks l.journal.entries handles → AreMarked l.marks l.journal.entries (handles ++ map (λ h. h.kept) (take l.exporter-index l.exporters)))
     × AllByRecursion KeepsMessages (take l.exporter-index l.exporters)
+    × (l.handle ≡ l.exporter-index)
