@@ -7,7 +7,7 @@ from runs import DEVICE, ProgramTest, run
 # A path at which there is nothing: a run whose settings are right ends there.
 NOWHERE = '"/nowhere/policy"'
 
-# Settings of which each key has a value that it may have, in the order in which keys are judged.
+# Settings of which each key that must be there has a value that it may have, in the order in which keys are judged.
 USUAL = {
     "exporters": '"127.0.0.1:0"',
     "admin": '"127.0.0.1:0"',
@@ -39,6 +39,8 @@ REFUSED = {
     "journal_octets": ["0", "1099511627777", "9223372036854775807", "-9223372036854775808", '""', "false"],
     "turns": ["0", "1000000001", "inf", "-1"],
     "deliver": ['"127.0.0.1:4740"', "[]", "{ acme = 4740 }", '{ acme = "127.0.0.1:4740", beta = {} }'],
+    "journal": ["1", "false", '["/nowhere/journal"]', '{ path = "/nowhere/journal" }'],
+    "runs": ["0", "1001", "-1", '"5"', "5.0", "[5]"],
 }
 
 # Values at the ends of the ranges, and texts that are judged elsewhere.
@@ -56,6 +58,8 @@ TAKEN = {
     "journal_octets": ["1", "1099511627776", "0x10000000000"],
     "turns": ["1", "1000000000"],
     "deliver": ["{}", '{ "No NAME" = "" }'],
+    "journal": ['"/nowhere/journal"'],
+    "runs": ["1", "1000"],
 }
 
 # Texts that are no TOML.
@@ -81,6 +85,14 @@ FIRST = [
     (FRONT + "queue = 0\ntarget = 16\n", "workers"),
     (FRONT + "target = 16\nworkers = 1\naudit = 0\njournal_octets = 0\nqueue = 1\n", "shapes"),
     ('[settings]\nexporters = "e"\nadmin = "a"\npolicy = "p"\n', "exporters"),
+]
+
+# Values of several keys, and the key that is named.
+FIRST_BEHIND_TURNS = [
+    ({"runs": "0", "journal": "1", "deliver": "1"}, "deliver"),
+    ({"runs": "0", "journal": "1", "deliver": None}, "deliver"),
+    ({"runs": "0", "journal": "1"}, "journal"),
+    ({"runs": "0", "journal": '"/nowhere/journal"'}, "runs"),
 ]
 
 PASS_ALL = "policy 1\nrule for * in * from * to * pass\nrule for * in * from * to * element * keep\n"
@@ -134,7 +146,7 @@ class Settings(ProgramTest):
             self.expect(text, 1, "ipmd: settings: toml\n")
 
     def test_first_fault(self):
-        for text, key in FIRST:
+        for text, key in FIRST + [(settings(values), key) for values, key in FIRST_BEHIND_TURNS]:
             self.expect(text, 1, f"ipmd: settings: {key}\n")
 
     def test_no_text(self):

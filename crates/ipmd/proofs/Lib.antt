@@ -1,3 +1,4 @@
 mod Statuses
 mod Replaying
 mod Endings
+mod Running

@@ -1,3 +1,4 @@
+pub use Rattle.run_journals.specs.Keeping
 pub use Rattle.ipmd_offline.specs.Status
 pub use Rattle.ipmd_offline.specs.HexText
 pub use Rattle.ipmd_offline.specs.Runs

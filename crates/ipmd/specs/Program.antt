@@ -19,7 +19,7 @@ use Rattle.ipmd_offline.specs.Status.{command_line_fault_of, line_of_fault, Tell
 use Rattle.ipmd_verify.specs.Verifying.{VerifiesFile, RefusesToVerifyFile}
 use Rattle.ipmd_explain.specs.Answers.{ExplainsFile, RefusesToExplainFile, question_of}
 use Rattle.ipmd.specs.Replays.{Replays, RefusesToReplay}
-use Rattle.ipmd.specs.Serving.{Serves, RefusesToPrepare, RefusesToServe}
+use Rattle.ipmd.specs.Serving.{Serves, RefusesToPrepare, StopsServing}
 
 -- ---- what leaves the stream for errors alone
 
@@ -56,7 +56,7 @@ abbrev pub DoesServe : List (List ℕ) → Option (List ℕ) → Option (List �
 DoesServe words held holds = (path : Bor (List ℕ)) × AsksFor words (Serve path) × Serves held holds
 
 abbrev pub FailsServing : List (List ℕ) → ProgramFault → Option (List ℕ) → Option (List ℕ) → Type 0
-FailsServing words e held holds = (path : Bor (List ℕ)) × AsksFor words (Serve path) × RefusesToServe e held holds
+FailsServing words e held holds = (path : Bor (List ℕ)) × AsksFor words (Serve path) × StopsServing e held holds
 
 -- a server's run has notes, so nothing is told of what the stream for errors holds after it; anything else leaves it as it was
 abbrev pub Does : {D : Type 0} → List (List ℕ) → Option OfflineReport → Option (List ℕ) → Option (List ℕ) → Option (List ℕ) → D → D → Type 0

@@ -50,12 +50,6 @@ RefusesText (Absent what) text = ⊥
 RefusesText Close text = ⊥
 RefusesText Device text = ⊥
 
--- why a journal's file isn't kept
-abbrev pub IsKeepingFault : ProgramFault → Type 0
-IsKeepingFault Device = Unit {0}
-IsKeepingFault OutOfMemory = Unit {0}
-IsKeepingFault _ = ⊥
-
 -- the calls of a text were made, and the answers were written; what a file holds isn't told here
 pub record Replays (held holds : Option (List ℕ)) : Type 0 where
   pub text : List ℕ

@@ -1,8 +1,12 @@
 -- What `ipmd serve` does, as far as it can be told: what comes from other threads, from sockets and from files isn't told here.
-use Rattle.std.specs.Prelude.{◌≡◌, ◌⊎◌, ℕ, List, ◌∷◌, [], ◌++◌, map, codes, string_bytes, Vec, Option, Ok}
+use Rattle.std.specs.Prelude.{◌≡◌, ◌⊎◌, ℕ, ◌+◌, ◌≤◌, ◌<◌, Bool, true, false, List, ◌∷◌, [], ◌++◌, length, map, codes, string_bytes, Vec, Option, Ok, unwrap_or}
+use Rattle.std.specs.List.{flat_map}
 use Rattle.std.specs.declared.alloc.Global.{Global}
 use Rattle.std.specs.Fmt.{decimal}
 use Rattle.std.specs.Io.KnownBytes.{Appends, Keeps}
+use Rattle.event_journal.specs.declared.entry.Entry.{Entry}
+use Rattle.event_journal.specs.LastEdit.{last_edit}
+use Rattle.mediator_calls.specs.Limited.{AreAllowed}
 use Rattle.serve_settings.specs.Asked.{Asked, Pair}
 use Rattle.serve_settings.specs.Faults.{IsFaultOf}
 use Rattle.serve_settings.specs.Reading.{settings_of}
@@ -16,6 +20,8 @@ use Rattle.ipmd_offline.specs.declared.fault.ProgramFault.{ProgramFault}
 use Rattle.ipmd_offline.specs.declared.fault.ProgramFault.TheVariants.{CommandLine, Settings, Policy, Hex, Framing, Core, Cut, Calls, BadLimits, Journal, History, Absent, Close, OutOfMemory, Device}
 use Rattle.ipmd_offline.specs.HexText.{WritesSome}
 use Rattle.ipmd_offline.specs.Status.{core_fault_of}
+use Rattle.run_journals.specs.Keeping.{IsKeepingFault}
+use Rattle.ipmd.specs.declared.serve.Service.{Service}
 
 -- ---- before anything is served
 
@@ -37,13 +43,21 @@ pub record IsPlanOf (asked : Asked) (policy : List ℕ) (plan : Plan) : Type 0 w
   pub turns : plan.turns ≡ asked.turns
   pub deliver : collectors_in plan.deliver ≡ asked.collectors
 
--- a text of settings that asks for this plan, with some policy
-pub record IsPlanned (plan : Plan) : Type 0 where
+-- what these settings ask for, with a policy of this text
+pub record IsServiceOf (asked : Asked) (policy : List ℕ) (service : Service) : Type 0 where
+  pub plan_is : IsPlanOf asked policy service.plan
+  pub limits_are : service.limits ≡ asked.limits
+  pub runs_are : service.runs ≡ asked.runs
+
+-- a text of settings asks for this, with some policy; and a mediator takes its limits
+pub record IsAskedFor (service : Service) : Type 0 where
   pub text : List ℕ
   pub asked : Asked
   pub read : settings_of text ≡ Ok asked
   pub policy : List ℕ
-  pub plan_is : IsPlanOf asked policy plan
+  pub is : IsServiceOf asked policy service
+  pub allowed : AreAllowed service.limits
+  pub some_run : 1 ≤ service.runs
 
 -- why nothing is served: the text of the settings has this fault, a file can't be read or is no text, or memory ran out
 abbrev pub RefusesToPrepare : ProgramFault → Type 0
@@ -63,20 +77,58 @@ RefusesToPrepare (History position) = ⊥
 RefusesToPrepare (Absent what) = ⊥
 RefusesToPrepare Close = ⊥
 
--- ---- serving
+-- ---- a run
 
--- what is said when all that was planned has ended
-abbrev pub served : Closed → List ℕ
-served closed = codes "accepted " ++ decimal closed.accepted ++ codes " handed " ++ decimal closed.handed ++ 10 ∷ []
+-- how a run ended: its history, how many messages it accepted and how many records it handed out, and whether its journal was full
+pub record Run : Type 0 where
+  pub history : List Entry
+  pub accepted : ℕ
+  pub handed : ℕ
+  pub full : Bool
 
--- a plan that settings ask for was served to its end: in the journal, which began empty, each entry that is to have a receipt has
--- one, and as many messages and records as the receipts have were written as the counts
-pub record Serves (held holds : Option (List ℕ)) : Type 0 where
+abbrev pub run_of : Closed → Run
+run_of closed = record { history = closed.mediator.history; accepted = closed.accepted; handed = closed.handed; full = closed.full }
+
+-- a plan that these settings ask for, with a policy of this text, was served to its end: in the journal, which began empty, each entry
+-- that is to have a receipt has one, and as many messages and records as the receipts have are the run's counts
+pub record IsRun (asked : Asked) (policy : List ℕ) (run : Run) : Type 0 where
   pub plan : Plan
-  pub planned : IsPlanned plan
-  pub closed : Closed
-  pub is_served : IsServed plan [] closed.mediator.history closed.accepted closed.handed
-  pub written : Appends held holds (served closed)
+  pub plan_is : IsPlanOf asked policy plan
+  pub is_served : IsServed plan [] run.history run.accepted run.handed
+
+-- what is said of a run that has ended
+abbrev pub served : Run → List ℕ
+served run = codes "accepted " ++ decimal run.accepted ++ codes " handed " ++ decimal run.handed ++ 10 ∷ []
+
+-- ---- runs that follow each other
+
+-- the policy that is in force behind a history that began under this one: that of its last edit
+abbrev pub policy_after : List ℕ → List Entry → List ℕ
+policy_after policy h = unwrap_or (last_edit h) policy
+
+-- these runs follow each other, the first of them with this policy; the journal of each was full, and another run is to follow
+-- with the policy at the end
+abbrev pub AreFull : Asked → List ℕ → List Run → List ℕ → Type 0
+AreFull asked policy [] next = next ≡ policy
+AreFull asked policy (run ∷ runs) next = IsRun asked policy run × (run.full ≡ true) × AreFull asked (policy_after policy run.history) runs next
+
+-- runs were made as settings ask for: another one behind each whose journal was full, but no more than are allowed; and the line of
+-- each was written
+pub record Serves (held holds : Option (List ℕ)) : Type 0 where
+  pub text : List ℕ
+  pub asked : Asked
+  pub read : settings_of text ≡ Ok asked
+  pub first : List ℕ
+  pub before : List Run
+  pub policy : List ℕ
+  pub are_full : AreFull asked first before policy
+  pub last : Run
+  pub is_run : IsRun asked policy last
+  pub few : length before < asked.runs
+  pub ends : (last.full ≡ false) ⊎ (asked.runs ≡ length before + 1)
+  pub written : Appends held holds (flat_map served (before ++ last ∷ []))
+
+-- ---- where it stops
 
 -- what the program makes of the server's faults
 abbrev pub listen_fault_of : ListenFault → ProgramFault
@@ -86,16 +138,62 @@ listen_fault_of listen.NoThread = Device
 listen_fault_of (listen.Core why) = core_fault_of why
 listen_fault_of (listen.Close why) = Close
 
--- why the counts aren't written: memory ran out before, or the output failed, and a front of them was written, or all
-abbrev pub RefusesToTell : ProgramFault → Closed → Option (List ℕ) → Option (List ℕ) → Type 0
-RefusesToTell e closed held holds = ((e ≡ OutOfMemory) × Keeps held holds) ⊎ ((e ≡ Device) × WritesSome (served closed) held holds)
+abbrev pub IsListenFault : ProgramFault → Type 0
+IsListenFault e = (fault : ListenFault) × (e ≡ listen_fault_of fault)
 
--- the server ended by a fault, and nothing was written; or all was served, and its counts aren't written
-abbrev pub RefusesToServe : ProgramFault → Option (List ℕ) → Option (List ℕ) → Type 0
-RefusesToServe e held holds =
-    (((fault : ListenFault) × (e ≡ listen_fault_of fault)) × Keeps held holds)
-    ⊎ ((closed : Closed) × RefusesToTell e closed held holds)
+-- a run was made that isn't told whole, or whose journal isn't kept: a device failed or memory ran out, and a front of its line was
+-- written, or all of it
+abbrev pub RefusesToTell : ProgramFault → Run → Option (List ℕ) → Option (List ℕ) → Type 0
+RefusesToTell e run held holds = IsKeepingFault e × WritesSome (served run) held holds
+
+-- behind these runs the server ended by a fault, and nothing more was written; or a run more was made, and isn't told whole or kept
+abbrev pub StopsBehind : ProgramFault → Asked → List ℕ → Option (List ℕ) → Option (List ℕ) → Type 0
+StopsBehind e asked policy held holds =
+    (IsListenFault e × Keeps held holds) ⊎ ((run : Run) × IsRun asked policy run × RefusesToTell e run held holds)
+
+-- runs were made and told, and behind them it stops
+pub record StopsServing (e : ProgramFault) (held holds : Option (List ℕ)) : Type 0 where
+  pub text : List ℕ
+  pub asked : Asked
+  pub read : settings_of text ≡ Ok asked
+  pub first : List ℕ
+  pub before : List Run
+  pub policy : List ℕ
+  pub are_full : AreFull asked first before policy
+  pub between : Option (List ℕ)
+  pub written : Appends held between (flat_map served before)
+  pub stops : StopsBehind e asked policy between holds
 
 -- nothing was served, and the stream for errors is as it was; or a server was run
 abbrev pub FailsToServe : {D : Type 0} → ProgramFault → Option (List ℕ) → Option (List ℕ) → D → D → Type 0
-FailsToServe e held holds before after = ((after ≡ before) × RefusesToPrepare e × Keeps held holds) ⊎ RefusesToServe e held holds
+FailsToServe e held holds before after = ((after ≡ before) × RefusesToPrepare e × Keeps held holds) ⊎ StopsServing e held holds
+
+-- ---- what no public clause cites
+
+-- a run was made by the plan and told; where its journal was full, the plan begins with its last policy then
+pub record MakesRun (full : Bool) (old new : Plan) (held holds : Option (List ℕ)) : Type 0 where
+  pub made : Run
+  pub is_served : IsServed old [] made.history made.accepted made.handed
+  pub told : Appends held holds (served made)
+  pub full_is : made.full ≡ full
+  pub renewed : full ≡ true → (asked : Asked) (policy : List ℕ) → IsPlanOf asked policy old → IsPlanOf asked (policy_after policy made.history) new
+
+-- the server ended by a fault, and nothing was written; or a run was made, and isn't told whole or kept
+abbrev pub StopsRun : ProgramFault → Plan → Option (List ℕ) → Option (List ℕ) → Type 0
+StopsRun e plan held holds =
+    (IsListenFault e × Keeps held holds) ⊎ ((made : Run) × IsServed plan [] made.history made.accepted made.handed × RefusesToTell e made held holds)
+
+-- runs were made and told, and another one of this number is to follow by this plan
+pub record IsToRun (plan : Plan) (runs run : ℕ) (held holds : Option (List ℕ)) : Type 0 where
+  pub text : List ℕ
+  pub asked : Asked
+  pub read : settings_of text ≡ Ok asked
+  pub first : List ℕ
+  pub before : List Run
+  pub policy : List ℕ
+  pub are_full : AreFull asked first before policy
+  pub plan_is : IsPlanOf asked policy plan
+  pub runs_are : runs ≡ asked.runs
+  pub counted : run ≡ length before + 1
+  pub allowed : run ≤ runs
+  pub written : Appends held holds (flat_map served before)

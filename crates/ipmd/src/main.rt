@@ -2,7 +2,7 @@
 //! exporters, of one stream or served over TCP; and checks policies.
 //!
 //! - [`program`]: all that the process does, over streams and files that it is handed.
-//! - `serve`: `ipmd serve`; `noting`: the runtime that a server is handed, with its log.
+//! - `serve`: `ipmd serve`, with `runs`, the runs that follow each other; `noting`: the runtime that a server is handed, with its log.
 //! - `replay`: `ipmd replay`.
 //! - `system`: [`System`], what the program asks of the system.
 //!
@@ -32,6 +32,7 @@ ghost use Rattle.ipmd.specs.Program.{Does, FailsFor, IsDone, IsFault};
 
 mod noting;
 mod replay;
+mod runs;
 mod serve;
 mod system;
 

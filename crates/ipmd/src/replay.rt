@@ -2,7 +2,8 @@
 
 ghost use Rattle.std.specs.Prelude.{IfErr, IfOk, OnOk};
 ghost use Rattle.octet_devices.specs.Device.{device_inner};
-ghost use Rattle.ipmd.specs.Replays.{IsKeepingFault, RefusesText, RefusesToReplay, Replays, RunsText};
+ghost use Rattle.run_journals.specs.Keeping.{IsKeepingFault};
+ghost use Rattle.ipmd.specs.Replays.{RefusesText, RefusesToReplay, Replays, RunsText};
 
 use call_lists::{answers_text, read_call_list};
 use event_journal::Journal;

@@ -134,7 +134,7 @@ Exit status: 0 each call was answered, 1 refused or out of memory, 2 wrong comma
 
 /// Below the help of `ipmd serve`.
 pub const SERVE: &str = "\
-The settings are a TOML table with all of these keys; any other is ignored:
+The settings are a TOML table with these keys, all but journal and runs; any other is ignored:
   exporters = \"0.0.0.0:4739\"      where exporters connect
   admin = \"127.0.0.1:4750\"        where the one admin connection is made
   policy = \"policy.txt\"           the file with the first policy
@@ -147,12 +147,15 @@ The settings are a TOML table with all of these keys; any other is ignored:
   journal_entries = 1000000       the entries of the journal, 1 to 100000000
   journal_octets = 1073741824     the octets of the journal, 1 to 1099511627776
   turns = 1000000000              the reads of one connection, 1 to 1000000000
+  journal = \"/var/lib/ipmd/run\"  the journal of run 1 is written to the file with .1 behind this
+  runs = 30                       how many runs may follow each other, 1 to 1000, else 1
   [deliver]
   acme = \"192.0.2.1:4739\"         a subscriber's name, and the address of its collector
 
 It connects to each collector, and takes `connections` connections of exporters and one of the
 admin. When all of these have ended it sends what is queued, and standard output says
-`accepted A handed H`: messages accepted, and records handed to subscriptions.
+`accepted A handed H`: messages accepted, and records handed to subscriptions. That is a run. When
+its journal is full, the next one begins with the policy that was last in force, as `runs` allows.
 
 The admin connection takes a command a line, and answers each before the next:
   edit N, and N octets of policy behind the line end     ok REVISION
@@ -174,7 +177,8 @@ What standard error says last where the run fails, and what to do:
   ipmd: BadName              a key below [deliver] is no subscriber's name
   ipmd: JournalFull          the journal's limits leave no room for the policy and the subscribers
   ipmd: device               a file can't be read or isn't UTF-8; an address can't be listened on;
-                             a collector can't be connected to; or a thread is refused
+                             a collector can't be connected to; a thread is refused; or the file
+                             of a run's journal can't be written, and then the run's line came
   ipmd: OutOfMemory          no memory is left
   ipmd: close                what was received isn't what the journal has; this is never expected
 

@@ -1,7 +1,8 @@
 //! Settings that are read.
 use mediator_calls::Limits;
-use serve_settings::{Collector, Settings, SettingsFault, read_settings};
-use std::alloc::Global;
+use serve_settings::{Collector, Key, Settings, SettingsFault, read_settings};
+use std::alloc::{AllocError, Global};
+use std::process::Abort;
 use std::test::Fail;
 
 /// Settings with keys in another order, some that nobody asks for, and a table under its header.
@@ -92,5 +93,118 @@ fn written_settings(rt: HostRuntime) -> Result<(), Fail> {
     assert!(rt; has_texts(&settings));
     assert!(rt; has_numbers(&settings));
     assert!(rt; has_collectors(settings.collectors.as_slice(), &COLLECTORS));
+    Ok(())
+}
+
+/// Settings up to the turns.
+const FRONT: &str = "\
+exporters = \"127.0.0.1:4739\"
+admin = \"127.0.0.1:4750\"
+policy = \"policy.txt\"
+connections = 1
+target = 16
+workers = 1
+queue = 1
+shapes = 1
+audit = 1
+journal_entries = 1
+journal_octets = 1
+turns = 1
+";
+
+/// What may stand behind these, and the journal and the runs that are read.
+const TAKEN: &[(&str, Option<&str>, u64)] = &[
+    ("deliver = {}\n", None, 1),
+    (
+        "deliver = {}\njournal = \"run\"\nruns = 7\n",
+        Some("run"),
+        7,
+    ),
+    (
+        "runs = 7\njournal = \"run\"\ndeliver = {}\n",
+        Some("run"),
+        7,
+    ),
+    (
+        "deliver = {}\njournal = \"/var/run\"\n",
+        Some("/var/run"),
+        1,
+    ),
+    ("deliver = {}\njournal = \"\"\n", Some(""), 1),
+    ("deliver = {}\nruns = 1\n", None, 1),
+    ("deliver = {}\nruns = 1000\n", None, 1000),
+    // Below another key they are other keys.
+    ("[deliver]\njournal = \"h:1\"\nruns = \"h:2\"\n", None, 1),
+    ("[deliver]\n[log]\njournal = 1\nruns = 0\n", None, 1),
+];
+
+/// What may not, and the key at fault: of another type, out of its range, or the first of several.
+const REFUSED: &[(&str, Key)] = &[
+    ("deliver = {}\njournal = 1\n", Key::Journal),
+    ("deliver = {}\njournal = true\n", Key::Journal),
+    ("deliver = {}\njournal = [\"run\"]\n", Key::Journal),
+    ("deliver = {}\n[journal]\npath = \"run\"\n", Key::Journal),
+    ("deliver = {}\nruns = 0\n", Key::Runs),
+    ("deliver = {}\nruns = 1001\n", Key::Runs),
+    ("deliver = {}\nruns = -1\n", Key::Runs),
+    ("deliver = {}\nruns = \"5\"\n", Key::Runs),
+    ("deliver = {}\nruns = 5.0\n", Key::Runs),
+    ("deliver = {}\nruns = {}\n", Key::Runs),
+    ("runs = 0\njournal = 1\ndeliver = 1\n", Key::Deliver),
+    ("journal = 1\n", Key::Deliver),
+    ("runs = 0\n", Key::Deliver),
+    ("runs = 0\njournal = 1\ndeliver = {}\n", Key::Journal),
+    ("runs = 0\njournal = \"run\"\ndeliver = {}\n", Key::Runs),
+];
+
+/// Settings with this behind the turns, read.
+fn read_last(alloc: Global, last: &str) -> Result<Result<Settings, SettingsFault>, AllocError> {
+    let text = format!(in alloc; "{FRONT}{last}")?;
+    Ok(read(alloc, text.as_str()))
+}
+
+fn is_path(found: &Option<String>, wanted: Option<&str>) -> bool {
+    match found {
+        Some(path) => wanted == Some(path.as_str()),
+        None => wanted.is_none(),
+    }
+}
+
+/// Whether settings were read, with this journal and these runs.
+fn has_read(answer: &Result<Settings, SettingsFault>, journal: Option<&str>, runs: u64) -> bool {
+    match answer {
+        Ok(settings) => is_path(&settings.journal, journal) && settings.runs == runs,
+        Err(_) => false,
+    }
+}
+
+/// Whether this key is at fault.
+fn is_at_fault(answer: &Result<Settings, SettingsFault>, key: Key) -> bool {
+    match answer {
+        Ok(_) => false,
+        Err(fault) => *fault == SettingsFault::Key(key),
+    }
+}
+
+fn expect_taken(rt: &impl Abort, alloc: Global) -> Result<(), AllocError> {
+    for (last, journal, runs) in TAKEN {
+        let answer = read_last(alloc, last)?;
+        assert!(rt; has_read(&answer, *journal, *runs), "{last}");
+    }
+    Ok(())
+}
+
+fn expect_refused(rt: &impl Abort, alloc: Global) -> Result<(), AllocError> {
+    for (last, key) in REFUSED {
+        let answer = read_last(alloc, last)?;
+        assert!(rt; is_at_fault(&answer, *key), "{last}");
+    }
+    Ok(())
+}
+
+#[test]
+fn journal_and_runs(rt: HostRuntime) -> Result<(), Fail> {
+    expect_taken(&rt, rt.alloc())?;
+    expect_refused(&rt, rt.alloc())?;
     Ok(())
 }

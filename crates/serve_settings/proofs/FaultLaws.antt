@@ -4,14 +4,14 @@ use Rattle.sequences.specs.Results.{◌>>=◌}
 use Rattle.toml.specs.Data.{Members}
 use Rattle.toml.specs.Parse.{parse_document}
 use Rattle.serve_settings.specs.declared.key.Key.{Key}
-use Rattle.serve_settings.specs.declared.key.Key.TheVariants.{Exporters, Admin, Policy, Connections, Target, Workers, Queue, Shapes, Audit, JournalEntries, JournalOctets, Turns, Deliver}
+use Rattle.serve_settings.specs.declared.key.Key.TheVariants.{Exporters, Admin, Policy, Connections, Target, Workers, Queue, Shapes, Audit, JournalEntries, JournalOctets, Turns, Deliver, Journal, Runs}
 use Rattle.serve_settings.specs.declared.fault.SettingsFault.{SettingsFault}
 use Rattle.serve_settings.specs.declared.fault.SettingsFault.TheVariants as fault
 use Rattle.serve_settings.specs.Asked.{Asked}
 use Rattle.serve_settings.specs.Faults.{has, keys, lacking, IsFaultOf}
 use Rattle.serve_settings.specs.Reading.{limits_in, settings_in}
 use Rattle.serve_settings.specs.Results.{Gives, needed}
-use Rattle.serve_settings.specs.Values.{text_in, number_in, collectors_in}
+use Rattle.serve_settings.specs.Values.{text_in, text_or_none_in, number_in, number_or_in, collectors_in}
 use Rattle.subscriber_stream.specs.declared.limits.TheConstants.{MOST_QUEUE, MOST_SHAPES}
 use Rattle.disclosure_audit.specs.declared.audit.TheConstants.{MOST_ENTRIES as MOST_AUDITED}
 use Rattle.event_journal.specs.declared.limits.TheConstants.{MOST_ENTRIES, MOST_OCTETS}
@@ -62,7 +62,9 @@ settings_in-judges table =
     step-within table JournalEntries _ (number_in JournalEntries 1 MOST_ENTRIES table) _ _ refl (λ entries.
     step-within table JournalOctets _ (number_in JournalOctets 1 MOST_OCTETS table) _ _ refl (λ octets.
     step table Turns _ (number_in Turns 1 1000000000 table) _ refl (λ turns.
-    step table Deliver [] (collectors_in Deliver table) _ refl (λ collectors. record { judged = tt })))))))))))))
+    step table Deliver _ (collectors_in Deliver table) _ refl (λ collectors.
+    step table Journal _ (text_or_none_in Journal table) _ refl (λ journal.
+    step table Runs [] (number_or_in Runs 1 1 1000 table) _ refl (λ runs. record { judged = tt })))))))))))))))
 
 of_table : (text : List ℕ) (table : Members) (f : SettingsFault) → parse_document text ≡ Some table → settings_in table ≡ Err f → IsFaultOf f text
 of_table text table f parsed fails = by_first f (subst (λ (r : Result Asked SettingsFault). Judges table keys r) fails (settings_in-judges table)).judged

@@ -1,5 +1,5 @@
 -- What settings ask for, in texts and numbers.
-use Rattle.std.specs.Prelude.{ℕ, List, map, string_bytes, Vec}
+use Rattle.std.specs.Prelude.{ℕ, List, map, Option, option_map, string_bytes, Vec}
 use Rattle.std.specs.declared.alloc.Global.{Global}
 use Rattle.mediator_calls.specs.declared.limits.Limits.{Limits}
 use Rattle.serve_settings.specs.declared.settings.Settings.{Settings}
@@ -19,6 +19,8 @@ pub record Asked : Type 0 where
   pub limits : Limits
   pub turns : ℕ
   pub collectors : List Pair
+  pub journal : Option (List ℕ)
+  pub runs : ℕ
 
 abbrev pub pair : Collector → Pair
 pair collector = (string_bytes collector.subscriber, string_bytes collector.address)
@@ -38,4 +40,6 @@ asked settings = record {
   limits = settings.limits;
   turns = settings.turns;
   collectors = pairs settings.collectors;
+  journal = option_map string_bytes settings.journal;
+  runs = settings.runs;
 }

@@ -7,12 +7,12 @@ use Rattle.subscriber_stream.specs.declared.limits.TheConstants.{MOST_QUEUE, MOS
 use Rattle.disclosure_audit.specs.declared.audit.TheConstants.{MOST_ENTRIES as MOST_AUDITED}
 use Rattle.event_journal.specs.declared.limits.TheConstants.{MOST_ENTRIES, MOST_OCTETS}
 use Rattle.serve_settings.specs.declared.key.Key.{Key}
-use Rattle.serve_settings.specs.declared.key.Key.TheVariants.{Exporters, Admin, Policy, Connections, Target, Workers, Queue, Shapes, Audit, JournalEntries, JournalOctets, Turns, Deliver}
+use Rattle.serve_settings.specs.declared.key.Key.TheVariants.{Exporters, Admin, Policy, Connections, Target, Workers, Queue, Shapes, Audit, JournalEntries, JournalOctets, Turns, Deliver, Journal, Runs}
 use Rattle.serve_settings.specs.declared.fault.SettingsFault.{SettingsFault}
 use Rattle.serve_settings.specs.declared.fault.SettingsFault.TheVariants as fault
-use Rattle.serve_settings.specs.Values.{text_in, number_in, collectors_in}
+use Rattle.serve_settings.specs.Values.{text_in, text_or_none_in, number_in, number_or_in, collectors_in}
 
--- whether a table has a value at a key that the key may have
+-- whether a table has a value at a key that the key may have; Journal and Runs may be absent too
 abbrev pub has : Members → Key → Bool
 has table Exporters = is_some (text_in Exporters table)
 has table Admin = is_some (text_in Admin table)
@@ -27,10 +27,12 @@ has table JournalEntries = is_some (number_in JournalEntries 1 MOST_ENTRIES tabl
 has table JournalOctets = is_some (number_in JournalOctets 1 MOST_OCTETS table)
 has table Turns = is_some (number_in Turns 1 1000000000 table)
 has table Deliver = is_some (collectors_in Deliver table)
+has table Journal = is_some (text_or_none_in Journal table)
+has table Runs = is_some (number_or_in Runs 1 1 1000 table)
 
 -- the keys, in the order in which they are judged
 abbrev pub keys : List Key
-keys = Exporters ∷ Admin ∷ Policy ∷ Connections ∷ Target ∷ Workers ∷ Queue ∷ Shapes ∷ Audit ∷ JournalEntries ∷ JournalOctets ∷ Turns ∷ Deliver ∷ []
+keys = Exporters ∷ Admin ∷ Policy ∷ Connections ∷ Target ∷ Workers ∷ Queue ∷ Shapes ∷ Audit ∷ JournalEntries ∷ JournalOctets ∷ Turns ∷ Deliver ∷ Journal ∷ Runs ∷ []
 
 -- the first key that a table lacks
 abbrev pub lacking : Members → Option Key

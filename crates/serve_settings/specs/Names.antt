@@ -19,6 +19,8 @@ name_of key.JournalEntries = codes "journal_entries"
 name_of key.JournalOctets = codes "journal_octets"
 name_of key.Turns = codes "turns"
 name_of key.Deliver = codes "deliver"
+name_of key.Journal = codes "journal"
+name_of key.Runs = codes "runs"
 
 abbrev pub text_of_fault : SettingsFault → List ℕ
 text_of_fault fault.Toml = codes "toml"

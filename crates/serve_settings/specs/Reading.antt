@@ -8,11 +8,11 @@ use Rattle.subscriber_stream.specs.declared.limits.TheConstants.{MOST_QUEUE, MOS
 use Rattle.disclosure_audit.specs.declared.audit.TheConstants.{MOST_ENTRIES as MOST_AUDITED}
 use Rattle.event_journal.specs.declared.limits.TheConstants.{MOST_ENTRIES, MOST_OCTETS}
 use Rattle.mediator_calls.specs.declared.limits.Limits.{Limits}
-use Rattle.serve_settings.specs.declared.key.Key.TheVariants.{Exporters, Admin, Policy, Connections, Target, Workers, Queue, Shapes, Audit, JournalEntries, JournalOctets, Turns}
+use Rattle.serve_settings.specs.declared.key.Key.TheVariants.{Exporters, Admin, Policy, Connections, Target, Workers, Queue, Shapes, Audit, JournalEntries, JournalOctets, Turns, Journal, Runs}
 use Rattle.serve_settings.specs.declared.fault.SettingsFault.{SettingsFault}
 use Rattle.serve_settings.specs.declared.fault.SettingsFault.TheVariants.{Toml}
 use Rattle.serve_settings.specs.Asked.{Asked}
-use Rattle.serve_settings.specs.Values.{text_at, number_at, collectors_at}
+use Rattle.serve_settings.specs.Values.{text_at, text_or_none, number_at, number_or, collectors_at}
 
 -- the limits of the mediator
 unfoldable pub limits_in : Members → Result Limits SettingsFault
@@ -36,6 +36,8 @@ settings_in table = do
   limits ← limits_in table
   turns ← number_at Turns 1 1000000000 table
   collectors ← collectors_at table
+  journal ← text_or_none Journal table
+  runs ← number_or Runs 1 1 1000 table
   Ok (record {
     exporters = exporters;
     admin = admin;
@@ -46,6 +48,8 @@ settings_in table = do
     limits = limits;
     turns = turns;
     collectors = collectors;
+    journal = journal;
+    runs = runs;
   })
 
 -- the table that a text is

@@ -5,7 +5,7 @@ use Rattle.serve_settings.specs.declared.key.Key.{Key}
 use Rattle.serve_settings.specs.declared.fault.SettingsFault.{SettingsFault}
 use Rattle.serve_settings.specs.declared.fault.SettingsFault.TheVariants as fault
 
--- a value that a key must have
+-- what is read at a key, or the key's fault where nothing is
 abbrev pub needed : {A : Type 0} → Key → Option A → Result A SettingsFault
 needed k None = Err (fault.Key k)
 needed k (Some a) = Ok a

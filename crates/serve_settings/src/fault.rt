@@ -10,7 +10,7 @@ use std::fmt::{self, Display, Formatter, Write};
 pub enum SettingsFault {
     /// The text is no TOML.
     Toml,
-    /// The first key whose value is missing, of another type or out of its range.
+    /// The first key that must be there and isn't, or whose value is of another type or out of its range.
     Key(Key),
     /// Want of memory.
     OutOfMemory,

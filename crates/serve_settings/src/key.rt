@@ -2,7 +2,8 @@
 
 use std::fmt::{self, Display, Formatter, Write};
 
-/// A key that settings must have, in the order in which they are judged. Its text is the key as the settings have it.
+/// A key of settings, in the order in which they are judged. `Journal` and `Runs` may be absent, the others must be there.
+/// Its text is the key as the settings have it.
 #[derive(Clone, Copy, Debug, PartialEq, Eq)]
 pub enum Key {
     /// Where exporters connect.
@@ -31,6 +32,10 @@ pub enum Key {
     Turns,
     /// The subscribers, and where their collectors listen.
     Deliver,
+    /// The path under which a run's journal is written.
+    Journal,
+    /// How many runs may follow each other.
+    Runs,
 }
 
 impl Key {
@@ -55,6 +60,8 @@ impl Key {
             Key::JournalOctets => "journal_octets",
             Key::Turns => "turns",
             Key::Deliver => "deliver",
+            Key::Journal => "journal",
+            Key::Runs => "runs",
         }
     }
 }

@@ -3,15 +3,16 @@
 //!
 //! - `settings`: [`Settings`] and [`Collector`], what was read.
 //! - `reading`: [`read_settings`].
-//! - `key`: [`Key`], a key that settings must have. `fault`: [`SettingsFault`], why a text gives no settings.
+//! - `key`: [`Key`], a key of settings. `fault`: [`SettingsFault`], why a text gives no settings.
 //! - `values`: what stands at a key.
 //! - `laws`: [`allowed_limits_are_read`], proved over the definitions.
 //!
 //! Proved: `read_settings` answers what the definitions say of the parsed table: `Toml` exactly where the text is no TOML,
-//! else the first key, in the order of the format, whose value is missing, of another type or out of its range, else the
-//! settings (`exact`). That it is the first such key is said once more without the order of reading (`first`). The limits
-//! that come out are ones that a mediator takes (`allowed`), and each that it takes comes out (`allowed_limits_are_read`).
-//! The collectors' subscribers ascend by their octets, so that none stands twice (`sorted`). Want of memory says nothing.
+//! else the first key, in the order of the format, that must be there and isn't, or whose value is of another type or out of
+//! its range, else the settings (`exact`). That it is the first such key is said once more without the order of reading
+//! (`first`). Two keys may be absent: without `journal` none is written, and without `runs` there is one. The limits that
+//! come out are ones that a mediator takes (`allowed`), and each that it takes comes out (`allowed_limits_are_read`). The
+//! collectors' subscribers ascend by their octets, so that none stands twice (`sorted`). Want of memory says nothing.
 #![tactic(auto)]
 
 mod fault;

@@ -1,5 +1,5 @@
 //! Settings, read.
-ghost use Rattle.std.specs.Prelude.{◌≡◌, IfErr, IfOk};
+ghost use Rattle.std.specs.Prelude.{◌≡◌, ◌≤◌, IfErr, IfOk};
 ghost use Rattle.toml.specs.View.{table_view};
 ghost use Rattle.mediator_calls.specs.Limited.{AreAllowed};
 ghost use Rattle.serve_settings.specs.Asked.{asked, pairs};
@@ -11,7 +11,7 @@ ghost use Rattle.serve_settings.specs.Values.{Ascend};
 use crate::fault::SettingsFault;
 use crate::key::Key;
 use crate::settings::Settings;
-use crate::values::{collectors_at, number_at, text_at};
+use crate::values::{collectors_at, number_at, number_or, text_at, text_or_none};
 use event_journal::{MOST_ENTRIES, MOST_OCTETS};
 use ipfix_octets::message_format::{HEADER_OCTETS, LONGEST_MESSAGE};
 use mediator_calls::Limits;
@@ -37,20 +37,28 @@ const MOST_AUDIT: u64 = disclosure_audit::MOST_ENTRIES as u64;
 /// The most reads of a connection.
 const MOST_TURNS: u64 = 1_000_000_000;
 
+/// How many runs there are where settings don't say it.
+const USUAL_RUNS: u64 = 1;
+
+/// The most runs that may follow each other.
+const MOST_RUNS: u64 = 1000;
+
 /// Reads settings from a TOML document, whose keys are those that [`Key`] names. Other keys are ignored.
 ///
 /// # Errors
-/// `Toml` where the text is no TOML, `Key` with the first key whose value is missing, of another type or out of its range,
-/// `OutOfMemory`.
+/// `Toml` where the text is no TOML, `Key` with the first key that must be there and isn't, or whose value is of another type
+/// or out of its range, `OutOfMemory`.
 pub fn read_settings(alloc: Global, text: &str) -> Result<Settings, SettingsFault>
     // What the text gives, or its first fault.
     ensures exact { Gives asked result (settings_of text.now) }
-    // Which key is at fault: the first that has no value that it may have.
+    // Which key is at fault: the first that must be there and isn't, or has a value that it may not have.
     ensures first { IfErr result (λ fault. IsFaultOf fault text.now) }
     // A mediator takes these limits.
     ensures allowed { IfOk result (λ settings. AreAllowed settings.limits) }
     // The subscribers ascend by their octets, and none stands twice.
     ensures sorted { IfOk result (λ settings. Ascend (pairs settings.collectors)) }
+    // A run may be made.
+    ensures some_run { IfOk result (λ settings. 1 ≤ settings.runs) }
 {
     let table = toml::table_from_str(alloc, text)?;
     settings_in(alloc, &table)
@@ -61,6 +69,7 @@ fn settings_in(alloc: Global, table: &Table) -> Result<Settings, SettingsFault>
     ensures exact { Gives asked result (settings_in (table_view table.now)) }
     ensures allowed { IfOk result (λ settings. AreAllowed settings.limits) }
     ensures sorted { IfOk result (λ settings. Ascend (pairs settings.collectors)) }
+    ensures some_run { IfOk result (λ settings. 1 ≤ settings.runs) }
 {
     Ok(Settings {
         exporters: text_at(alloc, table, Key::Exporters)?,
@@ -72,6 +81,8 @@ fn settings_in(alloc: Global, table: &Table) -> Result<Settings, SettingsFault>
         limits: limits_in(table)?,
         turns: number_at(table, Key::Turns, 1, MOST_TURNS)?,
         collectors: collectors_at(alloc, table)?,
+        journal: text_or_none(alloc, table, Key::Journal)?,
+        runs: number_or(table, Key::Runs, USUAL_RUNS, 1, MOST_RUNS)?,
     })
 }
 

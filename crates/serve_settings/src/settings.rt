@@ -23,6 +23,10 @@ pub struct Settings {
     pub turns: u64,
     /// The collectors, in the order of their subscribers' octets.
     pub collectors: Vec<Collector>,
+    /// The path under which a run's journal is written: that of run 2 is this with `.2` behind it. None: none is written.
+    pub journal: Option<String>,
+    /// How many runs may follow each other, 1 to 1,000.
+    pub runs: u64,
 }
 
 /// Where a subscriber's messages are sent.

@@ -1,12 +1,12 @@
 //! What stands at a key of a table.
-ghost use Rattle.std.specs.Prelude.{◌≡◌, ◌≤◌, IfOk, IfSome, option_map, string_bytes};
-ghost use Rattle.toml.specs.Data.{as_str, get_member};
+ghost use Rattle.std.specs.Prelude.{◌≡◌, ◌≤◌, Some, IfOk, IfSome, option_and_then, option_map, string_bytes};
+ghost use Rattle.toml.specs.Data.{as_integer, as_str, get_member};
 ghost use Rattle.toml.specs.View.{view, table_view};
 ghost use Rattle.serve_settings.specs.declared.key.Key.TheVariants as key;
 ghost use Rattle.serve_settings.specs.Asked.{pair, pairs};
 ghost use Rattle.serve_settings.specs.Names.{name_of};
 ghost use Rattle.serve_settings.specs.Results.{Gives, needed};
-ghost use Rattle.serve_settings.specs.Values.{text_in, text_at, within, number_in, number_at, collectors_of, collectors_at, Ascend};
+ghost use Rattle.serve_settings.specs.Values.{text_in, text_at, text_or_none, within, number_in, number_at, number_or_in, number_or, collectors_of, collectors_at, Ascend};
 
 use crate::fault::SettingsFault;
 use crate::key::Key;
@@ -28,6 +28,30 @@ fn text_in<'a>(table: &'a Table, key: Key) -> Option<&'a str>
     ensures { option_map (λ text. text.now) result ≡ text_in key (table_view table.now) }
 {
     value_at(table, key)?.as_str()
+}
+
+/// A copy of the text at a key, or none where the key is absent.
+pub(crate) fn text_or_none(
+    alloc: Global,
+    table: &Table,
+    key: Key,
+) -> Result<Option<String>, SettingsFault>
+    ensures { Gives (option_map string_bytes) result (text_or_none key (table_view table.now)) }
+{
+    match value_at(table, key) {
+        Some(value) => text_of(alloc, value, key),
+        None => Ok(None),
+    }
+}
+
+/// A copy of the text that stands at a key.
+fn text_of(alloc: Global, value: &Value, key: Key) -> Result<Option<String>, SettingsFault>
+    ensures { Gives (option_map string_bytes) result (needed key (option_map Some (as_str (view value.now)))) }
+{
+    match value.as_str() {
+        Some(text) => Ok(Some(String::from_str(alloc, text)?)),
+        None => Err(SettingsFault::Key(key)),
+    }
 }
 
 fn value_at<'a>(table: &'a Table, key: Key) -> Option<&'a Value>
@@ -55,8 +79,42 @@ fn number_in(table: &Table, key: Key, least: u64, most: u64) -> Option<u64>
     ensures least { IfSome result (λ number. least ≤ number) }
     ensures most { IfSome result (λ number. number ≤ most) }
 {
-    let integer = value_at(table, key)?.as_integer()?;
-    number_within(integer, least, most)
+    number_of(value_at(table, key)?, least, most)
+}
+
+/// The number at a key, which has to be from `least` to `most`, or `absent` where the key is absent.
+pub(crate) fn number_or(
+    table: &Table,
+    key: Key,
+    absent: u64,
+    least: u64,
+    most: u64,
+) -> Result<u64, SettingsFault>
+    requires usual { least ≤ absent }
+    ensures exact { result ≡ number_or key absent least most (table_view table.now) }
+    ensures least { IfOk result (λ number. least ≤ number) }
+{
+    number_or_in(table, key, absent, least, most).ok_or(SettingsFault::Key(key))
+}
+
+fn number_or_in(table: &Table, key: Key, absent: u64, least: u64, most: u64) -> Option<u64>
+    requires usual { least ≤ absent }
+    ensures exact { result ≡ number_or_in key absent least most (table_view table.now) }
+    ensures least { IfSome result (λ number. least ≤ number) }
+{
+    match value_at(table, key) {
+        Some(value) => number_of(value, least, most),
+        None => Some(absent),
+    }
+}
+
+/// The number that a value is, where it is from `least` to `most`.
+fn number_of(value: &Value, least: u64, most: u64) -> Option<u64>
+    ensures exact { result ≡ option_and_then (within least most) (as_integer (view value.now)) }
+    ensures least { IfSome result (λ number. least ≤ number) }
+    ensures most { IfSome result (λ number. number ≤ most) }
+{
+    number_within(value.as_integer()?, least, most)
 }
 
 /// An integer, where it is from `least` to `most`.

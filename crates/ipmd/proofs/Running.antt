@@ -1,0 +1,150 @@
+-- Runs that follow each other.
+use Rattle.std.proofs.Common.{Bool, ◌≡◌, ◌⊎◌, inl, inr, ℕ, ◌+◌, ◌≤◌, ◌<◌, true, false, List, [], ◌∷◌, ◌++◌, length, Option, refl, sym, ap, ◌∙◌, subst, arith, append-nil}
+use Rattle.std.specs.Io.KnownBytes.{Appends}
+use Rattle.std.specs.List.{flat_map}
+use Rattle.std.proofs.KnownBytes.{Appends-trans, Appends-nil, Keeps-refl}
+use Rattle.std.proofs.lemmas.List.{length-append, take_all}
+use Rattle.std.proofs.lemmas.List.Concat.{flat_map-append}
+use Rattle.serve_settings.specs.Asked.{Asked}
+use Rattle.mediator_server.specs.declared.plan.Plan.{Plan}
+use Rattle.mediator_server.specs.Listening.{IsServed}
+use Rattle.mediator_calls.specs.declared.fault.RunFault.{RunFault}
+use Rattle.mediator_calls.specs.declared.fault.RunFault.TheVariants as run
+use Rattle.mediator_calls.specs.declared.limits.Limits.{Limits}
+use Rattle.mediator_calls.specs.Limited.{AreAllowed, RefusesLimits}
+use Rattle.mediator_state.specs.declared.fault.Fault.TheVariants as fault
+use Rattle.mediator_server.specs.declared.listening.ListenFault.TheVariants as listen
+use Rattle.ipmd_offline.specs.declared.fault.ProgramFault.{ProgramFault}
+use Rattle.ipmd_offline.specs.declared.fault.ProgramFault.TheVariants.{CommandLine, Settings, Policy, Hex, Framing, Core, Cut, Calls, BadLimits, Journal, History, Absent, Close, OutOfMemory, Device}
+use Rattle.ipmd_offline.specs.Status.{run_fault_of}
+use Rattle.run_journals.specs.Keeping.{IsKeepingFault}
+use Rattle.ipmd.specs.declared.serve.Service.{Service}
+use Rattle.ipmd.specs.Serving.{IsAskedFor, Run, IsRun, AreFull, policy_after, served, MakesRun, Serves, StopsBehind, StopsRun, StopsServing, IsListenFault, RefusesToTell, IsToRun}
+
+-- the first run is to be made
+pub begins : (service : Service) (held : Option (List ℕ)) → IsAskedFor service → IsToRun service.plan service.runs 1 held held
+begins service held asked = record {
+  text = asked.text;
+  asked = asked.asked;
+  read = asked.read;
+  first = asked.policy;
+  before = [];
+  policy = asked.policy;
+  are_full = refl;
+  plan_is = asked.is.plan_is;
+  runs_are = asked.is.runs_are;
+  counted = refl;
+  allowed = asked.some_run;
+  written = Appends-nil held;
+}
+
+-- a run by the plan
+pub is_run : (plan : Plan) (runs run : ℕ) (held holds : Option (List ℕ)) (made : Run) (so : IsToRun plan runs run held holds) → IsServed plan [] made.history made.accepted made.handed → IsRun so.asked so.policy made
+is_run plan runs run held holds made so is_served = record { plan = plan; plan_is = so.plan_is; is_served = is_served }
+
+-- a run more whose journal was full
+full_more : (asked : Asked) (first : List ℕ) (before : List Run) (policy : List ℕ) (made : Run) → AreFull asked first before policy → IsRun asked policy made → made.full ≡ true
+    → AreFull asked first (before ++ made ∷ []) (policy_after policy made.history)
+full_more asked first [] policy made are is full = (subst (λ p. IsRun asked p made) are is, full, ap (λ p. policy_after p made.history) are)
+full_more asked first (run ∷ before) policy made are is full = (are.0, are.1, full_more asked (policy_after first run.history) before policy made are.2 is full)
+
+told_more : (before : List Run) (made : Run) (held holds writes : Option (List ℕ)) → Appends held holds (flat_map served before) → Appends holds writes (served made) → Appends held writes (flat_map served (before ++ made ∷ []))
+told_more before made held holds writes so more =
+    subst (Appends held writes) (sym (flat_map-append served before (made ∷ []) ∙ ap (λ t. flat_map served before ++ t) (append-nil (served made)))) (Appends-trans held holds writes (flat_map served before) (served made) so more)
+
+-- another run is to follow
+pub goes_on : (plan next : Plan) (runs run : ℕ) (held holds writes : Option (List ℕ)) → IsToRun plan runs run held holds → MakesRun true plan next holds writes → run < runs → IsToRun next runs (run + 1) held writes
+goes_on plan next runs run held holds writes so makes more = record {
+  text = so.text;
+  asked = so.asked;
+  read = so.read;
+  first = so.first;
+  before = so.before ++ makes.made ∷ [];
+  policy = policy_after so.policy makes.made.history;
+  are_full = full_more so.asked so.first so.before so.policy makes.made so.are_full (is_run plan runs run held holds makes.made so makes.is_served) makes.full_is;
+  plan_is = makes.renewed refl so.asked so.policy so.plan_is;
+  runs_are = so.runs_are;
+  counted = omega (arith, so.counted, length-append so.before (makes.made ∷ []));
+  allowed = omega (arith, more);
+  written = told_more so.before makes.made held holds writes so.written makes.told;
+}
+
+-- it was the last one
+ends : (plan next : Plan) (runs run : ℕ) (full : Bool) (held holds writes : Option (List ℕ)) → IsToRun plan runs run held holds → MakesRun full plan next holds writes → (full ≡ false) ⊎ (runs ≤ run) → Serves held writes
+ends plan next runs run full held holds writes so makes last = record {
+  text = so.text;
+  asked = so.asked;
+  read = so.read;
+  first = so.first;
+  before = so.before;
+  policy = so.policy;
+  are_full = so.are_full;
+  last = makes.made;
+  is_run = is_run plan runs run held holds makes.made so makes.is_served;
+  few = omega (arith, so.counted, so.allowed, so.runs_are);
+  ends = ended last;
+  written = told_more so.before makes.made held holds writes so.written makes.told;
+} where
+  ended : (full ≡ false) ⊎ (runs ≤ run) → (makes.made.full ≡ false) ⊎ (so.asked.runs ≡ length so.before + 1)
+  ended (inl not_full) = inl (makes.full_is ∙ not_full)
+  ended (inr all) = inr (omega (arith, so.counted, so.allowed, so.runs_are, all))
+
+pub ends_early : (plan next : Plan) (runs run : ℕ) (full : Bool) (held holds writes : Option (List ℕ)) → IsToRun plan runs run held holds → MakesRun full plan next holds writes → full ≡ false → Serves held writes
+ends_early plan next runs run full held holds writes so makes not_full = ends plan next runs run full held holds writes so makes (inl not_full)
+
+pub ends_at_last : (plan next : Plan) (runs run : ℕ) (full : Bool) (held holds writes : Option (List ℕ)) → IsToRun plan runs run held holds → MakesRun full plan next holds writes → runs ≤ run → Serves held writes
+ends_at_last plan next runs run full held holds writes so makes all = ends plan next runs run full held holds writes so makes (inr all)
+
+-- it stops behind the runs that were told
+pub stops : (plan : Plan) (runs run : ℕ) (held holds writes : Option (List ℕ)) (e : ProgramFault) → IsToRun plan runs run held holds → StopsRun e plan holds writes → StopsServing e held writes
+stops plan runs run held holds writes e so stopped = record {
+  text = so.text;
+  asked = so.asked;
+  read = so.read;
+  first = so.first;
+  before = so.before;
+  policy = so.policy;
+  are_full = so.are_full;
+  between = holds;
+  written = so.written;
+  stops = behind stopped;
+} where
+  behind : StopsRun e plan holds writes → StopsBehind e so.asked so.policy holds writes
+  behind (inl fault) = inl fault
+  behind (inr (made, is_served, refuses)) = inr (made, is_run plan runs run held holds made so is_served, refuses)
+
+-- no run is made
+pub stops_first : (service : Service) (held : Option (List ℕ)) (e : ProgramFault) → IsAskedFor service → IsListenFault e → StopsServing e held held
+stops_first service held e asked fault = stops service.plan service.runs 1 held held held e (begins service held asked) (inl (fault, Keeps-refl held))
+
+-- ---- faults
+
+-- a file that isn't kept, before any run
+pub keeping_is_listen : (e : ProgramFault) → IsKeepingFault e → IsListenFault e
+keeping_is_listen Device is = (listen.Bind, refl)
+keeping_is_listen OutOfMemory is = (listen.Core fault.OutOfMemory, refl)
+keeping_is_listen (CommandLine error) is = absurd is
+keeping_is_listen (Settings why) is = absurd is
+keeping_is_listen (Policy why) is = absurd is
+keeping_is_listen Hex is = absurd is
+keeping_is_listen (Framing why) is = absurd is
+keeping_is_listen (Core why) is = absurd is
+keeping_is_listen Cut is = absurd is
+keeping_is_listen (Calls n) is = absurd is
+keeping_is_listen BadLimits is = absurd is
+keeping_is_listen (Journal why) is = absurd is
+keeping_is_listen (History position) is = absurd is
+keeping_is_listen (Absent what) is = absurd is
+keeping_is_listen Close is = absurd is
+
+-- a mediator with limits that it may have is refused for memory alone
+pub new_refused : (why : RunFault) (limits : Limits) → RefusesLimits why limits → AreAllowed limits → IsListenFault (run_fault_of why)
+new_refused run.BadLimits limits refused allowed = absurd (refused allowed)
+new_refused run.OutOfMemory limits refused allowed = (listen.Core fault.OutOfMemory, refl)
+
+-- nothing was written of a run's line, or all of it
+pub told_nothing : (e : ProgramFault) (made : Run) (held : Option (List ℕ)) → IsKeepingFault e → RefusesToTell e made held held
+told_nothing e made held fault = (fault, (0, Appends-nil held))
+
+pub told_all : (e : ProgramFault) (made : Run) (held holds : Option (List ℕ)) → IsKeepingFault e → Appends held holds (served made) → RefusesToTell e made held holds
+told_all e made held holds fault told = (fault, (length (served made), subst (Appends held holds) (sym (take_all (length (served made)) (served made) (omega arith))) told))

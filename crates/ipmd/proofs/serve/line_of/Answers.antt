@@ -1,8 +1,0 @@
-use Rattle.std.proofs.Common.{◌≡◌, ◌∙◌, append_assoc}
-use Rattle.std.proofs.lemmas.Result.{IfOk-weaker}
-use Rattle.std.specs.String.{string_bytes}
-use Rattle.ipmd.specs.Serving.{served}
-use Rattle.ipmd.proofs.serve.line_of.Goals as goal
-
-pub returns : goal.returns
-returns c = IfOk-weaker c.format.result _ (λ line. string_bytes line ≡ served c.args.closed.now) (λ line told. told ∙ simp append_assoc) c.format.ensures.ok

@@ -1,0 +1,219 @@
+//! Runs of a server that follow each other.
+
+ghost use Rattle.std.specs.Prelude.{◌≡◌, ℕ, List, [], IfErr, IfOk, OnOk, string_bytes};
+ghost use Rattle.std.specs.Io.KnownBytes.{Appends};
+ghost use Rattle.mediator_calls.specs.Limited.{AreAllowed};
+ghost use Rattle.mediator_server.specs.Listening.{IsServed};
+ghost use Rattle.octet_devices.specs.Device.{device_inner};
+ghost use Rattle.serve_settings.specs.Asked.{Asked};
+ghost use Rattle.run_journals.specs.Keeping.{IsKeepingFault};
+ghost use Rattle.ipmd.specs.Serving.{IsAskedFor, IsListenFault, IsPlanOf, MakesRun, RefusesToTell, Serves, StopsRun, StopsServing, listen_fault_of, policy_after, run_of, served};
+
+use crate::serve::Service;
+use crate::system::System;
+use event_journal::Journal;
+use ipmd_offline::{ProgramFault, write_text};
+use log::{Log, info};
+use mediator_calls::{Limits, Mediator};
+use mediator_server::{ListenFault, Plan, listen};
+use octet_devices::Device;
+use run_journals::{first_free, keep_run};
+use shared_mediator::Closed;
+use std::alloc::{AllocError, Global};
+use std::io::Write;
+use std::net::{Net, TcpListener, TcpStream};
+use std::rt::Files;
+use std::sync::Wait;
+use std::thread::Threads;
+use std::time::Clock;
+
+/// Where the journals of runs are kept.
+#[derive(Drop)]
+struct Keeping {
+    /// The path under which they are kept, where they are.
+    path: Option<String>,
+    /// The number of the next run's file.
+    next: u64,
+}
+
+/// Makes a run, and another one where its journal was full, as often as is allowed; and writes the line of each.
+///
+/// # Errors
+/// `Device` for the journals' folder; then of a run the refusals of `listen`; `Device` where the output fails, and, behind the
+/// run's line, where its journal can't be kept; `OutOfMemory`.
+#[tactic(auto, using(ipmd_offline::proofs::Lines::kept))]
+pub(crate) fn serve_runs<
+    R: System,
+    N: Net<Listener = TcpListener, Stream = TcpStream> + Threads + Wait + Clock + Log + Sync,
+    O: Write,
+>(rt: &R, noting: &N, service: Service, output: &mut Device<O>) -> Result<(), ProgramFault>
+    requires asked { IsAskedFor service }
+    ensures ok { OnOk result (Serves (O.contents (device_inner output.old)) (O.contents (device_inner output.new))) }
+    ensures err { IfErr result (λ e. StopsServing e (O.contents (device_inner output.old)) (O.contents (device_inner output.new))) }
+{
+    let Service {
+        mut plan,
+        limits,
+        journal,
+        runs,
+    } = service;
+    let mut keeping = keeping_of(rt, journal, runs)?;
+    let mut run = 1;
+    'runs: loop {
+        info!(noting; "run {run}");
+        if !serve_run(rt, noting, limits, &mut plan, &mut keeping, output)? {
+            return Ok(());
+        }
+        if run >= runs {
+            return Ok(());
+        }
+        run += 1;
+    }
+}
+
+/// Makes a run by a plan, keeps its journal, and writes its line. Answers whether its journal was full; then the plan begins with
+/// the policy that was last in force.
+///
+/// # Errors
+/// Those of [`serve_runs`] for a run.
+#[tactic(auto, using(ipmd_offline::proofs::Lines::kept, crate::proofs::Running::told_all))]
+fn serve_run<
+    R: Files + AllocGlobal,
+    N: Net<Listener = TcpListener, Stream = TcpStream> + Threads + Wait + Clock + Log + Sync,
+    O: Write,
+>(
+    rt: &R,
+    noting: &N,
+    limits: Limits,
+    plan: &mut Plan,
+    keeping: &mut Keeping,
+    output: &mut Device<O>,
+) -> Result<bool, ProgramFault>
+    requires allowed { AreAllowed limits }
+    ensures made { IfOk result (λ full. MakesRun full plan.old plan.new (O.contents (device_inner output.old)) (O.contents (device_inner output.new))) }
+    ensures err { IfErr result (λ e. StopsRun e plan.old (O.contents (device_inner output.old)) (O.contents (device_inner output.new))) }
+{
+    let closed = make_run(noting, rt.alloc(), plan, limits)?;
+    let full = closed.full;
+    let journal = end_run(rt, noting, keeping, closed, output)?;
+    if full {
+        renew_policy(rt.alloc(), plan, &journal)?;
+    }
+    Ok(full)
+}
+
+/// Where the journals of so many runs are kept. Where several may follow each other, their numbers go on behind those of the
+/// folder's files.
+#[tactic(auto, using(crate::proofs::Running::keeping_is_listen))]
+fn keeping_of<R: Files + AllocGlobal>(
+    rt: &R,
+    path: Option<String>,
+    runs: u64,
+) -> Result<Keeping, ProgramFault>
+    ensures err { IfErr result IsListenFault }
+{
+    let free = match &path {
+        Some(path) => first_free(rt, path.as_str())?,
+        None => 1,
+    };
+    let next = if runs > 1 { free } else { 1 };
+    Ok(Keeping { path, next })
+}
+
+/// Makes a run by a plan, on a new mediator.
+///
+/// # Errors
+/// Those of `listen`; `OutOfMemory`.
+fn make_run<
+    N: Net<Listener = TcpListener, Stream = TcpStream> + Threads + Wait + Clock + Log + Sync,
+>(noting: &N, alloc: Global, plan: &Plan, limits: Limits) -> Result<Closed, ProgramFault>
+    requires allowed { AreAllowed limits }
+    ensures served { IfOk result (λ closed. IsServed plan.now [] closed.mediator.history closed.accepted closed.handed) }
+    ensures err { IfErr result IsListenFault }
+{
+    let mediator = Mediator::new(alloc, limits)?;
+    match listen(noting, alloc, plan, mediator) {
+        Ok(closed) => Ok(closed),
+        Err(fault) => Err(fault_of(fault)),
+    }
+}
+
+/// What the program makes of a server's fault.
+fn fault_of(fault: ListenFault) -> ProgramFault
+    ensures { result ≡ listen_fault_of fault }
+{
+    match fault {
+        ListenFault::Bind => ProgramFault::Device,
+        ListenFault::Connect { .. } => ProgramFault::Device,
+        ListenFault::NoThread => ProgramFault::Device,
+        ListenFault::Core(why) => ProgramFault::from(why),
+        ListenFault::Close(_) => ProgramFault::Close,
+    }
+}
+
+/// Keeps a run's journal, writes the run's line, and answers the journal. The line is written also where the journal can't be
+/// kept.
+///
+/// # Errors
+/// `Device` where the output fails or the journal can't be kept; `OutOfMemory`.
+#[tactic(auto, using(ipmd_offline::proofs::Lines::kept, crate::proofs::Running::told_nothing, crate::proofs::Running::told_all))]
+fn end_run<R: Files + AllocGlobal, O: Write>(
+    rt: &R,
+    noting: &impl Log,
+    keeping: &mut Keeping,
+    closed: Closed,
+    output: &mut Device<O>,
+) -> Result<Journal, ProgramFault>
+    ensures told { OnOk result (Appends (O.contents (device_inner output.old)) (O.contents (device_inner output.new)) (served (run_of closed))) }
+    ensures journal { IfOk result (λ journal. journal.entries ≡ closed.mediator.history) }
+    ensures err { IfErr result (λ e. RefusesToTell e (run_of closed) (O.contents (device_inner output.old)) (O.contents (device_inner output.new))) }
+{
+    let line = line_of(rt.alloc(), &closed)?;
+    let journal = closed.mediator.finish().journal;
+    let kept = keep(rt, noting, keeping, &journal);
+    write_text(output, line.as_str())?;
+    kept?;
+    Ok(journal)
+}
+
+/// Keeps a run's journal, where journals are kept.
+///
+/// # Errors
+/// `Device`, `OutOfMemory`.
+fn keep<R: Files + AllocGlobal>(
+    rt: &R,
+    noting: &impl Log,
+    keeping: &mut Keeping,
+    journal: &Journal,
+) -> Result<(), ProgramFault>
+    ensures err { IfErr result IsKeepingFault }
+{
+    if let Some(path) = &keeping.path {
+        let name = keep_run(rt, path.as_str(), keeping.next, journal)?;
+        info!(noting; "journal {name} written");
+        keeping.next = keeping.next.saturating_add(1);
+    }
+    Ok(())
+}
+
+/// Has a plan begin with the policy that was last in force in a run: the text of its journal's last edit.
+///
+/// # Errors
+/// `OutOfMemory`.
+fn renew_policy(alloc: Global, plan: &mut Plan, journal: &Journal) -> Result<(), AllocError>
+    ensures { OnOk result ((asked : Asked) (policy : List ℕ) → IsPlanOf asked policy plan.old → IsPlanOf asked (policy_after policy journal.now.entries) plan.new) }
+{
+    if let Some(text) = journal.last_edit() {
+        plan.policy = String::from_str(alloc, text)?;
+    }
+    Ok(())
+}
+
+/// How many messages were accepted, and how many records were handed out, as a line.
+fn line_of(alloc: Global, closed: &Closed) -> Result<String, AllocError>
+    ensures { IfOk result (λ line. string_bytes line ≡ served (run_of closed.now)) }
+{
+    let accepted = closed.accepted;
+    let handed = closed.handed;
+    format!(in alloc; "accepted {accepted} handed {handed}\n")
+}

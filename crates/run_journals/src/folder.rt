@@ -1,0 +1,49 @@
+//! The names in a folder.
+ghost use Rattle.std.specs.Prelude.{IfErr};
+ghost use Rattle.run_journals.specs.Keeping.{IsKeepingFault};
+
+use crate::numbering::next_number;
+use ipmd_offline::ProgramFault;
+use std::alloc::{AllocError, Global};
+use std::io::Read;
+use std::rt::Files;
+
+/// The number with which the files of runs go on under a path: one more than the greatest that its folder has, or 1.
+///
+/// # Errors
+/// `Device` where the folder can't be read; `OutOfMemory`.
+pub fn first_free<R: Files + AllocGlobal>(rt: &R, path: &str) -> Result<u64, ProgramFault>
+    ensures err { IfErr result IsKeepingFault }
+{
+    let (folder, base) = parts_of(path);
+    let mut octets = Vec::new(rt.alloc());
+    rt.open_dir(folder)?.read_to_end(&mut octets)?;
+    let names = split_names(rt.alloc(), octets.as_slice())?;
+    Ok(next_number(names.as_slice(), base.as_bytes()))
+}
+
+/// The folder of a path, with its last slash, and the name in it.
+pub(crate) fn parts_of(path: &str) -> (&str, &str) {
+    match path.rfind('/') {
+        Some(at) => match path.split_at_checked(at.saturating_add(1)) {
+            Some(parts) => parts,
+            None => ("./", path),
+        },
+        None => ("./", path),
+    }
+}
+
+/// The names in what a folder is read as: each is ended by an octet 0.
+fn split_names(alloc: Global, octets: &[u8]) -> Result<Vec<Vec<u8>>, AllocError> {
+    let mut names = Vec::new(alloc);
+    let mut name = Vec::new(alloc);
+    for octet in octets {
+        if *octet == 0 {
+            names.push(name)?;
+            name = Vec::new(alloc);
+        } else {
+            name.push(*octet)?;
+        }
+    }
+    Ok(names)
+}
