@@ -66,6 +66,8 @@ class Collectors(ServeTest):
             return admin.ask("status 1") == "err UnknownSub"
 
         wait_until(send_another, "the subscription ends")
+        # The name is free again, and has a new number.
+        self.assertEqual(admin.ask("subscribe acme"), "ok 3")
         exporter.close()
         admin.close()
         self.assertEqual(len(records(other.take_all())), sent)

@@ -192,6 +192,20 @@ class Hostile(ServeTest):
         self.assertEqual(ports_of(got), [443, 443])
         self.assertIn(" failed, Turns: messages 2 records 2 gaps 0\n", self.expect_served(run, 2, 2).notes)
 
+    def test_endless(self):
+        """An exporter whose stream has no end, of messages without records, is read as often as the settings allow."""
+        run = self.start(turns=20)
+        collector, exporter = run.collector(), run.exporter()
+        run.admin().close()
+        with self.assertRaises(OSError):
+            while True:
+                exporter.send(message(0) * 1000)
+        self.assertEqual(collector.take_all(), b"")
+        ended = run.end()
+        self.assertRegex(ended.notes, r" failed, Turns: messages \d+ records 0 gaps 0\n")
+        self.assertRegex(ended.output, r"^accepted \d+ handed 0\n$")
+        self.assertEqual(ended.status, 0, ended.notes)
+
     def test_reset(self):
         """An exporter that resets its connection has failed; what it brought before is delivered."""
         run = self.start()

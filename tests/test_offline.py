@@ -373,6 +373,13 @@ class Offline(ProgramTest):
     def test_default_target(self):
         self.expect(DEFAULT_TARGET)
 
+    def test_fronts(self):
+        """Each front of a message is cut off, and nothing is written of it."""
+        message = bytes.fromhex(FLOW)
+        for length in range(1, len(message)):
+            with self.subTest(length=length):
+                self.expect_ran(run(OFFLINE, message[:length]), 1, b"", "ipmd: framing CutOff\n")
+
     def test_misuse(self):
         self.expect_all(MISUSE)
 

@@ -1,6 +1,8 @@
 """Files and streams that fail: each is `ipmd: device` and status 3, unless a fault came before. Reads and writes that fail in
 mid-stream are shown by the tests of `crates/ipmd`."""
 import os
+import pathlib
+import resource
 import subprocess
 import unittest
 
@@ -89,6 +91,38 @@ class Streams(ProgramTest):
             with self.subTest(name), open("/dev/full", "wb") as full:
                 ran = run_to([program.path(), *words], given, stderr=full)
                 self.assertEqual((ran.stdout, ran.returncode), (run(words, given).output, status))
+
+    def run_short(self, words, given, room):
+        """Runs a command for which each file takes so many octets, and fails then."""
+
+        def limit():
+            resource.setrlimit(resource.RLIMIT_FSIZE, (room, room))
+
+        # The signal that comes with the fault is one that Python ignores, and so does what it starts in this way.
+        return run_to([program.path(), *words], given, restore_signals=False, preexec_fn=limit)
+
+    def expect_fronts(self, words, given, path, whole):
+        """A file that takes fewer octets than are due has as many of them, and the run ends for the device."""
+        for room in range(len(whole) + 1):
+            with self.subTest(room=room):
+                ran = self.run_short([*words, path], given, room)
+                is_whole = room == len(whole)
+                self.assertEqual(pathlib.Path(path).read_bytes(), whole[:room])
+                self.assertEqual(ran.returncode, 0 if is_whole else 3, ran.stderr)
+                self.assertEqual(ran.stderr.decode().endswith(DEVICE), not is_whole)
+
+    def test_short_audit(self):
+        """What an audit's file has is a front of the lines that are due: two records are withheld."""
+        lines = b"3 0 1 withheld 1 rule\n4 0 1 withheld 1 rule\n"
+        self.expect_fronts([*WITHHOLD_HEX, "--audit"], FLOW + FLOW, self.file("audit"), lines)
+
+    def test_short_journal(self):
+        """The same of a journal's file, of a session and an advance of the clock; no answer is written before it is whole."""
+        words = ["replay", "--calls", self.file("calls", "open\nadvance 5\n"), "--journal"]
+        whole = bytes.fromhex("49504d4a 0001 0000000000000002 01 0000000000000001 07 0000000000000005")
+        path = self.file("journal")
+        self.expect_fronts(words, "", path, whole)
+        self.assertEqual(self.run_short([*words, path], "", len(whole) - 1).stdout, b"")
 
 
 if __name__ == "__main__":

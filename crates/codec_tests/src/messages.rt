@@ -1,6 +1,7 @@
-//! Worked cases of framing.
+//! Worked cases of framing, and of what is no message.
 use bytes::Bytes;
-use ipfix_message::{DecodeError, FrameError, Framer};
+use ipfix_message::{DecodeError, FrameError, Framer, items};
+use std::alloc::{AllocError, Global};
 use std::process::Abort;
 use std::test::Fail;
 
@@ -235,6 +236,44 @@ static FAULTS: [(DecodeError, &str); 6] = [
 fn error_texts(rt: HostRuntime) -> Result<(), Fail> {
     for (fault, want) in &FAULTS {
         assert_eq!(rt; format!(in rt.alloc(); "{fault}")?.as_str(), *want);
+    }
+    Ok(())
+}
+
+/// Why octets are no message, if they are none.
+fn fault_of(alloc: Global, octets: &[u8]) -> Option<DecodeError> {
+    match items(alloc, octets) {
+        Ok(_) => None,
+        Err(fault) => Some(fault),
+    }
+}
+
+/// Each front of the message is none: its header is short, or its length is another.
+#[test]
+fn fronts_of_a_message(rt: HostRuntime) {
+    for length in 0..ONE_RECORD.len() {
+        let fault = if length < 16 {
+            DecodeError::ShortHeader
+        } else {
+            DecodeError::BadLength
+        };
+        let found = fault_of(rt.alloc(), &ONE_RECORD[..length]);
+        assert_eq!(rt; found, Some(fault), "{length}");
+    }
+}
+
+/// The same with a length that is right. Where the header ends, and where its first set ends, it is a message.
+#[test]
+fn fronts_with_their_length(rt: HostRuntime) -> Result<(), AllocError> {
+    for length in 16u8..50 {
+        let mut octets = ONE_RECORD[..usize::from(length)].to_vec(rt.alloc())?;
+        octets[3] = length;
+        let fault = match length {
+            16 => None,
+            36 => None,
+            _ => Some(DecodeError::BadSetLength),
+        };
+        assert_eq!(rt; fault_of(rt.alloc(), octets.as_slice()), fault, "{length}");
     }
     Ok(())
 }

@@ -118,6 +118,12 @@ static CASES: [Case; 14] = [
                 answer: Err(ReadError::Malformed(DecodeError::TemplateOverrun)),
                 known: ONE_TEMPLATE,
             },
+            // The same of 65,535 fields.
+            Step {
+                message: b"\x00\x0a\x00\x18\x65\x53\xf1\x00\x00\x00\x00\x01\x00\x00\x00\x07\x00\x02\x00\x08\x01\x00\xff\xff",
+                answer: Err(ReadError::Malformed(DecodeError::TemplateOverrun)),
+                known: ONE_TEMPLATE,
+            },
             Step {
                 message: b"\x00\x0a\x00\x32\x65\x53\xf1\x00\x00\x00\x00\x00\x00\x00\x00\x07",
                 answer: Err(ReadError::Malformed(DecodeError::BadLength)),
@@ -177,7 +183,13 @@ aaaaaaaaaaaaaaaaaaaaaaaaaaaaaaaaaaaaaaaaaaaaaaaaaaaaaaaaaaaaaaa",
     },
     Case {
         name: "record_overrun",
-        steps: &[ // The definition stands in the refused message itself.
+        steps: &[ // A value of 65,377 octets that is not there. The definition stands in the refused message itself.
+            Step {
+                message: b"\x00\x0a\x00\x24\x65\x53\xf1\x00\x00\x00\x00\x00\x00\x00\x00\x07\
+\x00\x02\x00\x0c\x01\x00\x00\x01\x00\x52\xff\xff\x01\x00\x00\x08\xff\xff\xff\x61",
+                answer: Err(ReadError::RecordOverrun),
+                known: NO_TEMPLATE,
+            },
             Step {
                 message: b"\x00\x0a\x00\x25\x65\x53\xf1\x00\x00\x00\x00\x00\x00\x00\x00\x07\
 \x00\x02\x00\x0c\x01\x00\x00\x01\x00\x52\xff\xff\x01\x00\x00\x09\x01\x61\x03\x62\x63",

@@ -3,8 +3,8 @@
 use crate::octets::{
     DISCLOSED, EMPTY, FIRST_ALONE, LENGTH_FIFTEEN, LONG_NAME, NAMES, NEXT_RECORD, NEXT_THREE,
     ONE_RECORD, ONE_RECORD_NUMBERED_FIVE, ONE_RECORD_OF_EIGHT, RECORD_ALONE, SECOND_ALONE,
-    SHORT_HEADER, SHORT_SET, SHORT_TEMPLATE, TEMPLATE_ALONE, THREE_RECORDS, TWO_DISCLOSED,
-    TWO_RECORDS, VERSION_NINE, WITHDRAWN,
+    SHORT_HEADER, SHORT_SET, SHORT_TEMPLATE, TEMPLATE_ALONE, THIRD_RECORD, THREE_RECORDS,
+    TWO_DISCLOSED, TWO_RECORDS, VERSION_NINE, WITHDRAWN,
 };
 use ipfix_message::DecodeError;
 use ipfix_session::{Gap, ReadError, Skips};
@@ -73,6 +73,12 @@ const ONE_SHAPE: Limits = Limits {
 /// At most three records may wait for a subscription.
 const THREE_RECORDS_WAIT: Limits = Limits {
     queue: 3,
+    shapes: 100,
+    audit: 100,
+};
+
+const TWO_RECORDS_WAIT: Limits = Limits {
+    queue: 2,
     shapes: 100,
     audit: 100,
 };
@@ -146,12 +152,44 @@ const BEGIN: &[Step] = &[
 /// The same without the policy.
 const BEGIN_UNEDITED: &[Step] = &[Step::Subscribe("acme", Ok(1)), Step::Open(Ok(1))];
 
+/// The same with a policy that has no rules.
+const BEGIN_WITHOUT_RULES: &[Step] = &[
+    Step::Edit("policy 1", Ok(1)),
+    Step::Subscribe("acme", Ok(1)),
+    Step::Open(Ok(1)),
+];
+
 /// The same with beta behind acme.
 const BEGIN_TWO: &[Step] = &[
     Step::Edit(PASS, Ok(1)),
     Step::Subscribe("acme", Ok(1)),
     Step::Subscribe("beta", Ok(2)),
     Step::Open(Ok(1)),
+];
+
+/// Three records come where three may wait: acme, for which one waits, is cut before them, and beta gets them.
+const ONE_IS_CUT: &[Step] = &[
+    Step::Accept(1, 0, ONE_RECORD, 4, 1),
+    Step::Pull(2, 1400, Ok(Some(DISCLOSED))),
+    Step::Receive(
+        1,
+        1,
+        THREE_RECORDS,
+        Ok(Receipt {
+            position: 6,
+            records: 3,
+            cut: 1,
+            ..NOTHING
+        }),
+    ),
+    Step::WasCut(1, 1, 0, 1),
+    Step::Served(2, 3, 1, 1),
+    Step::Pull(1, 1400, Ok(Some(DISCLOSED))),
+    Step::Pull(1, 1400, Ok(None)),
+    Step::Pull(2, 1400, Ok(Some(NEXT_THREE))),
+    Step::Audit(10, &["5 0 1 cut\n"]),
+    Step::WasCut(1, 0, 1, 1),
+    Step::Served(2, 0, 4, 1),
 ];
 
 pub(crate) static CASES: &[Case] = &[
@@ -236,28 +274,58 @@ pub(crate) static CASES: &[Case] = &[
         entries: 1000,
         octets: 1_000_000,
         begin: BEGIN_TWO,
+        steps: ONE_IS_CUT,
+    },
+    // With an entry less than the cut and the message take, nothing happens: to beta neither.
+    Case {
+        name: "full_queue: room for the cut alone",
+        limits: THREE_RECORDS_WAIT,
+        entries: 6,
+        octets: 1_000_000,
+        begin: BEGIN_TWO,
         steps: &[
             Step::Accept(1, 0, ONE_RECORD, 4, 1),
             Step::Pull(2, 1400, Ok(Some(DISCLOSED))),
+            Step::Receive(1, 1, THREE_RECORDS, Err(Fault::JournalFull)),
+            Step::Served(1, 1, 0, 1),
+            Step::Served(2, 0, 1, 1),
+            Step::Pull(2, 1400, Ok(None)),
+            Step::Audit(10, &[]),
+        ],
+    },
+    Case {
+        name: "full_queue: room for the cut and the message",
+        limits: THREE_RECORDS_WAIT,
+        entries: 7,
+        octets: 1_000_000,
+        begin: BEGIN_TWO,
+        steps: ONE_IS_CUT,
+    },
+    // As many records as may wait are no reason for a cut, and one more is.
+    Case {
+        name: "full_queue: at its limit",
+        limits: TWO_RECORDS_WAIT,
+        entries: 1000,
+        octets: 1_000_000,
+        begin: BEGIN,
+        steps: &[
+            Step::Accept(1, 0, TWO_RECORDS, 3, 2),
+            Step::Served(1, 2, 0, 1),
             Step::Receive(
                 1,
                 1,
-                THREE_RECORDS,
+                THIRD_RECORD,
                 Ok(Receipt {
-                    position: 6,
-                    records: 3,
+                    position: 5,
+                    records: 1,
                     cut: 1,
                     ..NOTHING
                 }),
             ),
-            Step::WasCut(1, 1, 0, 1),
-            Step::Served(2, 3, 1, 1),
-            Step::Pull(1, 1400, Ok(Some(DISCLOSED))),
+            Step::WasCut(1, 2, 0, 1),
+            Step::Pull(1, 1400, Ok(Some(TWO_DISCLOSED))),
             Step::Pull(1, 1400, Ok(None)),
-            Step::Pull(2, 1400, Ok(Some(NEXT_THREE))),
-            Step::Audit(10, &["5 0 1 cut\n"]),
-            Step::WasCut(1, 0, 1, 1),
-            Step::Served(2, 0, 4, 1),
+            Step::Audit(10, &["4 0 1 cut\n"]),
         ],
     },
     Case {
@@ -406,6 +474,43 @@ pub(crate) static CASES: &[Case] = &[
             ),
             Step::Audit(10, &["2 0 1 withheld 0 rule\n"]),
             Step::Accept(1, 1, NEXT_RECORD, 3, 1),
+        ],
+    },
+    // Without room in the journal, a full audit isn't asked about; and a drain that hands out nothing makes no room.
+    Case {
+        name: "full_limits: the journal before the audit",
+        limits: ONE_ENTRY_WAITS,
+        entries: 3,
+        octets: 1_000_000,
+        begin: BEGIN_WITHOUT_RULES,
+        steps: &[
+            Step::Receive(1, 0, TWO_RECORDS, Err(Fault::JournalFull)),
+            Step::Audit(10, &[]),
+            Step::Receive(1, 0, TWO_RECORDS, Err(Fault::JournalFull)),
+        ],
+    },
+    Case {
+        name: "full_limits: the audit, behind a drain of nothing too",
+        limits: ONE_ENTRY_WAITS,
+        entries: 4,
+        octets: 1_000_000,
+        begin: BEGIN_WITHOUT_RULES,
+        steps: &[
+            Step::Receive(
+                1,
+                0,
+                TWO_RECORDS,
+                Err(Fault::AuditFull { need: 2, room: 1 }),
+            ),
+            Step::Audit(10, &[]),
+            Step::Receive(
+                1,
+                0,
+                TWO_RECORDS,
+                Err(Fault::AuditFull { need: 2, room: 1 }),
+            ),
+            Step::Accept(1, 0, ONE_RECORD, 3, 1),
+            Step::Audit(10, &["3 0 1 withheld 0 rule\n"]),
         ],
     },
     Case {

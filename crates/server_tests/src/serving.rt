@@ -1,7 +1,10 @@
 //! Exporters' streams: in pieces, to each fault, and by too few reads. Each time the session is closed then, and no other, behind the
 //! messages that were offered, unless the journal is full.
 use crate::hands::{Bounds, ENOUGH, NOTHING, PASS, ROOMY, begin, hands, limits_of};
-use crate::octets::{CUT_OFF, LENGTH_15, LONG_TEMPLATE, SET_OF_3, STREAM, TWO_RECORDS, VERSION_9};
+use crate::octets::{
+    CUT_OFF, EIGHT_EMPTY, LENGTH_15, LONG_TEMPLATE, ONE_RECORD, SET_OF_3, STREAM, TWO_RECORDS,
+    VERSION_9,
+};
 use crate::stage::{Case, Hands, play};
 use event_journal::Entry;
 use faulty_devices::Sparing;
@@ -78,6 +81,29 @@ const ROWS: &[(
     (STREAM, 7, 0, 1000, Err(ServeFault::Read), (0, 0, 0)),
     (STREAM, 7, 15, 1000, Err(ServeFault::Read), (2, 2, 0)),
     (TWO_RECORDS, 60, 1, 1000, Err(ServeFault::Read), (1, 2, 0)),
+    // A message of 50 octets takes eight reads of 7 octets, and one more meets the end. Whichever of them fails, the message is
+    // offered only where eight came before.
+    (ONE_RECORD, 7, ENOUGH, 9, Ok(()), (1, 1, 0)),
+    (ONE_RECORD, 7, ENOUGH, 8, Err(ServeFault::Turns), (1, 1, 0)),
+    (ONE_RECORD, 7, ENOUGH, 7, Err(ServeFault::Turns), (0, 0, 0)),
+    (ONE_RECORD, 7, 0, 1000, Err(ServeFault::Read), (0, 0, 0)),
+    (ONE_RECORD, 7, 1, 1000, Err(ServeFault::Read), (0, 0, 0)),
+    (ONE_RECORD, 7, 2, 1000, Err(ServeFault::Read), (0, 0, 0)),
+    (ONE_RECORD, 7, 3, 1000, Err(ServeFault::Read), (0, 0, 0)),
+    (ONE_RECORD, 7, 4, 1000, Err(ServeFault::Read), (0, 0, 0)),
+    (ONE_RECORD, 7, 5, 1000, Err(ServeFault::Read), (0, 0, 0)),
+    (ONE_RECORD, 7, 6, 1000, Err(ServeFault::Read), (0, 0, 0)),
+    (ONE_RECORD, 7, 7, 1000, Err(ServeFault::Read), (0, 0, 0)),
+    (ONE_RECORD, 7, 8, 1000, Err(ServeFault::Read), (1, 1, 0)),
+    // A reader that gives a message without records with each read, and has more than it is asked for: no end is seen of it.
+    (
+        EIGHT_EMPTY,
+        16,
+        ENOUGH,
+        7,
+        Err(ServeFault::Turns),
+        (7, 0, 0),
+    ),
     (VERSION_9, 7, ENOUGH, 1000, BAD_VERSION, (1, 1, 0)),
     (LENGTH_15, 1, ENOUGH, 1000, BAD_LENGTH, (1, 1, 0)),
     (CUT_OFF, 7, ENOUGH, 1000, ENDS_INSIDE, (1, 1, 0)),
