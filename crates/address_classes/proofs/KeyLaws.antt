@@ -25,15 +25,6 @@ pub key_from_fields : (cuts : List ℕ) (side : Side) (r : DataRecord)
     → fold (with_field cuts side) (Some 1) (zip r.template.fields r.values) ≡ key_of cuts (values_of (is_of side) r)
 key_from_fields cuts side r = over_fields cuts side (Some 1) (zip r.template.fields r.values)
 
--- a field of this side, and one that isn't, as they were read
-pub with_field-own : (cuts : List ℕ) (side : Side) (f : FieldSpec) (read value : List ℕ) (digit : ℕ) (key next : Option ℕ) → is_of side f.element ≡ true → read ≡ value → digit ≡ digit_of cuts read → next ≡ with_digit key digit
-    → next ≡ with_field cuts side key (f, value)
-with_field-own cuts side f read value digit key next has is asked made =
-    made ∙ ap (with_digit key) (asked ∙ ap (digit_of cuts) is) ∙ sym (ap (λ b. cond b (with_digit key (digit_of cuts value)) key) has)
-
-pub with_field-other : (cuts : List ℕ) (side : Side) (f : FieldSpec) (value : List ℕ) (key next : Option ℕ) → is_of side f.element ≡ false → next ≡ key → next ≡ with_field cuts side key (f, value)
-with_field-other cuts side f value key next has same = same ∙ sym (ap (λ b. cond b (with_digit key (digit_of cuts value)) key) has)
-
 -- ---- digits behind a number
 
 abbrev pushed : ℕ → ℕ → ℕ

@@ -157,14 +157,15 @@ fn count_below(numbers: &[u128], bound: u128) -> usize
 fn key_of_fields(classes: &AddressClasses, side: Side, flow_record: &Record) -> Option<u64>
     ensures { result ≡ fold (with_field classes.now side) (Some 1) (zip flow_record.now.template.fields flow_record.now.values) }
 {
-    let fields = flow_record.template().fields.as_slice();
-    let mut key = Some(EMPTY_KEY);
-    for place in 0..fields.len() {
-        if side.has(fields[place].element) {
-            key = with_digit(key, classes.digit(flow_record.value(place)));
-        }
-    }
-    key
+    flow_record
+        .entries()
+        .fold(Some(EMPTY_KEY), |key, (field, value)| {
+            if side.has(field.element) {
+                with_digit(key, classes.digit(value))
+            } else {
+                key
+            }
+        })
 }
 
 /// A key with one digit more, if it has fewer than three.

@@ -93,6 +93,9 @@ impl RecentClasses {
     }
 }
 
+/// As many digits as a key has room for.
+const MOST_DIGITS: usize = 3;
+
 /// The key of the values at these places, of which the last one that was looked up lies in the span.
 fn key_at(
     classes: &AddressClasses,
@@ -105,6 +108,11 @@ fn key_at(
     ensures key { result ≡ key_of classes.now (map (value_at flow_record.now) places.now) }
     ensures span { IsSpan classes.now span.new }
 {
+    // What is read of the cuts has what their type keeps of them.
+    let _count = classes.cuts().len();
+    if places.len() > MOST_DIGITS {
+        return None;
+    }
     let mut key = Some(EMPTY_KEY);
     for place in places {
         let octets = value_at(place, flow_record);

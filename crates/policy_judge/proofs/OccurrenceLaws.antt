@@ -5,8 +5,6 @@ use Rattle.std.specs.List.{list_any, list_all, zip}
 use Rattle.ipfix_template.specs.declared.field.FieldSpec.{FieldSpec}
 use Rattle.ipfix_template.specs.DataRecord.{DataRecord, IsSound}
 use Rattle.ipfix_template.proofs.Encoding.{fit_fields-length}
-use Rattle.flow_prefix.specs.declared.prefix.Prefix.{Prefix}
-use Rattle.flow_prefix.specs.Prefixes.{contains}
 use Rattle.policy_judge.specs.declared.occurrences.Side.{Side}
 use Rattle.policy_judge.specs.Sides.{is_of}
 use Rattle.policy_judge.proofs.PairLaws.{IsAt, any_first}
@@ -50,14 +48,6 @@ field_at r fields f i sound same lt is = record {
   is = is ∙ ap (λ fs. get_or fs i f) same;
 }
 
--- an occurrence that is inside
-abbrev pub is_inside : Side → Prefix → FieldSpec × List ℕ → Bool
-is_inside side prefix p = is_of side p.0.element && contains prefix p.1
-
--- no occurrence, or one that is inside
-abbrev pub is_not_outside : Side → Prefix → FieldSpec × List ℕ → Bool
-is_not_outside side prefix p = not (is_of side p.0.element) || contains prefix p.1
-
 pub some_field : (side : Side) (r : DataRecord) (fields : List FieldSpec) {b : Bool} → IsSound r → fields ≡ r.template.fields
     → b ≡ list_any (λ f. is_of side f.element) fields → b ≡ list_any (λ p. is_of side p.0.element) (zip r.template.fields r.values)
 some_field side r fields sound same is =
@@ -67,24 +57,3 @@ some_field side r fields sound same is =
 pub is_of_read : (side : Side) (fields : List FieldSpec) (f : FieldSpec) (i : ℕ) (has b : Bool) → f ≡ get_or fields i f → has ≡ is_of side (get_or fields i f).element → has ≡ b
     → is_of side f.element ≡ b
 is_of_read side fields f i has b is asked e = ap (λ g. is_of side g.element) is ∙ sym asked ∙ e
-
-contains_read : (prefix : Prefix) (read value : List ℕ) (within b : Bool) → read ≡ value → within ≡ contains prefix read → within ≡ b → contains prefix value ≡ b
-contains_read prefix read value within b is asked e = sym (ap (contains prefix) is) ∙ sym asked ∙ e
-
-second_tells : (a b c : Bool) → a ≡ true → b ≡ c → (a && b) ≡ c
-second_tells a b c holds is = ap (λ x. x && b) holds ∙ is
-
-second_tells-not : (a b c : Bool) → a ≡ true → b ≡ c → (not a || b) ≡ c
-second_tells-not a b c holds is = ap (λ x. not x || b) holds ∙ is
-
-pub inside_if : (side : Side) (prefix : Prefix) (f : FieldSpec) (read value : List ℕ) (within b : Bool) → is_of side f.element ≡ true → read ≡ value → within ≡ contains prefix read → within ≡ b
-    → is_inside side prefix (f, value) ≡ b
-inside_if side prefix f read value within b has is asked e = second_tells (is_of side f.element) (contains prefix value) b has (contains_read prefix read value within b is asked e)
-
-pub not_outside_if : (side : Side) (prefix : Prefix) (f : FieldSpec) (read value : List ℕ) (within b : Bool) → is_of side f.element ≡ true → read ≡ value → within ≡ contains prefix read → within ≡ b
-    → is_not_outside side prefix (f, value) ≡ b
-not_outside_if side prefix f read value within b has is asked e = second_tells-not (is_of side f.element) (contains prefix value) b has (contains_read prefix read value within b is asked e)
-
-pub other_side : (side : Side) (prefix : Prefix) (f : FieldSpec) (value : List ℕ) → is_of side f.element ≡ false
-    → (is_inside side prefix (f, value) ≡ false) × (is_not_outside side prefix (f, value) ≡ true)
-other_side side prefix f value has = (ap (λ b. b && contains prefix value) has, ap (λ b. not b || contains prefix value) has)

@@ -4,7 +4,8 @@
 //! - `verdict`: [`RecordVerdict`] with [`RecordAction`], [`ElementVerdict`] with [`ElementAction`].
 //! - `judge`: [`record_verdict`] and [`element_verdict`]; the same by a policy's rules ([`record_verdict_of`],
 //!   [`element_verdict_of`]), and by the place of the first that matches ([`record_verdict_at`], [`element_verdict_at`]).
-//! - `rule_match`: [`matches_record`] and [`matches_field`], whether a rule matches.
+//! - `rule_match`: [`matches_record`] and [`matches_field`], whether a rule matches; and what they ask of it, one by one
+//!   ([`is_on_records`], [`denies`], [`is_for`]).
 //! - `laws`: [`others_never_matter`] and [`later_rules_never_matter`], proved over the definitions.
 //! - `occurrences`: a record's source and destination addresses, by [`Side`].
 //!
@@ -26,5 +27,5 @@ pub use judge::{
 };
 pub use laws::{later_rules_never_matter, others_never_matter};
 pub use occurrences::Side;
-pub use rule_match::{matches_field, matches_record};
+pub use rule_match::{denies, is_for, is_on_records, matches_field, matches_record};
 pub use verdict::{ElementAction, ElementVerdict, RecordAction, RecordVerdict};

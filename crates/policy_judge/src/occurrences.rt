@@ -76,24 +76,12 @@ fn has_field(fields: &[FieldSpec], side: Side) -> bool
 fn some_inside(flow_record: &Record, side: Side, prefix: &Prefix) -> bool
     ensures { result ≡ list_any (λ p. is_of side p.0.element && contains prefix.now p.1) (zip flow_record.now.template.fields flow_record.now.values) }
 {
-    let fields = flow_record.template().fields.as_slice();
-    for place in 0..fields.len() {
-        if side.has(fields[place].element) && prefix.contains(flow_record.value(place)) {
-            return true;
-        }
-    }
-    false
+    flow_record.entries().any(|(field, value)| side.has(field.element) && prefix.contains(value))
 }
 
 /// Whether each occurrence is inside.
 fn each_inside(flow_record: &Record, side: Side, prefix: &Prefix) -> bool
     ensures { result ≡ list_all (λ p. not (is_of side p.0.element) || contains prefix.now p.1) (zip flow_record.now.template.fields flow_record.now.values) }
 {
-    let fields = flow_record.template().fields.as_slice();
-    for place in 0..fields.len() {
-        if side.has(fields[place].element) && !prefix.contains(flow_record.value(place)) {
-            return false;
-        }
-    }
-    true
+    flow_record.entries().all(|(field, value)| !side.has(field.element) || prefix.contains(value))
 }

@@ -31,7 +31,8 @@ pub fn matches_field(
         && covers(rule, flow_record)
 }
 
-fn is_on_records(action: Action) -> bool
+/// Whether a rule of this action is one on records, or else one on fields.
+pub fn is_on_records(action: Action) -> bool
     ensures { result ≡ is_on_records action }
 {
     match action {
@@ -40,7 +41,8 @@ fn is_on_records(action: Action) -> bool
     }
 }
 
-fn denies(action: Action) -> bool
+/// Whether a rule of this action denies, or else permits.
+pub fn denies(action: Action) -> bool
     ensures { result ≡ denies action }
 {
     match action {
@@ -53,7 +55,8 @@ fn denies(action: Action) -> bool
     }
 }
 
-fn is_for(rule: &Rule, name: &[u8], domain: u32) -> bool
+/// Whether the rule is for the subscriber of this name and for this observation domain, whatever else it asks.
+pub fn is_for(rule: &Rule, name: &[u8], domain: u32) -> bool
     ensures { result ≡ is_for name.now domain rule.now }
 {
     is_name(&rule.who, name) && is_domain(&rule.domain, domain)
