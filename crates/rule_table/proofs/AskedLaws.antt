@@ -81,7 +81,7 @@ pen_is (Some a) (Some b) e = ap Some (eqb-true a b e)
 pen_is None (Some b) e = absurd (cc)
 pen_is (Some a) None e = absurd (cc)
 
-element_is : (e f : Element) → is_same_element e f ≡ true → e ≡ f
+pub element_is : (e f : Element) → is_same_element e f ≡ true → e ≡ f
 element_is e f is =
     let parts = and_parts (same_pen e.pen f.pen) (e.number == f.number) is in
     same_element e f (pen_is e.pen f.pen parts.0) (eqb-true e.number f.number parts.1)

@@ -1,9 +1,9 @@
 -- The first of all rules that passes is the first of the candidates that passes.
-use Rattle.std.proofs.Common.{◌≡◌, ◌⊎◌, ℕ, zero, suc, ◌+◌, ◌<◌, ◌≤◌, Bool, true, false, List, [], ◌∷◌, length, get_or, Option, Some, None, IfSome, cond, not, option_map, refl, ap, sym, ◌∙◌, arith, inl, inr, nat_lt, ◌&&◌}
+use Rattle.std.proofs.Common.{◌≡◌, ◌⊎◌, ℕ, zero, suc, ◌+◌, ◌<◌, ◌≤◌, Bool, true, false, List, [], ◌∷◌, length, get_or, Option, Some, None, cond, not, option_map, refl, ap, ◌∙◌, arith, inl, inr, nat_lt}
 use Rattle.std.specs.Prelude.{slice_get}
 use Rattle.std.specs.List.{Contains, find, position, position_or_len, list_any, list_all}
 use Rattle.std.specs.List.Sorted.{IsNonDecreasing}
-use Rattle.std.proofs.lemmas.Bool.{ltb-true, ltb-false, cases_lt, and_parts, and_from, or_left, or_right, not-true}
+use Rattle.std.proofs.lemmas.Bool.{ltb-true, ltb-false, cases_lt, and_parts, and_from, or_left, or_right}
 use Rattle.std.proofs.lemmas.Option.{slice_get_past, same_Some}
 use Rattle.flow_prefix.specs.declared.prefix.Prefix.{Prefix}
 use Rattle.flow_prefix.specs.Prefixes.{contains}
@@ -12,7 +12,7 @@ use Rattle.ipfix_template.specs.declared.field.FieldSpec.{FieldSpec}
 use Rattle.ipfix_template.specs.DataRecord.{DataRecord}
 use Rattle.policy_text.specs.declared.rule.Rule.{Rule}
 use Rattle.policy_judge.specs.Occurrences.{sources, destinations}
-use Rattle.policy_judge.specs.Match.{is_met, is_on_records, denies, are_inside, is_for, covers, is_same_element, is_element, element_at, matches_record, matches_field}
+use Rattle.policy_judge.specs.Match.{is_met, denies, are_inside, covers, is_same_element}
 use Rattle.rule_table.specs.Candidates.{Judged, AreCandidates, touches, has_element, may_match, is_at, passes}
 
 -- ---- the first place at which a rule passes
@@ -108,52 +108,10 @@ covered r rule e =
     let both = and_parts (is_met (are_inside (denies rule.action) (sources r)) rule.from) (is_met (are_inside (denies rule.action) (destinations r)) rule.to) e in
     and_from _ _ (met (denies rule.action) (sources r) rule.from both.0) (met (denies rule.action) (destinations r) rule.to both.1)
 
-pub record_may : (name : List ℕ) (domain : ℕ) (r : DataRecord) (rule : Rule) → matches_record name domain r rule ≡ true → may_match name domain r rule ≡ true
-record_may name domain r rule e =
-    let parts = and_parts (is_on_records rule.action) (is_for name domain rule && covers r rule) e in
-    let both = and_parts (is_for name domain rule) (covers r rule) parts.1 in
-    let any = ap (λ b. is_met (has_element r.template.fields) (cond b None rule.element)) parts.0 in
-    and_from _ _ both.0 (and_from _ _ (covered r rule both.1) any)
-
 -- the element of a field is one that some field has
-has_at : (fields : List FieldSpec) (k : ℕ) (e f : Element) → option_map (λ (field : FieldSpec). field.element) (slice_get fields k) ≡ Some e → is_same_element e f ≡ true → has_element fields f ≡ true
+pub has_at : (fields : List FieldSpec) (k : ℕ) (e f : Element) → option_map (λ (field : FieldSpec). field.element) (slice_get fields k) ≡ Some e → is_same_element e f ≡ true → has_element fields f ≡ true
 has_at [] k e f at is = absurd (cc)
 has_at (x ∷ xs) zero e f at is =
     let same : x.element ≡ e = same_Some x.element e at in
     or_left (is_same_element x.element f) (has_element xs f) (ap (λ g. is_same_element g f) same ∙ is)
 has_at (x ∷ xs) (suc k) e f at is = or_right (is_same_element x.element f) (has_element xs f) (has_at xs k e f at is)
-
-met_element : (fields : List FieldSpec) (k : ℕ) (e : Element) (condition : Option Element) → option_map (λ (field : FieldSpec). field.element) (slice_get fields k) ≡ Some e
-    → is_met (is_element (Some e)) condition ≡ true → is_met (has_element fields) condition ≡ true
-met_element fields k e None at is = refl
-met_element fields k e (Some f) at is = has_at fields k e f at is
-
-pub field_may : (name : List ℕ) (domain : ℕ) (r : DataRecord) (field : ℕ) (element : Element) (rule : Rule) → element_at r field ≡ Some element
-    → matches_field name domain r (Some element) rule ≡ true → may_match name domain r rule ≡ true
-field_may name domain r field element rule at e =
-    let parts = and_parts (not (is_on_records rule.action)) (is_met (is_element (Some element)) rule.element && (is_for name domain rule && covers r rule)) e in
-    let rest = and_parts (is_met (is_element (Some element)) rule.element) (is_for name domain rule && covers r rule) parts.1 in
-    let both = and_parts (is_for name domain rule) (covers r rule) rest.1 in
-    let on : is_on_records rule.action ≡ false = not-true (is_on_records rule.action) parts.0 in
-    let some = ap (λ b. is_met (has_element r.template.fields) (cond b None rule.element)) on ∙ met_element r.template.fields field element rule.element at rest.0 in
-    and_from _ _ both.0 (and_from _ _ (covered r rule both.1) some)
-
--- ---- for the two searches
-
-pub record_found : (rules : List Rule) (places : List ℕ) (name : List ℕ) (domain : ℕ) (r : DataRecord)
-    → AreCandidates (record { rules = rules; name = name; domain = domain; flow_record = r }) places
-    → find (passes (matches_record name domain r) rules) places ≡ position (matches_record name domain r) rules
-record_found rules places name domain r are =
-    first_candidate (record { rules = rules; name = name; domain = domain; flow_record = r }) places (matches_record name domain r) are (λ rule e. record_may name domain r rule e)
-
-pub field_found : (rules : List Rule) (places : List ℕ) (name : List ℕ) (domain : ℕ) (r : DataRecord) (field : ℕ) (element : Element)
-    → AreCandidates (record { rules = rules; name = name; domain = domain; flow_record = r }) places → element_at r field ≡ Some element
-    → find (passes (matches_field name domain r (Some element)) rules) places ≡ position (matches_field name domain r (element_at r field)) rules
-field_found rules places name domain r field element are at =
-    first_candidate (record { rules = rules; name = name; domain = domain; flow_record = r }) places (matches_field name domain r (Some element)) are (λ rule e. field_may name domain r field element rule at e)
-    ∙ ap (λ o. position (matches_field name domain r o) rules) (sym at)
-
-pub position_within : (test : Rule → Bool) (rules : List Rule) → IfSome (position test rules) (λ place. place < length rules)
-position_within test rules =
-    elim (nat_lt (position_or_len test rules) (length rules)) as (λ b. nat_lt (position_or_len test rules) (length rules) ≡ b → IfSome (cond b (Some (position_or_len test rules)) None) (λ place. place < length rules))
-    [ true ↦ λ t. ltb-true _ _ t | false ↦ λ t. tt ] refl

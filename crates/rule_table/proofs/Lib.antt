@@ -1,8 +1,10 @@
 pub mod Members
 pub mod FirstLaws
-pub mod AddressLaws
 pub mod ShapeLaws
 pub mod IndexLaws
 pub mod AskedLaws
 pub mod TableLaws
+pub mod CoveringLaws
+pub mod KeptLaws
+pub mod EarlierLaws
 pub mod VerdictLaws

@@ -1,6 +1,6 @@
 -- The few rules that may match a record.
-use Rattle.std.specs.Prelude.{◌≡◌, ℕ, ◌≤◌, Bool, true, false, List, length, Option, Some, None, slice_get, ◌&&◌}
-use Rattle.std.specs.List.{Contains, list_any}
+use Rattle.std.specs.Prelude.{◌≡◌, ℕ, ◌≤◌, Bool, true, false, List, length, Option, Some, None, slice_get, position, ◌&&◌}
+use Rattle.std.specs.List.{Contains, find, list_any}
 use Rattle.std.specs.List.Sorted.{IsNonDecreasing}
 use Rattle.flow_prefix.specs.Prefixes.{contains}
 use Rattle.ipfix_element.specs.Element.{Element}
@@ -8,7 +8,7 @@ use Rattle.ipfix_template.specs.declared.field.FieldSpec.{FieldSpec}
 use Rattle.ipfix_template.specs.DataRecord.{DataRecord}
 use Rattle.policy_text.specs.declared.rule.Rule.{Rule}
 use Rattle.policy_judge.specs.Occurrences.{sources, destinations}
-use Rattle.policy_judge.specs.Match.{is_met, is_for, is_same_element}
+use Rattle.policy_judge.specs.Match.{is_met, is_for, covers, is_same_element}
 use Rattle.rule_table.specs.Marks.{element_of}
 
 -- a record of an observation domain, judged by rules for the subscriber of a name
@@ -43,3 +43,19 @@ pub record AreCandidates (judged : Judged) (places : List ℕ) : Type 0 where
   pub few : length judged.rules ≤ 4096
   pub ascending : IsNonDecreasing places
   pub all : (place : ℕ) → passes (may_match judged.name judged.domain judged.flow_record) judged.rules place ≡ true → Contains places place
+
+-- the rule is for the subscriber and the domain, and the record's addresses are such as it needs
+abbrev pub applies : List ℕ → ℕ → DataRecord → Rule → Bool
+applies name domain r rule = is_for name domain rule && covers r rule
+
+abbrev pub applies_in : Judged → Rule → Bool
+applies_in judged rule = applies judged.name judged.domain judged.flow_record rule
+
+-- each element that a rule on fields of this kind names is one that a field has
+abbrev pub IsOfRecord : DataRecord → (Rule → Bool) → Type 0
+IsOfRecord r kind = (rule : Rule) → kind rule ≡ true → is_met (has_element r.template.fields) (element_of rule) ≡ true
+
+-- places of rules that apply: of each kind the first of these is the first of all rules that apply
+pub record AreApplying (judged : Judged) (places : List ℕ) : Type 0 where
+  pub few : length judged.rules ≤ 4096
+  pub first : (kind : Rule → Bool) → IsOfRecord judged.flow_record kind → find (passes kind judged.rules) places ≡ position (λ rule. kind rule && applies_in judged rule) judged.rules

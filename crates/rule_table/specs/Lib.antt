@@ -10,3 +10,5 @@ pub mod Marks
 pub mod Index
 pub mod Asked
 pub mod Candidates
+pub mod Firsts
+pub mod Covering

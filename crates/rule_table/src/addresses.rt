@@ -1,10 +1,12 @@
-ghost use Rattle.std.specs.Prelude.{◌≡◌, ◌==◌, ◌&&◌, IfOk, IfSome, OnOk};
+ghost use Rattle.std.specs.Prelude.{◌≡◌, ◌==◌, ◌&&◌, if◌then◌else◌, None, IfOk, IfSome, OnOk};
 ghost use Rattle.std.specs.List.{Contains, list_any};
 ghost use Rattle.flow_prefix.specs.Bits.{truncated};
+ghost use Rattle.policy_judge.specs.Sides.{is_of};
 ghost use Rattle.rule_table.specs.Addresses.{address_of, addresses_of, shape_of, named};
 ghost use Rattle.rule_table.specs.Index.{HaveShapes};
 
 use flow_prefix::{IPV4_BITS, IPV4_OCTETS, IPV6_BITS, IPV6_OCTETS, Prefix, number};
+use ipfix_element::ElementId;
 use ipfix_template::Record;
 use policy_judge::Side;
 use policy_text::Rule;
@@ -32,16 +34,21 @@ pub(crate) fn addresses_of(
 ) -> Result<Vec<Address>, AllocError>
     ensures { IfOk result (λ addresses. addresses.items ≡ addresses_of side flow_record.now) }
 {
-    let fields = flow_record.template().fields.as_slice();
-    let mut addresses = Vec::new(alloc);
-    for place in 0..fields.len() {
-        if side.has(fields[place].element) {
-            if let Some(address) = address_of(flow_record.value(place)) {
-                addresses.push(address)?;
-            }
-        }
+    flow_record
+        .entries()
+        .filter_map(|(field, value)| address_at(side, field.element, value))
+        .collect(alloc)
+}
+
+/// The address that a field of this element holds on a side.
+fn address_at(side: Side, element: ElementId, value: &[u8]) -> Option<Address>
+    ensures { result ≡ (if is_of side element then address_of value.now else None) }
+{
+    if side.has(element) {
+        address_of(value)
+    } else {
+        None
     }
-    Ok(addresses)
 }
 
 /// The address that a value of 4 octets, or of 16, writes.

@@ -1,15 +1,17 @@
 ghost use Rattle.std.specs.Prelude.{◌≡◌, ◌∷◌, [], ◌++◌, IfOk, OnOk};
 ghost use Rattle.std.specs.List.{filter_map};
+ghost use Rattle.policy_judge.specs.declared.occurrences.Side.TheVariants.{Source, Destination};
+ghost use Rattle.rule_table.specs.Addresses.{addresses_of};
 ghost use Rattle.rule_table.specs.Asked.{asked_at, asked_of, asked_elements, asked};
 ghost use Rattle.rule_table.specs.Marks.{domain_mark};
 
-use crate::addresses::{Address, Shape, addresses_of, first_bits};
+use crate::addresses::{Address, Shape, first_bits};
 use crate::marks::{ANY_SUBSCRIBER, domain_mark, element_mark, inside_mark, name_mark};
 use ipfix_template::{FieldSpec, Record};
 use policy_judge::Side;
 use std::alloc::{AllocError, Global};
 
-/// The marks that are looked up for a record.
+/// The marks that are looked up for a record with these sources and destinations.
 pub(crate) fn asked(
     alloc: Global,
     sources: &[Shape],
@@ -17,21 +19,23 @@ pub(crate) fn asked(
     name: &[u8],
     domain: u32,
     flow_record: &Record,
+    from: &[Address],
+    to: &[Address],
 ) -> Result<Vec<u64>, AllocError>
+    requires from { from.now ≡ addresses_of Source flow_record.now }
+    requires to { to.now ≡ addresses_of Destination flow_record.now }
     ensures { IfOk result (λ marks. marks.items ≡ asked name.now domain sources.now destinations.now flow_record.now) }
 {
-    let from = addresses_of(alloc, Side::Source, flow_record)?;
-    let to = addresses_of(alloc, Side::Destination, flow_record)?;
     let mut marks = Vec::new(alloc);
     let fields = flow_record.template().fields.as_slice();
     let any = ANY_SUBSCRIBER;
     ask(any, domain, fields, &mut marks)?;
-    ask_all(any, Side::Source, sources, &from, &mut marks)?;
-    ask_all(any, Side::Destination, destinations, &to, &mut marks)?;
+    ask_all(any, Side::Source, sources, from, &mut marks)?;
+    ask_all(any, Side::Destination, destinations, to, &mut marks)?;
     let one = name_mark(name);
     ask(one, domain, fields, &mut marks)?;
-    ask_all(one, Side::Source, sources, &from, &mut marks)?;
-    ask_all(one, Side::Destination, destinations, &to, &mut marks)?;
+    ask_all(one, Side::Source, sources, from, &mut marks)?;
+    ask_all(one, Side::Destination, destinations, to, &mut marks)?;
     Ok(marks)
 }
 

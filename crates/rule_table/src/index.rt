@@ -35,19 +35,31 @@ fn entry(mark: u64, place: usize) -> u128
     u128::from(mark) * SPAN + place as u128
 }
 
-/// The places, ascending, that stand under one of these marks.
+/// The places, ascending, that stand under one of these marks. A mark is looked up once, however often it stands there, so
+/// that no place is found twice.
 pub(crate) fn places_under(
     alloc: Global,
     entries: &[u128],
-    marks: &[u64],
+    marks: Vec<u64>,
 ) -> Result<Vec<usize>, AllocError>
     requires { IsNonDecreasing entries.now }
-    ensures each { IfOk result (λ places. (mark place : ℕ) → place < 4096 → Contains marks.now mark → Contains entries.now (entry mark place) → Contains places.items place) }
+    ensures each { IfOk result (λ places. (mark place : ℕ) → place < 4096 → Contains marks.items mark → Contains entries.now (entry mark place) → Contains places.items place) }
     ensures ascending { IfOk result (λ places. IsNonDecreasing places.items) }
 {
-    let mut places = gathered(alloc, entries, marks)?;
+    let marks = each_once(marks);
+    let mut places = gathered(alloc, entries, &marks)?;
     places.sort_unstable();
     Ok(places)
+}
+
+/// The same marks, each once.
+fn each_once(marks: Vec<u64>) -> Vec<u64>
+    ensures { (mark : ℕ) → Contains marks.items mark → Contains result.items mark }
+{
+    let mut marks = marks;
+    marks.sort_unstable();
+    marks.dedup();
+    marks
 }
 
 /// The same places, mark by mark.
@@ -84,9 +96,11 @@ fn under(entries: &[u128], mark: u64) -> &[u128]
 }
 
 /// The entries that aren't below a bound.
-fn from_bound(entries: &[u128], bound: u128) -> &[u128]
+pub(crate) fn from_bound(entries: &[u128], bound: u128) -> &[u128]
     requires { IsNonDecreasing entries.now }
     ensures ascending { IsNonDecreasing result.now }
+    ensures among { (entry : ℕ) → Contains result.now entry → Contains entries.now entry }
+    ensures above { (entry : ℕ) → Contains result.now entry → bound ≤ entry }
     ensures kept { (entry : ℕ) → bound ≤ entry → Contains entries.now entry → Contains result.now entry }
 {
     &entries[count_below(entries, bound)..]

@@ -2,18 +2,22 @@
 //! `policy_judge` does, and nothing by itself.
 //!
 //! - `table`: [`RuleTable`], built of a policy once; `candidates` are looked up once a record.
-//! - `candidates`: [`Candidates`], the places of the rules that may match a record, asked for its verdicts.
+//! - `candidates`: [`Candidates`], a record with the first of each kind of the rules that apply to it, asked for its verdicts.
 //! - `marks`: the mark of a rule, a number made of its subscriber and of its most telling condition.
 //! - `asked`: the marks that are looked up for a record.
 //! - `index`: a table's entries, each a mark with a rule's place, in which a mark is found by halving.
+//! - `covering`: a record's addresses in order, so that a prefix is held against all of them at once.
 //! - `addresses`: a record's addresses as numbers, and the shapes of a policy's prefixes.
 //! - `copies`: a table's own rules.
 //!
 //! A rule stands under one mark: its subscriber's, with what tells most of it, which is the prefix of its sources; where it
 //! names none, that of its destinations; then its element, if it is a rule on fields; then its domain. For a record the marks
 //! are looked up of its domain, of the elements of its fields, and of each prefix that one of its addresses is inside, of those
-//! lengths that the policy's prefixes have, each with its subscriber and with any. So what a record costs grows with its
-//! fields, its addresses and these lengths, and with the rules that stand under one mark.
+//! lengths that the policy's prefixes have, each with its subscriber and with any. Each mark is looked up once, and where the
+//! marks outnumber the rules, all rules are taken instead. Of the rules found it is asked once a record whether they are for
+//! the subscriber and the domain, and whether the record's addresses are such as they need. Of those that apply three things
+//! are kept: the first on records, the first on fields of any element, and for each element that is named the first on its
+//! fields. So a verdict on the record is read off, and one on a field is a look-up of its element.
 //!
 //! Proved: `RuleTable::build` keeps the policy's rules, in their order; `record_verdict` and `element_verdict` of what
 //! `RuleTable::candidates` answers are by these rules those of `policy_judge`, clause for clause. Which rules stand under
@@ -24,6 +28,7 @@ mod addresses;
 mod asked;
 mod candidates;
 mod copies;
+mod covering;
 mod index;
 mod marks;
 mod table;
