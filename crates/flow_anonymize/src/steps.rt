@@ -90,12 +90,16 @@ fn join(last: Step, next: Step, steps: &mut Vec<Step>) -> Result<Step, AllocErro
     }
 }
 
-/// One step in place of two neighbours that both show octets as they stand, or both leave octets out.
+/// One step in place of two neighbours that both show octets as they stand, or both leave octets out, or of which one takes no
+/// octets: so each step but the last takes some, and a record has no more steps than octets.
 fn joined(last: Step, next: Step) -> Option<Step>
     ensures { IfSome result (λ both. (after : List Step) → AreAlike (both ∷ after) (last ∷ next ∷ after)) }
 {
     match (last, next) {
         (Step::Show(0), next) => Some(next),
+        (Step::Skip(0), next) => Some(next),
+        (last, Step::Show(0)) => Some(last),
+        (last, Step::Skip(0)) => Some(last),
         (Step::Show(front), Step::Show(back)) => Some(Step::Show(front.checked_add(back)?)),
         (Step::Skip(front), Step::Skip(back)) => Some(Step::Skip(front.checked_add(back)?)),
         _ => None,
