@@ -12,7 +12,7 @@ use crate::{Mediator, PullFault, SessionId, SubId, UnknownSub};
 use bytes::Bytes;
 use disclosure_audit::AuditEntry;
 use mediator_state::{Fault, Receipt, Status};
-use prepared_message::{Prepared, Snapshot};
+use prepared_message::{JudgedAhead, Prepared, Snapshot};
 use std::alloc::AllocError;
 use std::marker::Model;
 
@@ -153,8 +153,28 @@ impl CountedMediator {
         ensures same { OnErr result (self.new ≡ self.old) }
         ensures err { IfErr result (λ e. RefusesReceive e self.old.core session.0 number message) }
     {
+        self.receive_judged(session, number, message, None)
+    }
+
+    /// The same, with what was judged of the message ahead, as [`Mediator::receive_judged`] does.
+    ///
+    /// # Errors
+    /// Those of [`Mediator::receive`].
+    pub fn receive_judged(
+        &mut self,
+        session: SessionId,
+        number: u64,
+        message: Bytes,
+        ahead: Option<JudgedAhead>,
+    ) -> Result<Receipt, Fault>
+        ensures ok { IfOk result (λ receipt. Receives self.old.core session.0 number message receipt self.new.core) }
+        ensures counts { OnOk result (Counts self.old 1 0 0 self.new) }
+        ensures same { OnErr result (self.new ≡ self.old) }
+        ensures err { IfErr result (λ e. RefusesReceive e self.old.core session.0 number message) }
+    {
         let _journal = self.mediator.journal();
-        self.mediator.receive(session, number, message)
+        self.mediator
+            .receive_judged(session, number, message, ahead)
     }
 
     /// The templates of a session, as [`Mediator::snapshot`] gives them: no entry more is counted.

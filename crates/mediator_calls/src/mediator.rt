@@ -13,7 +13,7 @@ use bytes::Bytes;
 use disclosure_audit::AuditEntry;
 use event_journal::Journal;
 use mediator_state::{Fault, Receipt, State, Status};
-use prepared_message::{Prepared, Snapshot};
+use prepared_message::{JudgedAhead, Prepared, Snapshot};
 use std::alloc::{AllocError, Global};
 use std::marker::Model;
 
@@ -123,7 +123,27 @@ impl Mediator {
         ensures same { OnErr result (self.new ≡ self.old) }
         ensures err { IfErr result (λ e. RefusesReceive e self.old session.0 number message) }
     {
-        self.state.receive(session.0, number, message)
+        self.receive_judged(session, number, message, None)
+    }
+
+    /// The same. What was judged of the message without the mediator ([`JudgedAhead::of`]) is taken where it is of the records that
+    /// the session finds in the message, and where the policy, the clock and those who are served are still the same: it changes no
+    /// answer.
+    ///
+    /// # Errors
+    /// Those of [`receive`](Mediator::receive).
+    pub fn receive_judged(
+        &mut self,
+        session: SessionId,
+        number: u64,
+        message: Bytes,
+        ahead: Option<JudgedAhead>,
+    ) -> Result<Receipt, Fault>
+        ensures ok { IfOk result (λ receipt. Receives self.old session.0 number message receipt self.new) }
+        ensures same { OnErr result (self.new ≡ self.old) }
+        ensures err { IfErr result (λ e. RefusesReceive e self.old session.0 number message) }
+    {
+        self.state.receive_judged(session.0, number, message, ahead)
     }
 
     /// The templates of an open session as they stand, by which its messages can be prepared without the mediator

@@ -12,7 +12,8 @@ use decode_workers::{NoGate, Workers};
 use mediator_state::{Fault, Receipt};
 use message_intake::Intake;
 use octet_devices::Source;
-use prepared_message::{PrepareFault, Prepared};
+use prepared_message::{JudgedAhead, PrepareFault, Prepared};
+use record_sharing::Workspace;
 use shared_mediator::{EntryLedger, ExporterHandle, RecordLedger, SharedMediator};
 use std::alloc::Global;
 use std::sync::Wait;
@@ -39,18 +40,20 @@ pub struct Served {
     pub gaps: u64,
 }
 
-/// The records in messages, and the gaps in their sequence numbers.
-#[derive(Clone, Copy, Debug, PartialEq, Eq)]
-struct Counts {
+/// The records in messages, and the gaps in their sequence numbers; and what was worked out for these messages, for those to come.
+#[derive(Drop)]
+struct Progress {
     records: u64,
     gaps: u64,
+    workspace: Workspace,
 }
 
-impl Counts {
-    const fn none() -> Counts {
-        Counts {
+impl Progress {
+    const fn none() -> Progress {
+        Progress {
             records: 0,
             gaps: 0,
+            workspace: Workspace::new(),
         }
     }
 
@@ -63,7 +66,7 @@ impl Counts {
     }
 
     /// What a stream of so many messages brought.
-    const fn of(self, messages: u64) -> Served
+    const fn of(&self, messages: u64) -> Served
         ensures { result.messages ≡ messages }
     {
         Served {
@@ -76,7 +79,7 @@ impl Counts {
 
 /// Serves an exporter's connection: reads its stream (RFC 7011, section 10.4) to its end by at most so many reads, offers each
 /// message of it, and answers what it brought. The messages that one read made whole are prepared by so many workers, 1 to 64,
-/// without the lock, and those that can't be are read under it. Whatever comes, the handle's session is closed then; where the
+/// without the lock; those that can't be are read under it, and judged before. Whatever comes, the handle's session is closed then; where the
 /// mediator refuses that, it stays open.
 ///
 /// # Errors
@@ -99,16 +102,16 @@ pub fn serve_exporter<E: EntryLedger, H: RecordLedger, R: Source, T: Threads + W
     ensures fails { IfErr result (λ e. R.has_failed reader.new ≡ reader_after e.0) }
 {
     let before = handle.kept().len();
-    let mut counts = Counts::none();
+    let mut progress = Progress::none();
     let pace = Pace { turns, workers };
-    let offered = offer_stream(rt, alloc, shared, handle, reader, pace, &mut counts);
+    let offered = offer_stream(rt, alloc, shared, handle, reader, pace, &mut progress);
     // Whether the session could be closed changes nothing of what was served.
     let _closed = handle.end(rt, shared);
     match offered {
-        Ok(messages) => Ok(counts.of(messages)),
+        Ok(messages) => Ok(progress.of(messages)),
         Err(fault) => {
             let messages = handle.kept().len().saturating_sub(before);
-            Err((fault, counts.of(messages as u64)))
+            Err((fault, progress.of(messages as u64)))
         }
     }
 }
@@ -124,7 +127,7 @@ fn offer_stream<E: EntryLedger, H: RecordLedger, R: Source, T: Threads + Wait + 
     handle: &mut ExporterHandle<E>,
     reader: &mut R,
     pace: Pace,
-    counts: &mut Counts,
+    progress: &mut Progress,
 ) -> Result<u64, ServeFault>
     requires reader { R.has_failed reader.old ≡ false }
     ensures serves { IfOk result (λ offered. Serves pace.turns offered (R.remaining reader.old) (R.remaining reader.new) handle.old handle.new) }
@@ -140,7 +143,7 @@ fn offer_stream<E: EntryLedger, H: RecordLedger, R: Source, T: Threads + Wait + 
             return Ok((handle.kept().len() - before) as u64);
         };
         let answers = prepare_piece(rt, shared, handle, &messages, &mut workers);
-        offer_piece(rt, shared, handle, messages, answers, counts)?;
+        offer_piece(rt, shared, handle, messages, answers, progress)?;
     }
 }
 
@@ -188,13 +191,13 @@ fn offer_piece<E: EntryLedger, H: RecordLedger>(
     handle: &mut ExporterHandle<E>,
     messages: Vec<Bytes>,
     answers: Vec<Result<Prepared, PrepareFault>>,
-    counts: &mut Counts,
+    progress: &mut Progress,
 ) -> Result<(), ServeFault>
     requires prepared { ArePreparations messages.items answers.items }
     ensures ok { OnOk result (Offers handle.old handle.new messages.items) }
     ensures err { IfErr result (λ e. RefusesAmong e handle.old handle.new messages.items) }
 {
-    let offered = offer_each(rt, shared, handle, messages, answers, counts);
+    let offered = offer_each(rt, shared, handle, messages, answers, progress);
     shared.wake();
     offered
 }
@@ -209,7 +212,7 @@ fn offer_each<E: EntryLedger, H: RecordLedger>(
     handle: &mut ExporterHandle<E>,
     messages: Vec<Bytes>,
     answers: Vec<Result<Prepared, PrepareFault>>,
-    counts: &mut Counts,
+    progress: &mut Progress,
 ) -> Result<(), ServeFault>
     requires prepared { ArePreparations messages.items answers.items }
     ensures ok { OnOk result (Offers handle.old handle.new messages.items) }
@@ -218,7 +221,9 @@ fn offer_each<E: EntryLedger, H: RecordLedger>(
     let mut answers = answers.into_iter();
     'messages: for message in messages {
         let prepared = next_prepared(&mut answers);
-        counts.add(&offer_one(rt, shared, handle, prepared, message)?);
+        let workspace = &mut progress.workspace;
+        let receipt = offer_one(rt, shared, handle, prepared, message, workspace)?;
+        progress.add(&receipt);
     }
     Ok(())
 }
@@ -231,13 +236,15 @@ fn next_prepared(answers: &mut IntoIter<Result<Prepared, PrepareFault>>) -> Opti
     answers.next()?.ok()
 }
 
-/// Offers a message as it was prepared; or plainly where it wasn't, or the session has other templates by then.
+/// Offers a message as it was prepared; or with what is judged of it ahead, where it wasn't, or the session has other templates by
+/// then.
 fn offer_one<E: EntryLedger, H: RecordLedger>(
     rt: &impl Wait,
     shared: &SharedMediator<E, H>,
     handle: &mut ExporterHandle<E>,
     prepared: Option<Prepared>,
     message: Bytes,
+    workspace: &mut Workspace,
 ) -> Result<Receipt, Fault>
     requires prepared { IfSome prepared (λ p. p.message ≡ message) }
     ensures kept { IfOk result (λ receipt. handle.new.kept ≡ handle.old.kept ++ record { position = receipt.position; entry = Message handle.old.session (length handle.old.kept) message } ∷ []) }
@@ -245,11 +252,39 @@ fn offer_one<E: EntryLedger, H: RecordLedger>(
     ensures same { OnErr result (handle.new ≡ handle.old) }
 {
     let Some(prepared) = prepared else {
-        return handle.offer_silently(rt, shared, message);
+        return offer_judged(rt, shared, handle, message, workspace);
     };
     match handle.offer_prepared_silently(rt, shared, prepared) {
         Ok(receipt) => Ok(receipt),
-        Err((Fault::Stale, _prepared)) => handle.offer_silently(rt, shared, message),
+        Err((Fault::Stale, _prepared)) => offer_judged(rt, shared, handle, message, workspace),
         Err((fault, _prepared)) => Err(fault),
     }
+}
+
+/// Judges a message without the lock, by the session's templates as they are now, and offers it with what was judged.
+fn offer_judged<E: EntryLedger, H: RecordLedger>(
+    rt: &impl Wait,
+    shared: &SharedMediator<E, H>,
+    handle: &mut ExporterHandle<E>,
+    message: Bytes,
+    workspace: &mut Workspace,
+) -> Result<Receipt, Fault>
+    ensures kept { IfOk result (λ receipt. handle.new.kept ≡ handle.old.kept ++ record { position = receipt.position; entry = Message handle.old.session (length handle.old.kept) message } ∷ []) }
+    ensures session { handle.new.session ≡ handle.old.session }
+    ensures same { OnErr result (handle.new ≡ handle.old) }
+{
+    let ahead = judged_ahead(rt, shared, handle, &message, workspace);
+    handle.offer_judged_silently(rt, shared, message, ahead)
+}
+
+/// What is judged of a message ahead. Where that fails there is nothing, and the offer tells why.
+fn judged_ahead<E: EntryLedger, H: RecordLedger>(
+    rt: &impl Wait,
+    shared: &SharedMediator<E, H>,
+    handle: &ExporterHandle<E>,
+    message: &Bytes,
+    workspace: &mut Workspace,
+) -> Option<JudgedAhead> {
+    let snapshot = handle.snapshot(rt, shared).ok()?;
+    JudgedAhead::of(&snapshot, message, workspace).ok()?
 }

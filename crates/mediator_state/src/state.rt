@@ -17,7 +17,7 @@ use disclosure_audit::AuditEntry;
 use event_journal::{Chronicle, Entry, PolicyText};
 use ipfix_session::Reading;
 use policy_text::{FaultKind, Name, Policy, PolicyFault, is_name};
-use prepared_message::{Prepared, Snapshot};
+use prepared_message::{JudgedAhead, Prepared, Snapshot};
 use record_sharing::Judgement;
 use std::alloc::{AllocError, Global};
 use std::slice::from_ref;
@@ -173,8 +173,31 @@ impl<C: Chronicle + Drop> State<C> {
         ensures journaled { C.limits self.new.chronicle ≡ C.limits self.old.chronicle }
         ensures err { IfErr result (λ e. (h : List Entry) → StandsFor C.tells self.old h → RefusesReceive e (C.limits self.old.chronicle) self.old.engine h session number message) }
     {
+        self.receive_judged(session, number, message, None)
+    }
+
+    /// The same. What was judged of the message ahead is taken where it is of the records that the session finds in it, and where
+    /// its terms still hold: it changes no answer.
+    ///
+    /// # Errors
+    /// Those of [`receive`](State::receive).
+    pub fn receive_judged(
+        &mut self,
+        session: u64,
+        number: u64,
+        message: Bytes,
+        ahead: Option<JudgedAhead>,
+    ) -> Result<Receipt, Fault>
+        requires stands { StandsForSome C.tells self.old }
+        ensures ok { IfOk result (λ r. (h : List Entry) → StandsFor C.tells self.old h → Receives C.tells C.limits self.old h session number message r self.new) }
+        ensures untouched { IsUntouched self.old.engine self.new.engine }
+        ensures same { OnErr result ((h : List Entry) → StandsFor C.tells self.old h → StandsFor C.tells self.new h) }
+        ensures journaled { C.limits self.new.chronicle ≡ C.limits self.old.chronicle }
+        ensures err { IfErr result (λ e. (h : List Entry) → StandsFor C.tells self.old h → RefusesReceive e (C.limits self.old.chronicle) self.old.engine h session number message) }
+    {
         let reading = self.engine.read(session, number, &message)?;
-        self.take_in(session, number, message, reading, None)
+        let judgement = judgement_of(ahead, &reading);
+        self.take_in(session, number, message, reading, judgement)
     }
 
     /// The templates of an open session as they stand, by which its messages can be prepared without this state. It costs one
@@ -513,4 +536,11 @@ fn refusal(fault: PolicyFault) -> Fault
         | FaultKind::BadKey
         | FaultKind::TooMany => Fault::Policy(fault),
     }
+}
+
+/// What was judged ahead, where it is of what was read.
+fn judgement_of(ahead: Option<JudgedAhead>, reading: &Reading) -> Option<Judgement>
+    ensures { IfSome result (IsJudgementOf reading.now.meaning.header.domain reading.now.meaning.records) }
+{
+    ahead?.judgement_of(reading.header().domain, reading.records())
 }

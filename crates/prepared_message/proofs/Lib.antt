@@ -2,3 +2,4 @@ pub mod SetLaws
 pub mod UseLaws
 pub mod ApplyLaws
 pub mod FindLaws
+pub mod AheadLaws

@@ -10,3 +10,4 @@ pub mod Preparation
 pub mod Seen
 pub mod Faults
 pub mod Finding
+pub mod Ahead

@@ -6,6 +6,7 @@
 //! - [`snapshot`]: `Snapshot`, the templates of a session as they stood, and terms.
 //! - [`prepared`]: `Prepared`, a message that was read against a snapshot: `prepare`; `apply_to` and `reading_in` for the
 //!   session that takes it in; `take_judgement`, what was judged.
+//! - [`ahead`]: `JudgedAhead`, what was judged of a message that its session reads itself, since it brings templates.
 //! - [`fault`]: `PrepareFault` and `ApplyFault`, why a message is not prepared, and why it is not taken in.
 //! - `found`: what is found in a message by the snapshot's templates.
 //! - `sets`: whether a message has a set of templates.
@@ -17,9 +18,11 @@
 //! session then stands for it too (`stands`); `reading_in` gives what `Session::read` gives (`reading`). Both answer Stale
 //! only where an ID of the message has another template, or none, in the session (`stale`), and where they answer a fault
 //! nothing has changed (`err`).
-//! What `take_judgement` gives are the shares of the message's records by the terms of which it speaks (`judgement`).
+//! What `take_judgement` gives are the shares of the message's records by the terms of which it speaks (`judgement`). What
+//! `JudgedAhead::judgement_of` gives are the shares of those records that it is asked about.
 #![tactic(auto)]
 
+pub mod ahead;
 pub mod fault;
 mod found;
 pub mod prepared;
@@ -27,6 +30,7 @@ mod sets;
 pub mod snapshot;
 mod used;
 
+pub use ahead::JudgedAhead;
 pub use fault::{ApplyFault, PrepareFault};
 pub use prepared::Prepared;
 pub use snapshot::Snapshot;

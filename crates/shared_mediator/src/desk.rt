@@ -17,7 +17,7 @@ use bytes::Bytes;
 use disclosure_audit::AuditEntry;
 use mediator_calls::{CountedMediator, Handed, Mediator, PullFault, SessionId, SubId, UnknownSub};
 use mediator_state::{Fault, Receipt, Status};
-use prepared_message::{Prepared, Snapshot};
+use prepared_message::{JudgedAhead, Prepared, Snapshot};
 use std::alloc::AllocError;
 use std::marker::Model;
 use std::sync::ledger::{Blank, Book, Share};
@@ -138,13 +138,14 @@ impl<E: EntryLedger, H: RecordLedger> Desk<E, H> {
         Ok(self.entries_left.split_off(1, 0))
     }
 
-    /// Accepts a session's next message, and adds it to a share.
+    /// Accepts a session's next message, with what was judged of it ahead, and adds it to a share.
     pub(crate) fn receive(
         &mut self,
         share: &mut Share<E>,
         session: SessionId,
         number: u64,
         message: Bytes,
+        ahead: Option<JudgedAhead>,
     ) -> Result<Receipt, Fault>
         requires part { 0 < share.old.parts }
         ensures ok { IfOk result (λ receipt. Receives self.old.counted.core session.0 number message receipt self.new.counted.core) }
@@ -154,7 +155,7 @@ impl<E: EntryLedger, H: RecordLedger> Desk<E, H> {
         ensures same { IfErr result (λ e. (self.new ≡ noted (is_full e) self.old) × (share.new ≡ share.old)) }
         ensures err { IfErr result (λ e. RefusesReceive e self.old.counted.core session.0 number message) }
     {
-        match self.counted.receive(session, number, message) {
+        match self.counted.receive_judged(session, number, message, ahead) {
             Ok(receipt) => {
                 self.entries.add(share, 1);
                 Ok(receipt)

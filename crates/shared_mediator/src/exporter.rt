@@ -11,7 +11,7 @@ use entry_receipts::KeptEntry;
 use event_journal::Entry;
 use mediator_calls::SessionId;
 use mediator_state::{Fault, Receipt};
-use prepared_message::{Prepared, Snapshot};
+use prepared_message::{JudgedAhead, Prepared, Snapshot};
 use std::alloc::Global;
 use std::marker::Model;
 use std::sync::Wait;
@@ -103,12 +103,31 @@ impl<E: EntryLedger> ExporterHandle<E> {
         ensures session { self.new.session ≡ self.old.session }
         ensures same { OnErr result (self.new ≡ self.old) }
     {
+        self.offer_judged_silently(rt, shared, message, None)
+    }
+
+    /// The same, with what was judged of the message without the lock, by a snapshot ([`JudgedAhead::of`]): so a message that the
+    /// session reads itself, since it brings templates, isn't judged under the lock. It changes no answer.
+    ///
+    /// # Errors
+    /// Those of [`offer`](ExporterHandle::offer).
+    pub fn offer_judged_silently<H: RecordLedger>(
+        &mut self,
+        rt: &impl Wait,
+        shared: &SharedMediator<E, H>,
+        message: Bytes,
+        ahead: Option<JudgedAhead>,
+    ) -> Result<Receipt, Fault>
+        ensures kept { IfOk result (λ receipt. self.new.kept ≡ self.old.kept ++ record { position = receipt.position; entry = Message self.old.session (length self.old.kept) message } ∷ []) }
+        ensures session { self.new.session ≡ self.old.session }
+        ensures same { OnErr result (self.new ≡ self.old) }
+    {
         let octets = message.clone()?;
         self.kept.reserve(1)?;
         let number = self.kept.len() as u64;
         let receipt = shared
             .locked(rt)
-            .receive(&mut self.share, self.session, number, message)?;
+            .receive(&mut self.share, self.session, number, message, ahead)?;
         self.kept.push_reserved(KeptEntry {
             position: receipt.position,
             entry: Entry::Message {

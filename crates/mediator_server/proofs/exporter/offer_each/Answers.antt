@@ -14,6 +14,6 @@ offer_one-requires g c = record { prepared = (c.next_prepared-prepared.ensures c
 pub messages-preserved : goal.messages-preserved
 messages-preserved g c = (
   offering_on c.args.handle.now c.messages.handle c.offer_one.new.handle c.args.messages.items (into_iter_items c.messages.message-iterator) (into_iter_items c.next.new.self) c.in-Some.message c.in-Some.ensures.steps.0 c.messages.invariant.0
-      (offers_one c.messages.handle c.offer_one.new.handle c.in-Some.message c.in_ok-offer_one.field-0.position c.in_ok-offer_one.ensures.session c.in_ok-offer_one.ensures.kept),
+      (offers_one c.messages.handle c.offer_one.new.handle c.in-Some.message c.in_ok-receipt.receipt.position c.in_ok-receipt.ensures.session c.in_ok-receipt.ensures.kept),
   (c.next_prepared-prepared.ensures c.in-Some.message (into_iter_items c.next.new.self) (prepared_at (into_iter_items c.messages.message-iterator) (into_iter_items c.next.new.self) c.in-Some.message (into_iter_items c.messages.answers) c.in-Some.ensures.steps.0 c.messages.invariant.1)).1,
 )

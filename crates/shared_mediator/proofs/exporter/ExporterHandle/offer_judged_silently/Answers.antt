@@ -2,7 +2,7 @@ use Rattle.std.proofs.Common.{◌∙◌, ◌++◌, ◌∷◌, [], List, ap, leng
 use Rattle.event_journal.specs.declared.entry.Entry.TheVariants.{Message}
 use Rattle.entry_receipts.specs.declared.kept.KeptEntry.{KeptEntry}
 use Rattle.shared_mediator.proofs.HandleLaws.{offered}
-use Rattle.shared_mediator.proofs.exporter.ExporterHandle.offer_silently.Goals as goal
+use Rattle.shared_mediator.proofs.exporter.ExporterHandle.offer_judged_silently.Goals as goal
 
 pub invariant_of-self-2 : goal.invariant_of-self-2
 invariant_of-self-2 g c =

@@ -1,0 +1,130 @@
+//! What is judged of a message ahead of its session, which reads the message itself.
+ghost use Rattle.std.specs.Prelude.{◌≡◌, true, IfSome, IsTrue};
+ghost use Rattle.record_sharing.specs.Judgements.{IsJudgementOf};
+
+use crate::fault::PrepareFault;
+use crate::snapshot::Snapshot;
+use bytes::Bytes;
+use ipfix_message::{items, read_header};
+use ipfix_template::Template;
+use record_runs::{Records, Run};
+use record_sharing::{Judgement, Workspace};
+use std::marker::Model;
+
+/// What was judged of the records that a message holds by a snapshot, whatever sets it has. Its type keeps that this is what
+/// these records give by the snapshot's terms; whether the session finds the same records in the message, it asks then.
+/// Contracts see the Observation Domain and the records.
+pub struct JudgedAhead {
+    domain: u32,
+    records: Records,
+    judgement: Judgement,
+}
+
+impl Drop for JudgedAhead {
+    // Written out: a derived one is proved anew in each crate that drops such a value.
+    fn drop(self) {
+        let JudgedAhead {
+            domain: _,
+            records: _,
+            judgement: _,
+        } = self;
+    }
+}
+
+impl Model for JudgedAhead {
+    ghost use Rattle.prepared_message.specs.Ahead.{OfRecords};
+    ghost use Rattle.record_sharing.specs.Judgements.{IsJudgementOf};
+
+    ghost Value = { OfRecords };
+
+    ghost view = { λ a. record { domain = a.domain; records = a.records } };
+
+    ghost invariant = { λ a. IsJudgementOf a.domain a.records a.judgement };
+}
+
+impl JudgedAhead {
+    /// Reads a message against a snapshot, and judges its records on the snapshot's terms. Nothing where the snapshot has none,
+    /// or where there are more records than a message has octets. The session is not asked, and nothing of it changes.
+    ///
+    /// # Errors
+    /// Malformed where the octets are no message, or a data record goes past its set, by the snapshot's templates; or want of
+    /// memory.
+    pub fn of(
+        snapshot: &Snapshot,
+        message: &Bytes,
+        workspace: &mut Workspace,
+    ) -> Result<Option<JudgedAhead>, PrepareFault> {
+        let Some(terms) = &snapshot.terms else {
+            return Ok(None);
+        };
+        let octets: &[u8] = message;
+        let domain = read_header(octets)?.domain;
+        let alloc = snapshot.templates.allocator();
+        let said = items(alloc, octets)?;
+        let records = snapshot.templates.read(message, said)?.records;
+        if records.len() > octets.len() {
+            return Ok(None);
+        }
+        let judgement = workspace.judge(alloc, terms, domain, &records)?;
+        Ok(Some(JudgedAhead {
+            domain,
+            records,
+            judgement,
+        }))
+    }
+
+    /// The judgement, where it is of these records of this domain. It takes no memory.
+    pub fn judgement_of(self, domain: u32, records: &Records) -> Option<Judgement>
+        ensures { IfSome result (IsJudgementOf domain records.now) }
+    {
+        let JudgedAhead {
+            domain: own_domain,
+            records: own_records,
+            judgement,
+        } = self;
+        if own_domain == domain && are_same(&own_records, records) {
+            Some(judgement)
+        } else {
+            None
+        }
+    }
+}
+
+/// Whether both are the same records, kept as the same runs.
+fn are_same(some: &Records, others: &Records) -> bool
+    ensures { IsTrue result → some.now ≡ others.now }
+{
+    let (some, others) = (some.runs(), others.runs());
+    if some.len() != others.len() {
+        return false;
+    }
+    'runs: for place in 0..some.len() {
+        if !is_same(&some[place], &others[place]) {
+            return false;
+        }
+    }
+    true
+}
+
+/// Whether both have the same template and the same texts of records.
+fn is_same(run: &Run, other: &Run) -> bool
+    ensures { IsTrue result → run.now ≡ other.now }
+{
+    if run.len() != other.len() || !have_same_template(run, other) {
+        return false;
+    }
+    'texts: for index in 0..run.len() {
+        if run.text(index) != other.text(index) {
+            return false;
+        }
+    }
+    true
+}
+
+/// Whether the records of both are of the same template.
+fn have_same_template(run: &Run, other: &Run) -> bool
+    ensures { result ≡ true → run.now.template ≡ other.now.template }
+{
+    let template: &Template = run.template();
+    template == other.template()
+}
