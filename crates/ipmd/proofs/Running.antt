@@ -16,6 +16,7 @@ use Rattle.mediator_state.specs.declared.fault.Fault.TheVariants as fault
 use Rattle.mediator_server.specs.declared.listening.ListenFault.TheVariants as listen
 use Rattle.ipmd_offline.specs.declared.fault.ProgramFault.{ProgramFault}
 use Rattle.ipmd_offline.specs.declared.fault.ProgramFault.TheVariants.{CommandLine, Settings, Policy, Hex, Framing, Core, Cut, Calls, BadLimits, Journal, History, Absent, Close, OutOfMemory, Device}
+use Rattle.ipmd_offline.specs.HexText.{WritesSome}
 use Rattle.ipmd_offline.specs.Status.{run_fault_of}
 use Rattle.run_journals.specs.Keeping.{IsKeepingFault}
 use Rattle.ipmd.specs.declared.serve.Service.{Service}
@@ -142,9 +143,26 @@ pub new_refused : (why : RunFault) (limits : Limits) → RefusesLimits why limit
 new_refused run.BadLimits limits refused allowed = absurd (refused allowed)
 new_refused run.OutOfMemory limits refused allowed = (listen.Core fault.OutOfMemory, refl)
 
--- nothing was written of a run's line, or all of it
-pub told_nothing : (e : ProgramFault) (made : Run) (held : Option (List ℕ)) → IsKeepingFault e → RefusesToTell e made held held
-told_nothing e made held fault = (fault, (0, Appends-nil held))
+-- nothing was written of a run's line, some of it, or all of it
+pub told_nothing : (made : Run) (held : Option (List ℕ)) → RefusesToTell OutOfMemory made held held
+told_nothing made held = inl (refl, inl (Keeps-refl held))
+
+pub told_some : (e : ProgramFault) (made : Run) (held holds : Option (List ℕ)) → e ≡ Device → WritesSome (served made) held holds → RefusesToTell e made held holds
+told_some e made held holds failed some = inr (failed, some)
 
 pub told_all : (e : ProgramFault) (made : Run) (held holds : Option (List ℕ)) → IsKeepingFault e → Appends held holds (served made) → RefusesToTell e made held holds
-told_all e made held holds fault told = (fault, (length (served made), subst (Appends held holds) (sym (take_all (length (served made)) (served made) (omega arith))) told))
+told_all Device made held holds is told = inr (refl, (length (served made), subst (Appends held holds) (sym (take_all (length (served made)) (served made) (omega arith))) told))
+told_all OutOfMemory made held holds is told = inl (refl, inr told)
+told_all (CommandLine error) made held holds is told = absurd is
+told_all (Settings why) made held holds is told = absurd is
+told_all (Policy why) made held holds is told = absurd is
+told_all Hex made held holds is told = absurd is
+told_all (Framing why) made held holds is told = absurd is
+told_all (Core why) made held holds is told = absurd is
+told_all Cut made held holds is told = absurd is
+told_all (Calls n) made held holds is told = absurd is
+told_all BadLimits made held holds is told = absurd is
+told_all (Journal why) made held holds is told = absurd is
+told_all (History position) made held holds is told = absurd is
+told_all (Absent what) made held holds is told = absurd is
+told_all Close made held holds is told = absurd is

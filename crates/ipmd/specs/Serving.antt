@@ -20,7 +20,6 @@ use Rattle.ipmd_offline.specs.declared.fault.ProgramFault.{ProgramFault}
 use Rattle.ipmd_offline.specs.declared.fault.ProgramFault.TheVariants.{CommandLine, Settings, Policy, Hex, Framing, Core, Cut, Calls, BadLimits, Journal, History, Absent, Close, OutOfMemory, Device}
 use Rattle.ipmd_offline.specs.HexText.{WritesSome}
 use Rattle.ipmd_offline.specs.Status.{core_fault_of}
-use Rattle.run_journals.specs.Keeping.{IsKeepingFault}
 use Rattle.ipmd.specs.declared.serve.Service.{Service}
 
 -- ---- before anything is served
@@ -141,10 +140,10 @@ listen_fault_of (listen.Close why) = Close
 abbrev pub IsListenFault : ProgramFault → Type 0
 IsListenFault e = (fault : ListenFault) × (e ≡ listen_fault_of fault)
 
--- a run was made that isn't told whole, or whose journal isn't kept: a device failed or memory ran out, and a front of its line was
--- written, or all of it
+-- a run was made that isn't told whole, or whose journal isn't kept: memory ran out before its line was written, or behind it; or a device
+-- failed, and a front of its line was written, or all of it
 abbrev pub RefusesToTell : ProgramFault → Run → Option (List ℕ) → Option (List ℕ) → Type 0
-RefusesToTell e run held holds = IsKeepingFault e × WritesSome (served run) held holds
+RefusesToTell e run held holds = ((e ≡ OutOfMemory) × (Keeps held holds ⊎ Appends held holds (served run))) ⊎ ((e ≡ Device) × WritesSome (served run) held holds)
 
 -- behind these runs the server ended by a fault, and nothing more was written; or a run more was made, and isn't told whole or kept
 abbrev pub StopsBehind : ProgramFault → Asked → List ℕ → Option (List ℕ) → Option (List ℕ) → Type 0

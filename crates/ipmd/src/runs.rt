@@ -156,7 +156,7 @@ fn fault_of(fault: ListenFault) -> ProgramFault
 ///
 /// # Errors
 /// `Device` where the output fails or the journal can't be kept; `OutOfMemory`.
-#[tactic(auto, using(ipmd_offline::proofs::Lines::kept, crate::proofs::Running::told_nothing, crate::proofs::Running::told_all))]
+#[tactic(auto, using(ipmd_offline::proofs::Lines::kept, crate::proofs::Running::told_some, crate::proofs::Running::told_all))]
 fn end_run<R: Files + AllocGlobal, O: Write>(
     rt: &R,
     noting: &impl Log,

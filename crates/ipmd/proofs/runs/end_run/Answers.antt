@@ -1,7 +1,6 @@
 use Rattle.std.proofs.Common.{◌∙◌, subst, sym}
 use Rattle.std.specs.Io.KnownBytes.{Appends}
 use Rattle.octet_devices.specs.Device.{device_inner}
-use Rattle.ipmd_offline.specs.declared.fault.ProgramFault.TheVariants.{OutOfMemory}
 use Rattle.offline_filter.proofs.Receiving.{err_gives}
 use Rattle.ipmd.specs.Serving.{RefusesToTell, run_of, served}
 use Rattle.ipmd.proofs.Running.{told_all, told_nothing}
@@ -11,7 +10,7 @@ pub returns-in_err-line-clause-err : goal.returns-in_err-line-clause-err
 returns-in_err-line-clause-err g c =
     let held = g.O.Write.contents (device_inner c.args.output.now) in
     err_gives c.from_residual.result c.from_residual.ensures
-    (λ e is. subst (λ x. RefusesToTell x (run_of c.args.closed) held held) (sym is) (told_nothing OutOfMemory (run_of c.args.closed) held tt))
+    (λ e is. subst (λ x. RefusesToTell x (run_of c.args.closed) held held) (sym is) (told_nothing (run_of c.args.closed) held))
 
 pub returns-in_err-kept-clause-err : goal.returns-in_err-kept-clause-err
 returns-in_err-kept-clause-err g c =
