@@ -1,15 +1,23 @@
 """The cases of bench/hostile_costs: lists of calls with hostile messages, and with plain ones of the same length.
 
-    python3 bench/hostile_costs.py PROGRAM FOLDER [CASE..]
+    python3 bench/hostile_costs.py PROGRAMS FOLDER [CASE..]
 
-The environment sets how wide and how many: WIDTHS, WIDTH, RULES and DOMAINS; PATIENCE is how many seconds a run may last.
+PROGRAMS is a folder with the programs `checked` and `unchecked`. The environment sets how wide and how many: WIDTHS, WIDTH, RULES, DOMAINS
+and MANY; BUILDS names the programs to run, REPEATS is how often each list is run, NICE the niceness of the program, and PATIENCE how many
+seconds a run may last.
 """
 import os
 import struct
 import subprocess
 import sys
+import time
 
-program, folder = sys.argv[1:3]
+programs, folder = sys.argv[1:3]
+BUILDS = os.environ.get("BUILDS", "checked unchecked").split()
+REPEATS = int(os.environ.get("REPEATS", "3"))
+NICE = os.environ.get("NICE")
+# A list that takes more seconds is run once.
+LONG = 10
 
 PASS = "rule for * in * from * to * pass;rule for * in * from * to * element * keep;"
 # What examples/customer has: acme sees the flows from and to its own network, of the others' addresses 24 bits, and no source port.
@@ -57,81 +65,159 @@ def policy_line(rules):
     return "edit policy 1;" + rules + "\n"
 
 
-def calls(rules, subscriptions, messages, limits=MOST):
+def calls(rules, subscriptions, messages, limits=MOST, drained=0):
+    """A list of calls; behind each message so many entries of the audit are drained."""
     lines = [limits, policy_line(rules), "open\n"]
     lines += ["subscribe s%d\n" % n for n in range(subscriptions)]
-    lines += ["receive 1 %d %s\n" % (n, one.hex()) for n, one in enumerate(messages)]
+    for n, one in enumerate(messages):
+        lines.append("receive 1 %d %s\n" % (n, one.hex()))
+        if drained:
+            lines.append("audit %d\n" % drained)
     return "".join(lines)
 
 
+# What the program tells of a message that is done under the lock, and what is done elsewhere.
+LOCKED = "receive snapshot stale prepared judged".split()
+ELSEWHERE = "prepare judge".split()
+
+
 class Told:
-    """What the program told of a call."""
+    """What the program told of a call, or of a part of it."""
 
     def __init__(self, line):
-        what, spent, accepted, peak, _, held, _ = line.split()
-        self.what, self.seconds, self.accepted = what, int(spent) / 1e9, accepted == "true"
+        what, number, spent, done, peak, _, held, _ = line.split()
+        self.what, self.number, self.seconds, self.done = what, int(number), int(spent) / 1e9, done == "true"
         self.peak, self.held = int(peak), int(held)
+        # What was held before it.
+        self.before = 0
 
 
-def run(text, ahead=False):
-    """What is told of each call, up to where the run lasts too long."""
-    path = os.path.join(folder, "calls")
-    with open(path, "w") as file:
-        file.write(text)
-    child = subprocess.Popen([program, "ahead" if ahead else "once", path], stdout=subprocess.PIPE, text=True)
+def be_nice():
+    """The program's niceness is that which is asked for, whatever this one has."""
+    if NICE:
+        os.setpriority(os.PRIO_PROCESS, 0, int(NICE))
+
+
+def run(build, path, way):
+    """What is told of each call, and whether that is all. A run that lasts too long is ended."""
+    program = os.path.join(programs, build)
+    child = subprocess.Popen([program, way, path], stdout=subprocess.PIPE, text=True, preexec_fn=be_nice)
     try:
         said, _ = child.communicate(timeout=PATIENCE)
+        whole = child.returncode == 0
     except subprocess.TimeoutExpired:
         child.kill()
         said, _ = child.communicate()
-        return [Told(line) for line in said.splitlines() if line.count(" ") == 6], False
-    return [Told(line) for line in said.splitlines()], child.returncode == 0
+        whole = False
+    told = [Told(line) for line in said.splitlines() if line.count(" ") == 7]
+    for then, now in zip(told, told[1:]):
+        now.before = then.held
+    return told, whole
 
 
 class Cost:
-    """What so many of the last messages of a list cost."""
+    """What the messages with these numbers cost where they are taken in this way: the least of some runs."""
 
-    def __init__(self, text, count):
-        told, self.whole = run(text)
-        received = [one for one in told if one.what == "receive"]
-        before = told.index(received[-count]) - 1 if len(received) >= count else None
-        last = received[-count:] if self.whole else []
-        self.accepted = bool(last) and all(one.accepted for one in last)
-        self.receive = min(one.seconds for one in last) if last else PATIENCE
-        self.worst = max(one.seconds for one in last) if last else PATIENCE
-        self.held = (told[-1].held - told[before].held) / count if last else 0
-        self.peak = max(now.peak - then.held for then, now in zip(told[before:], told[before + 1:])) if last else 0
-        told, whole = run(text, True)
-        self.prepare = self.prepared = None
-        # The calls for the last messages: those behind the last but `count` "prepare".
-        places = [place for place, one in enumerate(told) if one.what == "prepare"][-count:]
-        if whole and len(places) == count:
-            ends = places[1:] + [len(told)]
-            self.prepare = min(told[place].seconds for place in places)
-            self.prepared = min(sum(one.seconds for one in told[place + 1:end]) for place, end in zip(places, ends))
+    def __init__(self, build, path, way, numbers):
+        self.whole, self.accepted, self.ways = False, False, ""
+        self.locked = self.call = self.elsewhere = self.worst = self.held = self.peak = None
+        for _ in range(REPEATS):
+            begin = time.monotonic()
+            told, whole = run(build, path, way)
+            found = {number: [] for number in numbers}
+            for one in told:
+                if one.number in found and one.what in LOCKED + ELSEWHERE:
+                    found[one.number].append(one)
+            parts = list(found.values())
+            if not whole or not all(parts):
+                return
+            self.add(told, parts)
+            if time.monotonic() - begin > LONG:
+                return
+
+    def add(self, told, parts):
+        """One run more, with what it told of each of the messages."""
+        locked = [sum(one.seconds for one in part if one.what in LOCKED) for part in parts]
+        elsewhere = [sum(one.seconds for one in part if one.what in ELSEWHERE) for part in parts]
+        if not self.whole or max(locked) < self.worst:
+            self.worst = max(locked)
+        self.locked = min(locked + [self.locked or PATIENCE])
+        self.call = min([part[-1].seconds for part in parts] + [self.call or PATIENCE])
+        self.elsewhere = min(elsewhere + [PATIENCE if self.elsewhere is None else self.elsewhere])
+        self.held = min((told[-1].held - parts[0][0].before) / len(parts), self.held if self.whole else 1e12)
+        # The memory of a message is that above what was held before its first part.
+        peak = max(max(one.peak for one in part) - part[0].before for part in parts)
+        self.peak = min(peak, self.peak if self.whole else peak)
+        # A policy or a subscription that is refused would make messages cheap.
+        self.accepted = (self.accepted or not self.whole) and all(one.done for one in told if one.what not in ELSEWHERE + ["stale"])
+        self.ways = " ".join(one.what for one in parts[-1] if one.what in LOCKED and one.what != "snapshot")
+        self.whole = True
 
 
 def number(value, unit=1.0):
-    return "?" if value is None else "{:,.3g}".format(value * unit) if value * unit < 100 else "{:,.0f}".format(value * unit)
+    return "?" if value is None else "{:,.3g}".format(value * unit) if abs(value * unit) < 100 else "{:,.0f}".format(value * unit)
 
 
-HEADS = ["Case", "octets", "one call, ms", "worst", "times plain", "ahead, ms", "under the lock then, ms", "kept, KiB", "times plain",
-         "at most meanwhile, KiB", "times plain", "accepted"]
+def times(value, usual, least=0.0):
+    """How many times the usual one a value is."""
+    return "?" if value is None or usual is None else number(value / max(usual, least, 1e-9))
 
 
-def tell(name, rules, subscriptions, before, hostile, plain_rules=PASS):
-    """Measures a case and prints its row, and that of the plain messages."""
-    count = len(hostile)
+HEADS = ["Case", "build", "octets", "one call, ms", "worst", "times plain", "by", "elsewhere, ms", "under the lock, ms", "worst", "times plain",
+         "the last call, ms", "never prepared: elsewhere, ms", "under the lock, ms", "times plain", "kept, KiB", "times plain",
+         "at most meanwhile, KiB", "times plain", "the same ahead, KiB", "times plain", "accepted"]
+USUAL = {}
+
+
+def row(name, build, length, once, ahead, judged, usual):
+    """Prints the row of a case."""
+    mark = "" if once.whole else ">"
+    plain_once, plain_ahead, plain_judged = usual
+    print("| " + " | ".join([
+        name, build, str(length), number(PATIENCE if mark else once.locked, 1e3), number(once.worst, 1e3),
+        mark + times(PATIENCE if mark else once.locked, plain_once.locked), ahead.ways, number(ahead.elsewhere, 1e3),
+        number(ahead.locked, 1e3), number(ahead.worst, 1e3), times(ahead.locked, plain_ahead.locked), number(ahead.call, 1e3),
+        number(judged.elsewhere, 1e3), number(judged.locked, 1e3), times(judged.locked, plain_judged.locked),
+        number(once.held), times(once.held, plain_once.held, 0.1), number(once.peak), times(once.peak, plain_once.peak, 0.1),
+        number(ahead.peak), times(ahead.peak, plain_ahead.peak, 0.1),
+        "yes" if once.accepted and ahead.accepted and judged.accepted else "no"]) + " |", flush=True)
+
+
+def served(subscriptions):
+    return "1 subscription" if subscriptions == 1 else "%d subscriptions" % subscriptions
+
+
+def costs(build, text, numbers, ways):
+    path = os.path.join(folder, "calls")
+    with open(path, "w") as file:
+        file.write(text)
+    return [Cost(build, path, way, numbers) for way in ways]
+
+
+def usual_of(build, subscriptions, length, least):
+    """What plain messages of this length cost, or of one nearly as long, which is found out and told once."""
+    length = length if length < 1000 else length // 100 * 100
+    found = (build, subscriptions, length)
+    if found not in USUAL:
+        # Queues have room for a million records.
+        many = max(3, min(2000, 4_000_000 // length, 600_000 // max(1, (length - 20) // 10), 150_000_000 // subscriptions // length))
+        many = max(least, many) if least * ((length - 20) // 10) < 900_000 else many
+        text = calls(PASS, subscriptions, [FLOW] + [plain(length)] * (many + 3))
+        USUAL[found] = costs(build, text, range(4, many + 4), ("once", "ahead", "judged"))
+        row("plain, %s" % served(subscriptions), build, length, *USUAL[found], USUAL[found])
+    return USUAL[found]
+
+
+def tell(name, rules, subscriptions, before, hostile, drained=0, behind=False):
+    """Measures a case by each program, and prints its row and that of plain messages. Where the messages are to be behind others, each
+    second one is measured, and a read brings it with the one before."""
     length = len(hostile[-1])
-    many = max(count, min(2000, 4_000_000 // length))
-    usual = Cost(calls(plain_rules, subscriptions, [FLOW] + [plain(length)] * (many + 3)), many)
-    cost = Cost(calls(rules, subscriptions, before + hostile), count)
-    for what, one in ("plain", usual), (name, cost):
-        mark = "" if one.whole else ">"
-        print("| " + " | ".join([
-            what, str(length), mark + number(one.receive, 1e3), mark + number(one.worst, 1e3), mark + number(one.receive / usual.receive),
-            number(one.prepare, 1e3), number(one.prepared, 1e3), number(one.held), number(one.held / max(usual.held, 0.1)),
-            number(one.peak), number(one.peak / max(usual.peak, 0.1)), "yes" if one.accepted else "no"]) + " |", flush=True)
+    # Messages are numbered from 0.
+    numbers = range(len(before), len(before) + len(hostile))[1 if behind else 0::2 if behind else 1]
+    for build in BUILDS:
+        usual = usual_of(build, subscriptions, length, len(hostile))
+        text = calls(rules, subscriptions, before + hostile, drained=drained)
+        row(name, build, length, *costs(build, text, numbers, ("once", "pairs" if behind else "ahead", "judged")), usual)
 
 
 def thousands_of_domains():
@@ -159,20 +245,24 @@ def templates_redefined():
     tell("8,189 new templates in a domain of its own in each message", PASS, 1, [], new)
 
 
-def wide(fields, policy, records, what, subscriptions=1, count=3, together=False):
+def wide(fields, policy, records, what, subscriptions=1, count=3, together=False, drained=0):
     """Messages of records of a wide template."""
     define = set_of(2, template(256, fields))
     data = set_of(256, records)
     if together:
-        tell(what, policy, subscriptions, [], [message(define, data)] * count)
+        tell(what, policy, subscriptions, [], [message(define, data)] * count, drained)
     else:
-        tell(what, policy, subscriptions, [message(define)], [message(data)] * count)
+        tell(what, policy, subscriptions, [message(define)], [message(data)] * count, drained)
 
 
 def wide_addresses():
     """A record of so many addresses, all inside one prefix of the customer's policy."""
     for width in [int(word) for word in os.environ.get("WIDTHS", "250 500 1000").split()]:
         wide([(8, 4)] * width, CUSTOMER, b"\xc6\x33\x64\x01" * width, "a record of %d addresses" % width)
+    width = int(os.environ.get("WIDTH", "8000"))
+    for subscriptions in 1, 10:
+        wide([(8, 4)] * width, CUSTOMER, b"\xc6\x33\x64\x01" * width,
+             "a record of %d addresses with its template, %d subscriptions" % (width, subscriptions), subscriptions, together=True)
 
 
 def wide_octets():
@@ -208,16 +298,47 @@ def turns():
              [message(*[set_of(256, b"\x06"), set_of(257, b"\x06")] * many)] * 3)
 
 
+def sets_of_one(numbers, room):
+    """As many Data Sets with a record of one octet as there is room for, of these templates in turns."""
+    return [set_of(numbers[n % len(numbers)], b"\x06") for n in range(room // 5)]
+
+
 def wide_turns():
     """Data Sets of wide templates, with one record of one octet each, or none."""
-    width = int(os.environ.get("WIDTH", "8000"))
+    for width in [int(word) for word in os.environ.get("WIDTHS", "4000 16000").split()]:
+        fields = [(210, 0)] * (width - 1)
+        sets = [set_of(2, template(number, fields + [(last, 1)])) for number, last in ((256, 4), (257, 5))]
+        two = [message(one) for one in sets]
+        tell("16,379 empty Data Sets of a template of %d fields" % width, PASS, 1, two, [message(*[set_of(256, b"")] * 16379)] * 2)
+        for numbers, what in ([256], "a template of %d fields" % width), ([256, 257], "two templates of %d fields in turns" % width):
+            some = sets_of_one(numbers, LONGEST - 16)
+            tell("%d Data Sets of %s" % (len(some), what), PASS, 1, two, [message(*some)] * 2)
+        # A message brings those of its templates that it has room for; the others came before.
+        for brought in range(1, 3):
+            room = LONGEST - 16 - sum(len(one) for one in sets[:brought])
+            for numbers in [256], [256, 257]:
+                some = sets_of_one(numbers, room)
+                if len(some) < 2 or brought > len(numbers):
+                    continue
+                tell("%d Data Sets of %d templates of %d fields in turns, and %d of these templates"
+                     % (len(some), len(numbers), width, brought), PASS, 1, two, [message(*sets[:brought], *some)] * 2)
+
+
+def behind_templates():
+    """Messages that come in the same read behind one that defines their templates anew, or for the first time."""
+    width = int(os.environ.get("WIDTH", "4000"))
     fields = [(210, 0)] * (width - 1)
-    two = [message(set_of(2, template(number, fields + [(last, 1)]))) for number, last in ((256, 4), (257, 5))]
-    many = (LONGEST - 16) // 10
-    one, other = set_of(256, b"\x06"), set_of(257, b"\x06")
-    tell("16,379 empty Data Sets of a template of %d fields" % width, PASS, 1, two, [message(*[set_of(256, b"")] * 16379)] * 2)
-    tell("%d Data Sets of a template of %d fields" % (2 * many, width), PASS, 1, two, [message(*[one] * (2 * many))] * 2)
-    tell("%d Data Sets of two such templates in turns" % (2 * many), PASS, 1, two, [message(*[one, other] * many)] * 2)
+
+    def defined(first):
+        return message(*[set_of(2, template(number, fields + [(last, 1)])) for number, last in ((256, first), (257, 9 - first))])
+
+    some = message(*sets_of_one([256, 257], LONGEST - 16))
+    tell("%d Data Sets of two templates of %d fields in turns, behind these templates" % ((LONGEST - 16) // 5, width), PASS, 1, [],
+         [defined(4), some, defined(5), some], behind=True)
+    # Plain ones, whose template is another each time.
+    flows = [message(set_of(2, template(256, [(8, 4), (last, 2), (1, 4)]))) for last in (7, 11)]
+    tell("plain messages, each behind its template", PASS, 1, [], [flows[0], plain(LONGEST), flows[1], plain(LONGEST)] * 4, behind=True)
+    tell("the same, 10 subscriptions", PASS, 10, [], [flows[0], plain(LONGEST), flows[1], plain(LONGEST)] * 4, behind=True)
 
 
 def classes():
@@ -260,16 +381,18 @@ def rules_for_one_element():
     """A wide record of one element, by rules that all name it, each in a domain of its own."""
     for count in [int(word) for word in os.environ.get("RULES", "100 1000").split()]:
         named = "".join("rule for * in %d from * to * element octetDeltaCount keep;" % (100 + n) for n in range(count))
-        width = int(os.environ.get("WIDTH", "1000"))
-        wide([(1, 1)] * width, PASS.replace("pass;", "pass;" + named), b"\x01" * width,
-             "a record of %d fields of one element, %d rules that name it" % (width, count))
+        width = int(os.environ.get("WIDTH", "2000"))
+        for together in False, True:
+            wide([(1, 1)] * width, PASS.replace("pass;", "pass;" + named), b"\x01" * width,
+                 "a record of %d fields of one element%s, %d rules that name it" % (width, " with its template" if together else "", count),
+                 together=together)
 
 
 def addresses_by_rules():
     """Records of thousands of addresses, by rules that look at each of them."""
     for count in [int(word) for word in os.environ.get("RULES", "100 1000 4092").split()]:
         rules = one_mark(count) + PASS
-        width = int(os.environ.get("WIDTH", "500"))
+        width = int(os.environ.get("WIDTH", "2000"))
         wide([(8, 4)] + [(12, 4)] * (width - 1), rules, b"\xc6\x33\x64\x01" + b"\x0b\x00\x00\x01" * (width - 1),
              "a record of %d addresses, %d rules" % (width, count), together=True)
 
@@ -299,9 +422,25 @@ def aggregates():
         struct.pack("!III", 1700000100, many * n + m, 0x0A000001 + 256 * (m * 7919 % 4096)) for m in range(many)))) for n in range(6)])
 
 
+def many_subscriptions():
+    """Plain messages, withheld records and groups, with many subscriptions."""
+    flow, nothing = plain(LONGEST), "rule for * in * from * to * withhold;"
+    groups = "aggregate a key ingressInterface interval 300 grace 60;rule for * in * from * to * aggregate a;"
+    first = message(set_of(2, template(256, [(150, 4), (10, 4)])))
+    many = (LONGEST - 20) // 8
+    for subscriptions in [int(word) for word in os.environ.get("MANY", "50 100").split()]:
+        # The audit has room for ten million entries, so it is drained behind each message.
+        wide([(4, 1)], nothing, b"\x06" * (LONGEST - 20),
+             "%d records of one octet, withheld, %d subscriptions" % (LONGEST - 20, subscriptions), subscriptions, drained=10_000_000)
+        tell("plain records, withheld, %d subscriptions" % subscriptions, nothing, subscriptions, [FLOW], [flow] * 3, drained=10_000_000)
+        tell("%d groups a message, %d subscriptions" % (many, subscriptions), groups, subscriptions, [first],
+             [message(set_of(256, b"".join(struct.pack("!II", 1700000100, many * n + m) for m in range(many)))) for n in range(3)])
+
+
 CASES = {one.__name__: one for one in (
-    thousands_of_domains, templates_redefined, wide_addresses, wide_octets, small_records, turns, wide_turns, classes, unknown,
-    rules_for_one_source, rules_for_one_element, addresses_by_rules, aggregates)}
+    thousands_of_domains, templates_redefined, wide_addresses, wide_octets, small_records, turns, wide_turns, behind_templates, classes, unknown,
+    rules_for_one_source, rules_for_one_element, addresses_by_rules, aggregates,
+    many_subscriptions)}
 
 if __name__ == "__main__":
     if sys.argv[3:] == ["list"]:
