@@ -1,6 +1,6 @@
--- The mark of each rule that may match is among those that are looked up.
-use Rattle.std.proofs.Common.{◌≡◌, ℕ, true, false, List, [], ◌∷◌, ◌++◌, length, Option, Some, None, IfSome, cond, refl, ap, sym, ◌∙◌, subst, ◌==◌, ◌&&◌}
-use Rattle.std.specs.List.{Contains, list_any, zip, filter_map}
+-- All marks of each rule that may match are among those that are looked up.
+use Rattle.std.proofs.Common.{◌≡◌, ℕ, true, false, List, [], ◌∷◌, ◌++◌, length, Option, Some, None, IfSome, cond, option_map, refl, ap, sym, ◌∙◌, subst, ◌==◌, ◌&&◌, ◌⊎◌, inl, inr, arith}
+use Rattle.std.specs.List.{Contains, list_any, zip, filter_map, cons_option}
 use Rattle.std.specs.Str.{bytes_eq}
 use Rattle.std.proofs.lemmas.Bool.{and_parts, eqb-true}
 use Rattle.std.proofs.lemmas.Slice.Eq.{bytes_eq-Decides}
@@ -26,10 +26,10 @@ use Rattle.policy_judge.proofs.OccurrenceLaws.{any_picked}
 use Rattle.rule_table.specs.declared.addresses.Address.{Address}
 use Rattle.rule_table.specs.declared.addresses.Shape.{Shape}
 use Rattle.rule_table.specs.Addresses.{address_of, address_at, addresses_of, shape_of}
-use Rattle.rule_table.specs.Marks.{name_mark, who_mark, inside_mark, prefix_mark, domain_mark, element_mark, element_of, telling_mark, rule_mark}
+use Rattle.rule_table.specs.Marks.{name_mark, who_mark, inside_mark, prefix_mark, domain_mark, element_mark, element_of, condition_marks, present, or_alone, marks_of}
 use Rattle.rule_table.specs.Asked.{asked_at, asked_of, asked_elements, with_asked, asked_by, asked}
 use Rattle.rule_table.specs.Candidates.{touches, has_element, may_match}
-use Rattle.rule_table.proofs.Members.{Passing, passing, given, joined, mapped}
+use Rattle.rule_table.proofs.Members.{Passing, passing, given, joined, mapped, member}
 
 -- ---- an address inside a prefix is asked for by the prefix's mark
 
@@ -120,42 +120,78 @@ in_to : (who domain : ℕ) (elements from to marks : List ℕ) (m : ℕ) → Con
 in_to who domain elements from to marks m c =
     let front = marks ++ who ∷ [] ++ domain_mark who domain ∷ [] ++ elements ++ from in Contains-append_right front to m c
 
--- ---- the mark of a rule
+-- ---- each mark of a condition is asked for, where the condition is met
 
-telling : (ss ds : List Shape) (r : DataRecord) (domain : ℕ) (from to : Option Prefix) (element : Option Element) (d : Option ℕ)
-    → is_met (λ prefix. list_any (contains prefix) (sources r)) from ≡ true → is_met (λ prefix. list_any (contains prefix) (destinations r)) to ≡ true
-    → is_met (has_element r.template.fields) element ≡ true → is_met (λ n. n == domain) d ≡ true
-    → IfSome from (λ prefix. Contains ss (shape_of prefix)) → IfSome to (λ prefix. Contains ds (shape_of prefix))
-    → (who : ℕ) (marks : List ℕ) → Contains (asked_by who domain ss ds r marks) (telling_mark who from to element d)
-telling ss ds r domain (Some from) to element d f t h m sf st who marks =
-    in_from who domain (asked_elements who r.template.fields) _ _ marks _ (asked_prefix who Source ss r from f sf)
-telling ss ds r domain None (Some to) element d f t h m sf st who marks =
-    in_to who domain (asked_elements who r.template.fields) _ _ marks _ (asked_prefix who Destination ds r to t st)
-telling ss ds r domain None None (Some element) d f t h m sf st who marks =
-    in_elements who domain (asked_elements who r.template.fields) _ _ marks _ (asked_element who r.template.fields element h)
-telling ss ds r domain None None None (Some d) f t h m sf st who marks =
-    let same : domain ≡ d = sym (eqb-true d domain m) in
+from_asked : (ss ds : List Shape) (r : DataRecord) (domain : ℕ) (from : Option Prefix) → is_met (λ prefix. list_any (contains prefix) (sources r)) from ≡ true
+    → IfSome from (λ prefix. Contains ss (shape_of prefix)) → (who : ℕ) (marks : List ℕ) → IfSome (option_map (prefix_mark who Source) from) (λ m. Contains (asked_by who domain ss ds r marks) m)
+from_asked ss ds r domain None met shaped who marks = tt
+from_asked ss ds r domain (Some from) met shaped who marks =
+    in_from who domain (asked_elements who r.template.fields) _ _ marks _ (asked_prefix who Source ss r from met shaped)
+
+to_asked : (ss ds : List Shape) (r : DataRecord) (domain : ℕ) (to : Option Prefix) → is_met (λ prefix. list_any (contains prefix) (destinations r)) to ≡ true
+    → IfSome to (λ prefix. Contains ds (shape_of prefix)) → (who : ℕ) (marks : List ℕ) → IfSome (option_map (prefix_mark who Destination) to) (λ m. Contains (asked_by who domain ss ds r marks) m)
+to_asked ss ds r domain None met shaped who marks = tt
+to_asked ss ds r domain (Some to) met shaped who marks =
+    in_to who domain (asked_elements who r.template.fields) _ _ marks _ (asked_prefix who Destination ds r to met shaped)
+
+element_asked : (ss ds : List Shape) (r : DataRecord) (domain : ℕ) (element : Option Element) → is_met (has_element r.template.fields) element ≡ true
+    → (who : ℕ) (marks : List ℕ) → IfSome (option_map (element_mark who) element) (λ m. Contains (asked_by who domain ss ds r marks) m)
+element_asked ss ds r domain None met who marks = tt
+element_asked ss ds r domain (Some element) met who marks =
+    in_elements who domain (asked_elements who r.template.fields) _ _ marks _ (asked_element who r.template.fields element met)
+
+domain_asked : (ss ds : List Shape) (r : DataRecord) (domain : ℕ) (d : Option ℕ) → is_met (λ n. n == domain) d ≡ true
+    → (who : ℕ) (marks : List ℕ) → IfSome (option_map (domain_mark who) d) (λ m. Contains (asked_by who domain ss ds r marks) m)
+domain_asked ss ds r domain None met who marks = tt
+domain_asked ss ds r domain (Some d) met who marks =
+    let same : domain ≡ d = sym (eqb-true d domain met) in
     let P : ℕ → Type 0 = λ n. Contains (asked_by who domain ss ds r marks) (domain_mark who n) in
     subst P same (in_domain who domain (asked_elements who r.template.fields) (asked_of who Source ss (addresses_of Source r)) (asked_of who Destination ds (addresses_of Destination r)) marks)
-telling ss ds r domain None None None None f t h m sf st who marks = in_who who domain (asked_elements who r.template.fields) _ _ marks
 
-for_whom : (name : List ℕ) (domain : ℕ) (ss ds : List Shape) (r : DataRecord) (who : Option (List ℕ)) (mark : ℕ → ℕ)
-    → ((w : ℕ) (marks : List ℕ) → Contains (asked_by w domain ss ds r marks) (mark w)) → is_met (bytes_eq name) who ≡ true
-    → Contains (asked name domain ss ds r) (mark (who_mark who))
-for_whom name domain ss ds r None mark each e = kept (name_mark name) domain _ _ _ (asked_by 0 domain ss ds r []) (mark 0) (each 0 [])
-for_whom name domain ss ds r (Some w) mark each e =
+-- ---- what holds of each mark that is present holds of each of them
+
+none_present : (P : ℕ → Type 0) (m : ℕ) → Contains [] m → P m
+none_present P m (k, l, at) = absurd (omega arith)
+
+first_or : (P : ℕ → Type 0) (x : ℕ) (others : List ℕ) (m : ℕ) → P x → (Contains others m → P m) → (x ≡ m) ⊎ Contains others m → P m
+first_or P x others m first rest (inl same) = subst P same first
+first_or P x others m first rest (inr among) = rest among
+
+present_or : (P : ℕ → Type 0) (mark : Option ℕ) (others : List ℕ) → IfSome mark P → ((m : ℕ) → Contains others m → P m) → (m : ℕ) → Contains (cons_option mark others) m → P m
+present_or P None others first rest m c = rest m c
+present_or P (Some x) others first rest m c = first_or P x others m first (rest m) (member x m others c)
+
+each_present : (P : ℕ → Type 0) (a b c d : Option ℕ) → IfSome a P → IfSome b P → IfSome c P → IfSome d P → (m : ℕ) → Contains (present (a ∷ b ∷ c ∷ d ∷ [])) m → P m
+each_present P a b c d pa pb pc pd =
+    present_or P a (present (b ∷ c ∷ d ∷ [])) pa (present_or P b (present (c ∷ d ∷ [])) pb (present_or P c (present (d ∷ [])) pc (present_or P d [] pd (none_present P))))
+
+alone_or : (P : ℕ → Type 0) (who : ℕ) (marks : List ℕ) → P who → ((m : ℕ) → Contains marks m → P m) → (m : ℕ) → Contains (or_alone who marks) m → P m
+alone_or P who [] alone each m c = first_or P who [] m alone (none_present P m) (member who m [] c)
+alone_or P who (x ∷ xs) alone each m c = each m c
+
+-- ---- the marks of a rule
+
+for_whom : (name : List ℕ) (domain : ℕ) (ss ds : List Shape) (r : DataRecord) (who : Option (List ℕ)) (marks_by : ℕ → List ℕ) (m : ℕ)
+    → ((w : ℕ) (marks : List ℕ) → Contains (marks_by w) m → Contains (asked_by w domain ss ds r marks) m) → is_met (bytes_eq name) who ≡ true
+    → Contains (marks_by (who_mark who)) m → Contains (asked name domain ss ds r) m
+for_whom name domain ss ds r None marks_by m each e own = kept (name_mark name) domain _ _ _ (asked_by 0 domain ss ds r []) m (each 0 [] own)
+for_whom name domain ss ds r (Some w) marks_by m each e own =
     let same : name ≡ w = (bytes_eq-Decides name w).0 e in
-    let P : List ℕ → Type 0 = λ n. Contains (asked name domain ss ds r) (mark (name_mark n)) in
-    subst P same (each (name_mark name) (asked_by 0 domain ss ds r []))
+    let P : List ℕ → Type 0 = λ n. Contains (marks_by (name_mark n)) m → Contains (asked name domain ss ds r) m in
+    subst P same (each (name_mark name) (asked_by 0 domain ss ds r [])) own
 
 pub asked_rule : (name : List ℕ) (domain : ℕ) (ss ds : List Shape) (r : DataRecord) (rule : Rule) → may_match name domain r rule ≡ true
     → IfSome rule.from (λ prefix. Contains ss (shape_of prefix)) → IfSome rule.to (λ prefix. Contains ds (shape_of prefix))
-    → Contains (asked name domain ss ds r) (rule_mark rule)
-unfolding rule_mark
-asked_rule name domain ss ds r rule e sf st =
+    → (m : ℕ) → Contains (marks_of rule) m → Contains (asked name domain ss ds r) m
+unfolding marks_of
+asked_rule name domain ss ds r rule e sf st m own =
     let parts = and_parts (is_for name domain rule) (touches r rule && is_met (has_element r.template.fields) (element_of rule)) e in
     let whom = and_parts (is_met (bytes_eq name) rule.who) (is_met (λ d. d == domain) rule.domain) parts.0 in
     let rest = and_parts (touches r rule) (is_met (has_element r.template.fields) (element_of rule)) parts.1 in
     let ends = and_parts (is_met (λ prefix. list_any (contains prefix) (sources r)) rule.from) (is_met (λ prefix. list_any (contains prefix) (destinations r)) rule.to) rest.0 in
-    for_whom name domain ss ds r rule.who (λ w. telling_mark w rule.from rule.to (element_of rule) rule.domain)
-    (telling ss ds r domain rule.from rule.to (element_of rule) rule.domain ends.0 ends.1 rest.1 whom.1 sf st) whom.0
+    let each : (w : ℕ) (marks : List ℕ) → Contains (or_alone w (present (condition_marks w rule))) m → Contains (asked_by w domain ss ds r marks) m = λ w marks.
+    let P : ℕ → Type 0 = λ n. Contains (asked_by w domain ss ds r marks) n in
+    alone_or P w (present (condition_marks w rule)) (in_who w domain (asked_elements w r.template.fields) _ _ marks)
+    (each_present P (option_map (prefix_mark w Source) rule.from) (option_map (prefix_mark w Destination) rule.to) (option_map (element_mark w) (element_of rule)) (option_map (domain_mark w) rule.domain)
+    (from_asked ss ds r domain rule.from ends.0 sf w marks) (to_asked ss ds r domain rule.to ends.1 st w marks) (element_asked ss ds r domain (element_of rule) rest.1 w marks) (domain_asked ss ds r domain rule.domain whom.1 w marks)) m in
+    for_whom name domain ss ds r rule.who (λ w. or_alone w (present (condition_marks w rule))) m each whom.0 own

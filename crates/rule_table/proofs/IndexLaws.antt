@@ -1,32 +1,51 @@
 -- Entries, and where those of a mark stand among ascending ones.
-use Rattle.std.proofs.Common.{◌≡◌, ◌⊎◌, ℕ, zero, suc, ◌+◌, ◌%◌, ◌^◌, ◌-◌, ◌<◌, ◌≤◌, List, [], ◌∷◌, ◌++◌, length, get_or, take, drop, map, Some, ap, sym, ◌∙◌, subst, arith, inl, inr, add-zero}
+use Rattle.std.proofs.Common.{◌≡◌, ◌⊎◌, ℕ, ◌+◌, ◌%◌, ◌^◌, ◌-◌, ◌<◌, ◌≤◌, List, [], ◌∷◌, ◌++◌, length, get_or, take, drop, map, Some, ap, sym, ◌∙◌, subst, arith, inl, inr}
 use Rattle.std.specs.Prelude.{slice_get}
-use Rattle.std.specs.List.{Contains, enumerate_from}
+use Rattle.std.specs.List.{Contains}
+use Rattle.std.specs.List.Sorted.{IsPermutation}
 use Rattle.std.proofs.lemmas.Bool.{cases_lt}
-use Rattle.std.proofs.lemmas.Option.{same_Some}
+use Rattle.std.proofs.lemmas.Option.{same_Some, slice_get_within}
 use Rattle.std.proofs.lemmas.List.{get_or_default, get_or-take, get_or-drop, length-take-le, length-drop}
 use Rattle.policy_text.specs.declared.rule.Rule.{Rule}
-use Rattle.rule_table.specs.Marks.{rule_mark}
-use Rattle.rule_table.specs.Index.{entry, entry_of, entries_of}
-use Rattle.std.proofs.lemmas.List.Elements.{Contains-append_left, Contains-append_right}
-use Rattle.rule_table.proofs.Members.{here, behind, mapped}
+use Rattle.rule_table.specs.Marks.{marks_of}
+use Rattle.rule_table.specs.Index.{entry, Stands, StandEach}
+use Rattle.std.proofs.lemmas.List.Elements.{Contains-append_left, Contains-append_right, Contains-push}
+use Rattle.std.proofs.lemmas.List.Sorted.{Contains-permutation}
+use Rattle.rule_table.proofs.Members.{mapped}
 
--- ---- each rule has its entry
+-- ---- each rule stands under one of its marks
 
-there : (n : ℕ) (rules : List Rule) (k : ℕ) (rule : Rule) → slice_get rules k ≡ Some rule → Contains (map entry_of (enumerate_from n rules)) (entry (rule_mark rule) (n + k))
-there n [] k rule e = absurd (cc)
-there n (x ∷ xs) zero rule e =
-    here _ _ _ (ap (λ r. entry (rule_mark r) n) (same_Some x rule e) ∙ ap (entry (rule_mark rule)) (sym (add-zero n)))
-there n (x ∷ xs) (suc k) rule e =
-    let place : n + 1 + k ≡ n + suc k = omega arith in
-    let P : ℕ → Type 0 = λ p. Contains (map entry_of (enumerate_from (n + 1) xs)) (entry (rule_mark rule) p) in
-    behind _ _ _ (subst P place (there (n + 1) xs k rule e))
+-- so does each before a place
+abbrev pub StandBefore : List Rule → List ℕ → ℕ → Type 0
+StandBefore rules entries n = (place : ℕ) (rule : Rule) → place < n → slice_get rules place ≡ Some rule → Stands entries place rule
 
-pub entry_there : (rules : List Rule) (k : ℕ) (rule : Rule) → slice_get rules k ≡ Some rule → Contains (entries_of rules) (entry (rule_mark rule) k)
-entry_there rules k rule e =
-    let place : 0 + k ≡ k = omega arith in
-    let P : ℕ → Type 0 = λ p. Contains (entries_of rules) (entry (rule_mark rule) p) in
-    subst P place (there 0 rules k rule e)
+standing_at : (rules : List Rule) (old : List ℕ) (mark n : ℕ) (item : Rule) (place : ℕ) (rule : Rule) → StandBefore rules old n → slice_get rules n ≡ Some item → Contains (marks_of item) mark
+    → place < n + 1 → slice_get rules place ≡ Some rule → (place < n) ⊎ (n ≤ place) → Stands (old ++ entry mark n ∷ []) place rule
+standing_at rules old mark n item place rule stand this own l at (inl less) =
+    let s : Stands old place rule = stand place rule less at in
+    record { mark = s.mark; own = s.own; there = Contains-append_left old (entry mark n ∷ []) (entry s.mark place) s.there }
+standing_at rules old mark n item place rule stand this own l at (inr more) =
+    let here : n ≡ place = omega (arith, l, more) in
+    let same : item ≡ rule = same_Some item rule (sym this ∙ ap (slice_get rules) here ∙ at) in
+    let P : Rule → Type 0 = λ one. Contains (marks_of one) mark in
+    let Q : ℕ → Type 0 = λ k. Contains (old ++ entry mark n ∷ []) (entry mark k) in
+    record { mark = mark; own = subst P same own; there = subst Q here (Contains-push old (entry mark n)) }
+
+pub standing_more : (rules : List Rule) (old new : List ℕ) (mark n added : ℕ) (item : Rule) → new ≡ old ++ added ∷ [] → added ≡ entry mark n → StandBefore rules old n → slice_get rules n ≡ Some item
+    → Contains (marks_of item) mark → StandBefore rules new (n + 1)
+standing_more rules old new mark n added item grown is stand this own place rule l at =
+    let P : List ℕ → Type 0 = λ entries. Stands entries place rule in
+    subst P (ap (λ e. old ++ e ∷ []) (sym is) ∙ sym grown) (standing_at rules old mark n item place rule stand this own l at (cases_lt place n))
+
+pub standing_all : (rules : List Rule) (entries : List ℕ) (n : ℕ) → length rules ≤ n → StandBefore rules entries n → StandEach rules entries
+standing_all rules entries n all stand place rule at =
+    let within = slice_get_within rules place rule at in
+    stand place rule (omega (arith, within, all)) at
+
+pub standing_sorted : (rules : List Rule) (listed sorted : List ℕ) → IsPermutation listed sorted → StandEach rules listed → StandEach rules sorted
+standing_sorted rules listed sorted same stand place rule at =
+    let s : Stands listed place rule = stand place rule at in
+    record { mark = s.mark; own = s.own; there = Contains-permutation listed sorted (entry s.mark place) same s.there }
 
 -- ---- the place behind a mark
 

@@ -3,6 +3,7 @@ pub mod FirstLaws
 pub mod ShapeLaws
 pub mod IndexLaws
 pub mod AskedLaws
+pub mod RarestLaws
 pub mod TableLaws
 pub mod CoveringLaws
 pub mod KeptLaws

@@ -11,6 +11,14 @@ here x y xs e = (0, omega arith, e)
 pub behind : {A : Type 0} (x y : A) (xs : List A) → Contains xs y → Contains (x ∷ xs) y
 behind x y xs (k, l, e) = (suc k, omega arith, e)
 
+member_at : {A : Type 0} (x y : A) (xs : List A) (k : ℕ) → k < suc (length xs) → get_or (x ∷ xs) k y ≡ y → (x ≡ y) ⊎ Contains xs y
+member_at x y xs zero l at = inl at
+member_at x y xs (suc k) l at = inr (k, omega arith, at)
+
+-- the first, or one of the others
+pub member : {A : Type 0} (x y : A) (xs : List A) → Contains (x ∷ xs) y → (x ≡ y) ⊎ Contains xs y
+member x y xs (k, l, at) = member_at x y xs k l at
+
 -- an element that passes
 pub record Passing {A : Type 0} (test : A → Bool) (xs : List A) : Type 0 where
   pub item : A

@@ -2,11 +2,10 @@
 use Rattle.std.proofs.Common.{◌≡◌, Result, Ok, Err, IfOk, ℕ, zero, suc, ◌+◌, ◌<◌, ◌≤◌, Bool, true, List, [], ◌∷◌, ◌++◌, length, Some, None, IfSome, refl, sym, ap, ◌∙◌, subst, arith}
 use Rattle.std.specs.Prelude.{slice_get}
 use Rattle.std.specs.List.{Contains, range_with_len}
-use Rattle.std.specs.List.Sorted.{IsPermutation, IsNonDecreasing}
+use Rattle.std.specs.List.Sorted.{IsNonDecreasing}
 use Rattle.std.proofs.lemmas.Option.{slice_get_within, get_or_from_slice_get}
 use Rattle.std.proofs.lemmas.List.Elements.{All-get_or}
 use Rattle.std.proofs.lemmas.List.FromFn.{length-range_with_len, get_or-range_with_len}
-use Rattle.std.proofs.lemmas.List.Sorted.{Contains-permutation}
 use Rattle.ipfix_template.specs.DataRecord.{DataRecord}
 use Rattle.policy_text.specs.declared.rule.Rule.{Rule}
 use Rattle.policy_text.specs.Policies.{Meaning}
@@ -16,11 +15,9 @@ use Rattle.policy_judge.specs.declared.occurrences.Side.TheVariants.{Source, Des
 use Rattle.rule_table.specs.declared.addresses.Shape.{Shape}
 use Rattle.rule_table.specs.Addresses.{shape_of, named}
 use Rattle.rule_table.specs.OfPolicy.{AreOfPolicy}
-use Rattle.rule_table.specs.Marks.{rule_mark}
-use Rattle.rule_table.specs.Index.{entry, entries_of, HaveShapes, IsIndex}
+use Rattle.rule_table.specs.Index.{entry, Stands, StandEach, HaveShapes, IsIndex}
 use Rattle.rule_table.specs.Asked.{asked}
 use Rattle.rule_table.specs.Candidates.{AreCandidates, may_match, is_at, passes}
-use Rattle.rule_table.proofs.IndexLaws.{entry_there}
 use Rattle.rule_table.proofs.AskedLaws.{asked_rule}
 
 -- what holds of each rule holds of the one at a place
@@ -53,9 +50,10 @@ complete rules entries ss ds marks places name domain r index are each up = reco
       let s : Standing (may_match name domain r) rules place = standing (may_match name domain r) rules place e in
       let within = slice_get_within rules place s.rule s.at in
       let few : place < 4096 = omega (arith, within, index.few) in
-      let P : List ℕ → Type 0 = λ ms. Contains ms (rule_mark s.rule) in
-      let marked = subst P (sym are) (asked_rule name domain ss ds r s.rule s.is (shape_there Source rules ss place s.rule index.from s.at) (shape_there Destination rules ds place s.rule index.to s.at)) in
-      each (rule_mark s.rule) place few marked (Contains-permutation (entries_of rules) entries (entry (rule_mark s.rule) place) index.each (entry_there rules place s.rule s.at));
+      let under : Stands entries place s.rule = index.each place s.rule s.at in
+      let P : List ℕ → Type 0 = λ ms. Contains ms under.mark in
+      let marked = subst P (sym are) (asked_rule name domain ss ds r s.rule s.is (shape_there Source rules ss place s.rule index.from s.at) (shape_there Destination rules ds place s.rule index.to s.at) under.mark under.own) in
+      each under.mark place few marked under.there;
 }
 
 -- the same over the lists as they were read
@@ -109,12 +107,12 @@ all_candidates rules places n name domain r few whole are = rw are (record {
 -- ---- a table that is built
 
 pub built : (policy : Meaning) (read rules : List Rule) (entries : List ℕ) (ss ds : List Shape) → IsPolicy policy → read ≡ policy.rules → rules ≡ read
-    → IsPermutation (entries_of read) entries → IsNonDecreasing entries → HaveShapes Source read ss → HaveShapes Destination read ds
+    → StandEach read entries → IsNonDecreasing entries → HaveShapes Source read ss → HaveShapes Destination read ds
     → AreOfPolicy rules × IsIndex rules entries ss ds
 built policy read rules entries ss ds is same copied each up from to =
     let all : rules ≡ policy.rules = copied ∙ same in
     let over : List Rule → Type 0 = λ rs. AreOfPolicy rs × IsIndex rs entries ss ds in
-    let P1 : List Rule → Type 0 = λ rs. IsPermutation (entries_of rs) entries in
+    let P1 : List Rule → Type 0 = λ rs. StandEach rs entries in
     let P2 : List Rule → Type 0 = λ rs. HaveShapes Source rs ss in
     let P3 : List Rule → Type 0 = λ rs. HaveShapes Destination rs ds in
     subst over (sym all) (

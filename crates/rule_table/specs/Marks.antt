@@ -1,7 +1,7 @@
--- The mark of a rule: a number made of its subscriber and of its most telling condition. Two conditions may come to one mark,
+-- The marks of a rule: numbers, each made of its subscriber and of one of its conditions. Two conditions may come to one mark,
 -- which costs a look at a rule more and changes nothing else.
-use Rattle.std.specs.Prelude.{ℕ, ◌+◌, ◌*◌, ◌/◌, ◌%◌, ◌^◌, List, Option, Some, None, if◌then◌else◌}
-use Rattle.std.specs.List.{fold}
+use Rattle.std.specs.Prelude.{ℕ, ◌+◌, ◌*◌, ◌/◌, ◌%◌, ◌^◌, List, [], ◌∷◌, Option, Some, None, option_map, if◌then◌else◌}
+use Rattle.std.specs.List.{fold, filter_map}
 use Rattle.ipfix_element.specs.Element.{Element}
 use Rattle.flow_prefix.specs.declared.prefix.Prefix.{Prefix}
 use Rattle.flow_prefix.specs.declared.prefix.Prefix.TheVariants.{V4, V6}
@@ -48,18 +48,29 @@ pen_number (Some pen) = pen + 1
 unfoldable pub element_mark : ℕ → Element → ℕ
 element_mark who e = mixed (mixed (mixed who 4) (pen_number e.pen)) e.number
 
--- what tells most: where the sources are, else where the destinations are, else the element, else the domain, else nothing but who
-abbrev pub telling_mark : ℕ → Option Prefix → Option Prefix → Option Element → Option ℕ → ℕ
-telling_mark who (Some from) to element domain = prefix_mark who Source from
-telling_mark who None (Some to) element domain = prefix_mark who Destination to
-telling_mark who None None (Some element) domain = element_mark who element
-telling_mark who None None None (Some domain) = domain_mark who domain
-telling_mark who None None None None = who
-
 -- the element that a rule on fields names
 abbrev pub element_of : Rule → Option Element
 element_of rule = if is_on_records rule.action then None else rule.element
 
--- the mark under which a rule stands
-unfoldable pub rule_mark : Rule → ℕ
-rule_mark rule = telling_mark (who_mark rule.who) rule.from rule.to (element_of rule) rule.domain
+-- the marks of a rule's conditions, each where it has one: where the sources are, where the destinations are, the element, the domain
+abbrev pub condition_marks : ℕ → Rule → List (Option ℕ)
+condition_marks who rule =
+    option_map (prefix_mark who Source) rule.from ∷ option_map (prefix_mark who Destination) rule.to ∷ option_map (element_mark who) (element_of rule) ∷ option_map (domain_mark who) rule.domain ∷ []
+
+-- those that are there
+abbrev pub present : List (Option ℕ) → List ℕ
+present marks = filter_map (λ mark. mark) marks
+
+-- the first that is there
+abbrev pub either : Option ℕ → Option ℕ → Option ℕ
+either None other = other
+either (Some one) other = Some one
+
+-- where there are none, another alone
+abbrev pub or_alone : ℕ → List ℕ → List ℕ
+or_alone who [] = who ∷ []
+or_alone who (mark ∷ marks) = mark ∷ marks
+
+-- all marks of a rule, each under which it may stand: of its conditions, and where it has none, of who alone
+unfoldable pub marks_of : Rule → List ℕ
+marks_of rule = or_alone (who_mark rule.who) (present (condition_marks (who_mark rule.who) rule))

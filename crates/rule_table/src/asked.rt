@@ -39,7 +39,7 @@ pub(crate) fn asked(
     Ok(marks)
 }
 
-/// Adds what is looked up for the rules of a subscriber, or for those of any, that name no prefix.
+/// Adds what is looked up for the rules of a subscriber, or for those of any, that stand under no prefix.
 fn ask(who: u64, domain: u32, fields: &[FieldSpec], marks: &mut Vec<u64>) -> Result<(), AllocError>
     ensures { OnOk result (marks.new.items ≡ marks.old.items ++ who ∷ [] ++ domain_mark who domain ∷ [] ++ asked_elements who fields.now) }
 {

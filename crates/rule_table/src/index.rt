@@ -1,31 +1,33 @@
 ghost use Rattle.std.specs.Prelude.{◌≡◌, ◌<◌, ◌≤◌, ℕ, ◌%◌, ◌^◌, ◌++◌, length, map, slice_index, IfOk, OnOk};
 ghost use Rattle.std.specs.List.{Contains};
-ghost use Rattle.std.specs.List.Sorted.{IsNonDecreasing, IsPermutation};
-ghost use Rattle.rule_table.specs.Index.{entry, entries_of};
+ghost use Rattle.std.specs.List.Sorted.{IsNonDecreasing};
+ghost use Rattle.rule_table.specs.Index.{entry, StandEach};
 
-use crate::marks::{SPAN, rule_mark};
+use crate::marks::SPAN;
+use crate::rarest::{all_marks, rarest_mark};
 use policy_text::Rule;
 use std::alloc::{AllocError, Global};
 
-/// The entries of rules, ascending.
+/// The entries of rules, ascending: each rule stands under one of its marks, that which fewest rules have.
 pub(crate) fn entries_of(alloc: Global, rules: &[Rule]) -> Result<Vec<u128>, AllocError>
-    ensures each { IfOk result (λ entries. IsPermutation (entries_of rules.now) entries.items) }
+    ensures each { IfOk result (λ entries. StandEach rules.now entries.items) }
     ensures ascending { IfOk result (λ entries. IsNonDecreasing entries.items) }
 {
-    let mut entries = listed(alloc, rules)?;
+    let all = all_marks(alloc, rules)?;
+    let mut entries = listed(alloc, rules, &all)?;
     entries.sort_unstable();
     Ok(entries)
 }
 
-/// The entries in the order of the rules.
-fn listed(alloc: Global, rules: &[Rule]) -> Result<Vec<u128>, AllocError>
-    ensures { IfOk result (λ entries. entries.items ≡ entries_of rules.now) }
+/// The entries in the order of the rules, by the marks of all of them.
+fn listed(alloc: Global, rules: &[Rule], all: &[u64]) -> Result<Vec<u128>, AllocError>
+    ensures { IfOk result (λ entries. StandEach rules.now entries.items) }
 {
-    rules
-        .iter()
-        .enumerate()
-        .map(|(place, rule)| entry(rule_mark(rule), place))
-        .collect(alloc)
+    let mut entries = Vec::with_capacity(alloc, rules.len())?;
+    for (place, rule) in rules.iter().enumerate() {
+        entries.push(entry(rarest_mark(rule, all), place))?;
+    }
+    Ok(entries)
 }
 
 /// A mark and a place as one number.

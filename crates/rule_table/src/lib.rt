@@ -3,16 +3,18 @@
 //!
 //! - `table`: [`RuleTable`], built of a policy once; `candidates` are looked up once a record.
 //! - `candidates`: [`Candidates`], a record with the first of each kind of the rules that apply to it, asked for its verdicts.
-//! - `marks`: the mark of a rule, a number made of its subscriber and of its most telling condition.
+//! - `marks`: the marks of a rule, numbers each made of its subscriber and of one of its conditions.
+//! - `rarest`: that of a rule's marks that fewest rules have.
 //! - `asked`: the marks that are looked up for a record.
 //! - `index`: a table's entries, each a mark with a rule's place, in which a mark is found by halving.
 //! - `covering`: a record's addresses in order, so that a prefix is held against all of them at once.
 //! - `addresses`: a record's addresses as numbers, and the shapes of a policy's prefixes.
 //! - `copies`: a table's own rules.
 //!
-//! A rule stands under one mark: its subscriber's, with what tells most of it, which is the prefix of its sources; where it
-//! names none, that of its destinations; then its element, if it is a rule on fields; then its domain. For a record the marks
-//! are looked up of its domain, of the elements of its fields, and of each prefix that one of its addresses is inside, of those
+//! A rule has a mark for each of its conditions: the prefix of its sources, that of its destinations, its element, if it is a
+//! rule on fields, and its domain, each with its subscriber. It stands under that one which fewest rules have, since then few
+//! are found with it; a rule without a condition stands under its subscriber's mark. For a record the marks are looked up of
+//! its domain, of the elements of its fields, and of each prefix that one of its addresses is inside, of those
 //! lengths that the policy's prefixes have, each with its subscriber and with any. Each mark is looked up once, and where the
 //! marks outnumber the rules, all rules are taken instead. Of the rules found it is asked once a record whether they are for
 //! the subscriber and the domain, and whether the record's addresses are such as they need. Of those that apply three things
@@ -31,6 +33,7 @@ mod copies;
 mod covering;
 mod index;
 mod marks;
+mod rarest;
 mod table;
 
 pub use candidates::Candidates;

@@ -1,5 +1,5 @@
-ghost use Rattle.std.specs.Prelude.{◌≡◌};
-ghost use Rattle.rule_table.specs.Marks.{mixed, name_mark, side_number, inside_mark, prefix_mark, domain_mark, telling_mark, who_mark, rule_mark, element_mark, pen_number, element_of};
+ghost use Rattle.std.specs.Prelude.{◌≡◌, option_map};
+ghost use Rattle.rule_table.specs.Marks.{mixed, name_mark, side_number, inside_mark, prefix_mark, domain_mark, condition_marks, who_mark, element_mark, pen_number, element_of};
 
 use flow_prefix::{IPV4_BITS, IPV6_BITS, Prefix};
 use ipfix_element::ElementId;
@@ -104,39 +104,37 @@ fn prefix_mark(who: u64, side: Side, prefix: &Prefix) -> u64
     }
 }
 
-/// The mark under which a rule stands.
-#[tactic(auto, unfolding(crate::specs::Marks::rule_mark))]
-pub(crate) fn rule_mark(rule: &Rule) -> u64
-    ensures { result ≡ rule_mark rule.now }
+/// The marks of a rule's conditions, each where the rule has it: of the prefix of its sources, of that of its destinations, of
+/// the element that it names, and of its domain.
+pub(crate) fn condition_marks(rule: &Rule) -> [Option<u64>; 4]
+    ensures { result ≡ condition_marks (who_mark rule.now.who) rule.now }
 {
-    telling_mark(who_mark(&rule.who), rule)
+    let who = who_mark(&rule.who);
+    [
+        side_mark(who, Side::Source, &rule.from),
+        side_mark(who, Side::Destination, &rule.to),
+        element_of(rule).map(|element| element_mark(who, element)),
+        rule.domain.map(|domain| domain_mark(who, domain)),
+    ]
 }
 
-fn who_mark(who: &Option<Name>) -> u64
+/// The mark of the prefix that a rule names on a side.
+fn side_mark(who: u64, side: Side, prefix: &Option<Prefix>) -> Option<u64>
+    ensures { result ≡ option_map (prefix_mark who side) prefix.now }
+{
+    match prefix {
+        Some(prefix) => Some(prefix_mark(who, side, prefix)),
+        None => None,
+    }
+}
+
+/// The mark of a rule's subscriber alone.
+pub(crate) fn who_mark(who: &Option<Name>) -> u64
     ensures { result ≡ who_mark who.now }
 {
     match who {
         Some(name) => name_mark(name.as_bytes()),
         None => ANY_SUBSCRIBER,
-    }
-}
-
-/// The mark of what tells most of a rule.
-fn telling_mark(who: u64, rule: &Rule) -> u64
-    ensures { result ≡ telling_mark who rule.now.from rule.now.to (element_of rule.now) rule.now.domain }
-{
-    if let Some(prefix) = &rule.from {
-        return prefix_mark(who, Side::Source, prefix);
-    }
-    if let Some(prefix) = &rule.to {
-        return prefix_mark(who, Side::Destination, prefix);
-    }
-    if let Some(element) = element_of(rule) {
-        return element_mark(who, element);
-    }
-    match &rule.domain {
-        Some(domain) => domain_mark(who, *domain),
-        None => who,
     }
 }
 

@@ -31,7 +31,7 @@ const FEW_RULES: usize = 32;
 /// The rules of a policy, with an index by which those are found that may match a record. Contracts see the rules.
 pub struct RuleTable {
     rules: Vec<Rule>,
-    /// Each rule's mark and place as one number, ascending.
+    /// The mark under which each rule stands, and its place, as one number, ascending.
     entries: Vec<u128>,
     /// The shapes of the prefixes of sources, each once.
     sources: Vec<Shape>,

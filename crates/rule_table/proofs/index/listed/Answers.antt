@@ -1,9 +1,12 @@
-use Rattle.std.proofs.Common.{rules}
-use Rattle.std.proofs.lemmas.Iterator.{YieldsList-from_slice, YieldsList-from_map, items_from_collect}
-use Rattle.std.proofs.lemmas.Iterator.Consumers.{YieldsList-from_enumerate}
-use Rattle.rule_table.specs.Index.{entry_of}
+use Rattle.std.proofs.Common.{Some, sym, ap, ◌∙◌, arith}
+use Rattle.std.proofs.lemmas.Option.{slice_get-get_or}
+use Rattle.rule_table.proofs.IndexLaws.{standing_more, standing_all}
 use Rattle.rule_table.proofs.index.listed.Goals as goal
 
+pub loop-place-preserved : goal.loop-place-preserved
+loop-place-preserved c =
+    standing_more c.args.rules.now c.loop-place.entries.items c.push.new.self.items c.rarest_mark.result c.loop-place.place c.entry.result _ c.in_ok-push.ensures.items c.entry.ensures c.loop-place.invariant
+    (slice_get-get_or c.args.rules.now c.loop-place.place c.index-rules-place.result (omega arith) ∙ ap Some (sym c.index-rules-place.is)) c.rarest_mark.ensures
+
 pub returns : goal.returns
-returns c =
-    items_from_collect _ c.collect.ensures.ran (YieldsList-from_map _ entry_of (YieldsList-from_enumerate (YieldsList-from_slice c.args.rules.now (cc)) (cc)) (cc) (λ x r q k. search rules))
+returns c = standing_all c.args.rules.now c.loop-place.entries.items c.loop-place.place (omega arith) c.loop-place.invariant
