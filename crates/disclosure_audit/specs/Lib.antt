@@ -1,5 +1,6 @@
 pub mod Lines
 pub mod Queue
+pub mod Chunks
 pub mod Kept
 pub mod Laws
 pub mod Listed

@@ -1,6 +1,11 @@
 -- What an audit is to its callers.
 use Rattle.std.specs.Prelude.{◌≡◌, ℕ, ◌+◌, ◌≤◌, List, [], ◌∷◌, ◌++◌, length, take, drop}
 use Rattle.disclosure_audit.specs.declared.entry.AuditEntry.{AuditEntry}
+use Rattle.disclosure_audit.specs.declared.entry.Note.{Note}
+
+-- the entry of a note of the message at a position
+abbrev pub stamp : ℕ → Note → AuditEntry
+stamp position n = record { position = position; index = n.index; sub = n.sub; what = n.what }
 
 -- how many entries were drained, and those that wait, oldest first
 pub record Standing : Type 0 where

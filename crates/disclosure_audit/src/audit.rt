@@ -1,8 +1,10 @@
-ghost use Rattle.std.specs.Prelude.{◌≡◌, ◌≤◌, ◌<◌, ◌+◌, ◌-◌, ◌^◌, ◌++◌, [], ◌∷◌, length, take, drop, vec_capacity, IsOk, IfOk, OnOk, OnErr};
+ghost use Rattle.std.specs.Prelude.{◌≡◌, ◌≤◌, ◌<◌, ◌+◌, ◌-◌, ◌^◌, ◌++◌, [], ◌∷◌, length, map, take, drop, vec_capacity, IsOk, IfOk, OnOk, OnErr};
 ghost use Rattle.std.specs.VecDeque.{deque_capacity};
+ghost use Rattle.disclosure_audit.specs.Chunks.{entries_of};
 ghost use Rattle.disclosure_audit.specs.declared.audit.TheConstants.{MOST_ENTRIES};
 
-use crate::entry::AuditEntry;
+use crate::chunk::Chunk;
+use crate::entry::{AuditEntry, Note};
 use std::alloc::{AllocError, Global};
 use std::collections::VecDeque;
 use std::marker::Model;
@@ -13,7 +15,9 @@ pub const MOST_ENTRIES: u32 = 10_000_000;
 /// The entries that wait to be drained, oldest first, and the number of those that were drained.
 pub struct Audit {
     alloc: Global,
-    queue: VecDeque<AuditEntry>,
+    queue: VecDeque<Chunk>,
+    /// How many entries there are in the queue.
+    waiting: u32,
     limit: u32,
     drained: u64,
     spare: u32,
@@ -25,6 +29,7 @@ impl Drop for Audit {
         let Audit {
             alloc: _,
             queue: _,
+            waiting: _,
             limit: _,
             drained: _,
             spare: _,
@@ -36,16 +41,17 @@ impl Model for Audit {
     ghost use Rattle.std.specs.VecDeque.{deque_capacity};
     ghost use Rattle.disclosure_audit.specs.Queue.{Kept};
     ghost use Rattle.disclosure_audit.specs.Kept.{IsConsistent};
+    ghost use Rattle.disclosure_audit.specs.Chunks.{entries_of};
 
     ghost Value = { Kept };
 
-    ghost view = { λ a. record { standing = record { drained = a.drained; entries = a.queue.items }; limit = a.limit; spare = a.spare } };
+    ghost view = { λ a. record { standing = record { drained = a.drained; entries = entries_of a.queue.items }; limit = a.limit; spare = a.spare } };
 
-    ghost invariant = { λ a. IsConsistent a.queue.items (deque_capacity a.queue) a.limit a.drained a.spare };
+    ghost invariant = { λ a. IsConsistent a.queue.items (deque_capacity a.queue) a.waiting a.limit a.drained a.spare };
 }
 
 impl Audit {
-    ghost use Rattle.disclosure_audit.specs.Queue.{at_start, with_entry, with_entries, oldest, without_oldest, StandsIn, Takes, Drains};
+    ghost use Rattle.disclosure_audit.specs.Queue.{stamp, at_start, with_entry, with_entries, oldest, without_oldest, StandsIn, Takes, Drains};
 
     /// An audit that was given no entry and may hold `limit` of them, 1 to [`MOST_ENTRIES`]. What it comes
     /// to keep is taken from `alloc`.
@@ -58,6 +64,7 @@ impl Audit {
         Audit {
             alloc,
             queue: VecDeque::new(alloc),
+            waiting: 0,
             limit,
             drained: 0,
             spare: 0,
@@ -69,7 +76,14 @@ impl Audit {
         ensures value { result + length self.now.standing.entries ≡ self.now.limit }
         ensures limit { self.now.limit ≤ MOST_ENTRIES }
     {
-        self.limit - self.queue.len() as u32
+        self.limit - self.waiting
+    }
+
+    /// How many entries may wait at most.
+    pub fn limit(&self) -> u32
+        ensures { result ≡ self.now.limit }
+    {
+        self.limit
     }
 
     /// How many entries were drained.
@@ -79,7 +93,7 @@ impl Audit {
         self.drained
     }
 
-    /// Makes room in memory for so many more entries, whatever the limit.
+    /// Makes room in memory for so many more entries, whatever the limit. The notes of a message want the room of one.
     ///
     /// # Errors
     /// Want of memory, and then nothing has changed.
@@ -109,21 +123,25 @@ impl Audit {
         // The list of all entries goes on with this one.
         ensures stands { Takes self.old.standing (entry ∷ []) self.new.standing }
     {
-        self.queue.push_back_reserved(entry);
+        self.queue.push_back_reserved(Chunk::One(entry));
+        self.waiting += 1;
         self.spare -= 1;
     }
 
-    /// Takes entries into the reserved room, in their order behind those that wait. It takes no memory.
-    pub fn extend_reserved(&mut self, entries: Vec<AuditEntry>)
-        requires room { length self.old.standing.entries + length entries.items ≤ self.old.limit }
-        requires reserved { length entries.items ≤ self.old.spare }
-        requires count { self.old.standing.drained + length self.old.standing.entries + length entries.items < 2 ^ 64 }
-        ensures value { self.new ≡ record { standing = with_entries self.old.standing entries.items; limit = self.old.limit; spare = self.old.spare - length entries.items } }
+    /// Takes what the message at a position keeps back into the reserved room of one entry, in its order behind those that
+    /// wait. It takes no memory, and as long for many as for few.
+    pub fn push_notes(&mut self, position: u64, notes: Vec<Note>)
+        requires room { length self.old.standing.entries + length notes.items ≤ self.old.limit }
+        requires reserved { 0 < self.old.spare }
+        requires count { self.old.standing.drained + length self.old.standing.entries + length notes.items < 2 ^ 64 }
+        ensures value { self.new ≡ record { standing = with_entries self.old.standing (map (stamp position) notes.items); limit = self.old.limit; spare = self.old.spare - 1 } }
         // The list of all entries goes on with these.
-        ensures stands { Takes self.old.standing entries.items self.new.standing }
+        ensures stands { Takes self.old.standing (map (stamp position) notes.items) self.new.standing }
     {
-        for entry in entries {
-            self.push_reserved(entry);
+        self.spare -= 1;
+        self.waiting += notes.len() as u32;
+        if let Some(chunk) = Chunk::of_notes(position, notes) {
+            self.queue.push_back_reserved(chunk);
         }
     }
 
@@ -140,25 +158,31 @@ impl Audit {
         // Nothing to hand out takes no memory.
         ensures none { oldest most self.old.standing ≡ [] → IsOk result }
     {
-        let count = self.queue.len().min(most as usize);
-        let mut out = Vec::with_capacity(self.alloc, count)?;
-        move_oldest(&mut self.queue, &mut out, count);
-        self.drained += count as u64;
+        let count = self.waiting.min(most);
+        let mut out = Vec::with_capacity(self.alloc, count as usize)?;
+        move_oldest(&mut self.queue, &mut out, count as usize);
+        self.waiting -= count;
+        self.drained += u64::from(count);
         Ok(out)
     }
 }
 
 /// Moves so many entries from the front of the queue into the list, which has room for them.
-fn move_oldest(queue: &mut VecDeque<AuditEntry>, out: &mut Vec<AuditEntry>, count: usize)
-    requires there { count ≤ length queue.old.items }
+fn move_oldest(queue: &mut VecDeque<Chunk>, out: &mut Vec<AuditEntry>, count: usize)
+    requires there { count ≤ length (entries_of queue.old.items) }
     requires room { length out.old.items + count ≤ vec_capacity out.old }
-    ensures moved { out.new.items ≡ out.old.items ++ take count queue.old.items }
-    ensures left { queue.new.items ≡ drop count queue.old.items }
+    ensures moved { out.new.items ≡ out.old.items ++ take count (entries_of queue.old.items) }
+    ensures left { entries_of queue.new.items ≡ drop count (entries_of queue.old.items) }
+    ensures fewer { length queue.new.items ≤ length queue.old.items }
     ensures capacity { deque_capacity queue.new ≡ deque_capacity queue.old }
 {
-    for _ in 0..count {
-        if let Some(entry) = queue.pop_front() {
-            out.push_reserved(entry);
+    let full = out.len() + count;
+    'chunks: while out.len() < full {
+        let Some(chunk) = queue.pop_front() else {
+            break;
+        };
+        if let Some(rest) = chunk.move_oldest(full - out.len(), out) {
+            queue.push_front_reserved(rest);
         }
     }
 }

@@ -109,3 +109,13 @@ pub struct AuditEntry {
     pub sub: u64,
     pub what: What,
 }
+
+/// What was kept from one subscription, of one record of a message whose position isn't told yet.
+#[derive(Debug, Drop)]
+pub struct Note {
+    /// The record's place in its message, from 0.
+    pub index: u32,
+    /// The number of the subscription.
+    pub sub: u64,
+    pub what: What,
+}

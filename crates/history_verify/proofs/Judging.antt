@@ -1,12 +1,12 @@
 -- What a message gives to subscriptions, counts for them and keeps back, as the definitions have it.
-use Rattle.std.proofs.Common.{◌≡◌, ℕ, ◌+◌, ◌≤◌, Bool, true, false, cond, List, [], ◌∷◌, ◌++◌, length, map, Option, Some, None, Result, Ok, Err, refl, sym, ap, ◌∙◌, subst, arith, append-nil, length-append}
+use Rattle.std.proofs.Common.{◌≡◌, ℕ, ◌+◌, ◌-◌, ◌^◌, ◌<◌, ◌≤◌, take, Bool, true, false, cond, List, [], ◌∷◌, ◌++◌, length, map, Option, Some, None, Result, Ok, Err, refl, sym, ap, ◌∙◌, subst, arith, append-nil, length-append}
 use Rattle.std.specs.Prelude.{◌≢◌, ◌==◌, ◌||◌, ◌&&◌, not, slice_get, if◌then◌else◌}
 use Rattle.std.specs.List.{AllByRecursion, flat_map, enumerate_from}
 use Rattle.std.proofs.lemmas.Bool.{eqb-true, ne_eqb}
 use Rattle.std.proofs.lemmas.Simd.{map-map}
 use Rattle.std.proofs.lemmas.List.Concat.{flat_map-cons}
 use Rattle.std.proofs.lemmas.List.Folds.{flat_map-map}
-use Rattle.std.proofs.lemmas.List.{map-append, length-map}
+use Rattle.std.proofs.lemmas.List.{map-append, length-map, take_all}
 use Rattle.sequences.specs.Results.{◌>>=◌}
 use Rattle.sequences.proofs.ResultLaws.{same_Ok}
 use Rattle.ipfix_message.specs.Reading.{header_of}
@@ -21,6 +21,7 @@ use Rattle.flow_aggregate.specs.Counts.{Count, count_of}
 use Rattle.flow_aggregate.specs.declared.timing.Timing.{Timing}
 use Rattle.flow_aggregate.specs.declared.timing.Timing.TheVariants.{Placed, NoTime, NoKey, Late}
 use Rattle.disclosure_audit.specs.declared.entry.AuditEntry.{AuditEntry}
+use Rattle.disclosure_audit.specs.Queue.{stamp}
 use Rattle.event_journal.specs.declared.entry.Entry.{Entry}
 use Rattle.event_journal.specs.declared.entry.Entry.TheVariants.{Message, Cut}
 use Rattle.mediator_history.specs.Numbers.{is_in, AreDistinct}
@@ -39,13 +40,15 @@ use Rattle.live_subscriptions.specs.declared.served.Served.{Served}
 use Rattle.live_subscriptions.specs.Table.{told, shown, given_to}
 use Rattle.record_sharing.specs.InForce.{InForce, in_force_with}
 use Rattle.running_groups.specs.Adding.{tallied}
+use Rattle.disclosure_audit.specs.declared.entry.Note.{Note}
+use Rattle.record_sharing.specs.Noting.{Kept, kept_of}
 use Rattle.record_sharing.specs.Sharing.{share_of, given_by, added_by, kept_by, shares_of, tallies_of, note_of, noted, noted_of_each, notes_of}
 use Rattle.history_verify.specs.declared.judged.Judged.{Judged}
 use Rattle.history_verify.specs.declared.replay.Replay.{Replay}
 use Rattle.history_verify.specs.declared.subscribers.Subscribers.{Subscribers}
 use Rattle.history_verify.specs.Parts.{AreSubscribers}
 use Rattle.running_groups.specs.Adding.{AreApart, added_to}
-use Rattle.history_verify.specs.Sharing.{stamp, IsJudged, IsFirstEmptyShare}
+use Rattle.history_verify.specs.Sharing.{IsJudged, IsFirstEmptyShare}
 use Rattle.history_verify.specs.Standing.{MayCutAll, StandsOver, Stands, IsReadOf, IsFirstOr}
 use Rattle.history_verify.proofs.KeyLaws.{numbers_apart}
 use Rattle.history_verify.proofs.SubscriberLaws.{map_alike}
@@ -253,20 +256,20 @@ asked r h session number octets reading domain records s is in_domain means = re
 }
 
 -- what the records give to all that are served, add for them and note of them
-record IsShared (r : Replay) (domain : ℕ) (records : List DataRecord) (left : List Served) (j : Judged) : Type 0 where
+record IsShared (wanted : Bool) (r : Replay) (domain : ℕ) (records : List DataRecord) (left : List Served) (j : Judged) : Type 0 where
   pub shares_are : map shown j.shares.items ≡ shares_of domain r.in_force records left
   pub tallies_are : map tallied j.tallies.items ≡ tallies_of domain r.in_force records left
-  pub entries_are : j.entries.items ≡ map (stamp r.position) (notes_of domain r.in_force records left)
+  pub entries_are : j.entries.items ≡ (if wanted then map (stamp r.position) (notes_of domain r.in_force records left) else [])
 
-judged_all : (r : Replay) (h : List Entry) (session number : ℕ) (octets : List ℕ) (reading : Ahead) (domain : ℕ) (records : List DataRecord) (left : List Served) (j : Judged)
-    → Stands r h → IsAsked h session octets domain r.in_force records → map told left ≡ map (known h) (served h) → IsShared r domain records left j
-    → IsJudged h (Message session number octets) j
-judged_all r h session number octets reading domain records left j s is tells so = record {
+judged_all : (wanted : Bool) (r : Replay) (h : List Entry) (session number : ℕ) (octets : List ℕ) (reading : Ahead) (domain : ℕ) (records : List DataRecord) (left : List Served) (j : Judged)
+    → Stands r h → IsAsked h session octets domain r.in_force records → map told left ≡ map (known h) (served h) → IsShared wanted r domain records left j
+    → IsJudged wanted h (Message session number octets) j
+judged_all wanted r h session number octets reading domain records left j s is tells so = record {
   gives = λ sub. ap (given_to sub) shares ∙ under_served (λ q. given_at q h (Message session number octets)) r.subscribers h sub s.over.subscribers (given-unserved sub session number octets h);
   adds = λ sub. ap (added_to sub) tallies
       ∙ under_served (λ q. map count_of (counted_at q h (Message session number octets))) r.subscribers h sub s.over.subscribers (λ off. ap (map count_of) (counted_unserved sub h (Message session number octets) off));
   apart = subst AreApart (sym tallies) (pairs_apart (λ q. map count_of (counted_at q h (Message session number octets))) (served h) (served_apart r.subscribers h s.over.subscribers));
-  entries_are = so.entries_are ∙ notes_at h session number octets domain r.in_force records left r.position is tells s.over.position;
+  entries_are = so.entries_are ∙ ap (λ (l : List AuditEntry). if wanted then l else []) (notes_at h session number octets domain r.in_force records left r.position is tells s.over.position);
 } where
   shares : map shown j.shares.items ≡ map (share_with (λ sub. given_at sub h (Message session number octets))) (served h)
   shares = so.shares_are ∙ shares_at h session number octets domain r.in_force records left (served h) is tells (all_served h)
@@ -279,15 +282,15 @@ chosen_none true xs none = none
 chosen_none false xs none = refl
 
 -- a message without records brings nothing
-judged_none : (r : Replay) (h : List Entry) (session number : ℕ) (octets : List ℕ) (domain : ℕ) (records : List DataRecord) (left : List Served) (j : Judged)
-    → IsAsked h session octets domain r.in_force records → records ≡ [] → map told left ≡ [] → IsShared r domain records left j
-    → IsJudged h (Message session number octets) j
-judged_none r h session number octets domain records left j is empty tells so = record {
+judged_none : (wanted : Bool) (r : Replay) (h : List Entry) (session number : ℕ) (octets : List ℕ) (domain : ℕ) (records : List DataRecord) (left : List Served) (j : Judged)
+    → IsAsked h session octets domain r.in_force records → records ≡ [] → map told left ≡ [] → IsShared wanted r domain records left j
+    → IsJudged wanted h (Message session number octets) j
+judged_none wanted r h session number octets domain records left j is empty tells so = record {
   gives = λ sub. ap (given_to sub) shares ∙ sym (no_given sub);
   adds = λ sub. ap (added_to sub) tallies ∙ sym (no_added sub);
   apart = subst AreApart (sym tallies) tt;
-  entries_are = so.entries_are ∙ ap (λ rs. map (stamp r.position) (notes_of domain r.in_force rs left)) empty
-      ∙ sym (ap (λ (rs : List DataRecord). flat_map (λ a. flat_map (audit_of h a) (served h)) (map (accepted_as (length h) session (domain_of octets)) (enumerate_from 0 rs))) none_meant);
+  entries_are = so.entries_are ∙ ap (λ (l : List AuditEntry). if wanted then l else []) (ap (λ rs. map (stamp r.position) (notes_of domain r.in_force rs left)) empty
+      ∙ sym (ap (λ (rs : List DataRecord). flat_map (λ a. flat_map (audit_of h a) (served h)) (map (accepted_as (length h) session (domain_of octets)) (enumerate_from 0 rs))) none_meant));
 } where
   none_left : left ≡ []
   none_left = no_items told left tells
@@ -309,16 +312,23 @@ judged_none r h session number octets domain records left j is empty tells so = 
   no_added sub = ap (map count_of) (chosen_none (is_served sub h) (flat_map (counts_for sub h (domain_of octets)) (records_meant (meaning_of (messages_of session h) octets)))
       (ap (λ (rs : List DataRecord). flat_map (counts_for sub h (domain_of octets)) rs) none_meant))
 
-pub is_judged : (r : Replay) (h : List Entry) (session number : ℕ) (octets : List ℕ) (reading : Ahead) (domain : ℕ) (records : List DataRecord) (left : List Served) (wanted : Bool) (j : Judged)
+pub is_judged : (wanted : Bool) (r : Replay) (h : List Entry) (session number : ℕ) (octets : List ℕ) (reading : Ahead) (domain : ℕ) (records : List DataRecord) (left : List Served) (some : Bool) (j : Judged)
     → Stands r h → IsReadOf h session number octets reading → domain ≡ reading.meaning.header.domain → records ≡ reading.meaning.records
-    → (wanted ≡ false → records ≡ []) → map told left ≡ (if wanted then map (known h) (served h) else [])
+    → (some ≡ false → records ≡ []) → map told left ≡ (if some then map (known h) (served h) else [])
     → map shown j.shares.items ≡ shares_of domain r.in_force records left → map tallied j.tallies.items ≡ tallies_of domain r.in_force records left
-    → j.entries.items ≡ map (stamp r.position) (notes_of domain r.in_force records left)
-    → IsJudged h (Message session number octets) j
-is_judged r h session number octets reading domain records left true j s is in_domain means none tells shares tallies entries =
-    judged_all r h session number octets reading domain records left j s (asked r h session number octets reading domain records s is in_domain means) tells (record { shares_are = shares; tallies_are = tallies; entries_are = entries })
-is_judged r h session number octets reading domain records left false j s is in_domain means none tells shares tallies entries =
-    judged_none r h session number octets domain records left j (asked r h session number octets reading domain records s is in_domain means) (none refl) tells (record { shares_are = shares; tallies_are = tallies; entries_are = entries })
+    → j.entries.items ≡ (if wanted then map (stamp r.position) (notes_of domain r.in_force records left) else [])
+    → IsJudged wanted h (Message session number octets) j
+is_judged wanted r h session number octets reading domain records left true j s is in_domain means none tells shares tallies entries =
+    judged_all wanted r h session number octets reading domain records left j s (asked r h session number octets reading domain records s is in_domain means) tells (record { shares_are = shares; tallies_are = tallies; entries_are = entries })
+is_judged wanted r h session number octets reading domain records left false j s is in_domain means none tells shares tallies entries =
+    judged_none wanted r h session number octets domain records left j (asked r h session number octets reading domain records s is in_domain means) (none refl) tells (record { shares_are = shares; tallies_are = tallies; entries_are = entries })
+
+-- all notes of a message are kept, or none
+pub notes_wanted : (wanted : Bool) (position most : ℕ) (all : List Note) (k : Kept) → most ≡ (if wanted then 2 ^ 64 - 1 else 0) → k ≡ kept_of most all → k.count < 2 ^ 63
+    → map (stamp position) k.notes ≡ (if wanted then map (stamp position) all else [])
+notes_wanted true position most all k many is few =
+    ap (λ (n : Kept). map (stamp position) n.notes) is ∙ ap (map (stamp position)) (take_all most all (omega (arith, many, few, ap (λ (n : Kept). n.count) is)))
+notes_wanted false position most all k many is few = ap (λ (n : Kept). map (stamp position) n.notes) is ∙ ap (λ (n : ℕ). map (stamp position) (take n all)) many
 
 -- ---- whom it would give nothing, of those whose cuts wait
 

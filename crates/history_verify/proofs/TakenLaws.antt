@@ -1,6 +1,6 @@
 -- A replay that stands for a history stands for one entry more, which bears out the cuts that wait.
 use Rattle.std.proofs.Common.{◌≡◌, ℕ, ◌+◌, ◌<◌, ◌≤◌, ◌^◌, Bool, true, false, cond, List, [], ◌∷◌, ◌++◌, length, map, Option, Some, None, refl, sym, ap, ◌∙◌, subst, arith, append-nil, length-append}
-use Rattle.std.specs.Prelude.{◌≢◌, ◌&&◌, not, filter, IfSome, IsSomeAnd}
+use Rattle.std.specs.Prelude.{◌≢◌, ◌&&◌, not, filter, IfSome, IsSomeAnd, if◌then◌else◌}
 use Rattle.std.specs.List.{AllByRecursion}
 use Rattle.std.specs.declared.cmp.Ordering.{Ordering}
 use Rattle.std.specs.declared.cmp.Ordering.TheVariants.{Less, Equal, Greater}
@@ -27,7 +27,7 @@ use Rattle.mediator_history.specs.Subscriptions.{edited, policy_in_force, is_ser
 use Rattle.mediator_history.specs.Accepted.{records_meant, records_at}
 use Rattle.mediator_history.specs.Counting.{clock_in, clock_of, counted_at, running}
 use Rattle.mediator_history.specs.Disclosed.{given_at, disclosed}
-use Rattle.mediator_history.specs.Auditing.{audit_list}
+use Rattle.mediator_history.specs.Auditing.{audit_at, audit_list}
 use Rattle.mediator_history.specs.Cuts.{after_cuts}
 use Rattle.mediator_history.proofs.HistoryLaws.{disclosed-push, audit-push}
 use Rattle.mediator_history.proofs.EntryLaws.{messages_few, audit_same}
@@ -216,12 +216,12 @@ sums_after r g h s d seen so same sums gone =
     (λ q off. ap (running q) so.history_is ∙ running-cuts q g r.waiting.items (ap (is_in q) (sym same) ∙ not_true (is_in q seen) off))
 
 -- what was made ready for a message stays so, since nothing counts for those that are cut
-pub ready_still : (r : Replay) (g h : List Entry) (session number : ℕ) (octets : List ℕ) (j : Judged) (before after : List (ℕ × Held)) (seen : List ℕ) (lent : List Tally) (reserved : List (ℕ × List Addition))
-    → StandsOver r g h → IsJudged h (Message session number octets) j → seen ≡ r.waiting.items → lent ≡ j.tallies.items
+pub ready_still : (wanted : Bool) (r : Replay) (g h : List Entry) (session number : ℕ) (octets : List ℕ) (j : Judged) (before after : List (ℕ × Held)) (seen : List ℕ) (lent : List Tally) (reserved : List (ℕ × List Addition))
+    → StandsOver r g h → IsJudged wanted h (Message session number octets) j → seen ≡ r.waiting.items → lent ≡ j.tallies.items
     → (AreApart (map tallied lent) → AllReady before reserved (map tallied lent))
     → ((tallies : List (ℕ × List Count)) → AllReady before reserved tallies → ((q : ℕ) → is_in q seen ≡ true → added_to q tallies ≡ []) → AllReady after reserved tallies)
     → AllReady after reserved (map tallied j.tallies.items)
-ready_still r g h session number octets j before after seen lent reserved so judged same is ready stays =
+ready_still wanted r g h session number octets j before after seen lent reserved so judged same is ready stays =
     stays (map tallied j.tallies.items)
     (subst (λ (l : List Tally). AreApart (map tallied l) → AllReady before reserved (map tallied l)) is ready judged.apart)
     (λ q among. judged.adds q ∙ ap (map count_of) (counted_unserved q h (Message session number octets) (cut_off r g h so q (ap (is_in q) (sym same) ∙ among))))
@@ -245,15 +245,15 @@ keep_count e h session so short = there (at_key session e.sessions) (so.sessions
 pub short_history : (r : Replay) (g h : List Entry) → StandsShort r → StandsOver r g h → length h ≤ MOST_ENTRIES
 short_history r g h short so = subst (λ (n : ℕ). n ≤ MOST_ENTRIES) (sym short.stands.over.position ∙ so.position) short.short
 
-pub message_room : (r : Replay) (g h : List Entry) (session number : ℕ) (octets : List ℕ) (reading : Ahead) (j : Judged) → StandsShort r → StandsOver r g h → IsReadOf h session number octets reading
-    → length reading.meaning.records ≤ 2 ^ 32 → IsJudged h (Message session number octets) j → MayCount r.subscribers (map shown j.shares.items)
-message_room r g h session number octets reading j short so is few judged =
+pub message_room : (wanted : Bool) (r : Replay) (g h : List Entry) (session number : ℕ) (octets : List ℕ) (reading : Ahead) (j : Judged) → StandsShort r → StandsOver r g h → IsReadOf h session number octets reading
+    → length reading.meaning.records ≤ 2 ^ 32 → IsJudged wanted h (Message session number octets) j → MayCount r.subscribers (map shown j.shares.items)
+message_room wanted r g h session number octets reading j short so is few judged =
     may_count r.subscribers h (Message session number octets) (map shown j.shares.items) so.subscribers judged.gives (small_message h session number octets reading is few so.small) (short_history r g h short so)
 
 pub taken_message : (r d : Replay) (g h : List Entry) (session number : ℕ) (octets : List ℕ) (reading : Ahead) (j : Judged) → StandsOver r g h → IsReadOf h session number octets reading
-    → length reading.meaning.records ≤ 2 ^ 32 → AllByRecursion (λ s. given_at s g (Message session number octets) ≢ []) r.waiting.items → IsJudged h (Message session number octets) j
+    → length reading.meaning.records ≤ 2 ^ 32 → AllByRecursion (λ s. given_at s g (Message session number octets) ≢ []) r.waiting.items → IsJudged r.audit.wanted h (Message session number octets) j
     → d.waiting.items ≡ [] → d.position ≡ r.position + 1 → d.in_force ≡ r.in_force → AreExporters d.exporters (h ++ Message session number octets ∷ [])
-    → HasCounted (map shown j.shares.items) r.subscribers d.subscribers → AreSums d.sums (h ++ Message session number octets ∷ []) → ((list : List AuditEntry) → AreNoted r.audit list → AreNoted d.audit (list ++ j.entries.items))
+    → HasCounted (map shown j.shares.items) r.subscribers d.subscribers → AreSums d.sums (h ++ Message session number octets ∷ []) → ((list more : List AuditEntry) → AreNoted r.audit list → j.entries.items ≡ (if r.audit.wanted then more else []) → AreNoted d.audit (list ++ more))
     → IsTaken d h (Message session number octets)
 taken_message r d g h session number octets reading j so is few all judged none position in_force exporters counted sums audit =
     taken_by r d g h (Message session number octets) so (read_accepted h session number octets reading is) all (record {
@@ -264,7 +264,7 @@ taken_message r d g h session number octets reading j so is few all judged none 
       exporters = exporters;
       subscribers = subscribers_given r.subscribers d.subscribers h (Message session number octets) (map shown j.shares.items) (λ sub. refl) (λ sub. refl) (λ sub. refl) refl judged.gives counted so.subscribers;
       sums = sums;
-      audit = subst (AreNoted d.audit) (ap (λ t. audit_list h ++ t) judged.entries_are ∙ sym (audit-push h (Message session number octets))) (audit (audit_list h) so.audit);
+      audit = subst (AreNoted d.audit) (sym (audit-push h (Message session number octets))) (audit (audit_list h) (audit_at h (Message session number octets)) so.audit judged.entries_are);
       small = small_message h session number octets reading is few so.small;
     })
 

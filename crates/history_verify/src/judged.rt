@@ -2,11 +2,11 @@
 ghost use Rattle.std.specs.Prelude.{◌≡◌, ℕ, List, map, Option, None, IfOk, IfSome, IfNone};
 ghost use Rattle.ipfix_template.specs.DataRecord.{DataRecord};
 ghost use Rattle.live_subscriptions.specs.Table.{shown};
-ghost use Rattle.history_verify.specs.Sharing.{stamp, IsFirstEmptyShare};
+ghost use Rattle.disclosure_audit.specs.Queue.{stamp};
+ghost use Rattle.history_verify.specs.Sharing.{IsFirstEmptyShare};
 
-use disclosure_audit::AuditEntry;
+use disclosure_audit::{AuditEntry, Note};
 use live_subscriptions::Share;
-use record_sharing::Note;
 use running_groups::Tally;
 use std::alloc::{AllocError, Global};
 
@@ -15,7 +15,7 @@ use std::alloc::{AllocError, Global};
 pub(crate) struct Judged {
     pub(crate) shares: Vec<Share>,
     pub(crate) tallies: Vec<Tally>,
-    /// The audit's entries.
+    /// The audit's entries, where they are wanted.
     pub(crate) entries: Vec<AuditEntry>,
 }
 

@@ -1,5 +1,5 @@
 //! What the audit names of a history.
-ghost use Rattle.std.specs.Prelude.{◌≡◌, ◌++◌, ◌∷◌, ◌≤◌, ◌+◌, [], true, length, List, OnOk, OnErr, if◌then◌else◌};
+ghost use Rattle.std.specs.Prelude.{◌≡◌, ◌++◌, ◌∷◌, ◌≤◌, ◌+◌, ◌-◌, ◌^◌, [], true, length, List, OnOk, OnErr, if◌then◌else◌};
 ghost use Rattle.std.specs.Vec.{vec_capacity};
 ghost use Rattle.disclosure_audit.specs.declared.entry.AuditEntry.{AuditEntry as OneEntry};
 
@@ -28,6 +28,13 @@ impl Noted {
         }
     }
 
+    /// How many notes of a message are to be kept: all, or none.
+    pub(crate) fn most(&self) -> u64
+        ensures { result ≡ (if self.now.wanted then 2 ^ 64 - 1 else 0) }
+    {
+        if self.wanted { u64::MAX } else { 0 }
+    }
+
     /// Makes room for so many entries.
     ///
     /// # Errors
@@ -43,10 +50,10 @@ impl Noted {
         Ok(())
     }
 
-    /// Notes entries, in room that was made. It takes no memory.
+    /// Notes entries, which are those that are wanted of a list, in room that was made. It takes no memory.
     pub(crate) fn append(&mut self, entries: Vec<AuditEntry>)
         requires room { HasRoomToNote self.old (length entries.items) }
-        ensures more { (list : List OneEntry) → AreNoted self.old list → AreNoted self.new (list ++ entries.items) }
+        ensures more { (list more : List OneEntry) → AreNoted self.old list → entries.items ≡ (if self.old.wanted then more else []) → AreNoted self.new (list ++ more) }
         ensures wanted { self.new.wanted ≡ self.old.wanted }
     {
         if self.wanted {

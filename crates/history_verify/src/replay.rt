@@ -314,11 +314,11 @@ impl Replay {
     {
         let (domain, records) = (reading.header().domain, reading.records());
         let cut = self.subscribers.those(&self.waiting)?;
-        let shares = Shares::of_records(self.alloc, &mut self.in_force, domain, records, &cut)?;
+        let shares = Shares::of_records(self.alloc, &mut self.in_force, domain, records, &cut, 0)?;
         Ok(first_empty(&shares.shares))
     }
 
-    /// What a message gives to those that are served, what counts for them, and what the audit names.
+    /// What a message gives to those that are served, what counts for them, and what the audit names, where that is wanted.
     ///
     /// # Errors
     /// Want of memory.
@@ -326,15 +326,17 @@ impl Replay {
         requires few { length reading.now.meaning.records ≤ 2 ^ 32 }
         ensures same { self.new ≡ self.old }
         ensures judged { IfOk result (λ j. (h : List Entry) (session number : ℕ) (octets : List ℕ) → Stands self.old h → IsReadOf h session number octets reading.now
-            → IsJudged h (Message session number octets) j) }
+            → IsJudged self.new.audit.wanted h (Message session number octets) j) }
     {
         let (domain, records) = (reading.header().domain, reading.records());
         let served = self.subscribers.served_if(!records.is_empty())?;
-        let shares = Shares::of_records(self.alloc, &mut self.in_force, domain, records, &served)?;
+        let most = self.audit.most();
+        let in_force = &mut self.in_force;
+        let shares = Shares::of_records(self.alloc, in_force, domain, records, &served, most)?;
         Ok(Judged {
             shares: shares.shares,
             tallies: shares.tallies,
-            entries: stamped(self.alloc, shares.notes, self.position)?,
+            entries: stamped(self.alloc, shares.notes.into_kept(), self.position)?,
         })
     }
 
@@ -350,10 +352,10 @@ impl Replay {
     ) -> Result<(), AllocError>
         requires short { StandsShort self.old }
         requires few { length reading.meaning.records ≤ 2 ^ 32 }
-        requires planned { (settled h : List Entry) × (number : ℕ) × (octets : List ℕ) × StandsOver self.old settled h × IsReadOf h session number octets reading × IsJudged h (Message session number octets) judged }
+        requires planned { (settled h : List Entry) × (number : ℕ) × (octets : List ℕ) × StandsOver self.old settled h × IsReadOf h session number octets reading × IsJudged self.old.audit.wanted h (Message session number octets) judged }
         ensures ok { OnOk result ((settled h : List Entry) (number : ℕ) (octets : List ℕ) → StandsOver self.old settled h → IsReadOf h session number octets reading
             → AllByRecursion (λ sub. given_at sub settled (Message session number octets) ≢ []) self.old.waiting.items
-            → IsJudged h (Message session number octets) judged → IsTaken self.new h (Message session number octets)) }
+            → IsJudged self.old.audit.wanted h (Message session number octets) judged → IsTaken self.new h (Message session number octets)) }
         ensures same { OnErr result (IsSameReplay self.old self.new) }
         ensures wanted { self.new.audit.wanted ≡ self.old.audit.wanted }
     {

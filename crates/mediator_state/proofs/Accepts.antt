@@ -1,9 +1,9 @@
 -- A plan that is carried out: the cuts, and then the message.
-use Rattle.std.proofs.Common.{◌≡◌, ◌≢◌, ℕ, ◌+◌, ◌*◌, ◌≤◌, ◌<◌, ◌^◌, Bool, true, false, cond, List, [], ◌∷◌, ◌++◌, length, map, take, drop, slice_get, Option, Some, None, refl, sym, ap, ◌∙◌, subst, arith, length-append}
+use Rattle.std.proofs.Common.{length-take, take_all, ◌≡◌, ◌≢◌, ℕ, ◌+◌, ◌*◌, ◌≤◌, ◌<◌, ◌^◌, Bool, true, false, cond, List, [], ◌∷◌, length, map, take, drop, slice_get, Option, Some, None, refl, sym, ap, ◌∙◌, subst, arith, length-append}
 use Rattle.std.specs.Prelude.{IsSomeAnd, IfSome, not, ◌&&◌}
 use Rattle.std.specs.Option.{option_map}
 use Rattle.std.specs.List.{flat_map, AllByRecursion}
-use Rattle.std.proofs.lemmas.List.{length-drop, take-append-drop}
+use Rattle.std.proofs.lemmas.List.{length-map, length-drop, take-append-drop}
 use Rattle.ipfix_template.specs.DataRecord.{DataRecord}
 use Rattle.ipfix_session.specs.Keeping.{at_key}
 use Rattle.ipfix_session.specs.ReadAhead.{Ahead, IsReadingOf, HasRoomFor}
@@ -13,10 +13,11 @@ use Rattle.subscriber_stream.specs.Standing.{Standing, StandsAt, HasRoom, queued
 use Rattle.subscriber_stream.proofs.CallLaws.{parts_bring}
 use Rattle.subscriber_stream.proofs.Standings.{records_in-append}
 use Rattle.disclosure_audit.specs.declared.entry.AuditEntry.{AuditEntry}
+use Rattle.disclosure_audit.specs.Queue.{stamp}
 use Rattle.event_journal.specs.declared.entry.Entry.{Entry}
 use Rattle.event_journal.specs.declared.entry.Entry.TheVariants.{Message, Advance}
 use Rattle.mediator_history.specs.Numbers.{AreDistinct, is_in}
-use Rattle.mediator_history.specs.Sessions.{is_open, messages_of}
+use Rattle.mediator_history.specs.Sessions.{is_open}
 use Rattle.mediator_history.specs.Subscriptions.{is_served, subscribed_in, served}
 use Rattle.mediator_history.specs.Counting.{counted_at}
 use Rattle.mediator_history.specs.Disclosed.{given_at, disclosed}
@@ -41,7 +42,8 @@ use Rattle.mediator_state.specs.declared.plan.Plan.{Plan}
 use Rattle.mediator_state.specs.Standing.{Stands, place, IsSession, IsLiveAs, AreInRange}
 use Rattle.mediator_state.specs.Steps.{CutsInARow, HasAuditRoom}
 use Rattle.running_groups.specs.Adding.{AllReady, AreApart}
-use Rattle.mediator_state.specs.Planning.{share_at, tally_at, AreTallied, HasRoomIn, AreStreamed, IsJudged, IsPlan}
+use Rattle.record_sharing.specs.Noting.{Kept}
+use Rattle.mediator_state.specs.Planning.{share_at, AreTallied, HasRoomIn, IsJudged, IsPlan}
 use Rattle.mediator_state.specs.Accepting.{HasRoomForPlan, IsPlannedFor, IsReadyToTake, IsMessage}
 use Rattle.mediator_state.specs.Advancing.{HasRoomToClose, IsClosingFor, IsReadyToClose, AreClosings}
 use Rattle.mediator_state.proofs.MessageSteps.{few_given}
@@ -180,19 +182,32 @@ groups_ready d e h x cuts reserved tallies so row are made =
 
 -- ---- a plan
 
+-- no more notes are kept than there are
+few_kept : (e : Engine) (h : List Entry) (number : ℕ) (octets : List ℕ) (p : Plan) → IsPlan e h number octets p → length p.notes.notes ≤ p.notes.count
+few_kept e h number octets p plan =
+    omega (arith, ap (λ (k : Kept). length k.notes) plan.kept, ap (λ (k : Kept). k.count) plan.kept, length-take e.audit.limit plan.named)
+
+-- all are kept that the audit may hold
+all_kept : (e : Engine) (h : List Entry) (number : ℕ) (octets : List ℕ) (p : Plan) (plan : IsPlan e h number octets p) → p.notes.count ≤ e.audit.limit → p.notes.notes ≡ plan.named
+all_kept e h number octets p plan few =
+    ap (λ (k : Kept). k.notes) plan.kept ∙ take_all e.audit.limit plan.named (omega (arith, few, ap (λ (k : Kept). k.count) plan.kept))
+
 -- behind the cuts the message is what the plan says
 pub is_message : (d e : Engine) (h : List Entry) (number : ℕ) (octets : List ℕ) (p : Plan) (reserved : List (ℕ × List Addition)) → IsPlan d h number octets p → HasRoomForPlan d p reserved → CutsInARow p.cuts.items d e
-    → IsMessage e (after_cuts h p.cuts.items) p.session number octets p.reading (map shown p.shares.items) (map tallied p.tallies.items) p.entries.items
+    → IsMessage e (after_cuts h p.cuts.items) p.session number octets p.reading (map shown p.shares.items) (map tallied p.tallies.items) (map (stamp p.position) p.notes.notes)
 is_message d e h number octets p reserved plan room row = record {
   opened = is_open-cuts p.session h p.cuts.items ∙ plan.opened;
   read = subst (λ ms. IsReadingOf ms octets p.reading) (sym (messages-cuts p.session h p.cuts.items)) plan.read;
   shares_are = plan.judged.shares_are;
   tallies_are = plan.tallied_are;
-  entries_are = plan.judged.entries_are;
+  entries_are = ap (map (stamp p.position)) (all_kept d h number octets p plan whole) ∙ plan.judged.entries_are;
   room = rooms_kept d e p.cuts.items row (map shown p.shares.items) plan.judged.room;
   streamable = plan.judged.streamable;
-  few = omega (arith, room.audit, room.limit);
+  few = omega (arith, room.audit, room.limit, length-map p.notes.notes (stamp p.position), few_kept d h number octets p plan);
 }
+  where
+    whole : p.notes.count ≤ d.audit.limit
+    whole = omega (arith, room.audit)
 
 -- there is room for the cuts
 pub cuts_room : (d : Engine) (position : ℕ) (p : Plan) (reserved : List (ℕ × List Addition)) → IsPlannedFor d position p → HasRoomForPlan d p reserved → HasAuditRoom d.audit (length p.cuts.items)
@@ -204,13 +219,14 @@ cuts_room d position p reserved planned room = record {
 
 -- and behind them for the message
 pub ready : (d e : Engine) (position : ℕ) (p : Plan) (reserved : List (ℕ × List Addition)) → IsPlannedFor d position p → HasRoomForPlan d p reserved → CutsInARow p.cuts.items d e
-    → ((h : List Entry) → Stands d h → length h ≡ position → Stands e (after_cuts h p.cuts.items)) → IsReadyToTake e p.session p.reading (map shown p.shares.items) reserved (length p.entries.items)
+    → ((h : List Entry) → Stands d h → length h ≡ position → Stands e (after_cuts h p.cuts.items)) → IsReadyToTake e p.session p.reading (map shown p.shares.items) reserved (length p.notes.notes)
 ready d e position p reserved planned room row stands =
     let h = planned.history in
     let cuts = p.cuts.items in
     let so : Stands e (after_cuts h cuts) = stands h planned.stands planned.counted in
     let long : length (after_cuts h cuts) ≤ 2 * MOST_ENTRIES = omega (arith, length-cuts h cuts, planned.counted, planned.short, room.audit, room.limit) in
     let E : Entry = Message p.session planned.number planned.octets in
+    let few = few_kept d h planned.number planned.octets p planned.plan in
     record {
       history = after_cuts h cuts;
       stands = so;
@@ -218,9 +234,9 @@ ready d e position p reserved planned room row stands =
       session_count = subst (λ ss. IfSome (at_key p.session ss) (λ o. o.accepted + 1 < 2 ^ 64)) (sym row.rest.sessions) (session_count h p.session (at_key p.session d.sessions) (omega (arith, planned.counted, planned.short)) (planned.stands.sessions p.session));
       streams = streams_ready d e h E cuts (map shown p.shares.items) so long row planned.plan.judged.shares_are planned.plan.judged.room room.streams;
       groups = let made = groups_ready d e h E cuts reserved (map tallied p.tallies.items) so row planned.plan.tallied_are room.groups in (map tallied p.tallies.items, made.0, made.1);
-      audit = omega (arith, row.entries, row.rest.audit_limit, room.audit);
+      audit = omega (arith, row.entries, row.rest.audit_limit, room.audit, few);
       reserved = omega (arith, row.spare, room.reserved);
-      count = omega (arith, audit_count e (after_cuts h cuts) so, long, room.audit, room.limit);
+      count = omega (arith, audit_count e (after_cuts h cuts) so, long, room.audit, room.limit, few);
     }
 
 -- ---- an advance of the clock

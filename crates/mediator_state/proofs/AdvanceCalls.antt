@@ -1,7 +1,5 @@
 -- What an advance of the clock answers and leaves, by what its steps do.
-use Rattle.std.proofs.Common.{◌≡◌, ℕ, ◌+◌, ◌≤◌, ◌<◌, List, [], ◌∷◌, ◌++◌, length, map, refl, sym, ap, ◌∙◌, subst, append_assoc, arith}
-use Rattle.ipfix_template.specs.DataRecord.{DataRecord}
-use Rattle.disclosure_audit.specs.declared.entry.AuditEntry.{AuditEntry}
+use Rattle.std.proofs.Common.{◌≡◌, ℕ, ◌≤◌, List, [], ◌∷◌, ◌++◌, length, map, refl, sym, ap, ◌∙◌, subst, append_assoc, arith}
 use Rattle.disclosure_audit.specs.Queue.{Standing}
 use Rattle.event_journal.specs.Sizes.{IsCountOf}
 use Rattle.event_journal.specs.declared.entry.Entry.{Entry}
@@ -23,7 +21,7 @@ use Rattle.mediator_state.specs.Seen.{waiting_of, IsSameEngine}
 use Rattle.mediator_state.specs.Planning.{IsJudged}
 use Rattle.mediator_state.specs.Accepting.{LacksAudit}
 use Rattle.mediator_state.specs.Advancing.{HasRoomToClose, IsClosingFor}
-use Rattle.mediator_state.specs.Calls.{StandsFor, AuditHolds, Accepts, with_cuts, Advances, RefusesAdvance}
+use Rattle.mediator_state.specs.Calls.{StandsFor, AuditHolds, with_cuts, Advances, RefusesAdvance}
 use Rattle.mediator_state.proofs.SameLaws.{stands_same, judged_same}
 use Rattle.mediator_state.proofs.CallLaws.{room_after, room_before, length-cut_entries, audit_holds}
 use Rattle.event_journal.specs.declared.limits.TheConstants.{MOST_ENTRIES}

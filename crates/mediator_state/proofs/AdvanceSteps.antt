@@ -1,6 +1,6 @@
 -- An engine that advances the clock stands for the history with the advance.
-use Rattle.std.proofs.Common.{◌≡◌, ℕ, ◌+◌, ◌*◌, ◌≤◌, ◌<◌, ◌^◌, Bool, true, false, List, [], ◌∷◌, ◌++◌, length, map, Option, Some, None, refl, sym, ap, ◌∙◌, subst, arith, append-nil}
-use Rattle.std.specs.Prelude.{not, unwrap_or}
+use Rattle.std.proofs.Common.{◌≡◌, ℕ, ◌≤◌, false, List, [], ◌∷◌, ◌++◌, length, Option, Some, None, refl, sym, ap, ◌∙◌, subst, arith, append-nil}
+use Rattle.std.specs.Prelude.{not}
 use Rattle.std.specs.List.{flat_map, AllByRecursion}
 use Rattle.sequences.proofs.BeforeLaws.{last_of-push}
 use Rattle.ipfix_template.specs.DataRecord.{DataRecord}
@@ -12,16 +12,15 @@ use Rattle.flow_aggregate.specs.Groups.{Counted}
 use Rattle.flow_aggregate.specs.Running.{staying, StandsFor as StandsForRecords}
 use Rattle.flow_aggregate.specs.Closing.{closed_by}
 use Rattle.disclosure_audit.specs.Queue.{StandsIn}
-use Rattle.disclosure_audit.specs.declared.entry.AuditEntry.{AuditEntry}
 use Rattle.event_journal.specs.declared.entry.Entry.{Entry}
 use Rattle.event_journal.specs.declared.entry.Entry.TheVariants.{Advance}
 use Rattle.mediator_history.specs.Numbers.{AreDistinct}
-use Rattle.mediator_history.specs.Sessions.{opens, is_open, opened_in, sessions_opened, message_in, messages_of}
-use Rattle.mediator_history.specs.Subscriptions.{edited, policy_in_force, texts_in, edits_made, named, name_of, begins, is_live, switched, is_served, subscribed_in, subscriptions_begun, served}
-use Rattle.mediator_history.specs.Counting.{clock_in, clock_of, counted, running}
+use Rattle.mediator_history.specs.Sessions.{opens, is_open, opened_in, sessions_opened}
+use Rattle.mediator_history.specs.Subscriptions.{edited, texts_in, named, name_of, begins, is_live, switched, is_served, subscribed_in, subscriptions_begun}
+use Rattle.mediator_history.specs.Counting.{clock_in, clock_of, running}
 use Rattle.mediator_history.specs.Disclosed.{given_at, disclosed}
-use Rattle.mediator_history.specs.Auditing.{audit_at, audit_list}
-use Rattle.mediator_history.proofs.HistoryLaws.{flat_map-push, disclosed-push, audit-push}
+use Rattle.mediator_history.specs.Auditing.{audit_list}
+use Rattle.mediator_history.proofs.HistoryLaws.{disclosed-push}
 use Rattle.mediator_history.proofs.EntryLaws.{served_same, messages_same, audit_same}
 use Rattle.mediator_history.proofs.CountingLaws.{counted_same, running_unserved, running-advance}
 use Rattle.open_sessions.specs.declared.open_session.OpenSession.{OpenSession}
@@ -31,9 +30,8 @@ use Rattle.record_sharing.specs.InForce.{InForce, in_force_with}
 use Rattle.running_groups.specs.Table.{groups_at}
 use Rattle.mediator_state.specs.declared.engine.Engine.{Engine}
 use Rattle.mediator_state.specs.Ascending.{Ascend}
-use Rattle.mediator_state.specs.Standing.{Stands, place, IsSession, IsSubscription, IsLiveAs, IsUnopened, IsUnbegun, AreNumbered, IsSmall, AreInRange}
+use Rattle.mediator_state.specs.Standing.{Stands, place, IsSession, IsLiveAs, AreNumbered, AreInRange}
 use Rattle.mediator_state.specs.Seen.{place_in, place_of}
-use Rattle.mediator_state.specs.Planning.{share_at}
 use Rattle.mediator_state.specs.Advancing.{AreClosings}
 use Rattle.mediator_state.proofs.CutSteps.{no_entry, session_stays, unopened_stays, unbegun_stays}
 use Rattle.mediator_state.proofs.MessageSteps.{GivesServedOnly, given_is, small_given}

@@ -9,7 +9,7 @@ use Rattle.policy_text.specs.Policies.{Meaning as Policy}
 use Rattle.ipfix_session.specs.Meaning.{meaning_of}
 use Rattle.flow_aggregate.specs.declared.addition.Addition.{Addition}
 use Rattle.disclosure_audit.specs.declared.entry.AuditEntry.{AuditEntry}
-use Rattle.disclosure_audit.specs.Queue.{Standing, StandsIn}
+use Rattle.disclosure_audit.specs.Queue.{Standing, StandsIn, stamp}
 use Rattle.event_journal.specs.Sizes.{history_octets, IsCountOf}
 use Rattle.event_journal.specs.declared.entry.Entry.{Entry}
 use Rattle.event_journal.specs.declared.entry.Entry.TheVariants.{Message, Edit, Subscribe, Cut}
@@ -30,6 +30,7 @@ use Rattle.mediator_state.specs.declared.fault.Fault.TheVariants as fault
 use Rattle.mediator_state.specs.declared.state.State.{State}
 use Rattle.mediator_state.specs.Standing.{Stands, StandsSomewhere}
 use Rattle.mediator_state.specs.Seen.{waiting_of, IsSameEngine}
+use Rattle.record_sharing.specs.Noting.{Kept}
 use Rattle.mediator_state.specs.Planning.{IsPlan, IsNext, IsNextReading, RefusesMessage}
 use Rattle.mediator_state.specs.Accepting.{LacksAudit, HasRoomForPlan, IsPlannedFor, receipt_of}
 use Rattle.mediator_state.specs.Calls.{StandsFor, StandsForSome, AuditHolds, Accepts, LacksRoom, LacksRoomAfter, with_cuts, HasMeaning, RefusesReceive, RefusesReceivePrepared, Receives, IsFree, RefusesEdit, RefusesSubscribe}
@@ -102,7 +103,17 @@ pub length-cut_entries : (n : ℕ) (subs : List ℕ) → length (cut_entries n s
 length-cut_entries n [] = refl
 length-cut_entries n (sub ∷ subs) = ap (λ (k : ℕ). suc k) (length-cut_entries (n + 1) subs)
 
-noted_of : (e : Engine) (h : List Entry) (session number : ℕ) (octets : List ℕ) (p : Plan) → p.session ≡ session → IsPlan e h number octets p → audit_list (h ++ with_cuts e h (Message session number octets)) ≡ audit_list h ++ (cut_entries (length h) p.cuts.items ++ p.entries.items)
+-- the entries of what the audit names of a message
+abbrev entries_of : (e : Engine) (h : List Entry) (number : ℕ) (octets : List ℕ) (p : Plan) → IsPlan e h number octets p → List AuditEntry
+entries_of e h number octets p plan = map (stamp p.position) plan.named
+
+length-named : (e : Engine) (h : List Entry) (number : ℕ) (octets : List ℕ) (p : Plan) (plan : IsPlan e h number octets p)
+    → length (cut_entries (length h) p.cuts.items ++ entries_of e h number octets p plan) ≡ length p.cuts.items + p.notes.count
+length-named e h number octets p plan =
+    omega (arith, length-append (cut_entries (length h) p.cuts.items) (entries_of e h number octets p plan), length-cut_entries (length h) p.cuts.items, length-map plan.named (stamp p.position), ap (λ (k : Kept). k.count) plan.kept)
+
+noted_of : (e : Engine) (h : List Entry) (session number : ℕ) (octets : List ℕ) (p : Plan) → p.session ≡ session → (plan : IsPlan e h number octets p)
+    → audit_list (h ++ with_cuts e h (Message session number octets)) ≡ audit_list h ++ (cut_entries (length h) p.cuts.items ++ entries_of e h number octets p plan)
 noted_of e h session number octets p is plan =
     let message : Entry = Message session number octets in
     let cuts : List ℕ = p.cuts.items in
@@ -110,8 +121,8 @@ noted_of e h session number octets p is plan =
     ∙ ap audit_list (sym (append_assoc h (map Cut cuts) (message ∷ [])))
     ∙ audit-push (after_cuts h cuts) message
     ∙ ap (λ (t : List AuditEntry). t ++ audit_at (after_cuts h cuts) message) (audit-cuts h cuts)
-    ∙ ap (λ (t : List AuditEntry). (audit_list h ++ cut_entries (length h) cuts) ++ t) (sym (subst (λ (s : ℕ). p.entries.items ≡ audit_at (after_cuts h cuts) (Message s number octets)) is plan.judged.entries_are))
-    ∙ append_assoc (audit_list h) (cut_entries (length h) cuts) p.entries.items
+    ∙ ap (λ (t : List AuditEntry). (audit_list h ++ cut_entries (length h) cuts) ++ t) (sym (subst (λ (s : ℕ). entries_of e h number octets p plan ≡ audit_at (after_cuts h cuts) (Message s number octets)) is plan.judged.entries_are))
+    ∙ append_assoc (audit_list h) (cut_entries (length h) cuts) (entries_of e h number octets p plan)
 
 -- ---- why a message is refused
 
@@ -161,15 +172,15 @@ refused_full limits count sizes e h session number octets p entries c f full = (
   λ r. full (room_before limits count sizes h entries c (subst (λ (more : List Entry). HasRoomAfter limits h more) (sym (entries_are e h session number octets p entries f.session_is f.entries_made f.plan)) r)),
 )
 
-pub refused_audit : (why : Fault) (limits : Journaled) (count sizes : ℕ) (e : Engine) (h : List Entry) (session number : ℕ) (octets : List ℕ) (p : Plan) (entries : List Entry) → IsCountOf h count sizes → IsFound e h session number octets p entries → HasRoom limits count sizes entries → LacksAudit why e.audit (length p.cuts.items + length p.entries.items) → RefusesReceive why limits e h session number octets
+pub refused_audit : (why : Fault) (limits : Journaled) (count sizes : ℕ) (e : Engine) (h : List Entry) (session number : ℕ) (octets : List ℕ) (p : Plan) (entries : List Entry) → IsCountOf h count sizes → IsFound e h session number octets p entries → HasRoom limits count sizes entries → LacksAudit why e.audit (length p.cuts.items + p.notes.count) → RefusesReceive why limits e h session number octets
 refused_audit (fault.AuditFull need room) limits count sizes e h session number octets p entries c f r lacks = (
   next_of e h session number octets p f.session_is f.plan,
   has_meaning e h session number octets p f.session_is f.plan,
   subst (λ (more : List Entry). HasRoomAfter limits h more) (entries_are e h session number octets p entries f.session_is f.entries_made f.plan) (room_after limits count sizes h entries c r),
   (
-    cut_entries (length h) p.cuts.items ++ p.entries.items,
+    cut_entries (length h) p.cuts.items ++ entries_of e h number octets p f.plan,
     noted_of e h session number octets p f.session_is f.plan,
-    lacks.0 ∙ sym (length-append (cut_entries (length h) p.cuts.items) p.entries.items ∙ ap (λ (n : ℕ). n + length p.entries.items) (length-cut_entries (length h) p.cuts.items)),
+    lacks.0 ∙ sym (length-named e h number octets p f.plan),
   ),
   lacks.2,
   lacks.1,
@@ -210,8 +221,8 @@ audit_holds e h more noted stands is room = record {
 pub message_held : (d e : Engine) (h : List Entry) (session number : ℕ) (octets : List ℕ) (p : Plan) (entries : List Entry) (added : List (ℕ × List Addition)) → IsSameEngine d e → Stands d h → IsFound d h session number octets p entries → HasRoomForPlan e p added
     → AuditHolds d h (with_cuts d h (Message session number octets))
 message_held d e h session number octets p entries added same so f room =
-    audit_holds d h (with_cuts d h (Message session number octets)) (cut_entries (length h) p.cuts.items ++ p.entries.items) so.audit (noted_of d h session number octets p f.session_is f.plan)
-    (omega (arith, room.audit, same.audit_limit, ap (λ (s : Standing). length s.entries) same.audit, length-append (cut_entries (length h) p.cuts.items) p.entries.items, length-cut_entries (length h) p.cuts.items))
+    audit_holds d h (with_cuts d h (Message session number octets)) (cut_entries (length h) p.cuts.items ++ entries_of d h number octets p f.plan) so.audit (noted_of d h session number octets p f.session_is f.plan)
+    (omega (arith, room.audit, same.audit_limit, ap (λ (s : Standing). length s.entries) same.audit, length-named d h number octets p f.plan))
 
 -- ---- what an accepted message leaves
 

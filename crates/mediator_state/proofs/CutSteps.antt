@@ -1,5 +1,5 @@
 -- An engine that cuts a subscription stands for the history with the cut.
-use Rattle.std.proofs.Common.{◌≡◌, ℕ, ◌+◌, ◌*◌, ◌≤◌, ◌<◌, Bool, true, false, cond, List, [], ◌∷◌, ◌++◌, length, Option, Some, None, refl, sym, ap, ◌∙◌, subst, arith, append-nil, length-append}
+use Rattle.std.proofs.Common.{◌≡◌, ℕ, ◌≤◌, Bool, true, false, cond, List, [], ◌∷◌, ◌++◌, length, Option, Some, None, refl, sym, ap, ◌∙◌, subst, arith, append-nil, length-append}
 use Rattle.std.specs.Prelude.{◌≢◌, not, ◌==◌, filter, unwrap_or, if◌then◌else◌}
 use Rattle.std.specs.Option.{option_map}
 use Rattle.std.specs.List.{flat_map, AllByRecursion}
@@ -16,14 +16,14 @@ use Rattle.ipfix_template.specs.DataRecord.{DataRecord}
 use Rattle.disclosure_audit.specs.declared.entry.AuditEntry.{AuditEntry}
 use Rattle.disclosure_audit.specs.declared.entry.What.TheVariants.{Cut as CutOff}
 use Rattle.event_journal.specs.declared.entry.Entry.{Entry}
-use Rattle.event_journal.specs.declared.entry.Entry.TheVariants.{Message, Cut}
-use Rattle.mediator_history.specs.Numbers.{AreDistinct, is_in}
-use Rattle.mediator_history.specs.Sessions.{opens, is_open, opened_in, sessions_opened, message_in, messages_of}
-use Rattle.mediator_history.specs.Subscriptions.{edited, policy_in_force, texts_in, edits_made, named, name_of, begins, is_live, switched, is_served, subscribed_in, subscriptions_begun, served}
+use Rattle.event_journal.specs.declared.entry.Entry.TheVariants.{Cut}
+use Rattle.mediator_history.specs.Numbers.{AreDistinct}
+use Rattle.mediator_history.specs.Sessions.{opens, is_open, opened_in, sessions_opened, messages_of}
+use Rattle.mediator_history.specs.Subscriptions.{edited, texts_in, named, name_of, begins, is_live, switched, is_served, subscribed_in, subscriptions_begun, served}
 use Rattle.mediator_history.specs.Counting.{counted}
-use Rattle.mediator_history.specs.Disclosed.{given_at, disclosed}
+use Rattle.mediator_history.specs.Disclosed.{disclosed}
 use Rattle.mediator_history.specs.Auditing.{audit_at, audit_list, audit_entry}
-use Rattle.mediator_history.proofs.HistoryLaws.{flat_map-push, disclosed-push, audit-push}
+use Rattle.mediator_history.proofs.HistoryLaws.{flat_map-push, audit-push}
 use Rattle.mediator_history.proofs.CountingLaws.{counted_same, running-cut, running_cut}
 use Rattle.mediator_history.proofs.EntryLaws.{served-cut, messages_same, given_same}
 use Rattle.open_sessions.specs.declared.open_session.OpenSession.{OpenSession}
@@ -33,7 +33,7 @@ use Rattle.record_sharing.specs.InForce.{InForce}
 use Rattle.running_groups.specs.Table.{groups_at}
 use Rattle.mediator_state.specs.declared.engine.Engine.{Engine}
 use Rattle.mediator_state.specs.Ascending.{Ascend}
-use Rattle.mediator_state.specs.Standing.{Stands, place, IsSession, IsSubscription, IsLiveAs, IsUnopened, IsUnbegun, AreNumbered, IsSmall, AreInRange}
+use Rattle.mediator_state.specs.Standing.{Stands, place, IsSession, IsLiveAs, IsUnopened, IsUnbegun, AreNumbered, IsSmall, AreInRange}
 use Rattle.mediator_state.specs.Steps.{KeepsRest}
 use Rattle.mediator_state.proofs.GroupLaws.{clock_kept, groups_ended}
 

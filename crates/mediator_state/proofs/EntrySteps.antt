@@ -1,6 +1,6 @@
 -- An engine that stands for a history stands for one entry more, where its fields change as the entry says: an entry that
 -- opens or closes a session, brings a policy, or begins or ends a subscription.
-use Rattle.std.proofs.Common.{◌≡◌, ℕ, ◌+◌, ◌*◌, ◌≤◌, ◌<◌, Bool, true, false, cond, List, [], ◌∷◌, ◌++◌, length, Option, Some, None, Ok, refl, sym, ap, ◌∙◌, subst, arith, append-nil}
+use Rattle.std.proofs.Common.{◌≡◌, ℕ, ◌+◌, ◌≤◌, ◌<◌, Bool, true, false, cond, List, [], ◌∷◌, ◌++◌, length, Option, Some, None, Ok, refl, sym, ap, ◌∙◌, subst, arith, append-nil}
 use Rattle.std.specs.Prelude.{◌≢◌, not, ◌==◌, if◌then◌else◌, filter, unwrap_or, IsSomeAnd, IfSome, IfNone}
 use Rattle.std.specs.List.{flat_map, AllByRecursion}
 use Rattle.std.proofs.lemmas.Bool.{eqb-true, eqb-false, eq-eqb, ne_eqb}
@@ -14,15 +14,15 @@ use Rattle.ipfix_session.specs.Keeping.{at_key}
 use Rattle.ipfix_session.specs.Standing.{StandsFor}
 use Rattle.subscriber_stream.specs.declared.limits.Limits.{Limits}
 use Rattle.subscriber_stream.specs.Shapes.{shapes_of}
-use Rattle.subscriber_stream.specs.Standing.{StandsAt, Kept, at_start}
+use Rattle.subscriber_stream.specs.Standing.{StandsAt, Kept}
 use Rattle.stream_meaning.specs.Served.{AreStreamable}
 use Rattle.disclosure_audit.specs.Queue.{StandsIn}
 use Rattle.event_journal.specs.declared.entry.Entry.{Entry}
 use Rattle.event_journal.specs.declared.entry.Entry.TheVariants.{Open, Close, Edit, Subscribe, Unsubscribe}
 use Rattle.mediator_history.specs.Numbers.{AreDistinct}
 use Rattle.mediator_history.specs.Sessions.{opens, is_open, opened_in, sessions_opened, message_in, messages_of}
-use Rattle.mediator_history.specs.Subscriptions.{policy_or_none, edited, policy_in_force, texts_in, edits_made, named, name_of, begins, is_live, switched, is_served, subscribed_in, subscriptions_begun, served}
-use Rattle.mediator_history.specs.Counting.{counted_at, counted, running}
+use Rattle.mediator_history.specs.Subscriptions.{policy_or_none, edited, policy_in_force, texts_in, named, name_of, begins, is_live, switched, is_served, subscribed_in, subscriptions_begun}
+use Rattle.mediator_history.specs.Counting.{counted_at, running}
 use Rattle.mediator_history.specs.Disclosed.{given_at, disclosed}
 use Rattle.mediator_history.specs.Auditing.{audit_at, audit_list}
 use Rattle.mediator_history.proofs.HistoryLaws.{flat_map-push}

@@ -1,17 +1,8 @@
 -- What an entry leaves of the clock and of running groups; and what is added to groups, one subscription after another.
-use Rattle.std.proofs.Common.{◌≡◌, ◌≢◌, ℕ, ◌+◌, ◌<◌, ◌≤◌, Bool, true, false, cond, eqb, List, [], ◌∷◌, ◌++◌, length, map, take, drop, Option, None, refl, sym, ap, ◌∙◌, subst, arith, append_assoc, append-nil, length-append}
-use Rattle.std.specs.Prelude.{get_or, unwrap_or, ◌==◌, if◌then◌else◌}
-use Rattle.std.specs.List.{AllByRecursion}
-use Rattle.std.proofs.lemmas.Bool.{eqb-true, eqb-false, ne_eqb}
-use Rattle.std.proofs.lemmas.Grind.{flat_map-append}
-use Rattle.std.proofs.lemmas.List.{map-append, take_more, take-append-drop}
-use Rattle.std.proofs.lemmas.List.Concat.{flat_map-cons}
-use Rattle.std.proofs.lemmas.Slice.Zip.{all_zipped_more}
+use Rattle.std.proofs.Common.{◌≡◌, ◌≢◌, ℕ, Bool, true, false, cond, List, [], ◌∷◌, ◌++◌, Option, None, refl, sym, ap, ◌∙◌, subst}
+use Rattle.std.specs.Prelude.{unwrap_or, ◌==◌, if◌then◌else◌}
+use Rattle.std.proofs.lemmas.Bool.{eqb-true, eqb-false}
 use Rattle.sequences.proofs.BeforeLaws.{last_of-push}
-use Rattle.flow_aggregate.specs.declared.addition.Addition.{Addition}
-use Rattle.flow_aggregate.specs.Counts.{Count, count_of}
-use Rattle.flow_aggregate.specs.Groups.{Counted}
-use Rattle.flow_aggregate.specs.Additions.{AreReady}
 use Rattle.flow_aggregate.specs.Running.{Entries, Held, nothing_held, StandsFor}
 use Rattle.event_journal.specs.declared.entry.Entry.{Entry}
 use Rattle.mediator_history.specs.Counting.{clock_in, clock_of, running}
@@ -19,7 +10,6 @@ use Rattle.record_sharing.specs.InForce.{InForce}
 use Rattle.running_groups.specs.Table.{held_at, groups_at}
 use Rattle.mediator_state.specs.declared.engine.Engine.{Engine}
 use Rattle.mediator_state.specs.Standing.{Stands}
-use Rattle.running_groups.specs.Adding.{IsReadyFor, AllReady, AreApart, AreCountable, added_to}
 
 -- ---- the clock
 

@@ -1,6 +1,6 @@
 -- What a message does to those that are served, judged by what the engine keeps of them.
 use Rattle.std.proofs.Common.{◌≡◌, ℕ, ◌+◌, ◌<◌, ◌≤◌, ◌^◌, Bool, true, false, cond, ltb, eqb, List, [], ◌∷◌, ◌++◌, length, map, take, drop, get_or, Option, Some, None, Result, Ok, Err, refl, sym, ap, ◌∙◌, subst, arith, append-nil}
-use Rattle.std.specs.Prelude.{filter, nat_lt, not, ◌&&◌, ◌||◌, IsSomeAnd, IfOk}
+use Rattle.std.specs.Prelude.{filter, nat_lt, not, ◌&&◌, ◌||◌, IsSomeAnd}
 use Rattle.std.specs.Option.{option_map_or}
 use Rattle.std.specs.List.{AllByRecursion, flat_map, enumerate_from}
 use Rattle.std.proofs.Math.Bool.{and-true}
@@ -31,6 +31,8 @@ use Rattle.subscriber_stream.specs.Shapes.{shapes_after}
 use Rattle.subscriber_stream.specs.Standing.{Kept, HasRoom, queued}
 use Rattle.subscriber_stream.proofs.ShapeLaws.{shapes_on}
 use Rattle.disclosure_audit.specs.declared.entry.AuditEntry.{AuditEntry}
+use Rattle.disclosure_audit.specs.declared.entry.Note.{Note}
+use Rattle.disclosure_audit.specs.Queue.{stamp}
 use Rattle.event_journal.specs.declared.entry.Entry.{Entry}
 use Rattle.event_journal.specs.declared.entry.Entry.TheVariants.{Message}
 use Rattle.mediator_history.specs.Numbers.{is_in}
@@ -47,12 +49,12 @@ use Rattle.mediator_history.proofs.Counts.{few_records}
 use Rattle.mediator_history.proofs.CutLaws.{length-cuts, policy-cuts, name-cuts, messages-cuts, is_served-cuts, served-cuts, given-served, given-cuts}
 use Rattle.mediator_history.proofs.CountingLaws.{clock-cuts, counted-served}
 use Rattle.live_subscriptions.specs.declared.served.Served.{Served}
-use Rattle.record_sharing.specs.declared.shares.Note.{Note}
 use Rattle.live_subscriptions.specs.declared.share.Share.{Share}
 use Rattle.running_groups.specs.declared.tally.Tally.{Tally}
 use Rattle.record_sharing.specs.InForce.{InForce, in_force_with}
 use Rattle.live_subscriptions.specs.Table.{shown}
 use Rattle.running_groups.specs.Adding.{tallied}
+use Rattle.record_sharing.specs.Noting.{Kept as KeptNotes, kept_of}
 use Rattle.record_sharing.specs.Sharing.{given_by, added_by, kept_by, share_of, shares_of, tallies_of, note_of, noted, noted_of_each, notes_of}
 use Rattle.open_sessions.specs.declared.open_session.OpenSession.{OpenSession}
 use Rattle.live_subscriptions.specs.declared.subscription.Subscription.{Subscription}
@@ -62,7 +64,7 @@ use Rattle.mediator_state.specs.declared.plan.Judged.{Judged}
 use Rattle.mediator_state.specs.declared.plan.Plan.{Plan}
 use Rattle.mediator_state.specs.Standing.{Stands, IsSession, IsLiveAs}
 use Rattle.mediator_state.specs.Seen.{waiting_in, waiting_of}
-use Rattle.mediator_state.specs.Planning.{lacks, has, stamp, share_at, tally_at, AreTallied, HasRoomIn, AreStreamed, IsJudged, IsJudgedFor, IsInTurn, IsNextReading, IsPlan}
+use Rattle.mediator_state.specs.Planning.{lacks, has, share_at, tally_at, AreTallied, HasRoomIn, AreStreamed, IsJudged, IsJudgedAs, IsJudgedFor, IsInTurn, IsNextReading, IsPlan}
 
 -- ---- lists
 
@@ -454,13 +456,6 @@ split_left t all shares cuts left more place who other share so within inside at
   has_it : (domain : ℕ) (f : InForce) (records : List DataRecord) → map shown shares ≡ shares_of domain f records all → lacks t domain f records who ≡ false
   has_it domain f records given = sym (lacks_at t all shares place who other share domain f records within inside at is given) ∙ room
 
--- ---- the notes, one after another
-
--- notes of which some are stamped, with room for those that wait
-pub record IsStamping (position : ℕ) (notes waiting : List Note) (entries : List AuditEntry) (capacity : ℕ) : Type 0 where
-  pub stamped : entries ++ map (stamp position) waiting ≡ map (stamp position) notes
-  pub room : length entries + length waiting ≤ capacity
-
 -- ---- what a split answers, said of lists that were lent
 
 pub record IsSplitOf (t : Table) (domain : ℕ) (f : InForce) (records : List DataRecord) (all : List Served) (cuts : List ℕ) (left : List Served) : Type 0 where
@@ -495,24 +490,27 @@ meaning_header older octets m e = found (contents_of older octets) e where
   found (Ok c) e = ap (λ x. x.header) (sym (same_Ok (record { header = header_of octets; records = c.records; skips = c.skips; gap = gap_of older octets }) m e))
   found (Err w) e = absurd cc
 
-pub judges : {E : Type 0} (e : Engine) (position : ℕ) (m : Meaning) (domain : ℕ) (records : List DataRecord) (all : List Served) (cuts : List ℕ) (left lent : List Served) (shares : List Share) (tallies : List Tally) (notes : List Note) (r : Result Judged E)
+pub judges : (e : Engine) (position : ℕ) (m : Meaning) (domain : ℕ) (records : List DataRecord) (all : List Served) (cuts : List ℕ) (left lent : List Served) (shares : List Share) (tallies : List Tally) (notes : KeptNotes) (j : Judged)
     → domain ≡ m.header.domain → records ≡ m.records → map told all ≡ map (told_in e.subscriptions) e.subscriptions.served
     → IsSplitOf e.subscriptions domain e.in_force records all cuts left → lent ≡ left
-    → map shown shares ≡ shares_of domain e.in_force records lent → map tallied tallies ≡ tallies_of domain e.in_force records lent → notes ≡ notes_of domain e.in_force records lent
-    → IfOk r (λ j. j.cuts.items ≡ cuts) → IfOk r (λ j. j.shares.items ≡ shares) → IfOk r (λ j. j.tallies.items ≡ tallies) → IfOk r (λ j. j.entries.items ≡ map (stamp (position + length cuts)) notes)
-    → IfOk r (λ j. AllByRecursion AreStreamed (map shown j.shares.items))
-    → IfOk r (λ j. (h : List Entry) → Stands e h → length h ≡ position → IsJudgedFor e h m j)
-judges e position m domain records all cuts left lent shares tallies notes (Err w) in_domain means tells so lending gives adds noting cut shared counted_too stamps streamable = tt
-judges e position m domain records all cuts left lent shares tallies notes (Ok j) in_domain means tells so lending gives adds noting cut shared counted_too stamps streamable = λ h stands counted session number octets meant. (
-  is_judged e h session number octets domain e.in_force records all position j.cuts.items (map shown j.shares.items) j.entries.items stands (asked h stands session octets meant) (sym counted) tells (cut ∙ so.cutting)
+    → map shown shares ≡ shares_of domain e.in_force records lent → map tallied tallies ≡ tallies_of domain e.in_force records lent → notes ≡ kept_of e.audit.limit (notes_of domain e.in_force records lent)
+    → j.cuts.items ≡ cuts → j.shares.items ≡ shares → j.tallies.items ≡ tallies → j.position ≡ position + length cuts → j.notes ≡ notes
+    → AllByRecursion AreStreamed (map shown j.shares.items)
+    → (h : List Entry) → Stands e h → length h ≡ position → IsJudgedFor e h m j
+judges e position m domain records all cuts left lent shares tallies notes j in_domain means tells so lending gives adds noting cut shared counted_too at noted_too streamable = λ h stands counted session number octets meant. record {
+  named = named;
+  kept = noted_too ∙ noting ∙ ap (λ l. kept_of e.audit.limit (notes_of domain e.in_force records l)) (lending ∙ so.leaving);
+  judged = is_judged e h session number octets domain e.in_force records all position j.cuts.items (map shown j.shares.items) (map (stamp j.position) named) stands (asked h stands session octets meant) (sym counted) tells (cut ∙ so.cutting)
       (ap (map shown) shared ∙ gives ∙ ap (shares_of domain e.in_force records) (lending ∙ so.leaving))
-      (stamps ∙ ap (map (stamp (position + length cuts))) (noting ∙ ap (notes_of domain e.in_force records) (lending ∙ so.leaving))
-      ∙ ap (λ c. map (stamp (position + length c)) (notes_of domain e.in_force records (filter (has e.subscriptions domain e.in_force records) all))) (sym cut))
-      streamable,
-  is_tallied e h session number octets domain e.in_force records all j.cuts.items (map tallied j.tallies.items) stands (asked h stands session octets meant) tells (cut ∙ so.cutting)
-      (ap (map tallied) counted_too ∙ adds ∙ ap (tallies_of domain e.in_force records) (lending ∙ so.leaving)),
-)
+      (ap (λ n. map (stamp n) named) at ∙ ap (λ c. map (stamp (position + length c)) named) (sym cut))
+      streamable;
+  tallied_are = is_tallied e h session number octets domain e.in_force records all j.cuts.items (map tallied j.tallies.items) stands (asked h stands session octets meant) tells (cut ∙ so.cutting)
+      (ap (map tallied) counted_too ∙ adds ∙ ap (tallies_of domain e.in_force records) (lending ∙ so.leaving));
+}
   where
+    named : List Note
+    named = notes_of domain e.in_force records (filter (has e.subscriptions domain e.in_force records) all)
+
     asked : (h : List Entry) → Stands e h → (session : ℕ) (octets : List ℕ) → meaning_of (messages_of session h) octets ≡ Ok m → IsAsked h session octets domain e.in_force records
     asked h stands session octets meant = record {
       in_force_is = ap (λ p. in_force_with p e.in_force.clock) stands.policy ∙ ap (in_force_with (policy_in_force h)) stands.clock;
@@ -567,19 +565,21 @@ next_reading e h session number octets reading o so is reads =
     record { next = record { opened = turn.opened; turn = turn.turn }; read = reads (messages_of session h) turn.stands }
 
 pub planned : (e : Engine) (h : List Entry) (session number : ℕ) (octets : List ℕ) (p : Plan) (j : Judged) → p.session ≡ session → IsNextReading h session number octets p.reading
-    → IsJudgedFor e h p.reading.meaning j → p.cuts ≡ j.cuts → p.shares ≡ j.shares → p.tallies ≡ j.tallies → p.entries ≡ j.entries
+    → IsJudgedFor e h p.reading.meaning j → p.cuts ≡ j.cuts → p.shares ≡ j.shares → p.tallies ≡ j.tallies → p.position ≡ j.position → p.notes ≡ j.notes
     → IsPlan e h number octets p
-planned e h session number octets p j is next judged cuts shares tallies entries =
+planned e h session number octets p j is next judged cuts shares tallies at notes =
     let here : IsNextReading h p.session number octets p.reading = subst (λ (s : ℕ). IsNextReading h s number octets p.reading) (sym is) next in
+    let found : IsJudgedAs e h (Message p.session number octets) j = judged p.session number octets here.read.means in
     record {
       opened = here.next.opened;
       turn = here.next.turn;
       read = here.read;
-      judged = subst (λ v. IsJudged e h (Message p.session number octets) v.items (map shown p.shares.items) p.entries.items) (sym cuts)
-          (subst (λ v. IsJudged e h (Message p.session number octets) j.cuts.items (map shown v.items) p.entries.items) (sym shares)
-          (subst (λ v. IsJudged e h (Message p.session number octets) j.cuts.items (map shown j.shares.items) v.items) (sym entries)
-          (judged p.session number octets here.read.means).0));
+      named = found.named;
+      kept = notes ∙ found.kept;
+      judged = subst (λ v. IsJudged e h (Message p.session number octets) v.items (map shown p.shares.items) (map (stamp p.position) found.named)) (sym cuts)
+          (subst (λ v. IsJudged e h (Message p.session number octets) j.cuts.items (map shown v.items) (map (stamp p.position) found.named)) (sym shares)
+          (subst (λ n. IsJudged e h (Message p.session number octets) j.cuts.items (map shown j.shares.items) (map (stamp n) found.named)) (sym at) found.judged));
       tallied_are = subst (λ v. AreTallied (after_cuts h v.items) (Message p.session number octets) (map tallied p.tallies.items)) (sym cuts)
           (subst (λ v. AreTallied (after_cuts h j.cuts.items) (Message p.session number octets) (map tallied v.items)) (sym tallies)
-          (judged p.session number octets here.read.means).1);
+          found.tallied_are);
     }

@@ -1,22 +1,19 @@
 -- An engine that takes a message stands for the history with the message.
-use Rattle.std.proofs.Common.{◌≡◌, ◌≢◌, ℕ, zero, suc, ◌+◌, ◌*◌, ◌≤◌, ◌<◌, ◌^◌, Bool, true, false, cond, List, [], ◌∷◌, ◌++◌, length, map, take, drop, Option, Some, None, refl, sym, ap, ◌∙◌, subst, arith, append-nil, length-append}
-use Rattle.std.specs.Prelude.{not, ◌==◌, ◌||◌, unwrap_or, if◌then◌else◌, IsSomeAnd, IfSome}
+use Rattle.std.proofs.Common.{◌≡◌, ◌≢◌, ℕ, zero, suc, ◌≤◌, ◌<◌, Bool, true, false, cond, List, [], ◌∷◌, ◌++◌, length, map, Option, Some, None, refl, sym, ap, ◌∙◌, subst, arith, append-nil, length-append}
+use Rattle.std.specs.Prelude.{not, ◌==◌, ◌||◌, if◌then◌else◌, IsSomeAnd}
 use Rattle.std.specs.List.{flat_map, AllByRecursion}
 use Rattle.std.proofs.lemmas.Bool.{eqb-true, eqb-false, eq-eqb, ne_eqb}
-use Rattle.std.proofs.lemmas.List.{length-drop, take-append-drop, nil_from_length}
+use Rattle.std.proofs.lemmas.List.{nil_from_length}
 use Rattle.std.proofs.lemmas.List.Concat.{flat_map-cons}
 use Rattle.sequences.proofs.BeforeLaws.{last_of-push}
 use Rattle.ipfix_template.specs.DataRecord.{DataRecord}
 use Rattle.ipfix_session.specs.Keeping.{at_key}
 use Rattle.ipfix_session.specs.ReadAhead.{Ahead, IsReadingOf}
 use Rattle.ipfix_session.specs.Standing.{StandsFor}
-use Rattle.policy_text.specs.Policies.{nothing as no_policy}
 use Rattle.subscriber_stream.specs.declared.limits.Limits.{Limits}
-use Rattle.subscriber_stream.specs.Parts.{parts, records_in}
-use Rattle.subscriber_stream.specs.Standing.{Standing, StandsAt, HasRoom, queued}
-use Rattle.subscriber_stream.proofs.CallLaws.{parts_bring}
-use Rattle.subscriber_stream.proofs.Standings.{records_in-append, room_is_limits}
-use Rattle.stream_meaning.specs.Served.{AreStreamable, IsStreamable}
+use Rattle.subscriber_stream.specs.Standing.{Standing, StandsAt, HasRoom}
+use Rattle.subscriber_stream.proofs.Standings.{room_is_limits}
+use Rattle.stream_meaning.specs.Served.{AreStreamable}
 use Rattle.stream_meaning.proofs.Handing.{streamable_more}
 use Rattle.disclosure_audit.specs.declared.entry.AuditEntry.{AuditEntry}
 use Rattle.disclosure_audit.specs.Queue.{StandsIn, Takes}
@@ -24,7 +21,7 @@ use Rattle.event_journal.specs.declared.entry.Entry.{Entry}
 use Rattle.event_journal.specs.declared.entry.Entry.TheVariants.{Message}
 use Rattle.mediator_history.specs.Numbers.{AreDistinct, is_in}
 use Rattle.mediator_history.specs.Sessions.{opens, is_open, opened_in, sessions_opened, messages_of}
-use Rattle.mediator_history.specs.Subscriptions.{edited, policy_in_force, texts_in, edits_made, named, name_of, begins, is_live, is_served, subscribed_in, subscriptions_begun, served}
+use Rattle.mediator_history.specs.Subscriptions.{texts_in, begins, is_live, is_served, subscribed_in, subscriptions_begun, served}
 use Rattle.mediator_history.specs.Counting.{counted_at, running}
 use Rattle.mediator_history.specs.Disclosed.{given_at, disclosed}
 use Rattle.mediator_history.specs.Auditing.{audit_at, audit_list}
@@ -44,7 +41,7 @@ use Rattle.record_sharing.specs.InForce.{InForce}
 use Rattle.running_groups.specs.Table.{groups_at}
 use Rattle.mediator_state.specs.declared.engine.Engine.{Engine}
 use Rattle.mediator_state.specs.Ascending.{Ascend}
-use Rattle.mediator_state.specs.Standing.{Stands, place, IsSession, IsSubscription, IsLiveAs, IsUnopened, IsUnbegun, AreNumbered, IsSmall, AreInRange}
+use Rattle.mediator_state.specs.Standing.{Stands, place, IsSession, IsLiveAs, AreNumbered, IsSmall, AreInRange}
 use Rattle.mediator_state.specs.Seen.{place_in, place_of}
 use Rattle.running_groups.specs.Adding.{added_to}
 use Rattle.mediator_state.specs.Planning.{share_at, tally_at, HasRoomIn, AreStreamed}

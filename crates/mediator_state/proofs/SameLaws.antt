@@ -26,11 +26,11 @@ use Rattle.live_subscriptions.specs.declared.subscription.Subscription.{Subscrip
 use Rattle.live_subscriptions.specs.Table.{Seen, seen, at}
 use Rattle.record_sharing.specs.InForce.{InForce}
 use Rattle.flow_aggregate.specs.Running.{Entries, StandsFor as StandsForRecords}
-use Rattle.running_groups.specs.Table.{groups_at}
 use Rattle.mediator_state.specs.declared.engine.Engine.{Engine}
 use Rattle.mediator_state.specs.declared.plan.Plan.{Plan}
 use Rattle.mediator_state.specs.Standing.{place, IsSession, IsLiveAs, AreInRange, Stands}
 use Rattle.mediator_state.specs.Seen.{place_in, waiting_in, waiting_of, IsUntouched, IsSameEngine}
+use Rattle.record_sharing.specs.Noting.{kept_of}
 use Rattle.mediator_state.specs.Planning.{HasRoomIn, IsJudged, IsPlan}
 
 some_same : {A : Type 0} (x y : A) → Some x ≡ Some y → x ≡ y
@@ -140,6 +140,8 @@ plan_same d e h number octets p same plan = record {
   opened = plan.opened;
   turn = plan.turn;
   read = plan.read;
-  judged = judged_same d e h (Message p.session number octets) p.cuts.items _ p.entries.items same plan.judged;
+  named = plan.named;
+  kept = plan.kept ∙ ap (λ n. kept_of n plan.named) (sym same.audit_limit);
+  judged = judged_same d e h (Message p.session number octets) p.cuts.items _ _ same plan.judged;
   tallied_are = plan.tallied_are;
 }

@@ -1,8 +1,7 @@
 -- What the steps want by which a plan is carried out.
-use Rattle.std.specs.Prelude.{◌≡◌, ◌≢◌, ℕ, ◌+◌, ◌*◌, ◌<◌, ◌≤◌, ◌^◌, true, List, [], ◌∷◌, ◌++◌, length, map, Option, IfSome, IsSomeAnd}
+use Rattle.std.specs.Prelude.{◌≡◌, ℕ, ◌+◌, ◌<◌, ◌≤◌, ◌^◌, true, List, length, map, IfSome, IsSomeAnd}
 use Rattle.std.specs.List.{AllByRecursion}
 use Rattle.ipfix_template.specs.DataRecord.{DataRecord}
-use Rattle.ipfix_session.specs.declared.read.Gap.{Gap}
 use Rattle.ipfix_session.specs.Keeping.{at_key}
 use Rattle.ipfix_session.specs.Meaning.{Meaning}
 use Rattle.ipfix_session.specs.ReadAhead.{Ahead, IsReadingOf, HasRoomFor}
@@ -19,7 +18,7 @@ use Rattle.flow_aggregate.specs.declared.addition.Addition.{Addition}
 use Rattle.flow_aggregate.specs.Counts.{Count}
 use Rattle.live_subscriptions.specs.Table.{shown}
 use Rattle.running_groups.specs.Adding.{tallied}
-use Rattle.live_subscriptions.specs.Table.{Table, at, HasSpare, AreReady}
+use Rattle.live_subscriptions.specs.Table.{HasSpare, AreReady}
 use Rattle.mediator_state.specs.declared.engine.Engine.{Engine}
 use Rattle.mediator_state.specs.declared.fault.Fault.{Fault}
 use Rattle.mediator_state.specs.declared.fault.Fault.TheVariants as fault
@@ -35,17 +34,17 @@ LacksAudit (fault.AuditFull need room) audit noted = (need ≡ noted) × (room <
 LacksAudit fault.OutOfMemory audit noted = length audit.standing.entries + noted ≤ audit.limit
 LacksAudit _ audit noted = ⊥
 
--- the audit has room for so many entries, in memory too
-pub record HasAuditFor (audit : Kept) (more : ℕ) : Type 0 where
+-- the audit has room for so many entries, and in memory so many places
+pub record HasAuditFor (audit : Kept) (more places : ℕ) : Type 0 where
   pub room : length audit.standing.entries + more ≤ audit.limit
   pub limit : audit.limit ≤ MOST_AUDITED
-  pub reserved : more ≤ audit.spare
+  pub reserved : places ≤ audit.spare
 
--- room was made for what a plan does, and what it counts is ready so
+-- room was made for what a plan does, a place for each cut and one for all notes, and what it counts is ready so
 pub record HasRoomForPlan (e : Engine) (p : Plan) (added : List (ℕ × List Addition)) : Type 0 where
-  pub audit : length e.audit.standing.entries + (length p.cuts.items + length p.entries.items) ≤ e.audit.limit
+  pub audit : length e.audit.standing.entries + (length p.cuts.items + p.notes.count) ≤ e.audit.limit
   pub limit : e.audit.limit ≤ MOST_AUDITED
-  pub reserved : length p.cuts.items + length p.entries.items ≤ e.audit.spare
+  pub reserved : length p.cuts.items + 1 ≤ e.audit.spare
   pub session : IfSome (at_key p.session e.sessions) (λ o. HasRoomFor o.session p.reading)
   pub streams : AllByRecursion (HasSpare e.subscriptions.live) (map shown p.shares.items)
   pub groups : AreApart (map tallied p.tallies.items) → AllReady e.groups added (map tallied p.tallies.items)
@@ -73,7 +72,7 @@ pub record IsReadyToTake (e : Engine) (session : ℕ) (reading : Ahead) (shares 
   pub streams : AreReady e.subscriptions shares
   pub groups : AreCountable e.groups added
   pub audit : length e.audit.standing.entries + entries ≤ e.audit.limit
-  pub reserved : entries ≤ e.audit.spare
+  pub reserved : 0 < e.audit.spare
   pub count : e.audit.standing.drained + length e.audit.standing.entries + entries < 2 ^ 64
 
 -- this is what a message brings, gives, counts and keeps back behind a history

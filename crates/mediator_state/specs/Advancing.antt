@@ -26,7 +26,7 @@ pub record AreParted (t : Table) (all : List (ℕ × List DataRecord)) (cuts : L
 
 -- room was made for what an advance does
 pub record HasRoomToClose (e : Engine) (c : Closing) : Type 0 where
-  pub audit : HasAuditFor e.audit (length c.cuts.items)
+  pub audit : HasAuditFor e.audit (length c.cuts.items) (length c.cuts.items)
   pub streams : AllByRecursion (HasSpare e.subscriptions.live) (map shown c.shares.items)
 
 -- this is what an advance to t does behind some history of so many entries

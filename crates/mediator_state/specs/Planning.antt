@@ -9,20 +9,22 @@ use Rattle.flow_aggregate.specs.Counts.{Count, count_of}
 use Rattle.subscriber_stream.specs.Standing.{HasRoom}
 use Rattle.stream_meaning.specs.Served.{IsStreamable}
 use Rattle.disclosure_audit.specs.declared.entry.AuditEntry.{AuditEntry}
+use Rattle.disclosure_audit.specs.declared.entry.Note.{Note}
+use Rattle.disclosure_audit.specs.Queue.{stamp}
 use Rattle.event_journal.specs.declared.entry.Entry.{Entry}
 use Rattle.event_journal.specs.declared.entry.Entry.TheVariants.{Message}
 use Rattle.mediator_history.specs.Sessions.{is_open, messages_of}
 use Rattle.mediator_history.specs.Subscriptions.{served}
 use Rattle.mediator_history.specs.Counting.{counted_at}
 use Rattle.mediator_history.specs.Disclosed.{given_at}
-use Rattle.mediator_history.specs.Auditing.{audit_at, audit_entry}
+use Rattle.mediator_history.specs.Auditing.{audit_at}
 use Rattle.mediator_history.specs.Cuts.{is_cut_by, after_cuts}
 use Rattle.live_subscriptions.specs.declared.served.Served.{Served}
-use Rattle.record_sharing.specs.declared.shares.Note.{Note}
 use Rattle.record_sharing.specs.InForce.{InForce}
 use Rattle.live_subscriptions.specs.Table.{shown}
 use Rattle.running_groups.specs.Adding.{tallied}
 use Rattle.record_sharing.specs.Sharing.{share_of}
+use Rattle.record_sharing.specs.Noting.{kept_of}
 use Rattle.open_sessions.specs.declared.open_session.OpenSession.{OpenSession}
 use Rattle.live_subscriptions.specs.Table.{Table, at, lacks_room_at}
 use Rattle.prepared_message.specs.Preparation.{Preparation, AgreesWith}
@@ -39,10 +41,6 @@ lacks t domain f records who = lacks_room_at t (share_of domain f records who)
 
 abbrev pub has : Table → ℕ → InForce → List DataRecord → Served → Bool
 has t domain f records who = not (lacks t domain f records who)
-
--- the audit's entry of a note of the message at a position
-abbrev pub stamp : ℕ → Note → AuditEntry
-stamp position n = audit_entry position n.index n.sub n.what
 
 -- what an entry gives to a subscription
 abbrev pub share_at : List Entry → Entry → ℕ → ℕ × List DataRecord
@@ -72,17 +70,24 @@ pub record IsJudged (e : Engine) (h : List Entry) (entry : Entry) (cuts : List �
   pub room : AllByRecursion (HasRoomIn e.subscriptions) shares
   pub streamable : AllByRecursion AreStreamed shares
 
+-- and this it names, of which is kept what the audit may hold
+pub record IsJudgedAs (e : Engine) (h : List Entry) (entry : Entry) (j : Judged) : Type 0 where
+  pub named : List Note
+  pub kept : j.notes ≡ kept_of e.audit.limit named
+  pub judged : IsJudged e h entry j.cuts.items (map shown j.shares.items) (map (stamp j.position) named)
+  pub tallied_are : AreTallied (after_cuts h j.cuts.items) entry (map tallied j.tallies.items)
+
 abbrev pub IsJudgedFor : Engine → List Entry → Meaning → Judged → Type 0
-IsJudgedFor e h m j = (session number : ℕ) (octets : List ℕ) → meaning_of (messages_of session h) octets ≡ Ok m
-    → IsJudged e h (Message session number octets) j.cuts.items (map shown j.shares.items) j.entries.items
-    × AreTallied (after_cuts h j.cuts.items) (Message session number octets) (map tallied j.tallies.items)
+IsJudgedFor e h m j = (session number : ℕ) (octets : List ℕ) → meaning_of (messages_of session h) octets ≡ Ok m → IsJudgedAs e h (Message session number octets) j
 
 -- what a message would do behind a history
 pub record IsPlan (e : Engine) (h : List Entry) (number : ℕ) (octets : List ℕ) (p : Plan) : Type 0 where
   pub opened : is_open p.session h ≡ true
   pub turn : number ≡ length (messages_of p.session h)
   pub read : IsReadingOf (messages_of p.session h) octets p.reading
-  pub judged : IsJudged e h (Message p.session number octets) p.cuts.items (map shown p.shares.items) p.entries.items
+  pub named : List Note
+  pub kept : p.notes ≡ kept_of e.audit.limit named
+  pub judged : IsJudged e h (Message p.session number octets) p.cuts.items (map shown p.shares.items) (map (stamp p.position) named)
   pub tallied_are : AreTallied (after_cuts h p.cuts.items) (Message p.session number octets) (map tallied p.tallies.items)
 
 -- the session is open, and this is the number of its next message

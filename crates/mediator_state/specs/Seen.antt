@@ -1,12 +1,12 @@
 -- What contracts see of an engine beside its history: places, what was drained, limits.
-use Rattle.std.specs.Prelude.{◌≡◌, ℕ, List, Option, Some, None}
+use Rattle.std.specs.Prelude.{◌≡◌, ℕ, Option, Some, None}
 use Rattle.std.specs.Option.{option_map}
 use Rattle.ipfix_session.specs.Keeping.{at_key}
 use Rattle.subscriber_stream.specs.Standing.{queued}
 use Rattle.running_groups.specs.Table.{groups_at}
 use Rattle.open_sessions.specs.Table.{seen}
 use Rattle.live_subscriptions.specs.declared.subscription.Subscription.{Subscription}
-use Rattle.live_subscriptions.specs.Table.{Table, at, SameTable}
+use Rattle.live_subscriptions.specs.Table.{at, SameTable}
 use Rattle.mediator_state.specs.declared.engine.Engine.{Engine}
 use Rattle.mediator_state.specs.Standing.{place}
 

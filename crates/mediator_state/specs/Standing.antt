@@ -1,11 +1,11 @@
 -- The histories that an engine stands for.
-use Rattle.std.specs.Prelude.{◌≡◌, ℕ, ◌+◌, ◌*◌, ◌≤◌, ◌<◌, Bool, true, false, not, List, [], ◌∷◌, ◌++◌, length, Option, Some, None, Ok}
+use Rattle.std.specs.Prelude.{◌≡◌, ℕ, ◌+◌, ◌*◌, ◌≤◌, ◌<◌, true, false, not, List, [], length, Option, Some, None}
 use Rattle.std.specs.List.{flat_map, AllByRecursion}
 use Rattle.ipfix_session.specs.Keeping.{at_key}
 use Rattle.ipfix_session.specs.Standing.{StandsFor}
 use Rattle.subscriber_stream.specs.declared.limits.Limits.{Limits}
 use Rattle.subscriber_stream.specs.declared.limits.TheConstants.{MOST_QUEUE, MOST_SHAPES}
-use Rattle.subscriber_stream.specs.Standing.{Standing, StandsAt, queued}
+use Rattle.subscriber_stream.specs.Standing.{Standing, StandsAt}
 use Rattle.stream_meaning.specs.Served.{AreStreamable}
 use Rattle.flow_aggregate.specs.Running.{StandsFor as StandsForRecords}
 use Rattle.disclosure_audit.specs.declared.audit.TheConstants.{MOST_ENTRIES as MOST_AUDITED}
@@ -20,7 +20,7 @@ use Rattle.mediator_history.specs.Auditing.{audit_list}
 use Rattle.running_groups.specs.Table.{groups_at}
 use Rattle.open_sessions.specs.declared.open_session.OpenSession.{OpenSession}
 use Rattle.live_subscriptions.specs.declared.subscription.Subscription.{Subscription}
-use Rattle.live_subscriptions.specs.Table.{Table, at}
+use Rattle.live_subscriptions.specs.Table.{at}
 use Rattle.mediator_state.specs.declared.engine.Engine.{Engine}
 use Rattle.mediator_state.specs.Ascending.{Ascend}
 

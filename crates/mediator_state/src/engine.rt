@@ -4,7 +4,7 @@ ghost use Rattle.std.specs.List.{AllByRecursion};
 ghost use Rattle.policy_text.specs.Parsing.{policy_of};
 ghost use Rattle.record_sharing.specs.InForce.{in_force_with};
 ghost use Rattle.policy_text.specs.Naming.{is_name};
-ghost use Rattle.disclosure_audit.specs.Queue as queue;
+ghost use Rattle.disclosure_audit.specs.Queue.{stamp};
 ghost use Rattle.disclosure_audit.specs.declared.audit.TheConstants.{MOST_ENTRIES as MOST_AUDITED};
 ghost use Rattle.event_journal.specs.declared.limits.TheConstants.{MOST_ENTRIES};
 ghost use Rattle.event_journal.specs.declared.entry.Entry.{Entry};
@@ -17,7 +17,7 @@ use crate::closing::Closing;
 use crate::fault::Fault;
 use crate::plan::Plan;
 use crate::receipt::Receipt;
-use disclosure_audit::{Audit, AuditEntry, What};
+use disclosure_audit::{Audit, AuditEntry, Note, What};
 use ipfix_session::Reading;
 use live_subscriptions::{Share, Subscriptions};
 use open_sessions::Sessions;
@@ -156,12 +156,13 @@ impl Engine {
         ensures same { IsSameEngine self.old self.new }
     {
         let served = self.subscriptions.served()?;
+        let most = u64::from(self.audit.limit());
         if let Some(terms) = &self.terms {
-            if terms.are(&self.in_force, &served) {
+            if terms.are(&self.in_force, &served, most) {
                 return terms.clone();
             }
         }
-        let terms = Terms::of(self.alloc, &self.in_force, &served)?;
+        let terms = Terms::of(self.alloc, &self.in_force, &served, most)?;
         let terms = Arc::new(self.alloc, terms)?;
         self.terms = Some(terms.clone()?);
         Ok(terms)
@@ -315,24 +316,22 @@ impl Engine {
     ghost use Rattle.mediator_state.specs.Accepting.{HasRoomForPlan, HasAuditFor, IsPlannedFor, LacksAudit, IsReadyToTake, IsMessage, receipt_of};
     ghost use Rattle.std.specs.Prelude.{map, IfErr};
 
-    /// Makes room for so many audit entries.
+    /// Makes room for so many audit entries, and so many places of memory for them.
     ///
     /// # Errors
     /// The audit has no room, or memory ran out.
-    pub(crate) fn make_audit_room(&mut self, need: usize) -> Result<(), Fault>
+    pub(crate) fn make_audit_room(&mut self, need: u64, places: usize) -> Result<(), Fault>
+        requires few { places ≤ need + 1 }
         ensures same { IsSameEngine self.old self.new }
-        ensures ok { OnOk result (HasAuditFor self.new.audit need) }
+        ensures ok { OnOk result (HasAuditFor self.new.audit need places) }
         ensures err { IfErr result (λ e. LacksAudit e self.old.audit need) }
         ensures rest { (self.new.sessions ≡ self.old.sessions) × (self.new.subscriptions ≡ self.old.subscriptions) × (self.new.groups ≡ self.old.groups) }
     {
         let room = self.audit.room();
-        if need > room as usize {
-            return Err(Fault::AuditFull {
-                need: need as u64,
-                room,
-            });
+        if need > u64::from(room) {
+            return Err(Fault::AuditFull { need, room });
         }
-        self.audit.reserve(need as u32)?;
+        self.audit.reserve(places as u32)?;
         Ok(())
     }
 
@@ -343,9 +342,10 @@ impl Engine {
     pub(crate) fn make_room(&mut self, plan: &Plan) -> Result<Vec<Reserved>, Fault>
         ensures same { IsSameEngine self.old self.new }
         ensures ok { IfOk result (λ reserved. HasRoomForPlan self.new plan.now (map reserved_for reserved.items)) }
-        ensures err { IfErr result (λ e. LacksAudit e self.old.audit (length plan.now.cuts.items + length plan.now.entries.items)) }
+        ensures err { IfErr result (λ e. LacksAudit e self.old.audit (length plan.now.cuts.items + plan.now.notes.count)) }
     {
-        self.make_audit_room(plan.cuts.len() + plan.entries.len())?;
+        let cuts = plan.cuts.len();
+        self.make_audit_room(cuts as u64 + plan.notes.count(), cuts + 1)?;
         self.sessions.make_room(plan.session, &plan.reading)?;
         self.subscriptions.reserve(&plan.shares)?;
         Ok(self.groups.reserve(&plan.tallies)?)
@@ -373,31 +373,33 @@ impl Engine {
             plan.reading,
             plan.shares,
             reserved,
-            plan.entries,
+            plan.position,
+            plan.notes.into_kept(),
         );
         receipt
     }
 
-    /// Takes what a message brings, gives, counts and keeps back, in room that was made for it.
+    /// Takes what the message at a position brings, gives, counts and keeps back, in room that was made for it.
     fn take(
         &mut self,
         session: u64,
         reading: Reading,
         shares: Vec<Share>,
         reserved: Vec<Reserved>,
-        entries: Vec<AuditEntry>,
+        position: u64,
+        notes: Vec<Note>,
     )
-        requires room { IsReadyToTake self.old session reading (map shown shares.items) (map reserved_for reserved.items) (length entries.items) }
+        requires room { IsReadyToTake self.old session reading (map shown shares.items) (map reserved_for reserved.items) (length notes.items) }
         ensures stands { (h : List Entry) (number : ℕ) (octets : List ℕ) (tallies : List (ℕ × List Count)) → Stands self.old h
             → AllReady self.old.groups (map reserved_for reserved.items) tallies → AreApart tallies
-            → IsMessage self.old h session number octets reading (map shown shares.items) tallies entries.items
+            → IsMessage self.old h session number octets reading (map shown shares.items) tallies (map (stamp position) notes.items)
             → Stands self.new (h ++ Message session number octets ∷ []) }
         ensures untouched { IsUntouched self.old self.new }
     {
         self.sessions.keep(session, reading);
         self.subscriptions.give(shares);
         self.groups.add_reserved(reserved);
-        self.audit.extend_reserved(entries);
+        self.audit.push_notes(position, notes);
     }
 }
 
@@ -421,7 +423,7 @@ impl Engine {
         ensures ok { OnOk result (HasRoomToClose self.new closing.now) }
         ensures err { IfErr result (λ e. LacksAudit e self.old.audit (length closing.now.cuts.items)) }
     {
-        self.make_audit_room(closing.cuts.len())?;
+        self.make_audit_room(closing.cuts.len() as u64, closing.cuts.len())?;
         self.subscriptions.reserve(&closing.shares)?;
         Ok(())
     }

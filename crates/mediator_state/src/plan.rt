@@ -9,20 +9,20 @@ ghost use Rattle.event_journal.specs.declared.entry.Entry.{Entry};
 ghost use Rattle.live_subscriptions.specs.Table.{shown};
 ghost use Rattle.running_groups.specs.Adding.{tallied};
 ghost use Rattle.record_sharing.specs.Sharing.{shares_of, tallies_of, notes_of};
+ghost use Rattle.record_sharing.specs.Noting.{kept_of};
 ghost use Rattle.record_sharing.specs.Judgements.{IsJudgementOf};
 ghost use Rattle.std.specs.List.{AllByRecursion};
-ghost use Rattle.mediator_state.specs.Planning.{stamp, AreStreamed};
+ghost use Rattle.mediator_state.specs.Planning.{AreStreamed};
 
 use crate::engine::Engine;
 use crate::fault::Fault;
 use bytes::Bytes;
-use disclosure_audit::AuditEntry;
 use ipfix_session::Reading;
 use live_subscriptions::{Served, Share, Subscriptions};
 use open_sessions::OpenSession;
 use prepared_message::Prepared;
 use record_runs::Records;
-use record_sharing::{InForce, Judgement, Note, Shares};
+use record_sharing::{InForce, Judgement, Notes, Shares};
 use running_groups::Tally;
 use std::alloc::{AllocError, Global};
 use stream_meaning::see_records;
@@ -39,8 +39,10 @@ pub(crate) struct Plan {
     pub(crate) shares: Vec<Share>,
     /// What it adds to their aggregates.
     pub(crate) tallies: Vec<Tally>,
-    /// What the audit names of it.
-    pub(crate) entries: Vec<AuditEntry>,
+    /// The position in the history that it would have, behind the cuts.
+    pub(crate) position: u64,
+    /// What the audit names of it, as much of it as the audit may hold.
+    pub(crate) notes: Notes,
 }
 
 impl Engine {
@@ -106,7 +108,8 @@ impl Engine {
             cuts: judged.cuts,
             shares: judged.shares,
             tallies: judged.tallies,
-            entries: judged.entries,
+            position: judged.position,
+            notes: judged.notes,
         })
     }
 
@@ -145,22 +148,26 @@ impl Engine {
         let domain = reading.header().domain;
         let records = reading.records();
         let served = self.subscriptions.served()?;
+        let most = u64::from(self.audit.limit());
         let in_force = &mut self.in_force;
-        let all = shares_of_all(self.alloc, in_force, domain, records, judgement, &served)?;
+        let all = shares_of_all(
+            self.alloc, in_force, domain, records, judgement, &served, most,
+        )?;
         let split = split_by_room(self.alloc, &self.subscriptions, &served, &all.shares)?;
         let (cuts, left) = (&split.cuts, &split.left);
-        let left = share_left(self.alloc, in_force, domain, records, all, cuts, left)?;
-        judged_at(self.alloc, position, split.cuts, left)
+        let left = share_left(self.alloc, in_force, domain, records, all, cuts, left, most)?;
+        Ok(judged_at(position, split.cuts, left))
     }
 }
 
-/// Whom a message cuts, and what it gives, counts and keeps back then.
+/// Whom a message cuts, and what it gives, counts and keeps back then, behind them.
 #[derive(Drop)]
 pub(crate) struct Judged {
     pub(crate) cuts: Vec<u64>,
     pub(crate) shares: Vec<Share>,
     pub(crate) tallies: Vec<Tally>,
-    pub(crate) entries: Vec<AuditEntry>,
+    pub(crate) position: u64,
+    pub(crate) notes: Notes,
 }
 
 /// Those who are cut, and those who are left.
@@ -173,7 +180,7 @@ struct Split<'a> {
 ghost use Rattle.live_subscriptions.specs.Table.{told, lacks_room_at};
 ghost use Rattle.mediator_state.specs.Planning.{lacks, has};
 
-/// What the records give to all that are served: what was judged elsewhere, where its terms still hold.
+/// What the records give to all that are served, with so many notes at most: what was judged elsewhere, where its terms still hold.
 ///
 /// # Errors
 /// Want of memory.
@@ -184,48 +191,42 @@ fn shares_of_all(
     records: &Records,
     judgement: Option<Judgement>,
     served: &[Served<'_>],
+    most: u64,
 ) -> Result<Shares, AllocError>
     requires few { length records.now ≤ 2 ^ 32 }
     requires judgement { IfSome judgement (IsJudgementOf domain records.now) }
     ensures shares { IfOk result (λ s. map shown s.shares.items ≡ shares_of domain in_force.old records.now served.now) }
     ensures tallies { IfOk result (λ s. map tallied s.tallies.items ≡ tallies_of domain in_force.old records.now served.now) }
-    ensures notes { IfOk result (λ s. s.notes.items ≡ notes_of domain in_force.old records.now served.now) }
+    ensures notes { IfOk result (λ s. s.notes ≡ kept_of most (notes_of domain in_force.old records.now served.now)) }
     ensures stay { in_force.new ≡ in_force.old }
 {
     if let Some(judgement) = judgement {
-        if let Some(shares) = judgement.shares_by(in_force, served) {
+        if let Some(shares) = judgement.shares_by(in_force, served, most) {
             return Ok(shares);
         }
     }
-    Shares::of_records(alloc, in_force, domain, records, served)
+    Shares::of_records(alloc, in_force, domain, records, served, most)
 }
 
-/// What is judged, with the audit's entries of the message behind its cuts, the first of which is at a position.
-///
-/// # Errors
-/// Want of memory.
-fn judged_at(
-    alloc: Global,
-    position: u64,
-    cuts: Vec<u64>,
-    left: Shares,
-) -> Result<Judged, AllocError>
+/// What is judged of a message, with its position behind its cuts, the first of which is at a position.
+fn judged_at(position: u64, cuts: Vec<u64>, left: Shares) -> Judged
     requires short { position ≤ MOST_ENTRIES }
-    ensures cuts { IfOk result (λ j. j.cuts.items ≡ cuts.items) }
-    ensures shares { IfOk result (λ j. j.shares.items ≡ left.shares.items) }
-    ensures tallies { IfOk result (λ j. j.tallies.items ≡ left.tallies.items) }
-    ensures entries { IfOk result (λ j. j.entries.items ≡ map (stamp (position + length cuts.items)) left.notes.items) }
-    ensures streamable { IfOk result (λ j. AllByRecursion AreStreamed (map shown j.shares.items)) }
+    ensures cuts { result.cuts.items ≡ cuts.items }
+    ensures shares { result.shares.items ≡ left.shares.items }
+    ensures tallies { result.tallies.items ≡ left.tallies.items }
+    ensures position { result.position ≡ position + length cuts.items }
+    ensures notes { result.notes ≡ left.notes }
+    ensures streamable { AllByRecursion AreStreamed (map shown result.shares.items) }
 {
     see_shares(&left.shares);
     let behind = position + cuts.len() as u64;
-    let entries = stamped(alloc, left.notes, behind)?;
-    Ok(Judged {
+    Judged {
         cuts,
         shares: left.shares,
         tallies: left.tallies,
-        entries,
-    })
+        position: behind,
+        notes: left.notes,
+    }
 }
 
 /// Cuts those whose limits leave no room for their share.
@@ -256,7 +257,7 @@ fn split_by_room<'a>(
     Ok(Split { cuts, left })
 }
 
-/// What the records give to those that are left: the shares of all, where none is cut.
+/// What the records give to those that are left, with so many notes at most: the shares of all, where none is cut.
 ///
 /// # Errors
 /// Want of memory.
@@ -268,20 +269,21 @@ fn share_left(
     all: Shares,
     cuts: &[u64],
     left: &[Served<'_>],
+    most: u64,
 ) -> Result<Shares, AllocError>
     requires few { length records.now ≤ 2 ^ 32 }
     requires shares { cuts.now ≡ [] → map shown all.shares.items ≡ shares_of domain in_force.old records.now left.now }
     requires tallies { cuts.now ≡ [] → map tallied all.tallies.items ≡ tallies_of domain in_force.old records.now left.now }
-    requires notes { cuts.now ≡ [] → all.notes.items ≡ notes_of domain in_force.old records.now left.now }
+    requires notes { cuts.now ≡ [] → all.notes ≡ kept_of most (notes_of domain in_force.old records.now left.now) }
     ensures shares { IfOk result (λ s. map shown s.shares.items ≡ shares_of domain in_force.old records.now left.now) }
     ensures tallies { IfOk result (λ s. map tallied s.tallies.items ≡ tallies_of domain in_force.old records.now left.now) }
-    ensures notes { IfOk result (λ s. s.notes.items ≡ notes_of domain in_force.old records.now left.now) }
+    ensures notes { IfOk result (λ s. s.notes ≡ kept_of most (notes_of domain in_force.old records.now left.now)) }
     ensures stay { in_force.new ≡ in_force.old }
 {
     if cuts.is_empty() {
         return Ok(all);
     }
-    Shares::of_records(alloc, in_force, domain, records, left)
+    Shares::of_records(alloc, in_force, domain, records, left, most)
 }
 
 /// Octets are less than 256, by their type.
@@ -296,23 +298,4 @@ pub(crate) fn see_shares(shares: &[Share])
     'shares: for share in shares {
         see_records(&share.given);
     }
-}
-
-/// The audit's entries of notes of the message at a position.
-///
-/// # Errors
-/// Want of memory.
-fn stamped(alloc: Global, notes: Vec<Note>, position: u64) -> Result<Vec<AuditEntry>, AllocError>
-    ensures { IfOk result (λ v. v.items ≡ map (stamp position) notes.items) }
-{
-    let mut entries = Vec::with_capacity(alloc, notes.len())?;
-    for Note { index, sub, what } in notes {
-        entries.push_reserved(AuditEntry {
-            position,
-            index,
-            sub,
-            what,
-        });
-    }
-    Ok(entries)
 }

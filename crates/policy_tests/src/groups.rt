@@ -40,7 +40,7 @@ fn shared(alloc: Global, in_force: &mut InForce, message: &[u8]) -> Result<Share
         sub: 1,
         name: "acme",
     }];
-    Ok(Shares::of_records(alloc, in_force, 7, &read.records, &served)?)
+    Ok(Shares::of_records(alloc, in_force, 7, &read.records, &served, 0)?)
 }
 
 /// Adds what a message adds for one subscription.

@@ -99,7 +99,7 @@ fn counted(alloc: Global, list: &[Flow]) -> Result<RunningGroups, Fail> {
         sub: 1,
         name: "acme",
     }];
-    let found = Shares::of_records(alloc, &mut in_force, 7, &read.records, &served)?;
+    let found = Shares::of_records(alloc, &mut in_force, 7, &read.records, &served, 0)?;
     let mut groups = RunningGroups::new(alloc);
     add_all(&mut groups, found)?;
     Ok(groups)

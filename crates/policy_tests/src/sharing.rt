@@ -19,8 +19,8 @@ rule for acme in * from * to * element sourceTransportPort remove
 rule for * in * from * to * element * keep
 ";
 
-/// What acme and beta are given of the message.
-fn shared(alloc: Global) -> Result<Shares, Fail> {
+/// What acme and beta are given of the message, with so many notes at most.
+fn shared(alloc: Global, most: u64) -> Result<Shares, Fail> {
     let policy = Policy::parse(alloc, POLICY)?;
     let read = Session::new(alloc).apply(FLOW)?;
     let served = [
@@ -37,7 +37,7 @@ fn shared(alloc: Global) -> Result<Shares, Fail> {
         return Err(Fail::new("more than one record"));
     }
     let mut in_force = InForce::since(alloc, policy, 0)?;
-    Ok(Shares::of_records(alloc, &mut in_force, 7, &read.records, &served)?)
+    Ok(Shares::of_records(alloc, &mut in_force, 7, &read.records, &served, most)?)
 }
 
 /// The subscriptions with the number of records that each is given.
@@ -56,6 +56,7 @@ fn noted(alloc: Global, found: &Shares) -> Result<Vec<(u32, u64, bool)>, Fail> {
     Ok(
         found
             .notes
+            .as_slice()
             .iter()
             .map(|note| {
                 (
@@ -70,7 +71,7 @@ fn noted(alloc: Global, found: &Shares) -> Result<Vec<(u32, u64, bool)>, Fail> {
 
 #[test]
 fn isolation(rt: HostRuntime) -> Result<(), Fail> {
-    let found = shared(rt.alloc())?;
+    let found = shared(rt.alloc(), 2)?;
     assert_eq!(rt;
         counts(rt.alloc(), &found)?.as_slice(),
         [(1, 1), (2, 0)].as_slice()
@@ -82,8 +83,20 @@ fn isolation(rt: HostRuntime) -> Result<(), Fail> {
     Ok(())
 }
 
-/// What is taken of what was judged elsewhere on these terms, where another policy is in force by then, or the same one.
-fn taken(alloc: Global, text: &str) -> Result<Option<Shares>, Fail> {
+/// Of the two notes of the message so many are kept, and both are counted.
+#[test]
+fn notes_that_are_kept(rt: HostRuntime) -> Result<(), Fail> {
+    for most in 0..4_u64 {
+        let found = shared(rt.alloc(), most)?;
+        assert_eq!(rt; found.notes.count(), 2);
+        assert_eq!(rt; found.notes.into_kept().len() as u64, most.min(2));
+    }
+    Ok(())
+}
+
+/// What is taken of what was judged elsewhere on these terms, with two notes at most, where another policy is in force by then, or
+/// the same one, and where so many may be kept.
+fn taken(alloc: Global, text: &str, most: u64) -> Result<Option<Shares>, Fail> {
     let read = Session::new(alloc).apply(FLOW)?;
     let served = [
         Served {
@@ -99,15 +112,15 @@ fn taken(alloc: Global, text: &str) -> Result<Option<Shares>, Fail> {
         return Err(Fail::new("more than one record"));
     }
     let before = InForce::since(alloc, Policy::parse(alloc, POLICY)?, 0)?;
-    let terms = Arc::new(alloc, Terms::of(alloc, &before, &served)?)?;
+    let terms = Arc::new(alloc, Terms::of(alloc, &before, &served, 2)?)?;
     let judgement = Workspace::new().judge(alloc, &terms, 7, &read.records)?;
     let now = InForce::since(alloc, Policy::parse(alloc, text)?, 0)?;
-    Ok(judgement.shares_by(&now, &served))
+    Ok(judgement.shares_by(&now, &served, most))
 }
 
 #[test]
 fn judged_elsewhere(rt: HostRuntime) -> Result<(), Fail> {
-    match taken(rt.alloc(), POLICY)? {
+    match taken(rt.alloc(), POLICY, 2)? {
         Some(found) => assert_eq!(rt;
             counts(rt.alloc(), &found)?.as_slice(),
             [(1, 1), (2, 0)].as_slice()
@@ -117,10 +130,15 @@ fn judged_elsewhere(rt: HostRuntime) -> Result<(), Fail> {
     assert!(rt;
         taken(
             rt.alloc(),
-            "policy 1\nrule for acme in * from * to * pass\n"
+            "policy 1\nrule for acme in * from * to * pass\n",
+            2
         )?
         .is_none(),
         "another policy"
+    );
+    assert!(rt;
+        taken(rt.alloc(), POLICY, 1)?.is_none(),
+        "another limit on notes"
     );
     Ok(())
 }

@@ -184,7 +184,7 @@ fn shared(alloc: Global, message: &[u8]) -> Result<Shares, Fail> {
         sub: 1,
         name: "acme",
     }];
-    Ok(Shares::of_records(alloc, &mut in_force, 7, &read.records, &served)?)
+    Ok(Shares::of_records(alloc, &mut in_force, 7, &read.records, &served, 0)?)
 }
 
 /// The sums of a message's records that close up to this time, in milliseconds since 1970.

@@ -181,7 +181,7 @@ fn is_judged(alloc: Global, on_terms: bool) -> Result<(bool, bool), Fail> {
         return Err(Fail::new("a template"));
     }
     let plain = Snapshot::of(&session)?;
-    let terms = Terms::of(alloc, &InForce::nothing(alloc)?, &[])?;
+    let terms = Terms::of(alloc, &InForce::nothing(alloc)?, &[], 10)?;
     let snapshot = if on_terms {
         plain.with_terms(Arc::new(alloc, terms)?)
     } else {

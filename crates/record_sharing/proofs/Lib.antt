@@ -2,3 +2,5 @@ pub mod SharingLaws
 pub mod KeyLaws
 pub mod JudgeLaws
 pub mod TermsLaws
+pub mod NotingLaws
+mod TotalLaws

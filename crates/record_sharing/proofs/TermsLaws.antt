@@ -13,10 +13,11 @@ use Rattle.policy_text.proofs.RoundLaws.{reads_back}
 use Rattle.live_subscriptions.specs.declared.served.Served.{Served}
 use Rattle.live_subscriptions.specs.Table.{told}
 use Rattle.flow_aggregate.specs.Counts.{Count}
-use Rattle.record_sharing.specs.declared.shares.Note.{Note}
+use Rattle.disclosure_audit.specs.declared.entry.Note.{Note}
 use Rattle.record_sharing.specs.declared.shares.Shares.{Shares}
 use Rattle.record_sharing.specs.InForce.{InForce}
 use Rattle.record_sharing.specs.Sharing.{given_by, added_by, kept_by, note_of, noted_of_each, shares_of, tallies_of, notes_of}
+use Rattle.record_sharing.specs.Noting.{kept_of}
 use Rattle.record_sharing.specs.Terms.{Terms, terms_of}
 use Rattle.record_sharing.specs.Judgements.{AreSharesOf}
 use Rattle.record_sharing.proofs.JudgeLaws.{got_map, map_twice}
@@ -91,13 +92,13 @@ notes_alike domain f records a b same =
     flat_alike (noted_of_each domain f a) (noted_of_each domain f b) (enumerate_from 0 records) (λ r. noted_alike domain f r a b same)
 
 -- shares by some terms are those for all that have these terms
-pub judged_alike : (domain : ℕ) (records : List DataRecord) (f : InForce) (a : List Served) (terms : Terms) (s : Shares) → terms.in_force ≡ f → map told a ≡ terms.served
-    → AreSharesOf domain records f a s → (g : InForce) (b : List Served) → terms ≡ terms_of g b → AreSharesOf domain records g b s
-judged_alike domain records f a terms s force those are g b is =
+pub judged_alike : (domain : ℕ) (records : List DataRecord) (f : InForce) (a : List Served) (most : ℕ) (terms : Terms) (s : Shares) → terms.in_force ≡ f → map told a ≡ terms.served → terms.most ≡ most
+    → AreSharesOf domain records f a most s → (g : InForce) (b : List Served) (n : ℕ) → terms ≡ terms_of g b n → AreSharesOf domain records g b n s
+judged_alike domain records f a most terms s force those many are g b n is =
     let same : map told a ≡ map told b = those ∙ ap (λ (t : Terms). t.served) is in
-    let P : InForce → Type 0 = λ e. AreSharesOf domain records e b s in
+    let P : InForce → Type 0 = λ e. AreSharesOf domain records e b n s in
     subst P (sym force ∙ ap (λ (t : Terms). t.in_force) is) (record {
       shares_are = are.shares_are ∙ shares_alike domain f records a b same;
       tallies_are = are.tallies_are ∙ tallies_alike domain f records a b same;
-      notes_are = are.notes_are ∙ notes_alike domain f records a b same;
+      notes_are = are.notes_are ∙ ap (kept_of most) (notes_alike domain f records a b same) ∙ ap (λ m. kept_of m (notes_of domain f records b)) (sym many ∙ ap (λ (t : Terms). t.most) is);
     })

@@ -7,17 +7,17 @@ use Rattle.live_subscriptions.specs.Table.{shown}
 use Rattle.running_groups.specs.Adding.{tallied}
 use Rattle.record_sharing.specs.InForce.{InForce}
 use Rattle.record_sharing.specs.Sharing.{shares_of, tallies_of, notes_of}
+use Rattle.record_sharing.specs.Noting.{kept_of}
 use Rattle.record_sharing.specs.Terms.{terms_of}
 use Rattle.record_sharing.specs.declared.shares.Shares.{Shares}
 use Rattle.record_sharing.specs.declared.judgement.Judgement.{Judgement}
 
--- these are the shares of a message's records, by what is in force, for those that are served
-pub record AreSharesOf (domain : ℕ) (records : List DataRecord) (f : InForce) (served : List Served) (s : Shares) : Type 0 where
+-- these are the shares of a message's records, by what is in force, for those that are served, with so many notes at most
+pub record AreSharesOf (domain : ℕ) (records : List DataRecord) (f : InForce) (served : List Served) (most : ℕ) (s : Shares) : Type 0 where
   pub shares_are : map shown s.shares.items ≡ shares_of domain f records served
   pub tallies_are : map tallied s.tallies.items ≡ tallies_of domain f records served
-  pub notes_are : s.notes.items ≡ notes_of domain f records served
+  pub notes_are : s.notes ≡ kept_of most (notes_of domain f records served)
 
 -- what was judged are the shares by its terms
-abbrev pub IsJudgementOf : ℕ → List DataRecord → Judgement → Type 0
-IsJudgementOf domain records j =
-    (f : InForce) (served : List Served) → arc_value j.terms ≡ terms_of f served → AreSharesOf domain records f served j.shares
+pub record IsJudgementOf (domain : ℕ) (records : List DataRecord) (j : Judgement) : Type 0 where
+  pub by_terms : (f : InForce) (served : List Served) (most : ℕ) → arc_value j.terms ≡ terms_of f served most → AreSharesOf domain records f served most j.shares

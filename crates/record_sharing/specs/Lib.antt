@@ -9,7 +9,9 @@ pub use Rattle.address_classes.specs.Cuts
 pub use Rattle.flow_anonymize.specs.Plans
 pub use Rattle.flow_anonymize.specs.Classes
 pub mod InForce
+pub mod Noting
 pub mod Sharing
 pub mod Judges
 pub mod Terms
 pub mod Judgements
+pub mod Totals

@@ -16,7 +16,7 @@ use Rattle.mediator_history.specs.Counting.{counts, counted_in, timing_at}
 use Rattle.mediator_history.specs.Auditing.{kept_back, removed_of, told_of, reason_named}
 use Rattle.record_sharing.specs.InForce.{InForce}
 use Rattle.live_subscriptions.specs.declared.served.Served.{Served}
-use Rattle.record_sharing.specs.declared.shares.Note.{Note}
+use Rattle.disclosure_audit.specs.declared.entry.Note.{Note}
 
 -- what becomes of a record for a subscriber of this name
 abbrev pub outcome_by : ℕ → InForce → List ℕ → DataRecord → Outcome

@@ -5,13 +5,14 @@ use Rattle.live_subscriptions.specs.Table.{told}
 use Rattle.record_sharing.specs.InForce.{InForce}
 use Rattle.record_sharing.specs.declared.terms.Subscriber.{Subscriber}
 
--- what is in force, and the numbers and names of those that are served
+-- what is in force, the numbers and names of those that are served, and how many notes may be kept of a message
 pub record Terms : Type 0 where
   pub in_force : InForce
   pub served : List (ℕ × List ℕ)
+  pub most : ℕ
 
 abbrev pub owned : Subscriber → ℕ × List ℕ
 owned s = (s.sub, string_bytes s.name)
 
-abbrev pub terms_of : InForce → List Served → Terms
-terms_of f served = record { in_force = f; served = map told served }
+abbrev pub terms_of : InForce → List Served → ℕ → Terms
+terms_of f served most = record { in_force = f; served = map told served; most = most }

@@ -20,14 +20,15 @@ pub struct Judgement {
 }
 
 impl Judgement {
-    /// The shares, where they were judged by what is in force, for these subscriptions. Nothing is judged.
-    pub fn shares_by(self, in_force: &InForce, served: &[Served<'_>]) -> Option<Shares>
-        ensures due { IsSome result ↔ arc_value self.terms ≡ terms_of in_force.now served.now }
+    /// The shares, where they were judged by what is in force, for these subscriptions, with so many notes at most. Nothing is
+    /// judged.
+    pub fn shares_by(self, in_force: &InForce, served: &[Served<'_>], most: u64) -> Option<Shares>
+        ensures due { IsSome result ↔ arc_value self.terms ≡ terms_of in_force.now served.now most }
         ensures shares { (domain : ℕ) (records : List DataRecord) → IsJudgementOf domain records self
-            → IfSome result (AreSharesOf domain records in_force.now served.now) }
+            → IfSome result (AreSharesOf domain records in_force.now served.now most) }
     {
         let Judgement { terms, shares } = self;
-        if terms.are(in_force, served) {
+        if terms.are(in_force, served, most) {
             Some(shares)
         } else {
             None

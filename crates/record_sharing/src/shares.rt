@@ -10,10 +10,12 @@ ghost use Rattle.record_sharing.specs.Judges.{JudgeFor, JudgesAny};
 ghost use Rattle.live_subscriptions.specs.Table.{shown};
 ghost use Rattle.running_groups.specs.Adding.{tallied};
 ghost use Rattle.record_sharing.specs.Sharing.{blank, counts_by, kept_back_by, shares_of, tallies_of, notes_of, note_of, noted_of_each};
+ghost use Rattle.record_sharing.specs.Noting.{kept_of, and_more};
 
 use crate::in_force::InForce;
 use crate::judges::Judges;
-use disclosure_audit::{RemovedFields, What};
+use crate::notes::Notes;
+use disclosure_audit::{Note, RemovedFields, What};
 use flow_aggregate::{Count, Timing};
 use flow_anonymize::Decision;
 use ipfix_template::RecordView;
@@ -21,16 +23,6 @@ use live_subscriptions::{Served, Share};
 use record_runs::{Records, Run};
 use running_groups::Tally;
 use std::alloc::{AllocError, Global};
-
-/// What the audit notes of a record for a subscription: that it is kept back, counts in an aggregate, or loses fields.
-#[derive(Debug, Drop)]
-pub struct Note {
-    /// The record's place in its message, from 0.
-    pub index: u32,
-    /// The number of the subscription.
-    pub sub: u64,
-    pub what: What,
-}
 
 /// What a message gives to the subscriptions that are served.
 #[derive(Drop)]
@@ -40,11 +32,12 @@ pub struct Shares {
     /// What is added to the aggregates of each, in the same order.
     pub tallies: Vec<Tally>,
     /// What is kept back, by record and then by subscription.
-    pub notes: Vec<Note>,
+    pub notes: Notes,
 }
 
 impl Shares {
-    /// Judges the records of one message, of this Observation Domain, for each subscription, by what is in force.
+    /// Judges the records of one message, of this Observation Domain, for each subscription, by what is in force. So many notes at
+    /// most are kept.
     ///
     /// # Errors
     /// Want of memory.
@@ -54,15 +47,16 @@ impl Shares {
         domain: u32,
         records: &Records,
         served: &[Served<'_>],
+        most: u64,
     ) -> Result<Shares, AllocError>
         requires few { length records.now ≤ 2 ^ 32 }
         ensures shares { IfOk result (λ s. map shown s.shares.items ≡ shares_of domain in_force.old records.now served.now) }
         ensures tallies { IfOk result (λ s. map tallied s.tallies.items ≡ tallies_of domain in_force.old records.now served.now) }
-        ensures notes { IfOk result (λ s. s.notes.items ≡ notes_of domain in_force.old records.now served.now) }
+        ensures notes { IfOk result (λ s. s.notes ≡ kept_of most (notes_of domain in_force.old records.now served.now)) }
         ensures stay { in_force.new ≡ in_force.old }
     {
         let mut judges = in_force.judges(alloc, domain, records.runs(), served)?;
-        let mut sums = Sums::of_none(alloc, served)?;
+        let mut sums = Sums::of_none(alloc, served, most)?;
         sums.add_runs(alloc, in_force, &mut judges, domain, records.runs(), served)?;
         let shares = judges.take_shares(alloc)?;
         in_force.keep(judges);
@@ -79,14 +73,14 @@ impl Shares {
 #[derive(Drop)]
 pub(crate) struct Sums {
     tallies: Vec<Tally>,
-    notes: Vec<Note>,
+    notes: Notes,
 }
 
 impl Sums {
-    /// Of no record.
-    fn of_none(alloc: Global, served: &[Served<'_>]) -> Result<Sums, AllocError>
+    /// Of no record, with so many notes at most to be kept.
+    fn of_none(alloc: Global, served: &[Served<'_>], most: u64) -> Result<Sums, AllocError>
         ensures tallies { IfOk result (λ s. map tallied s.tallies.items ≡ map blank served.now) }
-        ensures notes { IfOk result (λ s. s.notes.items ≡ []) }
+        ensures notes { IfOk result (λ s. s.notes ≡ kept_of most []) }
     {
         let mut tallies = Vec::new(alloc);
         'served: for who in served {
@@ -97,7 +91,7 @@ impl Sums {
         }
         Ok(Sums {
             tallies,
-            notes: Vec::new(alloc),
+            notes: Notes::new(alloc, most),
         })
     }
 
@@ -115,10 +109,9 @@ impl Sums {
         requires judges { JudgesAny judges.old in_force.now domain served.now }
         requires blank { judges.old.shares ≡ map blank served.now }
         requires blank_tallies { map tallied self.old.tallies.items ≡ map blank served.now }
-        requires blank_notes { self.old.notes.items ≡ [] }
         ensures shares { OnOk result (judges.new.shares ≡ shares_of domain in_force.now (records_in runs.now) served.now) }
         ensures tallies { OnOk result (map tallied self.new.tallies.items ≡ tallies_of domain in_force.now (records_in runs.now) served.now) }
-        ensures notes { OnOk result (self.new.notes.items ≡ notes_of domain in_force.now (records_in runs.now) served.now) }
+        ensures notes { OnOk result (self.new.notes ≡ and_more self.old.notes (notes_of domain in_force.now (records_in runs.now) served.now)) }
         ensures judges { OnOk result (JudgesAny judges.new in_force.now domain served.now) }
     {
         let mut before = 0;
@@ -148,7 +141,7 @@ impl Sums {
             → OnOk result (judges.new.shares ≡ shares_of domain in_force.now (done ++ records_of run.now) served.now) }
         ensures tallies { (done : List DataRecord) → map tallied self.old.tallies.items ≡ tallies_of domain in_force.now done served.now
             → OnOk result (map tallied self.new.tallies.items ≡ tallies_of domain in_force.now (done ++ records_of run.now) served.now) }
-        ensures notes { OnOk result (self.new.notes.items ≡ self.old.notes.items ++ flat_map (noted_of_each domain in_force.now served.now) (enumerate_from before (records_of run.now))) }
+        ensures notes { OnOk result (self.new.notes ≡ and_more self.old.notes (flat_map (noted_of_each domain in_force.now served.now) (enumerate_from before (records_of run.now)))) }
         ensures judges { OnOk result (JudgesAny judges.new in_force.now domain served.now) }
         ensures stay { OnOk result (length judges.new.shares ≡ length served.now) }
         ensures stay_tallies { OnOk result (length self.new.tallies.items ≡ length served.now) }
@@ -184,7 +177,7 @@ impl Sums {
         ensures judges { OnOk result (JudgeFor judges.new in_force.now domain (Some flow_record.now.template) served.now) }
         ensures stay { OnOk result (length judges.new.shares ≡ length served.now) }
         ensures stay_tallies { OnOk result (length self.new.tallies.items ≡ length served.now) }
-        ensures notes { OnOk result (self.new.notes.items ≡ self.old.notes.items ++ noted_of_each domain in_force.now served.now (index, flow_record.now)) }
+        ensures notes { OnOk result (self.new.notes ≡ and_more self.old.notes (noted_of_each domain in_force.now served.now (index, flow_record.now))) }
     {
         let classes = judges.classes_of(flow_record);
         'served: for (place, who) in served.iter().enumerate() {
@@ -209,7 +202,7 @@ impl Sums {
         ensures tallies { (before after : List (ℕ × List OneCount)) (s : ℕ × List OneCount) → map tallied self.old.tallies.items ≡ before ++ s ∷ after → length before ≡ place
             → OnOk result (map tallied self.new.tallies.items ≡ before ++ (s.0, s.1 ++ map count_of (counts_by in_force.now.policy.aggregates in_force.now.clock flow_record.now found)) ∷ after) }
         ensures stay { OnOk result (length self.new.tallies.items ≡ length self.old.tallies.items) }
-        ensures notes { OnOk result (self.new.notes.items ≡ self.old.notes.items ++ map (note_of index sub) (kept_back_by in_force.now.policy.aggregates in_force.now.clock flow_record.now found)) }
+        ensures notes { OnOk result (self.new.notes ≡ and_more self.old.notes (map (note_of index sub) (kept_back_by in_force.now.policy.aggregates in_force.now.clock flow_record.now found))) }
     {
         match found {
             Decision::Passed { removed } => self.note_removed(index, sub, removed),
@@ -248,7 +241,7 @@ impl Sums {
         sub: u64,
         removed: RemovedFields,
     ) -> Result<(), AllocError>
-        ensures notes { OnOk result (self.new.notes.items ≡ self.old.notes.items ++ map (note_of index sub) (removed_of removed)) }
+        ensures notes { OnOk result (self.new.notes ≡ and_more self.old.notes (map (note_of index sub) (removed_of removed))) }
         ensures tallies { self.new.tallies ≡ self.old.tallies }
     {
         if removed.is_empty() {
@@ -258,11 +251,10 @@ impl Sums {
     }
 
     fn note(&mut self, index: u32, sub: u64, what: What) -> Result<(), AllocError>
-        ensures notes { OnOk result (self.new.notes.items ≡ self.old.notes.items ++ note_of index sub what ∷ []) }
+        ensures notes { OnOk result (self.new.notes ≡ and_more self.old.notes (note_of index sub what ∷ [])) }
         ensures tallies { self.new.tallies ≡ self.old.tallies }
     {
-        self.notes.push(Note { index, sub, what })?;
-        Ok(())
+        self.notes.push(Note { index, sub, what })
     }
 }
 

@@ -8,11 +8,12 @@ use live_subscriptions::Served;
 use std::alloc::{AllocError, Global};
 use std::marker::Model;
 
-/// The terms on which records are shared: the policy in force, the time of the clock, and the subscriptions that are served, as they
-/// stood when it was made. Threads can judge by it while the mediator goes its own way.
+/// The terms on which records are shared: the policy in force, the time of the clock, the subscriptions that are served, and how many
+/// notes may be kept, as they stood when it was made. Threads can judge by it while the mediator goes its own way.
 pub struct Terms {
     pub(crate) in_force: InForce,
     served: Vec<Subscriber>,
+    most: u64,
 }
 
 /// A subscription that is served.
@@ -28,6 +29,7 @@ impl Drop for Terms {
         let Terms {
             in_force: _,
             served: _,
+            most: _,
         } = self;
     }
 }
@@ -38,16 +40,21 @@ impl Model for Terms {
 
     ghost Value = { Terms };
 
-    ghost view = { λ t. record { in_force = t.in_force; served = map owned t.served.items } };
+    ghost view = { λ t. record { in_force = t.in_force; served = map owned t.served.items; most = t.most } };
 }
 
 impl Terms {
-    /// What is in force, and these subscriptions.
+    /// What is in force, these subscriptions, and so many notes at most.
     ///
     /// # Errors
     /// Want of memory.
-    pub fn of(alloc: Global, in_force: &InForce, served: &[Served<'_>]) -> Result<Terms, AllocError>
-        ensures { IfOk result (λ terms. terms ≡ terms_of in_force.now served.now) }
+    pub fn of(
+        alloc: Global,
+        in_force: &InForce,
+        served: &[Served<'_>],
+        most: u64,
+    ) -> Result<Terms, AllocError>
+        ensures { IfOk result (λ terms. terms ≡ terms_of in_force.now served.now most) }
     {
         let mut subscribers = Vec::new(alloc);
         'served: for who in served {
@@ -59,17 +66,26 @@ impl Terms {
         Ok(Terms {
             in_force: in_force.share(alloc)?,
             served: subscribers,
+            most,
         })
     }
 
-    /// Whether these are the terms of what is in force and these subscriptions. All is compared, so terms of another mediator are
-    /// told apart too.
-    pub fn are(&self, in_force: &InForce, served: &[Served<'_>]) -> bool
-        ensures { IsTrue result ↔ self.now ≡ terms_of in_force.now served.now }
+    /// Whether these are the terms of what is in force, these subscriptions, and so many notes at most. All is compared, so terms of
+    /// another mediator are told apart too.
+    pub fn are(&self, in_force: &InForce, served: &[Served<'_>], most: u64) -> bool
+        ensures { IsTrue result ↔ self.now ≡ terms_of in_force.now served.now most }
     {
-        self.in_force.clock() == in_force.clock()
+        self.most == most
+            && self.in_force.clock() == in_force.clock()
             && are_those(&self.served, served)
             && self.in_force.has_policy_of(in_force)
+    }
+
+    /// How many notes may be kept of a message.
+    pub(crate) fn most(&self) -> u64
+        ensures { result ≡ self.now.most }
+    {
+        self.most
     }
 
     /// The subscriptions.

@@ -40,7 +40,8 @@ impl Workspace {
     {
         let mut in_force = self.take_for(alloc, terms)?;
         let served = terms.served(alloc)?;
-        let shares = Shares::of_records(alloc, &mut in_force, domain, records, &served)?;
+        let most = terms.most();
+        let shares = Shares::of_records(alloc, &mut in_force, domain, records, &served, most)?;
         self.in_force = Some(in_force);
         Ok(Judgement {
             terms: terms.clone()?,

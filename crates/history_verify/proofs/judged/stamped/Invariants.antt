@@ -1,7 +1,7 @@
 use Rattle.std.proofs.Common.{◌≡◌, ◌≤◌, ◌+◌, ◌++◌, length, map}
 use Rattle.std.specs.Vec.{vec_capacity}
 use Rattle.std.specs.Vec.Iter.{into_iter_items}
-use Rattle.history_verify.specs.Sharing.{stamp}
+use Rattle.disclosure_audit.specs.Queue.{stamp}
 use Rattle.history_verify.proofs.judged.stamped.Given as goal
 
 abbrev pub invariant-notes : goal.invariant-notes

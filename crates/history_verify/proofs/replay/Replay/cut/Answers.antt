@@ -1,6 +1,4 @@
 use Rattle.std.proofs.Common.{◌∙◌, [], ◌∷◌, ◌++◌, refl, ap}
-use Rattle.disclosure_audit.specs.declared.entry.What.TheVariants.{Cut as CutOff}
-use Rattle.mediator_history.specs.Auditing.{audit_entry}
 use Rattle.history_verify.proofs.StepLaws.{stands_cut}
 use Rattle.history_verify.proofs.replay.Replay.cut.Goals as goal
 

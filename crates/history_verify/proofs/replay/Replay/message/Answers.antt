@@ -1,4 +1,5 @@
-use Rattle.std.proofs.Common.{List, [], ◌∷◌, ◌++◌, map, refl, sym, subst, ap, ◌∙◌}
+use Rattle.std.specs.Prelude.{if◌then◌else◌}
+use Rattle.std.proofs.Common.{Bool, List, [], ◌∷◌, ◌++◌, map, refl, sym, subst, ap, ◌∙◌}
 use Rattle.live_subscriptions.specs.Table.{shown}
 use Rattle.event_journal.specs.declared.entry.Entry.TheVariants.{Message}
 use Rattle.mediator_history.specs.Counting.{counted_at}
@@ -31,13 +32,13 @@ keep-requires c = record {
 pub give-requires : goal.give-requires
 give-requires c = record {
   room = subst (λ (l : List Share). MayCount c.args.self.now.subscribers (map shown l)) (sym c.deref-2.ensures.value)
-      (message_room c.args.self.now c.requires.planned.0 c.requires.planned.1 c.args.session c.requires.planned.2 c.requires.planned.3 c.args.reading c.args.judged c.requires.short c.requires.planned.4 c.requires.planned.5 c.requires.few c.requires.planned.6);
+      (message_room c.args.self.now.audit.wanted c.args.self.now c.requires.planned.0 c.requires.planned.1 c.args.session c.requires.planned.2 c.requires.planned.3 c.args.reading c.args.judged c.requires.short c.requires.planned.4 c.requires.planned.5 c.requires.few c.requires.planned.6);
 }
 
 pub add-requires : goal.add-requires
 add-requires c = (
   map tallied c.args.judged.tallies.items,
-  ready_still c.args.self.now c.requires.planned.0 c.requires.planned.1 c.args.session c.requires.planned.2 c.requires.planned.3 c.args.judged c.reserve-2.new.self.groups c.remove.new.self.groups c.deref-3.result.now c.deref.result.now (map reserved_for c.in_ok-reserved.reserved.items)
+  ready_still c.args.self.now.audit.wanted c.args.self.now c.requires.planned.0 c.requires.planned.1 c.args.session c.requires.planned.2 c.requires.planned.3 c.args.judged c.reserve-2.new.self.groups c.remove.new.self.groups c.deref-3.result.now c.deref.result.now (map reserved_for c.in_ok-reserved.reserved.items)
       c.requires.planned.4 c.requires.planned.6 c.deref-3.ensures.value c.deref.ensures.value c.in_ok-reserved.ensures.ready (c.remove.ensures.ready (map reserved_for c.in_ok-reserved.reserved.items)),
   c.requires.planned.6.apart,
 )
@@ -49,9 +50,9 @@ returns-clause-ok c = λ g h number octets so is all judged.
     (c.keep.ensures h number octets (exporters_same c.args.self.now.exporters c.make_room.new.self h c.in_ok-make_room.ensures.same so.exporters) is.turn.0 is.read)
     (subst (λ (l : List Share). HasCounted (map shown l) c.args.self.now.subscribers c.give.new.self) c.deref-2.ensures.value c.give.ensures)
     (c.add.ensures (map tallied c.args.judged.tallies.items) (λ q. counted_at q h (Message c.args.session number octets)) h (h ++ Message c.args.session number octets ∷ [])
-    (ready_still c.args.self.now g h c.args.session number octets c.args.judged c.reserve-2.new.self.groups c.remove.new.self.groups c.deref-3.result.now c.deref.result.now (map reserved_for c.in_ok-reserved.reserved.items)
+    (ready_still c.args.self.now.audit.wanted c.args.self.now g h c.args.session number octets c.args.judged c.reserve-2.new.self.groups c.remove.new.self.groups c.deref-3.result.now c.deref.result.now (map reserved_for c.in_ok-reserved.reserved.items)
     so judged c.deref-3.ensures.value c.deref.ensures.value c.in_ok-reserved.ensures.ready (c.remove.ensures.ready (map reserved_for c.in_ok-reserved.reserved.items)))
     judged.apart judged.adds
     (sums_after c.args.self.now g h c.reserve-2.new.self c.remove.new.self c.deref-3.result.now so c.deref-3.ensures.value (sums_same c.args.self.now.sums c.reserve-2.new.self g c.reserve-2.ensures.same so.sums) c.remove.ensures.gone)
     (λ q. running-message q h c.args.session number octets))
-    (λ list noted. c.append.ensures.more list (c.reserve.ensures.same list noted))
+    (λ list more noted wanted. c.append.ensures.more list more (c.reserve.ensures.same list noted) (wanted ∙ ap (λ (b : Bool). if b then more else []) (sym c.reserve.ensures.wanted)))

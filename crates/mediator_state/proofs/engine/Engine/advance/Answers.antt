@@ -4,7 +4,7 @@ use Rattle.mediator_history.specs.Cuts.{after_cuts}
 use Rattle.mediator_history.proofs.CountingLaws.{clock-cuts}
 use Rattle.mediator_state.specs.Standing.{Stands}
 use Rattle.mediator_state.specs.Steps.{CutsInARow}
-use Rattle.mediator_state.proofs.Accepts.{close_cuts_room, ready_to_close, are_closings}
+use Rattle.mediator_state.proofs.Accepts.{ready_to_close, are_closings}
 use Rattle.mediator_state.proofs.engine.Engine.advance.Goals as goal
 
 pub close_due-requires : goal.close_due-requires

@@ -1,6 +1,6 @@
-use Rattle.std.proofs.Common.{◌≡◌, refl, rules, map}
+use Rattle.std.proofs.Common.{refl, map}
 use Rattle.live_subscriptions.specs.Table.{shown}
-use Rattle.mediator_state.proofs.AdvanceSteps.{Closes, advance_step, places_closed}
+use Rattle.mediator_state.proofs.AdvanceSteps.{advance_step, places_closed}
 use Rattle.mediator_state.proofs.engine.Engine.close_due.Goals as goal
 
 pub returns-clause-stands : goal.returns-clause-stands

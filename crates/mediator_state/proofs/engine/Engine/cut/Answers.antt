@@ -1,4 +1,4 @@
-use Rattle.std.proofs.Common.{◌≡◌, List, [], ◌∷◌, refl, sym, ap, subst, rules}
+use Rattle.std.proofs.Common.{[], ◌∷◌, refl, sym, ap, subst, rules}
 use Rattle.disclosure_audit.specs.Queue.{Takes}
 use Rattle.disclosure_audit.specs.declared.entry.What.TheVariants.{Cut as CutOff}
 use Rattle.mediator_history.specs.Auditing.{audit_entry}

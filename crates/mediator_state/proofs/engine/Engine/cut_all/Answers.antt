@@ -1,4 +1,4 @@
-use Rattle.std.proofs.Common.{◌≡◌, refl, rules}
+use Rattle.std.proofs.Common.{rules}
 use Rattle.std.proofs.lemmas.Grind.{common_steps}
 use Rattle.mediator_state.proofs.CutRows.{none_cut, one_cut, room_left}
 use Rattle.mediator_state.proofs.engine.Engine.cut_all.Goals as goal

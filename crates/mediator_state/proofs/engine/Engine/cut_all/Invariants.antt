@@ -1,6 +1,4 @@
-use Rattle.std.proofs.Common.{◌≡◌, ◌≤◌, ◌+◌, length, take}
-use Rattle.event_journal.specs.declared.entry.Entry.{Entry}
-use Rattle.std.specs.Prelude.{List}
+use Rattle.std.proofs.Common.{length}
 use Rattle.mediator_state.proofs.CutRows.{IsCutting}
 use Rattle.mediator_state.proofs.engine.Engine.cut_all.Given as goal
 

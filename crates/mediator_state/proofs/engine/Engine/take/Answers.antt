@@ -1,18 +1,19 @@
-use Rattle.std.proofs.Common.{◌≡◌, refl, rules}
+use Rattle.std.proofs.Common.{refl, rules}
 use Rattle.live_subscriptions.specs.Table.{shown}
 use Rattle.std.specs.Prelude.{map}
-use Rattle.mediator_state.proofs.MessageSteps.{TakesMessage, message_step, places_taken}
+use Rattle.disclosure_audit.specs.Queue.{stamp}
+use Rattle.mediator_state.proofs.MessageSteps.{message_step, places_taken}
 use Rattle.mediator_state.proofs.engine.Engine.take.Goals as goal
 
 pub returns-clause-stands : goal.returns-clause-stands
 returns-clause-stands c = λ h number octets tallies so made apart is.
-    message_step c.args.self.now _ h c.args.session number octets c.args.reading (map shown c.args.shares.items) tallies c.args.entries.items so is
-    (record { in_force = refl; edits = refl; opened = refl; begun = refl; limits = refl; others = c.keep.ensures.others; keeps = c.keep.ensures.keeps; each = c.give.ensures.each; served = c.give.ensures.served; adds = c.add_reserved.ensures.adds tallies made apart; takes = c.extend_reserved.ensures.stands })
+    message_step c.args.self.now _ h c.args.session number octets c.args.reading (map shown c.args.shares.items) tallies (map (stamp c.args.position) c.args.notes.items) so is
+    (record { in_force = refl; edits = refl; opened = refl; begun = refl; limits = refl; others = c.keep.ensures.others; keeps = c.keep.ensures.keeps; each = c.give.ensures.each; served = c.give.ensures.served; adds = c.add_reserved.ensures.adds tallies made apart; takes = c.push_notes.ensures.stands })
 
 pub returns-clause-untouched : goal.returns-clause-untouched
 returns-clause-untouched c = record {
-  places = places_taken c.args.self.now (record c.args.self.now { sessions = c.keep.new.self; subscriptions = c.give.new.self; groups = c.add_reserved.new.self; audit = c.extend_reserved.new.self }) c.requires.room.history c.args.session c.args.reading (map shown c.args.shares.items) c.requires.room.groups.0 c.args.entries.items c.requires.room.stands
-      (record { in_force = refl; edits = refl; opened = refl; begun = refl; limits = refl; others = c.keep.ensures.others; keeps = c.keep.ensures.keeps; each = c.give.ensures.each; served = c.give.ensures.served; adds = c.add_reserved.ensures.adds c.requires.room.groups.0 c.requires.room.groups.1 c.requires.room.groups.2; takes = c.extend_reserved.ensures.stands });
+  places = places_taken c.args.self.now (record c.args.self.now { sessions = c.keep.new.self; subscriptions = c.give.new.self; groups = c.add_reserved.new.self; audit = c.push_notes.new.self }) c.requires.room.history c.args.session c.args.reading (map shown c.args.shares.items) c.requires.room.groups.0 (map (stamp c.args.position) c.args.notes.items) c.requires.room.stands
+      (record { in_force = refl; edits = refl; opened = refl; begun = refl; limits = refl; others = c.keep.ensures.others; keeps = c.keep.ensures.keeps; each = c.give.ensures.each; served = c.give.ensures.served; adds = c.add_reserved.ensures.adds c.requires.room.groups.0 c.requires.room.groups.1 c.requires.room.groups.2; takes = c.push_notes.ensures.stands });
   drained = search rules;
   limits = refl;
   audit_limit = search rules;

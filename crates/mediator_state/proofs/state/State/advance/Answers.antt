@@ -1,4 +1,4 @@
-use Rattle.std.proofs.Common.{List, ◌≤◌, ℕ, sym, ◌∙◌, subst, arith}
+use Rattle.std.proofs.Common.{List, sym, ◌∙◌, subst, arith}
 use Rattle.event_journal.specs.declared.entry.Entry.{Entry}
 use Rattle.mediator_state.specs.declared.engine.Engine.{Engine}
 use Rattle.mediator_state.specs.declared.fault.Fault.{Fault}

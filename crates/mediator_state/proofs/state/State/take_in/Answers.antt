@@ -38,7 +38,7 @@ returns-in_err-reserved-clause-err g c =
     (refused_audit c.in_err-reserved.field-0.0 (g.C.Chronicle.limits c.args.self.now.chronicle) (g.C.Chronicle.count c.args.self.now.chronicle) (g.C.Chronicle.octets c.args.self.now.chronicle) c.args.self.now.engine h c.args.session c.args.number c.args.message c.in_ok-plan.plan c.in_ok-entries.entries.items counts
     (found c.args.self.now.engine h c.args.session c.args.number c.args.message c.in_ok-plan.plan c.in_ok-entries.entries.items c.deref-2.result.now (c.in_ok-plan.ensures.ok h c.args.number c.args.message s.stands (sym (c.len-position.ensures.value ∙ counts.entries)) (c.requires.read h s)) c.in_ok-plan.ensures.session c.in_ok-entries.ensures c.deref-2.ensures.value)
     (room_where c.room.result (g.C.Chronicle.limits c.args.self.now.chronicle) (g.C.Chronicle.count c.args.self.now.chronicle) (g.C.Chronicle.octets c.args.self.now.chronicle) c.deref-3.result.now c.in_ok-entries.entries.items c.room.ensures c.deref-3.ensures.value c.if-not-room.false)
-    (subst (λ (e : Engine). LacksAudit c.in_err-reserved.field-0.0 e.audit (length c.in_ok-plan.plan.cuts.items + length c.in_ok-plan.plan.entries.items)) c.plan.ensures.same c.in_err-reserved.ensures.err)))
+    (subst (λ (e : Engine). LacksAudit c.in_err-reserved.field-0.0 e.audit (length c.in_ok-plan.plan.cuts.items + c.in_ok-plan.plan.notes.count)) c.plan.ensures.same c.in_err-reserved.ensures.err)))
 
 pub returns-in_err-reserve-clause-same : goal.returns-in_err-reserve-clause-same
 returns-in_err-reserve-clause-same g c = on_err c.from_residual-in_err-reserve.result (λ h s. record { told = c.reserve.ensures.tells h s.told; stands = stands_same c.args.self.now.engine c.make_room.new.self h (subst (λ (e : Engine). IsSameEngine e c.make_room.new.self) c.plan.ensures.same c.make_room.ensures.same) s.stands })

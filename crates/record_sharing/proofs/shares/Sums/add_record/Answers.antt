@@ -8,8 +8,8 @@ use Rattle.record_sharing.proofs.shares.Sums.add_record.Goals as goal
 pub served-init : goal.served-init
 served-init c =
     let stay = c.classes_of-classes.ensures.stay in (
-      subst (λ (j : Judges). IsAdding c.args.judges.now.shares j.shares c.args.self.now.tallies.items c.args.self.now.tallies.items c.args.self.now.notes.items c.args.self.now.notes.items c.args.domain c.args.in_force.now c.args.index c.args.flow_record.now c.args.served.now 0) (sym stay)
-          (adding_start c.args.judges.now.shares c.args.self.now.tallies.items c.args.self.now.notes.items c.args.domain c.args.in_force.now c.args.index c.args.flow_record.now c.args.served.now c.requires.each c.requires.each_tally),
+      subst (λ (j : Judges). IsAdding c.args.judges.now.shares j.shares c.args.self.now.tallies.items c.args.self.now.tallies.items c.args.self.now.notes c.args.self.now.notes c.args.domain c.args.in_force.now c.args.index c.args.flow_record.now c.args.served.now 0) (sym stay)
+          (adding_start c.args.judges.now.shares c.args.self.now.tallies.items c.args.self.now.notes c.args.domain c.args.in_force.now c.args.index c.args.flow_record.now c.args.served.now c.requires.each c.requires.each_tally),
       subst (λ (j : Judges). JudgeFor j c.args.in_force.now c.args.domain (Some c.args.flow_record.now.template) c.args.served.now) (sym stay) c.requires.judges,
       ap (λ (j : Judges). j.cuts) stay,
     )
@@ -34,16 +34,16 @@ served-preserved c =
     let l = c.served-test.true in
     let found = c.in_ok-found.ensures in
     let there = judge_at c.served.judges c.args.in_force.now c.args.domain (Some c.args.flow_record.now.template) c.args.served.now c.served.place _ _ c.served.invariant.1 (omega (arith, l)) refl in (
-      adding_step c.args.judges.now.shares c.served.judges.shares c.disclose.new.self.shares c.args.self.now.tallies.items c.served.self.tallies.items c.add.new.self.tallies.items c.args.self.now.notes.items c.served.self.notes.items c.add.new.self.notes.items
+      adding_step c.args.judges.now.shares c.served.judges.shares c.disclose.new.self.shares c.args.self.now.tallies.items c.served.self.tallies.items c.add.new.self.tallies.items c.args.self.now.notes c.served.self.notes c.add.new.self.notes
           c.args.domain c.args.in_force.now c.args.index c.args.flow_record.now c.args.served.now c.served.place _ _ c.in_ok-found.found c.served.invariant.0 (omega (arith, l)) refl (found.decision _ there)
           (λ before after s split at. found.given _ before after s there split at) c.in_ok-add.ensures.tallies found.stay c.in_ok-add.ensures.stay c.in_ok-add.ensures.notes,
       judge_same c.served.judges c.disclose.new.self c.args.in_force.now c.args.domain (Some c.args.flow_record.now.template) c.args.served.now c.served.invariant.1 found.template found.fors found.cuts,
       found.cuts ∙ c.served.invariant.2,
     )
 
-all : (c : goal.After-served) → HasAdded c.args.judges.now.shares c.served.judges.shares c.args.self.now.tallies.items c.served.self.tallies.items c.args.self.now.notes.items c.served.self.notes.items c.args.domain c.args.in_force.now c.args.index c.args.flow_record.now c.args.served.now
+all : (c : goal.After-served) → HasAdded c.args.judges.now.shares c.served.judges.shares c.args.self.now.tallies.items c.served.self.tallies.items c.args.self.now.notes c.served.self.notes c.args.domain c.args.in_force.now c.args.index c.args.flow_record.now c.args.served.now
 all c =
-    added c.args.judges.now.shares c.served.judges.shares c.args.self.now.tallies.items c.served.self.tallies.items c.args.self.now.notes.items c.served.self.notes.items c.args.domain c.args.in_force.now c.args.index c.args.flow_record.now c.args.served.now c.served.place
+    added c.args.judges.now.shares c.served.judges.shares c.args.self.now.tallies.items c.served.self.tallies.items c.args.self.now.notes c.served.self.notes c.args.domain c.args.in_force.now c.args.index c.args.flow_record.now c.args.served.now c.served.place
     c.served.invariant.0 (omega (arith, c.served-test.false))
 
 pub returns-clause-shares : goal.returns-clause-shares

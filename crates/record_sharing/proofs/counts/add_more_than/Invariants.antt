@@ -1,0 +1,11 @@
+use Rattle.std.proofs.Common.{◌≡◌, ◌+◌, ◌≤◌, map}
+use Rattle.running_groups.specs.Adding.{tallied}
+use Rattle.record_sharing.specs.Totals.{total_of}
+use Rattle.record_sharing.proofs.TotalLaws.{rest_of}
+use Rattle.record_sharing.proofs.counts.add_more_than.Given as goal
+
+abbrev pub invariant-tallies : goal.invariant-tallies
+invariant-tallies l = record {
+  counted : rest_of l.fn.tallies l.tally-index + l.fn.most ≡ total_of (map tallied l.fn.tallies) + l.left;
+  few : l.left ≤ l.fn.most;
+}

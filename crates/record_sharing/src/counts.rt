@@ -1,0 +1,40 @@
+//! How many records of a message count in aggregates.
+ghost use Rattle.std.specs.Prelude.{◌≡◌, ◌↔◌, ◌<◌, ℕ, List, map, IsTrue};
+ghost use Rattle.std.specs.Arc.{arc_value};
+ghost use Rattle.ipfix_template.specs.DataRecord.{DataRecord};
+ghost use Rattle.live_subscriptions.specs.declared.served.Served.{Served};
+ghost use Rattle.running_groups.specs.Adding.{tallied};
+ghost use Rattle.record_sharing.specs.InForce.{InForce};
+ghost use Rattle.record_sharing.specs.Judgements.{IsJudgementOf};
+ghost use Rattle.record_sharing.specs.Terms.{terms_of};
+ghost use Rattle.record_sharing.specs.Totals.{total_of, counts_in_all, MayCountMoreThan};
+
+use crate::judgement::Judgement;
+use running_groups::Tally;
+
+impl Judgement {
+    /// Whether more than so many records count in aggregates, by its terms, added up over all subscriptions. It looks at one
+    /// number for each subscription.
+    pub fn counts_more_than(&self, most: u64) -> bool
+        ensures exact { (domain : ℕ) (f : InForce) (records : List DataRecord) (served : List Served) (notes : ℕ) → IsJudgementOf domain records self.now
+            → arc_value self.now.terms ≡ terms_of f served notes → IsTrue result ↔ (most < counts_in_all domain f records served) }
+        ensures some { (domain : ℕ) (records : List DataRecord) → IsJudgementOf domain records self.now → IsTrue result → MayCountMoreThan most domain records }
+    {
+        add_more_than(&self.shares.tallies, most)
+    }
+}
+
+/// Whether more than this is added to aggregates, for all subscriptions together.
+fn add_more_than(tallies: &[Tally], most: u64) -> bool
+    ensures { IsTrue result ↔ (most < total_of (map tallied tallies.now)) }
+{
+    let mut left = most;
+    'tallies: for tally in tallies {
+        let count = tally.counts.len() as u64;
+        if count > left {
+            return true;
+        }
+        left -= count;
+    }
+    false
+}
