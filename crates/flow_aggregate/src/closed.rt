@@ -63,7 +63,8 @@ impl ClosedAggregate {
         let end = start + u64::from(definition.interval()) * MILLISECONDS;
         let sums = self.sums;
         let mut values = Vec::new(alloc);
-        put_key_values(definition.key(), self.group.key(), &mut values)?;
+        let octets = Bytes::copy_from_slice(alloc, self.group.key())?;
+        put_key_values(definition.key(), octets, &mut values)?;
         let numbers = [start, end, sums.octets, sums.packets, sums.flows];
         put_numbers(alloc, &numbers, &mut values)?;
         Ok(values)
@@ -73,13 +74,13 @@ impl ClosedAggregate {
 /// Appends the values of the key's elements, which stay where they are in its octets.
 fn put_key_values(
     key: &[ElementId],
-    octets: &Bytes,
+    octets: Bytes,
     values: &mut Vec<Bytes>,
 ) -> Result<(), AllocError>
-    requires { length octets.now ≡ sum_by full_width key.now }
-    ensures { OnOk result (values.new.items ≡ values.old.items ++ key_values key.now octets.now) }
+    requires { length octets ≡ sum_by full_width key.now }
+    ensures { OnOk result (values.new.items ≡ values.old.items ++ key_values key.now octets) }
 {
-    let mut rest = octets.clone()?;
+    let mut rest = octets;
     for element in key {
         let value = rest.split_to(usize::from(width_of(*element)))?;
         values.push(value)?;

@@ -12,10 +12,19 @@ use std::alloc::{AllocError, Global};
 use std::marker::Model;
 
 /// What a record adds, and to which group.
-#[derive(Drop)]
 pub struct Count {
     pub(crate) group: Group,
     pub(crate) counters: Sums,
+}
+
+impl Drop for Count {
+    // Written out: a derived one is proved anew in each crate that drops such a value.
+    fn drop(self) {
+        let Count {
+            group: _,
+            counters: _,
+        } = self;
+    }
 }
 
 impl Model for Count {

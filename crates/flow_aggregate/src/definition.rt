@@ -8,7 +8,6 @@ ghost use Rattle.flow_aggregate.specs.Groups.{IsSummed};
 ghost use Rattle.flow_aggregate.specs.Closed.{closed_template};
 
 use crate::closed_template::template_for;
-use bytes::Bytes;
 use ipfix_element::ElementId;
 use ipfix_template::Template;
 use policy_text::AggregateDef;
@@ -19,10 +18,16 @@ use std::sync::Arc;
 /// An aggregate's definition, made ready for records to be counted in it: its groups share it. Two are one where name,
 /// key, interval and grace are equal, whatever edit brought them.
 pub struct Definition {
+    parts: Arc<Parts>,
+}
+
+/// What all holds of a definition share.
+#[derive(Drop)]
+struct Parts {
     interval: u32,
     grace: u32,
-    name: Bytes,
-    key: Arc<Vec<ElementId>>,
+    name: Vec<u8>,
+    key: Vec<ElementId>,
     // That of the records of its closed groups.
     closed: Arc<Template>,
 }
@@ -30,13 +35,7 @@ pub struct Definition {
 impl Drop for Definition {
     // Written out: a derived one is proved anew in each crate that drops such a value.
     fn drop(self) {
-        let Definition {
-            interval: _,
-            grace: _,
-            name: _,
-            key: _,
-            closed: _,
-        } = self;
+        let Definition { parts: _ } = self;
     }
 }
 
@@ -48,9 +47,9 @@ impl Model for Definition {
 
     ghost Value = { Aggregate };
 
-    ghost view = { λ d. record { name = d.name; key = (arc_value d.key).items; interval = d.interval; grace = d.grace } };
+    ghost view = { λ d. record { name = (arc_value d.parts).name.items; key = (arc_value d.parts).key.items; interval = (arc_value d.parts).interval; grace = (arc_value d.parts).grace } };
 
-    ghost invariant = { λ d. IsSummed (record { name = d.name; key = (arc_value d.key).items; interval = d.interval; grace = d.grace }) × HasTemplate (arc_value d.key).items (arc_value d.closed) };
+    ghost invariant = { λ d. IsSummed (record { name = (arc_value d.parts).name.items; key = (arc_value d.parts).key.items; interval = (arc_value d.parts).interval; grace = (arc_value d.parts).grace }) × HasTemplate (arc_value d.parts).key.items (arc_value (arc_value d.parts).closed) };
 }
 
 impl Definition {
@@ -64,12 +63,15 @@ impl Definition {
     {
         let key = copy_of(alloc, definition.key())?;
         let closed = template_for(alloc, definition.key())?;
-        Ok(Definition {
+        let parts = Parts {
             interval: definition.interval(),
             grace: definition.grace(),
-            name: Bytes::copy_from_slice(alloc, definition.name().as_bytes())?,
-            key: Arc::new(alloc, key)?,
+            name: Vec::from_slice(alloc, definition.name().as_bytes())?,
+            key,
             closed,
+        };
+        Ok(Definition {
+            parts: Arc::new(alloc, parts)?,
         })
     }
 
@@ -81,11 +83,7 @@ impl Definition {
         ensures { IfOk result (λ d. d ≡ self.now) }
     {
         Ok(Definition {
-            interval: self.interval,
-            grace: self.grace,
-            name: self.name.clone()?,
-            key: self.key.clone()?,
-            closed: self.closed.clone()?,
+            parts: self.parts.clone()?,
         })
     }
 
@@ -97,21 +95,21 @@ impl Definition {
     pub(crate) fn closed_template(&self) -> Result<Arc<Template>, AllocError>
         ensures { IfOk result (λ t. arc_value t ≡ closed_template self.now) }
     {
-        Ok(self.closed.clone()?)
+        Ok(self.parts.closed.clone()?)
     }
 
     /// The octets of its name.
     pub(crate) fn name(&self) -> &[u8]
         ensures { result.now ≡ self.now.name }
     {
-        self.name.as_slice()
+        self.parts.name.as_slice()
     }
 
     pub(crate) fn key(&self) -> &[ElementId]
         ensures value { result.now ≡ self.now.key }
         ensures sound { IsSummed self.now }
     {
-        self.key.as_slice()
+        self.parts.key.as_slice()
     }
 
     pub(crate) fn interval(&self) -> u32
@@ -119,14 +117,14 @@ impl Definition {
         ensures some { 1 ≤ result }
         ensures few { result ≤ 86400 }
     {
-        self.interval
+        self.parts.interval
     }
 
     pub(crate) fn grace(&self) -> u32
         ensures value { result ≡ self.now.grace }
         ensures few { result ≤ 86400 }
     {
-        self.grace
+        self.parts.grace
     }
 }
 

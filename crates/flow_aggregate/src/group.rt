@@ -8,11 +8,14 @@ ghost use Rattle.flow_aggregate.specs.Running.{IsPlaced, is_due};
 use crate::definition::Definition;
 use crate::timing::{interval_start, start_of};
 use crate::values::{MILLISECONDS, first_value};
-use bytes::Bytes;
 use ipfix_element::{ElementId, full_width, kind_of};
 use ipfix_template::Record;
+use smallvec::SmallVec;
 use std::alloc::{AllocError, Global};
 use std::marker::Model;
+
+/// So many octets of a key are kept in the group itself: the addresses, ports and protocol of an IPv6 flow have 37.
+const KEY_OCTETS: usize = 40;
 
 /// The records of one aggregate that start in one interval and agree in the key: where the interval starts, in
 /// milliseconds since 1970, the aggregate, and the octets of the key's values, each at full width.
@@ -20,7 +23,7 @@ use std::marker::Model;
 pub(crate) struct Group {
     start: u64,
     definition: Definition,
-    key: Bytes,
+    key: SmallVec<u8, KEY_OCTETS>,
 }
 
 impl Model for Group {
@@ -28,9 +31,9 @@ impl Model for Group {
 
     ghost Value = { Group };
 
-    ghost view = { λ g. record { start = g.start; definition = g.definition; key = g.key } };
+    ghost view = { λ g. record { start = g.start; definition = g.definition; key = g.key.items } };
 
-    ghost invariant = { λ g. IsGroup (record { start = g.start; definition = g.definition; key = g.key }) };
+    ghost invariant = { λ g. IsGroup (record { start = g.start; definition = g.definition; key = g.key.items }) };
 }
 
 impl Group {
@@ -88,24 +91,24 @@ impl Group {
     }
 
     /// The octets of the key's values.
-    pub(crate) fn key(&self) -> &Bytes
+    pub(crate) fn key(&self) -> &[u8]
         ensures value { result.now ≡ self.now.key }
         ensures sound { IsGroup self.now }
     {
-        &self.key
+        self.key.as_slice()
     }
 
-    /// Another hold of it.
+    /// The same group once more, with another hold of its definition.
     ///
     /// # Errors
-    /// Want of memory for the count of its holds.
+    /// Want of memory for the octets of a long key, or for the count of the definition's holds.
     pub(crate) fn share(&self) -> Result<Group, AllocError>
         ensures { IfOk result (λ g. g ≡ self.now) }
     {
         Ok(Group {
             start: self.start,
             definition: self.definition.share()?,
-            key: self.key.clone()?,
+            key: SmallVec::from_slice(*self.key.allocator(), self.key.as_slice())?,
         })
     }
 }
@@ -119,18 +122,22 @@ pub(crate) fn key_octets(
     alloc: Global,
     key: &[ElementId],
     flow_record: &Record,
-) -> Result<Bytes, AllocError>
-    ensures { IfOk result (λ octets. octets ≡ key_octets key.now flow_record.now) }
+) -> Result<SmallVec<u8, KEY_OCTETS>, AllocError>
+    ensures { IfOk result (λ octets. octets.items ≡ key_octets key.now flow_record.now) }
 {
-    let mut octets = Vec::new(alloc);
+    let mut octets = SmallVec::new(alloc);
     for element in key {
         put_wide(*element, flow_record, &mut octets)?;
     }
-    Ok(Bytes::from_vec(octets)?)
+    Ok(octets)
 }
 
 /// Appends the value of the record's first field of the element, with zeros before it up to full width.
-fn put_wide(element: ElementId, flow_record: &Record, out: &mut Vec<u8>) -> Result<(), AllocError>
+fn put_wide(
+    element: ElementId,
+    flow_record: &Record,
+    out: &mut SmallVec<u8, KEY_OCTETS>,
+) -> Result<(), AllocError>
     ensures { OnOk result (out.new.items ≡ out.old.items ++ wide_value flow_record.now element) }
 {
     let value = match first_value(flow_record, element) {
@@ -152,7 +159,7 @@ pub(crate) fn width_of(element: ElementId) -> u16
     full_width(kind_of(element)).unwrap_or(0)
 }
 
-fn put_zeros(count: usize, out: &mut Vec<u8>) -> Result<(), AllocError>
+fn put_zeros(count: usize, out: &mut SmallVec<u8, KEY_OCTETS>) -> Result<(), AllocError>
     ensures { OnOk result (out.new.items ≡ out.old.items ++ Rattle.std.specs.Prelude.replicate count 0) }
 {
     for done in 0..count {

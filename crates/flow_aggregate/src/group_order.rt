@@ -17,7 +17,7 @@ impl PartialEq for Group {
     fn eq(&self, other: &Group) -> bool {
         self.start() == other.start()
             && is_same(self.definition(), other.definition())
-            && self.key().as_slice() == other.key().as_slice()
+            && self.key() == other.key()
     }
 }
 
@@ -59,7 +59,7 @@ impl Ord for Group {
             Ordering::Equal => match compare(self.definition(), other.definition()) {
                 Ordering::Less => Ordering::Less,
                 Ordering::Greater => Ordering::Greater,
-                Ordering::Equal => self.key().as_slice().cmp(other.key().as_slice()),
+                Ordering::Equal => self.key().cmp(other.key()),
             },
         }
     }
@@ -75,7 +75,7 @@ impl Hash for Group {
     // Groups of one start and key are few, so that their definitions need not be hashed.
     fn hash<H: Hasher>(&self, state: &mut H) {
         state.write_u64(self.start());
-        self.key().as_slice().hash(state);
+        self.key().hash(state);
     }
 }
 

@@ -7,5 +7,5 @@ use Rattle.flow_aggregate.proofs.closed.put_key_values.Given as goal
 abbrev pub invariant-loop-element : goal.invariant-loop-element
 invariant-loop-element l = record {
   long : length l.rest ≡ sum_by full_width (drop l.element-index l.key);
-  due : l.values.items ++ key_values (drop l.element-index l.key) l.rest ≡ l.fn.values.items ++ key_values l.key l.octets;
+  due : l.values.items ++ key_values (drop l.element-index l.key) l.rest ≡ l.fn.values.items ++ key_values l.key l.fn.octets;
 }
