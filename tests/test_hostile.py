@@ -6,7 +6,7 @@ import struct
 import unittest
 from concurrent.futures import ThreadPoolExecutor
 
-from messages import FLOW, OPTIONS_TEMPLATES, VARIABLE, Template, address, flow_message, message, records, set_of
+from messages import EXPORTED, FLOW, OPTIONS_TEMPLATES, VARIABLE, Template, address, flow_message, message, records, set_of
 from serving import ServeTest
 
 # One record, and what may stand behind it.
@@ -43,6 +43,56 @@ STRANGERS = 300
 NAMED = Template(257, ((82, VARIABLE), ((29305, 1), 4), (8, 4)))
 OPTIONS = set_of(OPTIONS_TEMPLATES, struct.pack("!HHHHHHHHH", 258, 3, 1, 10, 4, 82, VARIABLE, 4, 1))
 OPTIONS_DATA = set_of(258, struct.pack("!I", 3) + b"\x04eth0\x06" + struct.pack("!I", 4) + b"\x04eth1\x11")
+
+# Templates of three values of one octet in all, and of eight and nine values: a message may have two values for each of its octets at most,
+# for each Data Set those of as many records as fit in, and of one more.
+THIN = Template(259, ((4, 1), *(((29305, number), 0) for number in range(1, 3))))
+PLAIN = Template(259, ((4, 1),))
+EIGHT = Template(260, ((4, 1),) * 8)
+NINE = Template(260, ((4, 1),) * 9)
+
+# Streams of messages that are as wide as they may be, or too wide, and what is noted of them.
+WIDE = [
+    # 57 octets with 114 values, and 58 with 117; with their template 141 with 282, and 142 with 285.
+    (message(0, THIN.octets()) + message(0, set_of(259, bytes(37))), "ended: messages 2 records 37 gaps 0"),
+    (message(0, THIN.octets()) + message(0, set_of(259, bytes(38))), "failed, TooWide: messages 1 records 0 gaps 0"),
+    (GOOD + message(1, THIN.octets(), set_of(259, bytes(93))), "ended: messages 2 records 94 gaps 0"),
+    (GOOD + message(1, THIN.octets(), set_of(259, bytes(94))) + GOOD, "failed, TooWide: messages 1 records 1 gaps 0"),
+    # By the template that the ID was given last.
+    (message(0, THIN.octets(), PLAIN.octets(), set_of(259, bytes(60_000))), "ended: messages 1 records 60000 gaps 0"),
+    (message(0, PLAIN.octets(), THIN.octets(), set_of(259, bytes(60_000))), "failed, TooWide: messages 0 records 0 gaps 0"),
+    (message(0, THIN.octets()) + message(0, PLAIN.octets()) + message(0, set_of(259, bytes(60_000))), "ended: messages 3 records 60000 gaps 0"),
+    (message(0, PLAIN.octets()) + message(0, THIN.octets()) + message(0, set_of(259, bytes(60_000))), "failed, TooWide: messages 2 records 0 gaps 0"),
+    # Data Sets without a record: 144 octets with 288 values, and 148 with 297.
+    (message(0, EIGHT.octets()) + message(0, *[set_of(260, b"")] * 16_379), "ended: messages 2 records 0 gaps 0"),
+    (message(0, NINE.octets()) + message(0, *[set_of(260, b"")] * 32), "ended: messages 2 records 0 gaps 0"),
+    (message(0, NINE.octets()) + message(0, *[set_of(260, b"")] * 33), "failed, TooWide: messages 1 records 0 gaps 0"),
+    # Data Sets of a template that isn't known have no values.
+    (message(0, *[set_of(261, b"")] * 16_379), "ended: messages 1 records 0 gaps 0"),
+]
+
+# Records of a time and a protocol, which count for each subscription but the last one: a message may have 131,072 counts at most.
+TIMED = Template(262, ((150, 4), (4, 1)))
+COUNTING = """policy 1
+aggregate protocols key protocolIdentifier interval 300 grace 60
+rule for quiet in * from * to * withhold
+rule for * in * from * to * aggregate protocols
+"""
+COUNTING_SUBSCRIBERS = 16
+
+
+def timed(count):
+    return TIMED.data(*[TIMED.record(EXPORTED, 6)] * count)
+
+
+# Streams of messages with as many counts as they may have, or more, and what is noted of them. Of two such messages the second one is
+# whole with a later read, and is prepared by the template that the first one brought.
+COUNTED = [
+    (message(0, TIMED.octets(), timed(8192)), "ended: messages 1 records 8192 gaps 0"),
+    (message(0, TIMED.octets(), timed(8193)), "failed, TooManyCounts: messages 0 records 0 gaps 0"),
+    (message(0, TIMED.octets(), timed(8192)) + message(8192, timed(8192)), "ended: messages 2 records 16384 gaps 0"),
+    (message(0, TIMED.octets(), timed(8192)) + message(8192, timed(8193)) + GOOD, "failed, TooManyCounts: messages 1 records 8192 gaps 0"),
+]
 
 # A stream with a template again, values of any length, options, a withdrawal and a template behind it.
 STREAM = (
@@ -84,6 +134,11 @@ def ports_of(octets):
     return [int.from_bytes(dict(record)[7], "big") for record in records(octets)]
 
 
+def outcomes(notes):
+    """What is noted of the ends of exporters, without their addresses."""
+    return [line.partition(" exporter ")[2].partition(" ")[2] for line in notes.splitlines() if " messages " in line]
+
+
 class Hostile(ServeTest):
     def attack(self, run, octets, ends):
         """A hostile exporter, to the end of its connection: it is sent nothing."""
@@ -123,6 +178,27 @@ class Hostile(ServeTest):
             self.assertIn(f" {text}\n", notes)
         self.assertEqual(notes.count(" ended: messages 20 records 20 gaps 0\n"), GOOD_EXPORTERS)
         self.assertEqual(len(notes.splitlines()), 42, notes)
+
+    def test_wide_messages(self):
+        """A message that may have more values than are allowed ends its connection; what came before it stays."""
+        run = self.start(subscribers=(), connections=len(WIDE))
+        run.admin().close()
+        for octets, _ in WIDE:
+            self.attack(run, octets, True)
+        notes = run.end().notes
+        self.assertEqual(outcomes(notes), [text for _, text in WIDE])
+
+    def test_many_counts(self):
+        """A message of which more records count than are allowed, added up over all subscriptions, ends its connection."""
+        run = self.start(COUNTING, subscribers=(), connections=len(COUNTED))
+        admin = run.admin()
+        for name in [*(f"s{n}" for n in range(COUNTING_SUBSCRIBERS)), "quiet"]:
+            self.assertRegex(admin.ask(f"subscribe {name}"), r"^ok \d+$")
+        admin.close()
+        for octets, _ in COUNTED:
+            self.attack(run, octets, True)
+        notes = self.expect_served(run, 4, 0).notes
+        self.assertEqual(outcomes(notes), [text for _, text in COUNTED])
 
     def test_half_a_message_stays(self):
         """A stranger sends half a message and stays: nobody else waits for it, and the run ends when it goes."""

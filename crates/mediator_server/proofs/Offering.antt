@@ -1,5 +1,5 @@
 -- Messages that are offered one after another.
-use Rattle.std.proofs.Common.{◌≡◌, ℕ, suc, ◌+◌, List, [], ◌∷◌, ◌++◌, map, length, Result, Ok, Err, refl, sym, ap, ◌∙◌, subst, append-nil, append_assoc, arith, length-append}
+use Rattle.std.proofs.Common.{◌≡◌, ℕ, zero, suc, ◌+◌, List, [], ◌∷◌, ◌++◌, map, length, take, Result, Ok, Err, refl, sym, ap, ◌∙◌, subst, append-nil, append_assoc, arith, length-append}
 use Rattle.std.specs.Result.{IsErr, IsErrAnd, IfErr, result_ok}
 use Rattle.std.specs.Prelude.{IfOk, IfSome, Option}
 use Rattle.std.specs.List.{AllZip}
@@ -9,13 +9,10 @@ use Rattle.prepared_message.specs.Preparation.{Preparation}
 use Rattle.decode_workers.specs.Workers.{Tables, AreAnswers}
 use Rattle.event_journal.specs.declared.entry.Entry.TheVariants.{Message}
 use Rattle.entry_receipts.specs.declared.kept.KeptEntry.{KeptEntry}
-use Rattle.mediator_state.specs.declared.fault.Fault.{Fault}
-use Rattle.mediator_calls.specs.declared.fault.PullFault.TheVariants as pull
 use Rattle.shared_mediator.specs.Locked.{Exporting}
 use Rattle.mediator_server.specs.declared.fault.ServeFault.{ServeFault}
-use Rattle.mediator_server.specs.declared.fault.ServeFault.TheVariants.{Core}
-use Rattle.mediator_server.specs.Serving.{messages_from, Offers, RefusesAmong}
-use Rattle.mediator_server.specs.Preparing.{ArePreparations}
+use Rattle.mediator_server.specs.Serving.{messages_from, IsRefusalOf, Offers, RefusesAmong}
+use Rattle.mediator_server.specs.Preparing.{ArePreparations, IsFrontOf}
 
 -- what is known of an error that was handed on
 pub err_gives : {X E : Type 0} {P Q : E → Type 0} (r : Result X E) → IsErr r × IsErrAnd r P → ((e : E) → P e → Q e) → IfErr r Q
@@ -84,13 +81,12 @@ offering_on old d e all more rest m is so next = record {
 pub offering_ends : (old d : Exporting) (all rest : List (List ℕ)) → rest ≡ [] → IsOffering old d all rest → Offers old d all
 offering_ends old d all rest none so = subst (Offers old d) (sym (so.parts ∙ ap (λ t. so.done ++ t) none ∙ append-nil so.done)) so.offers
 
-pub offering_stops : (e : ServeFault) (why : Fault) (old d : Exporting) (all more rest : List (List ℕ)) (m : List ℕ) → e ≡ Core (pull.Core why) → more ≡ m ∷ rest → IsOffering old d all more → RefusesAmong e old d all
-offering_stops e why old d all more rest m is here so = record {
-  why = why;
-  is = is;
+pub offering_stops : (e : ServeFault) (old d : Exporting) (all more rest : List (List ℕ)) (m : List ℕ) → IsRefusalOf e m → more ≡ m ∷ rest → IsOffering old d all more → RefusesAmong e old d all
+offering_stops e old d all more rest m is here so = record {
   before = so.done;
   message = m;
   later = rest;
+  is = is;
   parts = so.parts ∙ ap (λ t. so.done ++ t) here;
   offers = so.offers;
 }
@@ -110,13 +106,25 @@ zip_same [] (c ∷ cs) same = absurd same
 zip_same (g ∷ gs) [] same = absurd same
 zip_same (g ∷ gs) (c ∷ cs) same = ap (λ (x : List ℕ). x ∷ cs) same.0 ∙ ap (λ (xs : List (List ℕ)). g ∷ xs) (zip_same gs cs same.1)
 
--- so they are of the messages of which copies were handed to them
-pub copies_prepared : {V E : Type 0} (items : V → List (Result Preparation PrepareFault)) (known : Tables) (given copies : List (List ℕ)) (r : Result V E) (o : Option V) → o ≡ result_ok r → AllZip (λ (b copy : List ℕ). copy ≡ b) given copies
+-- what is known of the first messages is known of some of all
+of_front : (count : ℕ) (ms : List (List ℕ)) (answers : List (Result Preparation PrepareFault)) → ArePreparations (take count ms) answers → ArePreparations ms answers
+of_front zero ms [] are = tt
+of_front zero ms (a ∷ others) are = absurd are
+of_front (suc count) [] answers are = are
+of_front (suc count) (m ∷ ms) [] are = tt
+of_front (suc count) (m ∷ ms) (a ∷ others) are = (are.0, of_front count ms others are.1)
+
+-- so they are of the messages whose first were handed to them
+pub front_prepared : {V E : Type 0} (items : V → List (Result Preparation PrepareFault)) (known : Tables) (given copies : List (List ℕ)) (r : Result V E) (o : Option V) → o ≡ result_ok r → IsFrontOf given copies
     → IfOk r (λ v. AreAnswers known copies (items v)) → IfSome o (λ v. ArePreparations given (items v))
-copies_prepared {V} items known given copies (Ok v) o is same are =
+front_prepared {V} items known given copies (Ok v) o is front are =
     subst (λ (x : Option V). IfSome x (λ w. ArePreparations given (items w))) (sym is)
-    (subst (λ (ms : List (List ℕ)). ArePreparations ms (items v)) (zip_same given copies same) (prepared_by known copies (items v) are))
-copies_prepared {V} items known given copies (Err e) o is same are = subst (λ (x : Option V). IfSome x (λ w. ArePreparations given (items w))) (sym is) tt
+    (of_front front.0 given (items v) (subst (λ (ms : List (List ℕ)). ArePreparations ms (items v)) front.1 (prepared_by known copies (items v) are)))
+front_prepared {V} items known given copies (Err e) o is front are = subst (λ (x : Option V). IfSome x (λ w. ArePreparations given (items w))) (sym is) tt
+
+-- copies that were cut off are the first messages
+pub front_of_copies : (given copies cut : List (List ℕ)) (count : ℕ) → AllZip (λ (b copy : List ℕ). copy ≡ b) given copies → cut ≡ take count copies → IsFrontOf given cut
+front_of_copies given copies cut count same is = (count, is ∙ ap (take count) (zip_same given copies same))
 
 pub prepared_none : (ms : List (List ℕ)) (answers : List (Result Preparation PrepareFault)) → answers ≡ [] → ArePreparations ms answers
 prepared_none ms answers none = subst (ArePreparations ms) (sym none) tt

@@ -10,9 +10,11 @@ use Rattle.message_intake.specs.declared.fault.IntakeFault.{IntakeFault}
 use Rattle.message_intake.specs.declared.fault.IntakeFault.TheVariants as intake
 use Rattle.message_intake.specs.Intake.{IntakeState, nothing_read, Takes, Ends, Stops, HasFault, reader_after as intake_reader}
 use Rattle.shared_mediator.specs.Locked.{Exporting}
+use Rattle.mediator_calls.specs.declared.fault.PullFault.TheVariants as pull
 use Rattle.mediator_server.specs.declared.fault.ServeFault.{ServeFault}
+use Rattle.mediator_server.specs.declared.fault.ServeFault.TheVariants.{Read, Write, Framing, Turns, TooWide, TooManyCounts, Core}
 use Rattle.mediator_server.specs.Faults.{out_of_memory, intake_refusal, reader_after}
-use Rattle.mediator_server.specs.Serving.{Offers, OffersWhole, OffersBefore, AreRead, Serves, StopsServing, RefusesAmong, Reaches}
+use Rattle.mediator_server.specs.Serving.{IsRefusalOf, Offers, OffersWhole, OffersBefore, AreRead, RefusesOne, Serves, StopsAt, StopsServing, RefusesAmong, Reaches}
 use Rattle.mediator_server.proofs.Offering.{offers_none, offers_then, receipts_count}
 
 nothing_framed : IsFramed [] [] None []
@@ -88,26 +90,38 @@ begins_not turns given d = record {
 }
 
 -- one of the messages is refused
+refuses_one : (e : ServeFault) (turns : ℕ) (i k : IntakeState) (given mid left : Option (List ℕ)) (old d new : Exporting) (out : List (List ℕ)) → (so : Reaches turns i given mid old d) → (takes : Takes i mid left out k) → RefusesAmong e d new out
+    → RefusesOne (so.octets ++ takes.piece) old new
+refuses_one e turns i k given mid left old d new out so takes stop = record {
+  before = so.messages ++ stop.before;
+  message = stop.message;
+  later = stop.later;
+  faulty = k.framing.fault;
+  pending = k.framing.pending;
+  framed = subst (λ ms. IsFramed (so.octets ++ takes.piece) ms k.framing.fault k.framing.pending) (ap (λ t. so.messages ++ t) stop.parts ∙ sym (append_assoc so.messages stop.before (stop.message ∷ stop.later)))
+      (takes.goes_on.after so.octets so.messages so.all.framed);
+  offers = offers_then old d new so.messages stop.before so.all.offers stop.offers;
+}
+
+stops_there : (e : ServeFault) (turns : ℕ) (octets : List ℕ) (left : Option (List ℕ)) (old new : Exporting) → (one : RefusesOne octets old new) → IsRefusalOf e one.message → AreRead turns octets → StopsAt e turns octets left old new
+stops_there (Core (pull.Core why)) turns octets left old new one is few = (inl one, few)
+stops_there (Core pull.HandedFull) turns octets left old new one is few = absurd is
+stops_there TooWide turns octets left old new one is few = ((one, is), few)
+stops_there TooManyCounts turns octets left old new one is few = ((one, is), few)
+stops_there Read turns octets left old new one is few = absurd is
+stops_there (Write sent) turns octets left old new one is few = absurd is
+stops_there (Framing why) turns octets left old new one is few = absurd is
+stops_there Turns turns octets left old new one is few = absurd is
+
 pub message_stops : (e : ServeFault) (turns : ℕ) (i k : IntakeState) (given mid left : Option (List ℕ)) (old d new : Exporting) (out : List (List ℕ)) → Reaches turns i given mid old d → Takes i mid left out k → RefusesAmong e d new out
     → StopsServing e turns given left old new
-message_stops e turns i k given mid left old d new out so takes stop =
-    rw stop.is (record {
-      octets = so.octets ++ takes.piece;
-      taken = Consumes-trans given mid left so.octets takes.piece so.taken takes.is_piece.read;
-      stops = (
-        inl (record {
-          before = so.messages ++ stop.before;
-          message = stop.message;
-          later = stop.later;
-          faulty = k.framing.fault;
-          pending = k.framing.pending;
-          framed = subst (λ ms. IsFramed (so.octets ++ takes.piece) ms k.framing.fault k.framing.pending) (ap (λ t. so.messages ++ t) stop.parts ∙ sym (append_assoc so.messages stop.before (stop.message ∷ stop.later)))
-              (takes.goes_on.after so.octets so.messages so.all.framed);
-          offers = offers_then old d new so.messages stop.before so.all.offers stop.offers;
-        }),
-        omega (arith, so.few, takes.is_piece.few, takes.turn, length-append so.octets takes.piece),
-      );
-    })
+unfolding refuses_one
+message_stops e turns i k given mid left old d new out so takes stop = record {
+  octets = so.octets ++ takes.piece;
+  taken = Consumes-trans given mid left so.octets takes.piece so.taken takes.is_piece.read;
+  stops = stops_there e turns (so.octets ++ takes.piece) left old new (refuses_one e turns i k given mid left old d new out so takes stop) stop.is
+      (omega (arith, so.few, takes.is_piece.few, takes.turn, length-append so.octets takes.piece));
+}
 
 whole_after : (turns : ℕ) (i : IntakeState) (given left : Option (List ℕ)) (old d : Exporting) → (so : Reaches turns i given left old d) → i.framing.fault ≡ None → OffersWhole so.octets i.framing.pending old d
 whole_after turns i given left old d so sound = record {
@@ -192,5 +206,15 @@ intake_reads (intake.Framing why) e failed is fails = rw is fails
 intake_reads intake.Turns e failed is fails = rw is fails
 intake_reads intake.OutOfMemory e failed is fails = rw is fails
 
+pub refusal_reads : (e : ServeFault) (message : List ℕ) (failed : Bool) → IsRefusalOf e message → failed ≡ false → failed ≡ reader_after e
+refusal_reads (Core (pull.Core why)) message failed is sound = sound
+refusal_reads (Core pull.HandedFull) message failed is sound = absurd is
+refusal_reads TooWide message failed is sound = sound
+refusal_reads TooManyCounts message failed is sound = sound
+refusal_reads Read message failed is sound = absurd is
+refusal_reads (Write sent) message failed is sound = absurd is
+refusal_reads (Framing why) message failed is sound = absurd is
+refusal_reads Turns message failed is sound = absurd is
+
 pub core_reads : (e : ServeFault) (old new : Exporting) (out : List (List ℕ)) (failed : Bool) → RefusesAmong e old new out → failed ≡ false → failed ≡ reader_after e
-core_reads e old new out failed stop sound = rw stop.is sound
+core_reads e old new out failed stop sound = refusal_reads e stop.message failed stop.is sound

@@ -10,6 +10,8 @@ text_of_serve serve.Read = codes "Read"
 text_of_serve (serve.Write sent) = codes "Write"
 text_of_serve (serve.Framing why) = codes "Framing"
 text_of_serve serve.Turns = codes "Turns"
+text_of_serve serve.TooWide = codes "TooWide"
+text_of_serve serve.TooManyCounts = codes "TooManyCounts"
 text_of_serve (serve.Core why) = codes "Core"
 
 abbrev pub text_of_listen : ListenFault → List ℕ

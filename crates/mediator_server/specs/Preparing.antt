@@ -1,5 +1,5 @@
 -- Messages that were prepared without the lock.
-use Rattle.std.specs.Prelude.{◌≡◌, ℕ, List, [], ◌∷◌, Result, IfOk}
+use Rattle.std.specs.Prelude.{◌≡◌, ℕ, List, [], ◌∷◌, take, Result, IfOk}
 use Rattle.prepared_message.specs.declared.fault.PrepareFault.{PrepareFault}
 use Rattle.prepared_message.specs.Preparation.{Preparation}
 
@@ -8,3 +8,7 @@ abbrev pub ArePreparations : List (List ℕ) → List (Result Preparation Prepar
 ArePreparations messages [] = Unit {0}
 ArePreparations [] (answer ∷ answers) = ⊥
 ArePreparations (message ∷ messages) (answer ∷ answers) = IfOk answer (λ p. p.message ≡ message) × ArePreparations messages answers
+
+-- these are the first of messages, up to some place
+abbrev pub IsFrontOf : List (List ℕ) → List (List ℕ) → Type 0
+IsFrontOf messages front = (count : ℕ) × (front ≡ take count messages)

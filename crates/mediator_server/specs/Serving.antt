@@ -2,6 +2,7 @@
 -- many reads at most, is this project's own rule; how its octets are cut into messages is the standard's (RFC 7011, section 10.4).
 use Rattle.std.specs.Prelude.{◌≡◌, ◌⊎◌, ℕ, ◌+◌, ◌*◌, ◌<◌, ◌≤◌, List, [], ◌∷◌, ◌++◌, map, length, Option, Some, None}
 use Rattle.std.specs.Io.KnownBytes.{Consumes, IsAtEnd}
+use Rattle.ipfix_template.specs.declared.template.Template.{Template}
 use Rattle.ipfix_message.specs.declared.frame_error.FrameError.{FrameError}
 use Rattle.ipfix_message.specs.declared.frame_error.FrameError.TheVariants as frame
 use Rattle.ipfix_message.specs.Framing.{IsFramed}
@@ -13,9 +14,11 @@ use Rattle.entry_receipts.specs.declared.kept.KeptEntry.{KeptEntry}
 use Rattle.mediator_state.specs.declared.fault.Fault.{Fault}
 use Rattle.mediator_state.specs.declared.fault.Fault.TheVariants as fault
 use Rattle.mediator_calls.specs.declared.fault.PullFault.TheVariants as pull
+use Rattle.prepared_message.specs.Widths.{IsTooWide}
+use Rattle.prepared_message.specs.Holding.{CountsTooMany}
 use Rattle.shared_mediator.specs.Locked.{Exporting}
 use Rattle.mediator_server.specs.declared.fault.ServeFault.{ServeFault}
-use Rattle.mediator_server.specs.declared.fault.ServeFault.TheVariants.{Read, Framing, Turns, Core}
+use Rattle.mediator_server.specs.declared.fault.ServeFault.TheVariants.{Read, Write, Framing, Turns, TooWide, TooManyCounts, Core}
 
 -- ---- receipts
 
@@ -68,6 +71,10 @@ pub record OffersBefore (faulty : FrameError) (octets : List ℕ) (old new : Exp
   pub messages : List (List ℕ)
   pub all : OffersAll octets messages (Some faulty) [] old new
 
+-- by the templates of some session this message is too wide to be offered; which templates the session has isn't told here
+abbrev pub IsTooWideAt : List ℕ → Type 0
+IsTooWideAt message = (known : List (ℕ × List (ℕ × Template))) × IsTooWide known message
+
 -- a message of these octets is refused; those before it were offered, and none behind it
 pub record RefusesOne (octets : List ℕ) (old new : Exporting) : Type 0 where
   pub before : List (List ℕ)
@@ -96,6 +103,8 @@ StopsAt (Framing framing.CutOff) turns octets left old new = ((pending : List �
 StopsAt (Framing framing.BadVersion) turns octets left old new = OffersBefore frame.BadVersion octets old new × AreRead turns octets
 StopsAt (Framing framing.BadLength) turns octets left old new = OffersBefore frame.BadLength octets old new × AreRead turns octets
 StopsAt (Core (pull.Core why)) turns octets left old new = (RefusesOne octets old new ⊎ LosesPiece why octets old new) × AreRead turns octets
+StopsAt TooWide turns octets left old new = ((one : RefusesOne octets old new) × IsTooWideAt one.message) × AreRead turns octets
+StopsAt TooManyCounts turns octets left old new = ((one : RefusesOne octets old new) × CountsTooMany one.message) × AreRead turns octets
 StopsAt _ turns octets left old new = ⊥
 
 -- octets were read, and it stops so
@@ -106,13 +115,23 @@ pub record StopsServing (e : ServeFault) (turns : ℕ) (given left : Option (Lis
 
 -- ---- what no public clause cites
 
+-- why a message isn't offered: the mediator refuses it, it's too wide, or too many of its records count
+abbrev pub IsRefusalOf : ServeFault → List ℕ → Type 0
+IsRefusalOf (Core (pull.Core why)) message = Unit {0}
+IsRefusalOf (Core pull.HandedFull) message = ⊥
+IsRefusalOf TooWide message = IsTooWideAt message
+IsRefusalOf TooManyCounts message = CountsTooMany message
+IsRefusalOf Read message = ⊥
+IsRefusalOf (Write sent) message = ⊥
+IsRefusalOf (Framing why) message = ⊥
+IsRefusalOf Turns message = ⊥
+
 -- one of these messages is refused; those before it were offered
 pub record RefusesAmong (e : ServeFault) (old new : Exporting) (messages : List (List ℕ)) : Type 0 where
-  pub why : Fault
-  pub is : e ≡ Core (pull.Core why)
   pub before : List (List ℕ)
   pub message : List ℕ
   pub later : List (List ℕ)
+  pub is : IsRefusalOf e message
   pub parts : messages ≡ before ++ message ∷ later
   pub offers : Offers old new before
 

@@ -1,9 +1,10 @@
 //! An exporter's stream.
-ghost use Rattle.std.specs.Prelude.{◌≡◌, ◌-◌, ◌++◌, ◌∷◌, [], ℕ, List, false, length, IfOk, IfErr, IfSome, OnOk, OnErr};
+ghost use Rattle.std.specs.Prelude.{◌≡◌, ◌-◌, ◌++◌, ◌∷◌, [], ℕ, List, false, length, IfOk, IfErr, IfSome, OnOk, OnErr, IsTrue};
 ghost use Rattle.std.specs.Vec.Iter.{into_iter_items};
 ghost use Rattle.event_journal.specs.declared.entry.Entry.TheVariants.{Message};
-ghost use Rattle.mediator_server.specs.Serving.{Offers, RefusesAmong, Reaches, StopsServing, Serves};
-ghost use Rattle.mediator_server.specs.Preparing.{ArePreparations};
+ghost use Rattle.prepared_message.specs.Holding.{CountsTooMany, IsAheadOf};
+ghost use Rattle.mediator_server.specs.Serving.{IsRefusalOf, IsTooWideAt, Offers, RefusesAmong, Reaches, StopsServing, Serves};
+ghost use Rattle.mediator_server.specs.Preparing.{ArePreparations, IsFrontOf};
 ghost use Rattle.mediator_server.specs.Faults.{reader_after};
 
 use crate::fault::ServeFault;
@@ -12,10 +13,10 @@ use decode_workers::{NoGate, Workers};
 use mediator_state::{Fault, Receipt};
 use message_intake::Intake;
 use octet_devices::Source;
-use prepared_message::{JudgedAhead, PrepareFault, Prepared};
+use prepared_message::{JudgedAhead, PrepareFault, Prepared, Snapshot};
 use record_sharing::Workspace;
 use shared_mediator::{EntryLedger, ExporterHandle, RecordLedger, SharedMediator};
-use std::alloc::Global;
+use std::alloc::{AllocError, Global};
 use std::sync::Wait;
 use std::thread::Threads;
 use std::vec::IntoIter;
@@ -84,7 +85,13 @@ impl Progress {
 ///
 /// # Errors
 /// The reader failed; the stream is faulty, or ends inside a message; or its end isn't read within `turns` reads; or a message
-/// is refused, or memory ran out. The messages before that were offered, and what they brought is answered too.
+/// is refused, or too wide to be offered ([`Snapshot::is_too_wide`](prepared_message::Snapshot::is_too_wide)), or too many of its
+/// records count in aggregates ([`JudgedAhead::counts_too_many`]); or memory ran out. The messages before that were offered, and
+/// what they brought is answered too.
+///
+/// How many records count is found out without the lock. So a message of which nothing was judged for want of memory, or whose
+/// judgement is stale when the lock is taken, since there was an edit, an advance or another subscription meanwhile, is taken in
+/// whatever counts.
 pub fn serve_exporter<E: EntryLedger, H: RecordLedger, R: Source, T: Threads + Wait + Sync>(
     rt: &T,
     alloc: Global,
@@ -175,10 +182,22 @@ fn prepare_by_workers<E: EntryLedger, H: RecordLedger, T: Threads + Wait + Sync>
 {
     let workers = workers.as_mut()?;
     let snapshot = handle.snapshot(rt, shared).ok()?;
-    let Ok(copies) = messages.clone() else {
-        return None;
-    };
+    let copies = narrow_front(&snapshot, messages)?;
     workers.prepare_all(rt, &snapshot, copies, &NoGate).ok()
+}
+
+/// Copies of the messages before the first that is too wide, or whose width can't be told for want of memory. Nothing where there is no
+/// memory for them.
+fn narrow_front(snapshot: &Snapshot, messages: &Vec<Bytes>) -> Option<Vec<Bytes>>
+    ensures { IfSome result (λ copies. IsFrontOf messages.now.items copies.items) }
+{
+    let mut copies = messages.clone().ok()?;
+    let narrow = messages
+        .iter()
+        .take_while(|message| matches!(is_too_wide(snapshot, message), Ok(false)))
+        .count();
+    copies.truncate(narrow);
+    Some(copies)
 }
 
 /// Offers the messages of one piece, and wakes the deliveries then: so each wakes once for a piece, and not for each message.
@@ -236,8 +255,11 @@ fn next_prepared(answers: &mut IntoIter<Result<Prepared, PrepareFault>>) -> Opti
     answers.next()?.ok()
 }
 
-/// Offers a message as it was prepared; or with what is judged of it ahead, where it wasn't, or the session has other templates by
-/// then.
+/// Offers a message as it was prepared; or with what is judged of it ahead, where it wasn't, or too many of its records count, or
+/// the session has other templates by then.
+///
+/// # Errors
+/// The mediator's refusal; or the message is too wide, or too many of its records count.
 fn offer_one<E: EntryLedger, H: RecordLedger>(
     rt: &impl Wait,
     shared: &SharedMediator<E, H>,
@@ -245,46 +267,86 @@ fn offer_one<E: EntryLedger, H: RecordLedger>(
     prepared: Option<Prepared>,
     message: Bytes,
     workspace: &mut Workspace,
-) -> Result<Receipt, Fault>
+) -> Result<Receipt, ServeFault>
     requires prepared { IfSome prepared (λ p. p.message ≡ message) }
     ensures kept { IfOk result (λ receipt. handle.new.kept ≡ handle.old.kept ++ record { position = receipt.position; entry = Message handle.old.session (length handle.old.kept) message } ∷ []) }
     ensures session { handle.new.session ≡ handle.old.session }
     ensures same { OnErr result (handle.new ≡ handle.old) }
+    ensures refuses { IfErr result (λ e. IsRefusalOf e message) }
 {
     let Some(prepared) = prepared else {
         return offer_judged(rt, shared, handle, message, workspace);
     };
+    // By the session's templates of now it may be other records.
+    if prepared.counts_too_many() {
+        return offer_judged(rt, shared, handle, message, workspace);
+    }
     match handle.offer_prepared_silently(rt, shared, prepared) {
         Ok(receipt) => Ok(receipt),
         Err((Fault::Stale, _prepared)) => offer_judged(rt, shared, handle, message, workspace),
-        Err((fault, _prepared)) => Err(fault),
+        Err((fault, _prepared)) => Err(ServeFault::from(fault)),
     }
 }
 
-/// Judges a message without the lock, by the session's templates as they are now, and offers it with what was judged.
+/// Judges a message without the lock, by the session's templates as they are now, and offers it with what was judged. Where it
+/// can't be judged, the offer tells why.
+///
+/// # Errors
+/// Those of [`offer_one`].
 fn offer_judged<E: EntryLedger, H: RecordLedger>(
     rt: &impl Wait,
     shared: &SharedMediator<E, H>,
     handle: &mut ExporterHandle<E>,
     message: Bytes,
     workspace: &mut Workspace,
-) -> Result<Receipt, Fault>
+) -> Result<Receipt, ServeFault>
     ensures kept { IfOk result (λ receipt. handle.new.kept ≡ handle.old.kept ++ record { position = receipt.position; entry = Message handle.old.session (length handle.old.kept) message } ∷ []) }
     ensures session { handle.new.session ≡ handle.old.session }
     ensures same { OnErr result (handle.new ≡ handle.old) }
+    ensures refuses { IfErr result (λ e. IsRefusalOf e message) }
 {
-    let ahead = judged_ahead(rt, shared, handle, &message, workspace);
-    handle.offer_judged_silently(rt, shared, message, ahead)
+    let snapshot = handle.snapshot(rt, shared)?;
+    if is_too_wide(&snapshot, &message)? {
+        return Err(ServeFault::TooWide);
+    }
+    let ahead = judged_ahead(&snapshot, &message, workspace);
+    if counts_too_many(&ahead) {
+        return Err(ServeFault::TooManyCounts);
+    }
+    Ok(handle.offer_judged_silently(rt, shared, message, ahead)?)
 }
 
-/// What is judged of a message ahead. Where that fails there is nothing, and the offer tells why.
-fn judged_ahead<E: EntryLedger, H: RecordLedger>(
-    rt: &impl Wait,
-    shared: &SharedMediator<E, H>,
-    handle: &ExporterHandle<E>,
+/// Whether a message is too wide by these templates. Octets that are no message aren't.
+///
+/// # Errors
+/// Want of memory.
+fn is_too_wide(snapshot: &Snapshot, message: &Bytes) -> Result<bool, AllocError>
+    ensures { IfOk result (λ wide. IsTrue wide → IsTooWideAt message.now) }
+{
+    match snapshot.is_too_wide(message) {
+        Ok(wide) => Ok(wide),
+        Err(PrepareFault::OutOfMemory) => Err(AllocError),
+        Err(PrepareFault::HasTemplates | PrepareFault::Malformed) => Ok(false),
+    }
+}
+
+/// What is judged of a message ahead, if that is possible.
+fn judged_ahead(
+    snapshot: &Snapshot,
     message: &Bytes,
     workspace: &mut Workspace,
-) -> Option<JudgedAhead> {
-    let snapshot = handle.snapshot(rt, shared).ok()?;
-    JudgedAhead::of(&snapshot, message, workspace).ok()?
+) -> Option<JudgedAhead>
+    ensures { IfSome result (IsAheadOf message.now) }
+{
+    JudgedAhead::of(snapshot, message, workspace).ok()?
+}
+
+/// Whether too many records of a message count, by what was judged of it ahead. Not where nothing was.
+fn counts_too_many(ahead: &Option<JudgedAhead>) -> bool
+    ensures { (message : List ℕ) → IfSome ahead.now (IsAheadOf message) → IsTrue result → CountsTooMany message }
+{
+    match ahead {
+        Some(ahead) => ahead.counts_too_many(),
+        None => false,
+    }
 }

@@ -18,6 +18,12 @@ pub enum ServeFault {
     Framing(FramingFault),
     /// So many reads were made as are allowed, and the end was not read.
     Turns,
+    /// The Data Sets of a message may have more than [`VALUES_AN_OCTET`](prepared_message::VALUES_AN_OCTET) values for each of its
+    /// octets: it isn't offered.
+    TooWide,
+    /// More records of a message count in aggregates than [`MOST_COUNTS`](prepared_message::MOST_COUNTS), added up over all
+    /// subscriptions: it isn't offered.
+    TooManyCounts,
     /// The mediator refused a call; or memory ran out, or the octets that were sent can't be counted any further.
     Core(PullFault),
 }
@@ -36,6 +42,8 @@ impl Display for ServeFault {
             ServeFault::Write { .. } => "Write",
             ServeFault::Framing(_) => "Framing",
             ServeFault::Turns => "Turns",
+            ServeFault::TooWide => "TooWide",
+            ServeFault::TooManyCounts => "TooManyCounts",
             ServeFault::Core(_) => "Core",
         })
     }

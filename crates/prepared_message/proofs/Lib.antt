@@ -3,3 +3,4 @@ pub mod UseLaws
 pub mod ApplyLaws
 pub mod FindLaws
 pub mod AheadLaws
+pub mod WidthLaws

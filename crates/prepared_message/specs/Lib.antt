@@ -4,6 +4,7 @@ pub use Rattle.ipfix_session.specs.Standing
 pub use Rattle.ipfix_session.specs.Unchanging
 pub use Rattle.ipfix_session.specs.ReadAhead
 pub use Rattle.record_sharing.specs.Judgements
+pub use Rattle.record_sharing.specs.Totals
 pub mod SetIds
 pub mod Uses
 pub mod Preparation
@@ -11,3 +12,5 @@ pub mod Seen
 pub mod Faults
 pub mod Finding
 pub mod Ahead
+pub mod Holding
+pub mod Widths

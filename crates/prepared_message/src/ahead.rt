@@ -1,6 +1,7 @@
 //! What is judged of a message ahead of its session, which reads the message itself.
-ghost use Rattle.std.specs.Prelude.{◌≡◌, true, IfSome, IsTrue};
+ghost use Rattle.std.specs.Prelude.{◌≡◌, true, IfOk, IfSome, IsTrue};
 ghost use Rattle.record_sharing.specs.Judgements.{IsJudgementOf};
+ghost use Rattle.prepared_message.specs.Holding.{IsAheadOf};
 
 use crate::fault::PrepareFault;
 use crate::snapshot::Snapshot;
@@ -17,7 +18,7 @@ use std::marker::Model;
 pub struct JudgedAhead {
     domain: u32,
     records: Records,
-    judgement: Judgement,
+    pub(crate) judgement: Judgement,
 }
 
 impl Drop for JudgedAhead {
@@ -53,7 +54,9 @@ impl JudgedAhead {
         snapshot: &Snapshot,
         message: &Bytes,
         workspace: &mut Workspace,
-    ) -> Result<Option<JudgedAhead>, PrepareFault> {
+    ) -> Result<Option<JudgedAhead>, PrepareFault>
+        ensures { IfOk result (λ found. IfSome found (IsAheadOf message.now)) }
+    {
         let Some(terms) = &snapshot.terms else {
             return Ok(None);
         };

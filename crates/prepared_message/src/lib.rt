@@ -8,6 +8,9 @@
 //!   session that takes it in; `take_judgement`, what was judged.
 //! - [`ahead`]: `JudgedAhead`, what was judged of a message that its session reads itself, since it brings templates.
 //! - [`fault`]: `PrepareFault` and `ApplyFault`, why a message is not prepared, and why it is not taken in.
+//! - [`width`]: how many values the Data Sets of a message may have: `Snapshot::is_too_wide`, and `VALUES_AN_OCTET`.
+//! - [`counting`]: how many of its records may count in aggregates: `counts_too_many` of `Prepared` and `JudgedAhead`, and
+//!   `MOST_COUNTS`.
 //! - `found`: what is found in a message by the snapshot's templates.
 //! - `sets`: whether a message has a set of templates.
 //! - `used`: the templates that a message used.
@@ -19,18 +22,23 @@
 //! only where an ID of the message has another template, or none, in the session (`stale`), and where they answer a fault
 //! nothing has changed (`err`).
 //! What `take_judgement` gives are the shares of the message's records by the terms of which it speaks (`judgement`). What
-//! `JudgedAhead::judgement_of` gives are the shares of those records that it is asked about.
+//! `JudgedAhead::judgement_of` gives are the shares of those records that it is asked about. `Snapshot::is_too_wide` is exact.
+//! Where `counts_too_many` answers that they are, the message holds so many by some templates and on some terms.
 #![tactic(auto)]
 
 pub mod ahead;
+pub mod counting;
 pub mod fault;
 mod found;
 pub mod prepared;
 mod sets;
 pub mod snapshot;
 mod used;
+pub mod width;
 
 pub use ahead::JudgedAhead;
+pub use counting::MOST_COUNTS;
 pub use fault::{ApplyFault, PrepareFault};
 pub use prepared::Prepared;
 pub use snapshot::Snapshot;
+pub use width::VALUES_AN_OCTET;

@@ -32,7 +32,7 @@ pub struct Prepared {
     /// How many records there are.
     count: u32,
     uses: Vec<Used>,
-    judgement: Option<Judgement>,
+    pub(crate) judgement: Option<Judgement>,
 }
 
 impl Drop for Prepared {
