@@ -1,9 +1,11 @@
 -- The lines of an answer: words parted by one space, each line with a line feed (10) behind it; all numbers are decimal.
-use Rattle.std.specs.Prelude.{ℕ, List, [], ◌∷◌, ◌++◌, codes}
+use Rattle.std.specs.Prelude.{◌≡◌, ◌⊎◌, ℕ, List, [], ◌∷◌, ◌++◌, codes, Bool, Option}
 use Rattle.std.specs.Fmt.{decimal}
 use Rattle.mediator_state.specs.declared.fault.Fault.TheVariants.{OutOfMemory}
 use Rattle.mediator_state.specs.declared.receipt.Status.{Status}
 use Rattle.call_lists.specs.Answers.{cut_word, drained_text, refusal_text}
+use Rattle.answer_writing.specs.declared.writing.Stopped.{Stopped}
+use Rattle.answer_writing.specs.Written.{WritesAll, StopsWriting}
 use Rattle.admin_lines.specs.declared.answer.Answer.{Answer}
 use Rattle.admin_lines.specs.declared.answer.Answer.TheVariants as answer
 
@@ -23,3 +25,20 @@ answer_text answer.BadText = codes "err Text" ++ 10 ∷ []
 -- a call that was refused for want of memory
 abbrev pub refused_for_memory : Answer
 refused_for_memory = answer.Refused OutOfMemory
+
+-- the text of the answer; or where a call was refused and there was no memory to say why, that it was refused for want of memory
+abbrev pub IsTextOf : Answer → List ℕ → Type 0
+IsTextOf (answer.Refused why) text = (text ≡ answer_text (answer.Refused why)) ⊎ (text ≡ answer_text refused_for_memory)
+IsTextOf reply text = text ≡ answer_text reply
+
+-- the answer was written whole behind so many octets, and its octets were counted
+pub record WritesAnswer (reply : Answer) (sent count : ℕ) (held holds : Option (List ℕ)) : Type 0 where
+  pub text : List ℕ
+  pub is : IsTextOf reply text
+  pub writes : WritesAll text sent count held holds
+
+-- the sink failed inside the answer; or its octets can't be counted, and none was written
+pub record StopsAnswering (e : Stopped) (reply : Answer) (sent : ℕ) (held holds : Option (List ℕ)) (had_failed has_failed : Bool) : Type 0 where
+  pub text : List ℕ
+  pub is : IsTextOf reply text
+  pub stops : StopsWriting e text sent held holds had_failed has_failed

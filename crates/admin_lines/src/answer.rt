@@ -1,11 +1,14 @@
-//! The lines that answer a command.
-ghost use Rattle.std.specs.Prelude.{◌≡◌, ◌++◌, ◌∷◌, [], codes, IfOk, string_bytes};
+//! The lines that answer a command, and how they are written.
+ghost use Rattle.std.specs.Prelude.{◌≡◌, ◌++◌, ◌∷◌, [], codes, IfOk, IfErr, OnOk};
 ghost use Rattle.std.specs.Fmt.{decimal};
-ghost use Rattle.admin_lines.specs.Answers.{answer_text, status_text, refused_for_memory};
+ghost use Rattle.answer_writing.specs.Written.{WritesAll, StopsWriting};
+ghost use Rattle.admin_lines.specs.Answers.{status_text, WritesAnswer, StopsAnswering};
 
-use call_lists::{cut_word, drained_text, refusal_text};
+use answer_writing::{AnswerBuffer, Stopped, write_drained, write_octets};
+use call_lists::{cut_word, refusal_text};
 use disclosure_audit::AuditEntry;
 use mediator_state::{Fault, Status};
+use octet_devices::Sink;
 use std::alloc::{AllocError, Global};
 
 /// What a line is answered.
@@ -29,45 +32,79 @@ pub enum Answer {
     BadText,
 }
 
-/// The lines of an answer, each with its line feed.
+/// Writes the lines of an answer behind so many octets, and answers how many were sent then. What waited in the buffer is lost.
+/// Only the words of a refusal take memory. Where there is none, the refusal is said to be one for want of memory.
 ///
 /// # Errors
-/// Want of memory; [`out_of_memory_text`] can then be answered.
-pub fn answer_text(alloc: Global, answer: &Answer) -> Result<String, AllocError>
-    ensures { IfOk result (λ text. string_bytes text ≡ answer_text answer.now) }
+/// The sink failed; or the octets can't be counted, and then none was written.
+pub fn write_answer<S: Sink>(
+    alloc: Global,
+    buffer: &mut AnswerBuffer,
+    sink: &mut S,
+    answer: &Answer,
+    sent: u64,
+) -> Result<u64, Stopped>
+    ensures ok { IfOk result (λ n. WritesAnswer answer.now sent n (S.contents sink.old) (S.contents sink.new)) }
+    ensures stays { OnOk result (S.has_failed sink.new ≡ S.has_failed sink.old) }
+    ensures err { IfErr result (λ e. StopsAnswering e answer.now sent (S.contents sink.old) (S.contents sink.new) (S.has_failed sink.old) (S.has_failed sink.new)) }
 {
     match answer {
-        Answer::Edited(revision) => number_text(alloc, *revision),
-        Answer::Subscribed(sub) => number_text(alloc, *sub),
-        Answer::Done => String::from_str(alloc, "ok\n"),
-        Answer::Stands(status) => status_text(alloc, status),
-        Answer::Drained(entries) => drained_text(alloc, entries.as_slice()),
-        Answer::Refused(why) => refusal_text(alloc, why),
-        Answer::BadLine => String::from_str(alloc, "err Line\n"),
-        Answer::BadText => String::from_str(alloc, "err Text\n"),
+        Answer::Edited(revision) => write_number(buffer, sink, *revision, sent),
+        Answer::Subscribed(sub) => write_number(buffer, sink, *sub, sent),
+        Answer::Done => write_octets(sink, b"ok\n", sent),
+        Answer::Stands(status) => write_status(buffer, sink, status, sent),
+        Answer::Drained(entries) => write_drained(buffer, sink, entries.as_slice(), sent),
+        Answer::Refused(why) => match refusal_text(alloc, why) {
+            Ok(text) => write_octets(sink, text.as_bytes(), sent),
+            Err(AllocError) => write_octets(sink, b"err OutOfMemory\n", sent),
+        },
+        Answer::BadLine => write_octets(sink, b"err Line\n", sent),
+        Answer::BadText => write_octets(sink, b"err Text\n", sent),
     }
 }
 
-/// The line of a refusal for want of memory, which takes none itself.
-pub fn out_of_memory_text() -> &'static str
-    ensures { result.now ≡ answer_text refused_for_memory }
+/// Writes `ok` and a number.
+///
+/// # Errors
+/// Those of [`write_answer`].
+fn write_number<S: Sink>(
+    buffer: &mut AnswerBuffer,
+    sink: &mut S,
+    number: u64,
+    sent: u64,
+) -> Result<u64, Stopped>
+    ensures ok { IfOk result (λ n. WritesAll (codes "ok " ++ decimal number ++ 10 ∷ []) sent n (S.contents sink.old) (S.contents sink.new)) }
+    ensures stays { OnOk result (S.has_failed sink.new ≡ S.has_failed sink.old) }
+    ensures err { IfErr result (λ e. StopsWriting e (codes "ok " ++ decimal number ++ 10 ∷ []) sent (S.contents sink.old) (S.contents sink.new) (S.has_failed sink.old) (S.has_failed sink.new)) }
 {
-    "err OutOfMemory\n"
+    buffer.clear();
+    buffer.put(b"ok ");
+    buffer.put_number(number);
+    buffer.put(b"\n");
+    write_octets(sink, buffer.as_slice(), sent)
 }
 
-fn number_text(alloc: Global, number: u64) -> Result<String, AllocError>
-    ensures { IfOk result (λ text. string_bytes text ≡ codes "ok " ++ decimal number ++ 10 ∷ []) }
+/// Writes how a subscription stands.
+///
+/// # Errors
+/// Those of [`write_answer`].
+fn write_status<S: Sink>(
+    buffer: &mut AnswerBuffer,
+    sink: &mut S,
+    status: &Status,
+    sent: u64,
+) -> Result<u64, Stopped>
+    ensures ok { IfOk result (λ n. WritesAll (status_text status.now) sent n (S.contents sink.old) (S.contents sink.new)) }
+    ensures stays { OnOk result (S.has_failed sink.new ≡ S.has_failed sink.old) }
+    ensures err { IfErr result (λ e. StopsWriting e (status_text status.now) sent (S.contents sink.old) (S.contents sink.new) (S.has_failed sink.old) (S.has_failed sink.new)) }
 {
-    format!(in alloc; "ok {number}\n")
-}
-
-fn status_text(alloc: Global, status: &Status) -> Result<String, AllocError>
-    ensures { IfOk result (λ text. string_bytes text ≡ status_text status.now) }
-{
-    let queued = status.queued;
-    let handed = status.handed;
-    let mut text = format!(in alloc; "ok {queued} {handed} ")?;
-    text.push_str(cut_word(status.cut))?;
-    text.push('\n')?;
-    Ok(text)
+    buffer.clear();
+    buffer.put(b"ok ");
+    buffer.put_number(u64::from(status.queued));
+    buffer.put(b" ");
+    buffer.put_number(status.handed);
+    buffer.put(b" ");
+    buffer.put(cut_word(status.cut).as_bytes());
+    buffer.put(b"\n");
+    write_octets(sink, buffer.as_slice(), sent)
 }

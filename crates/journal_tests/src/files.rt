@@ -6,7 +6,7 @@ ghost use Rattle.event_journal.specs.Spelled.{IsSpelled};
 
 use bytes::Bytes;
 use event_journal::{Entry, Journal, PolicyText};
-use faulty_devices::{Narrow, Schedule, Sparing};
+use faulty_devices::{Narrow, Sparing};
 use journal_files::{
     JournalFault, JournalReader, JournalWriter, ReadFault, WriteFault, decode, encode,
 };
@@ -204,9 +204,9 @@ fn the_first_fault_is_named(rt: HostRuntime) -> Result<(), Fail> {
     Ok(())
 }
 
-/// A device that takes at most seven octets a call, and fails after so many calls.
-fn device(alloc: Global, calls: usize) -> Result<Device<Narrow>, AllocError> {
-    Ok(Device::new(Narrow::new(alloc, 202, 7, calls, Interrupted)?))
+/// A device that takes at most so many octets a call, and fails after so many calls.
+fn device(alloc: Global, most: usize, calls: usize) -> Result<Device<Narrow>, AllocError> {
+    Ok(Device::new(Narrow::new(alloc, 202, most, calls, Interrupted)?))
 }
 
 /// Begins a file of four entries.
@@ -265,94 +265,168 @@ fn write_all(
     Ok(write_entries(alloc, &edit, &subscribe, &message, device))
 }
 
+/// How many octets a call takes, and how many calls take the file: each part is written by itself.
+static CALLS: [(usize, usize); 3] = [(1, 202), (7, 31), (202, 5)];
+
 #[test]
 fn a_file_is_written_entry_by_entry(rt: HostRuntime) -> Result<(), Fail> {
-    let mut device = device(rt.alloc(), 100)?;
-    assert!(rt; write_all(rt.alloc(), &mut device)? == Ok(()));
     let file = file(rt.alloc())?;
-    assert!(rt; device.into_inner().octets == file);
+    for (most, calls) in CALLS.iter() {
+        let mut device = device(rt.alloc(), *most, *calls)?;
+        assert!(rt; write_all(rt.alloc(), &mut device)? == Ok(()));
+        assert!(rt; device.into_inner().octets == file);
+    }
+    Ok(())
+}
+
+/// Where a part of the file begins: what stands before the entries, and each of them; how many octets a call takes, how many calls
+/// come before those of the part, and how many calls it takes. A call that takes nothing is one that fails.
+static PARTS: [(usize, usize, usize, usize); 16] = [
+    (0, 1, 0, 14),
+    (14, 1, 14, 94),
+    (108, 1, 108, 14),
+    (122, 1, 122, 9),
+    (131, 1, 131, 71),
+    (0, 7, 0, 2),
+    (14, 7, 2, 14),
+    (108, 7, 16, 2),
+    (122, 7, 18, 2),
+    (131, 7, 20, 11),
+    (0, 202, 0, 1),
+    (14, 202, 1, 1),
+    (108, 202, 2, 1),
+    (122, 202, 3, 1),
+    (131, 202, 4, 1),
+    (0, 0, 0, 2),
+];
+
+/// That a call fails behind so many octets of a part, which are told, and nothing is written behind them.
+fn expect_stopped(
+    rt: &impl Abort,
+    alloc: Global,
+    most: usize,
+    calls: usize,
+    begin: usize,
+    sent: usize,
+) -> Result<(), AllocError> {
+    let mut device = device(alloc, most, calls)?;
+    assert!(rt; write_all(alloc, &mut device)? == Err(WriteFault::Write { sent }));
+    let file = file(alloc)?;
+    let front = file.as_slice().get(..begin.saturating_add(sent));
+    assert!(rt; Some(device.into_inner().octets.as_slice()) == front);
     Ok(())
 }
 
 #[test]
 fn a_device_that_fails_says_how_much_it_took(rt: HostRuntime) -> Result<(), Fail> {
-    let mut device = device(rt.alloc(), 3)?;
-    assert!(rt; write_all(rt.alloc(), &mut device)? == Err(WriteFault::Write { sent: 7 }));
-    let file = file(rt.alloc())?;
-    assert!(rt; Some(device.into_inner().octets.as_slice()) == file.as_slice().get(..21));
+    for (begin, most, before, made) in PARTS.iter() {
+        for place in 0..*made {
+            let calls = before.saturating_add(place);
+            let sent = place.saturating_mul(*most);
+            expect_stopped(&rt, rt.alloc(), *most, calls, *begin, sent)?;
+        }
+    }
     Ok(())
 }
 
-/// A device that gives at most seven octets a call, and fails after so many calls.
-fn source(octets: &[u8], calls: usize) -> Device<Sparing<'_>> {
-    Device::new(Sparing {
-        rest: octets,
-        schedule: Schedule {
-            most: 7,
-            until_failure: calls,
-            failure: Interrupted,
-        },
-    })
+/// A device that gives at most so many octets a call, and fails after so many calls.
+fn source(octets: &[u8], most: usize, calls: usize) -> Device<Sparing<'_>> {
+    Device::new(Sparing::new(octets, most, calls, Interrupted))
 }
 
-/// Whether the file is read from a source as these entries, and ends behind them.
-fn reads(alloc: Global, file: &[u8], due: &[Entry]) -> Result<bool, ReadFault> {
-    let mut source = source(file, 1000);
-    let mut reader = JournalReader::start(alloc, &mut source)?;
+/// Whether a file is read from a source as these entries, and ends behind them. How many of its parts were read is kept: what stands
+/// before the entries, and each of them.
+fn reads(
+    alloc: Global,
+    source: &mut Device<Sparing<'_>>,
+    due: &[Entry],
+    parts: &mut usize,
+) -> Result<bool, ReadFault> {
+    let mut reader = JournalReader::start(alloc, source)?;
+    *parts = 1;
     if reader.left() != due.len() as u64 {
         return Ok(false);
     }
     for entry in due {
-        if reader.next(&mut source)?.as_ref() != Some(entry) {
+        if reader.next(source)?.as_ref() != Some(entry) {
             return Ok(false);
         }
+        *parts = parts.saturating_add(1);
     }
-    Ok(reader.next(&mut source)? == None)
+    Ok(reader.next(source)? == None)
 }
 
-/// The same from the file's begin, where memory was refused: what was read last is lost then.
-fn reads_again(alloc: Global, file: &[u8], due: &[Entry]) -> Result<bool, ReadFault> {
-    match reads(alloc, file, due) {
-        Err(ReadFault::File(JournalFault::OutOfMemory)) => reads(alloc, file, due),
+/// Where each of these parts ends.
+static ENDS: [usize; 5] = [14, 108, 122, 131, 202];
+
+/// Whether octets of a file are read by a source up to where it ends or fails: the parts that are whole there, and no other; and
+/// whether that is told.
+fn is_told(
+    alloc: Global,
+    octets: &[u8],
+    most: usize,
+    calls: usize,
+    due: &[Entry],
+) -> Result<bool, AllocError> {
+    let mut source = source(octets, most, calls);
+    let mut parts = 0;
+    let answer = reads(alloc, &mut source, due, &mut parts);
+    if answer == Err(ReadFault::File(JournalFault::OutOfMemory)) {
+        return Err(AllocError);
+    }
+    let told = if source.has_failed() {
+        answer == Err(ReadFault::Read)
+    } else if octets.len() < 202 {
+        answer == Err(ReadFault::File(JournalFault::Truncated))
+    } else {
+        answer == Ok(true)
+    };
+    let read = octets.len().saturating_sub(source.into_inner().rest.len());
+    Ok(told && parts == ENDS.iter().filter(|end| **end <= read).count())
+}
+
+/// The same from the octets' begin, where memory was refused: what was read last is lost then.
+fn is_told_again(
+    alloc: Global,
+    octets: &[u8],
+    most: usize,
+    calls: usize,
+    due: &[Entry],
+) -> Result<bool, AllocError> {
+    match is_told(alloc, octets, most, calls, due) {
+        Err(AllocError) => is_told(alloc, octets, most, calls, due),
         answer => answer,
     }
 }
 
-#[test]
-fn a_file_is_read_entry_by_entry(rt: HostRuntime) -> Result<(), Fail> {
-    let file = file(rt.alloc())?;
-    let due = [
-        edit(rt.alloc())?,
-        subscribe(rt.alloc())?,
+/// The entries of the file.
+fn entries(alloc: Global) -> Result<[Entry; 4], AllocError> {
+    Ok([
+        edit(alloc)?,
+        subscribe(alloc)?,
         Entry::Open { session: 1 },
-        message(rt.alloc())?,
-    ];
-    assert!(rt; reads_again(rt.alloc(), file.as_slice(), due.as_slice())?);
-    Ok(())
+        message(alloc)?,
+    ])
 }
 
-/// The fault of the first entry that a source gives, if it has one; or that of what stands before it.
-fn first_fault(alloc: Global, octets: &[u8], calls: usize) -> Result<Option<ReadFault>, ReadFault> {
-    let mut source = source(octets, calls);
-    let mut reader = JournalReader::start(alloc, &mut source)?;
-    Ok(reader.next(&mut source).err())
-}
-
-/// The same, from a source of the same octets where memory was refused.
-fn fault_told(alloc: Global, octets: &[u8], calls: usize) -> Result<Option<ReadFault>, ReadFault> {
-    match first_fault(alloc, octets, calls) {
-        Err(ReadFault::File(JournalFault::OutOfMemory)) => first_fault(alloc, octets, calls),
-        Ok(Some(ReadFault::File(JournalFault::OutOfMemory))) => first_fault(alloc, octets, calls),
-        answer => answer,
-    }
-}
-
+/// By one octet, by seven and by all, each call fails, and the file ends behind each of its octets. It has 202 of them, and one call
+/// more meets its end.
 #[test]
 fn a_source_that_fails_or_ends_is_told(rt: HostRuntime) -> Result<(), Fail> {
     let file = file(rt.alloc())?;
-    let front = file.as_slice().get(..20).ok_or("front")?;
-    let ended = fault_told(rt.alloc(), front, 1000);
-    assert!(rt; ended == Ok(Some(ReadFault::File(JournalFault::Truncated))));
-    assert!(rt; fault_told(rt.alloc(), front, 0) == Err(ReadFault::Read));
+    let due = entries(rt.alloc())?;
+    for (most, _) in CALLS.iter() {
+        for count in 0..=file.len() {
+            let front = file.as_slice().get(..count).ok_or("count")?;
+            assert!(rt;
+                is_told_again(rt.alloc(), front, *most, 1000, due.as_slice())?,
+                "{count}"
+            );
+            assert!(rt;
+                is_told_again(rt.alloc(), file.as_slice(), *most, count, due.as_slice())?,
+                "{count}"
+            );
+        }
+    }
     Ok(())
 }

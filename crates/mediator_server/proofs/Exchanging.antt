@@ -16,7 +16,7 @@ use Rattle.admin_lines.specs.Sayings.Saying.{to_edit, to_subscribe, to_unsubscri
 use Rattle.admin_lines.specs.Grammar.{longest_line, IsSubscription}
 use Rattle.admin_lines.specs.Reading.{command_of}
 use Rattle.call_lists.specs.Answers.{refusal_text}
-use Rattle.admin_lines.specs.Answers.{answer_text, refused_for_memory}
+use Rattle.admin_lines.specs.Answers.{answer_text, refused_for_memory, IsTextOf, WritesAnswer}
 use Rattle.admin_lines.specs.declared.answer.Answer.{Answer}
 use Rattle.admin_lines.specs.declared.answer.Answer.TheVariants as answer
 use Rattle.admin_lines.proofs.LineLaws.{command_of-only}
@@ -24,7 +24,7 @@ use Rattle.mediator_server.specs.declared.fault.ServeFault.{ServeFault}
 use Rattle.mediator_server.specs.declared.fault.ServeFault.TheVariants.{Read, Write, Framing, Turns, Core}
 use Rattle.mediator_server.specs.Faults.{out_of_memory}
 use Rattle.mediator_server.specs.CommandInput.{InputState, unread, ahead, HandsOut, EndsBehind, IsLine, IsBegun, StopsReading}
-use Rattle.mediator_server.specs.Answering.{Answers, Exchange, asked, answered, IsTextOf, IsExchange, AreExchanges, IsCommand, Exchanges, ServesAdmin, StopsInside, StopsAdmin, Performs, Hears, StopsHearing, Replies, StopsReplying}
+use Rattle.mediator_server.specs.Answering.{Answers, Exchange, asked, answered, IsExchange, AreExchanges, IsCommand, Exchanges, ServesAdmin, StopsInside, StopsAdmin, Performs, Hears, StopsHearing, StopsReplying}
 use Rattle.mediator_server.proofs.Commands.{hands_out_none, hands_out_then, stops_then}
 
 -- ---- what a reply says of its line
@@ -57,9 +57,19 @@ answer_some (answer.Refused why) = ended_some (refusal_text why) 10
 answer_some answer.BadLine = omega arith
 answer_some answer.BadText = omega arith
 
+same_some : (reply : Answer) (text : List ℕ) → text ≡ answer_text reply → 0 < length text
+same_some reply text is = subst (λ t. 0 < length t) (sym is) (answer_some reply)
+
 text_some : (reply : Answer) (text : List ℕ) → IsTextOf reply text → 0 < length text
-text_some reply text (inl is) = subst (λ t. 0 < length t) (sym is) (answer_some reply)
-text_some reply text (inr is) = subst (λ t. 0 < length t) (sym is) (answer_some refused_for_memory)
+text_some (answer.Edited revision) text is = same_some (answer.Edited revision) text is
+text_some (answer.Subscribed sub) text is = same_some (answer.Subscribed sub) text is
+text_some answer.Done text is = same_some answer.Done text is
+text_some (answer.Stands status) text is = same_some (answer.Stands status) text is
+text_some (answer.Drained entries) text is = same_some (answer.Drained entries) text is
+text_some (answer.Refused why) text (inl is) = same_some (answer.Refused why) text is
+text_some (answer.Refused why) text (inr is) = same_some refused_for_memory text is
+text_some answer.BadLine text is = same_some answer.BadLine text is
+text_some answer.BadText text is = same_some answer.BadText text is
 
 -- ---- a line is heard
 
@@ -189,7 +199,7 @@ exchanges_of turns k commands last given left old new are done handed = record {
 
 -- a command more was heard and answered
 pub serving_on : (turns : ℕ) (i k : InputState) (count sent n : ℕ) (given mid left held holds writes : Option (List ℕ)) (old before new : List KeptEntry) (reply : Answer)
-    → Serving turns i count sent given mid held holds old before → Hears reply i mid left k before new → Replies reply sent n holds writes → (reply ≡ answer.BadLine → ⊥)
+    → Serving turns i count sent given mid held holds old before → Hears reply i mid left k before new → WritesAnswer reply sent n holds writes → (reply ≡ answer.BadLine → ⊥)
     → Serving turns k (count + 1) n given left held writes old new
 serving_on turns i k count sent n given mid left held holds writes old before new reply so hears replies good =
     let x : Exchange = exchange_of reply i k mid left before new hears replies.text in
@@ -199,10 +209,10 @@ serving_on turns i k count sent n given mid left held holds writes old before ne
       are = all_pushed IsCommand so.commands x so.are (good_line (command_of hears.line) hears.text reply before new good hears.answers);
       done = h.done;
       handed = h.handed;
-      written = subst (Appends held writes) (sym h.written) (Appends-trans held holds writes (answered so.commands) replies.text so.written replies.written);
+      written = subst (Appends held writes) (sym h.written) (Appends-trans held holds writes (answered so.commands) replies.text so.written replies.writes.written);
       counted = omega (arith, so.counted, length-append so.commands (x ∷ []));
-      sent_are = omega (arith, replies.counted, so.sent_are, ap length h.written, length-append (answered so.commands) replies.text);
-      few = omega (arith, so.few, replies.counted, text_some reply replies.text replies.is);
+      sent_are = omega (arith, replies.writes.counted, so.sent_are, ap length h.written, length-append (answered so.commands) replies.text);
+      few = omega (arith, so.few, replies.writes.counted, text_some reply replies.text replies.is);
     }
 
 -- ---- where it ends
@@ -226,7 +236,7 @@ serving_ends turns i count sent given mid left held holds old new so ends = reco
 
 -- a line behind them was no command
 pub serving_ends_line : (turns : ℕ) (i k : InputState) (count sent n : ℕ) (given mid left held holds writes : Option (List ℕ)) (old before new : List KeptEntry) (reply : Answer)
-    → Serving turns i count sent given mid held holds old before → Hears reply i mid left k before new → Replies reply sent n holds writes → reply ≡ answer.BadLine → ServesAdmin count given left held writes old new
+    → Serving turns i count sent given mid held holds old before → Hears reply i mid left k before new → WritesAnswer reply sent n holds writes → reply ≡ answer.BadLine → ServesAdmin count given left held writes old new
 serving_ends_line turns i k count sent n given mid left held holds writes old before new reply so hears replies bad =
     let x : Exchange = exchange_of reply i k mid left before new hears replies.text in
     let h : Heard turns k so.commands x given left old new = heard turns i k count sent given mid left held holds old before new reply replies.text so hears replies.is in
@@ -235,7 +245,7 @@ serving_ends_line turns i k count sent n given mid left held holds writes old be
       last = x ∷ [];
       rest = k.pending;
       exchanges = exchanges_of turns k so.commands (x ∷ []) given left old new so.are h.done h.handed;
-      written = subst (Appends held writes) (sym h.written) (Appends-trans held holds writes (answered so.commands) replies.text so.written replies.written);
+      written = subst (Appends held writes) (sym h.written) (Appends-trans held holds writes (answered so.commands) replies.text so.written replies.writes.written);
       counted = so.counted;
       ends = bad_line (command_of hears.line) hears.text before new (subst (λ r. Answers (command_of hears.line) hears.text r before new) bad hears.answers);
     }

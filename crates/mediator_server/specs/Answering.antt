@@ -1,5 +1,5 @@
 -- The commands of an administrator's connection with their answers, and where serving it stops.
-use Rattle.std.specs.Prelude.{◌≡◌, ◌⊎◌, ℕ, ◌+◌, ◌≤◌, ◌<◌, ◌^◌, Bool, List, [], ◌∷◌, ◌++◌, length, Option, Some, None, IsSome, IsUtf8}
+use Rattle.std.specs.Prelude.{◌≡◌, ℕ, ◌+◌, ◌≤◌, ◌<◌, ◌^◌, Bool, List, [], ◌∷◌, ◌++◌, length, Option, Some, None, IsSome, IsUtf8}
 use Rattle.std.specs.List.{flat_map, AllByRecursion}
 use Rattle.std.specs.Io.KnownBytes.{Consumes, Appends, IsAtEnd}
 use Rattle.octet_devices.specs.Written.{WritesFront}
@@ -12,7 +12,7 @@ use Rattle.shared_mediator.specs.Handles.{KeepsEntry}
 use Rattle.admin_lines.specs.Sayings.{Saying}
 use Rattle.admin_lines.specs.Sayings.Saying.{to_edit, to_subscribe, to_unsubscribe, to_advance, to_tell_status, to_drain_audit}
 use Rattle.admin_lines.specs.Reading.{command_of}
-use Rattle.admin_lines.specs.Answers.{answer_text, refused_for_memory}
+use Rattle.admin_lines.specs.Answers.{IsTextOf}
 use Rattle.admin_lines.specs.declared.answer.Answer.{Answer}
 use Rattle.admin_lines.specs.declared.answer.Answer.TheVariants as answer
 use Rattle.mediator_server.specs.declared.fault.ServeFault.{ServeFault}
@@ -80,10 +80,6 @@ asked exchanges = flat_map (λ x. x.octets ++ x.text) exchanges
 
 abbrev pub answered : List Exchange → List ℕ
 answered exchanges = flat_map (λ x. x.written) exchanges
-
--- the text of the reply; or where there was no memory for it, that of a refusal for want of memory
-abbrev pub IsTextOf : Answer → List ℕ → Type 0
-IsTextOf reply text = (text ≡ answer_text reply) ⊎ (text ≡ answer_text refused_for_memory)
 
 -- the line was read, and its call was made: the handle keeps what the reply says
 pub record IsExchange (x : Exchange) (old new : List KeptEntry) : Type 0 where
@@ -175,13 +171,6 @@ pub record StopsHearing (e : ServeFault) (old : InputState) (given left : Option
   pub octets : List ℕ
   pub stops : StopsReading e old given left octets new
   pub begun : IsBegun e octets
-
--- the reply was written behind so many octets, and its octets counted
-pub record Replies (reply : Answer) (sent count : ℕ) (held holds : Option (List ℕ)) : Type 0 where
-  pub text : List ℕ
-  pub is : IsTextOf reply text
-  pub written : Appends held holds text
-  pub counted : count ≡ sent + length text
 
 -- the writer failed inside these octets; or behind so many they can't be counted
 abbrev pub StopsSendingOctets : ServeFault → List ℕ → ℕ → Option (List ℕ) → Option (List ℕ) → Bool → Type 0

@@ -1,18 +1,19 @@
 //! An administrator's connection.
-ghost use Rattle.std.specs.Prelude.{◌≡◌, ◌+◌, ℕ, List, [], Some, false, length, IfOk, IfErr, OnOk, OnErr, MatchOption};
-ghost use Rattle.std.specs.Io.KnownBytes.{Appends};
+ghost use Rattle.std.specs.Prelude.{◌≡◌, ℕ, List, [], Some, false, IfOk, IfErr, OnOk, OnErr, MatchOption};
 ghost use Rattle.admin_lines.specs.Sayings.{saying};
 ghost use Rattle.admin_lines.specs.Reading.{command_of};
+ghost use Rattle.admin_lines.specs.Answers.{WritesAnswer};
 ghost use Rattle.mediator_server.specs.Faults.{reader_after, writer_after};
 ghost use Rattle.mediator_server.specs.CommandInput.{EndsBehind, StopsReading};
-ghost use Rattle.mediator_server.specs.Answering.{Edits, Subscribes, Unsubscribes, Advances, TellsStatus, DrainsAudit, Exchange, ServesAdmin, StopsAdmin, Performs, Hears, StopsHearing, Replies, StopsReplying, StopsSendingOctets};
+ghost use Rattle.mediator_server.specs.Answering.{Edits, Subscribes, Unsubscribes, Advances, TellsStatus, DrainsAudit, Exchange, ServesAdmin, StopsAdmin, Performs, Hears, StopsHearing, StopsReplying};
 
 use crate::command_input::CommandInput;
 use crate::fault::ServeFault;
-use admin_lines::{Answer, Command, answer_text, out_of_memory_text, read_command};
+use admin_lines::{Answer, Command, read_command, write_answer};
+use answer_writing::{AnswerBuffer, Stopped};
 use mediator_calls::{PullFault, SubId, UnknownSub};
 use mediator_state::Fault;
-use octet_devices::{Sink, Source, write_all};
+use octet_devices::{Sink, Source};
 use shared_mediator::{AdminHandle, EntryLedger, RecordLedger, SharedMediator};
 use std::alloc::{AllocError, Global};
 use std::str::from_utf8;
@@ -20,11 +21,12 @@ use std::sync::Wait;
 
 /// Serves an administrator's connection: reads its commands, one line each, by at most so many reads; makes each call by the
 /// handle, and then writes its answer. Answers how many commands were answered. The end of the input between two commands ends
-/// it, and so does a line that is no command: that is answered too, but not counted.
+/// it, and so does a line that is no command: that is answered too, but not counted. What an answer is written with is made before
+/// the first command is read, so that no want of memory keeps back what a call handed out or did.
 ///
 /// # Errors
 /// The reader failed; or the input ends inside a command; or its end isn't read within `turns` reads; or memory ran out for what
-/// was read. Or the writer failed, after so many octets of all answers, or the octets sent can't be counted in 64 bits: then the
+/// is read. Or the writer failed, after so many octets of all answers, or the octets sent can't be counted in 64 bits: then the
 /// call that was to be answered has been made. What the mediator refuses is an answer, and no error.
 pub fn serve_admin<E: EntryLedger, H: RecordLedger, R: Source, W: Sink>(
     rt: &impl Wait,
@@ -45,12 +47,13 @@ pub fn serve_admin<E: EntryLedger, H: RecordLedger, R: Source, W: Sink>(
     ensures writer_fails { IfErr result (λ e. W.has_failed writer.new ≡ writer_after e) }
 {
     let mut input = CommandInput::new(alloc, turns)?;
+    let mut buffer = AnswerBuffer::new(alloc)?;
     let (mut count, mut sent) = (0u64, 0u64);
     'commands: for _ in rt.forever() {
         let Some(answer) = hear(rt, alloc, shared, handle, &mut input, reader)? else {
             return Ok(count);
         };
-        sent = reply(alloc, writer, &answer, sent)?;
+        sent = reply(alloc, &mut buffer, writer, &answer, sent)?;
         if matches!(answer, Answer::BadLine) {
             return Ok(count);
         }
@@ -270,48 +273,26 @@ fn drain_audit<E: EntryLedger, H: RecordLedger>(
     }
 }
 
-/// Writes an answer behind so many octets, or where there is no memory for it, that there is none; and answers how many octets
-/// were sent then.
+/// Writes an answer behind so many octets, and answers how many were sent then.
 ///
 /// # Errors
 /// The writer failed, after so many octets in all; or the octets sent can't be counted, and then none of the answer was written.
 fn reply<W: Sink>(
     alloc: Global,
+    buffer: &mut AnswerBuffer,
     writer: &mut W,
     answer: &Answer,
     sent: u64,
 ) -> Result<u64, ServeFault>
     requires writer { W.has_failed writer.old ≡ false }
-    ensures ok { IfOk result (λ n. Replies answer.now sent n (W.contents writer.old) (W.contents writer.new)) }
+    ensures ok { IfOk result (λ n. WritesAnswer answer.now sent n (W.contents writer.old) (W.contents writer.new)) }
     ensures sound { OnOk result (W.has_failed writer.new ≡ false) }
     ensures err { IfErr result (λ e. StopsReplying e answer.now sent (W.contents writer.old) (W.contents writer.new) (W.has_failed writer.new)) }
     ensures fails { IfErr result (λ e. W.has_failed writer.new ≡ writer_after e) }
 {
-    match answer_text(alloc, answer) {
-        Ok(text) => send(writer, text.as_str().as_bytes(), sent),
-        Err(AllocError) => send(writer, out_of_memory_text().as_bytes(), sent),
-    }
-}
-
-/// Writes octets behind so many, and answers how many were sent then.
-///
-/// # Errors
-/// Those of [`reply`].
-fn send<W: Sink>(writer: &mut W, octets: &[u8], sent: u64) -> Result<u64, ServeFault>
-    requires writer { W.has_failed writer.old ≡ false }
-    ensures ok { IfOk result (λ n. Appends (W.contents writer.old) (W.contents writer.new) octets.now × (n ≡ sent + length octets.now)) }
-    ensures sound { OnOk result (W.has_failed writer.new ≡ false) }
-    ensures err { IfErr result (λ e. StopsSendingOctets e octets.now sent (W.contents writer.old) (W.contents writer.new) (W.has_failed writer.new)) }
-    ensures fails { IfErr result (λ e. W.has_failed writer.new ≡ writer_after e) }
-{
-    let length = octets.len() as u64;
-    if length > u64::MAX - sent {
-        return Err(ServeFault::Core(PullFault::HandedFull));
-    }
-    match write_all(writer, octets) {
-        Ok(()) => Ok(sent + length),
-        Err(stopped) => Err(ServeFault::Write {
-            sent: sent + stopped.sent as u64,
-        }),
+    match write_answer(alloc, buffer, writer, answer, sent) {
+        Ok(sent) => Ok(sent),
+        Err(Stopped::Failed { sent }) => Err(ServeFault::Write { sent }),
+        Err(Stopped::Uncounted) => Err(ServeFault::Core(PullFault::HandedFull)),
     }
 }

@@ -15,8 +15,9 @@
 //! Proved of `serve_exporter`: the messages that it adds to its handle's receipts, under the handle's session and numbered on,
 //! are those that the octets that it read are cut into (RFC 7011, section 10.4): all of them at Ok, where the stream ended
 //! (`serves`), and at a fault those before it (`stops`). Each fault stands only where its cause does: `Read` where the reader
-//! has failed (`fails`), `Framing` where what was read is so framed, `Turns` where so many reads were made, and `Core` where a
-//! message in hand was refused or memory ran out.
+//! has failed (`fails`), `Framing` where what was read is so framed, `Turns` where so many reads were made, `TooWide` where a
+//! message in hand is too wide by the templates of some session, `TooManyCounts` where more of its records count than are allowed,
+//! by the templates of some session and on some terms, and `Core` where one was refused or memory ran out.
 //!
 //! Proved of `deliver`: what it writes are the messages that its handle kept in that call, in order, each built for an Export
 //! Time that the clock may show and for the target; all of them at Ok and at a refusal, with their octets counted, and at
@@ -31,7 +32,7 @@
 //! is none (`serves`). At a fault the commands before were (`stops`), and `Read` and `Write` stand only where that device has
 //! failed (`reader_fails`, `writer_fails`); at `Write` exactly `sent` octets of all answers were written, which end inside the last,
 //! and its call was made; `Turns` stands only where so many reads were made, and `CutOff` where the input ended inside a command.
-//! Where there is no memory for an answer, `err OutOfMemory` stands in its place.
+//! No want of memory keeps an answer back; only a refusal for another reason may be answered as one for want of memory.
 //!
 //! Proved of `listen`: at Ok the history has gone on from that of the mediator handed in, and each message, edit, begin and
 //! end of a subscription and advance of the clock in it since then has a receipt of its own; those of one handle are an edit

@@ -1,8 +1,14 @@
-//! Answers to an admin that no server is brought to give: the greatest numbers, and refusals for want of memory.
-use admin_lines::{Answer, answer_text, out_of_memory_text};
+//! Answers to an admin that no server is brought to give: the greatest numbers, refusals for want of memory, and those whose octets
+//! can't be counted.
+use admin_lines::{Answer, write_answer};
+use answer_writing::{AnswerBuffer, Stopped};
+use disclosure_audit::{AuditEntry, What};
+use faulty_devices::Narrow;
 use mediator_state::{Fault, Status};
+use octet_devices::Device;
 use policy_text::{FaultKind, PolicyFault};
 use std::alloc::{AllocError, Global};
+use std::io::ErrorKind::BrokenPipe;
 use std::process::Abort;
 use std::test::Fail;
 
@@ -27,17 +33,16 @@ const REFUSALS: &[(Fault, &str)] = &[
     (Fault::OutOfMemory, "err OutOfMemory\n"),
 ];
 
-/// The text of an answer; where memory is refused, it is asked for again.
-fn text_of(alloc: Global, answer: &Answer) -> Result<String, AllocError> {
-    match answer_text(alloc, answer) {
-        Ok(text) => Ok(text),
-        Err(_) => answer_text(alloc, answer),
-    }
-}
+/// The most octets of an answer here.
+const ROOM: usize = 64;
 
-/// Whether an answer has this text.
+/// Whether an answer is written so, behind as many octets as can be counted beside it, and counted.
 fn is_told(alloc: Global, answer: &Answer, wanted: &str) -> Result<bool, AllocError> {
-    Ok(text_of(alloc, answer)?.as_str() == wanted)
+    let mut buffer = AnswerBuffer::new(alloc)?;
+    let mut writer = Device::new(Narrow::new(alloc, ROOM, 1, ROOM, BrokenPipe)?);
+    let before = u64::MAX.saturating_sub(wanted.len() as u64);
+    let sent = write_answer(alloc, &mut buffer, &mut writer, answer, before);
+    Ok(sent == Ok(u64::MAX) && writer.into_inner().octets.as_slice() == wanted.as_bytes())
 }
 
 fn expect_refusals(
@@ -54,7 +59,6 @@ fn expect_refusals(
 #[test]
 fn refusals(rt: HostRuntime) -> Result<(), Fail> {
     expect_refusals(&rt, rt.alloc(), REFUSALS)?;
-    assert!(rt; out_of_memory_text() == "err OutOfMemory\n");
     Ok(())
 }
 
@@ -65,5 +69,34 @@ fn greatest_numbers(rt: HostRuntime) -> Result<(), Fail> {
     let last = Answer::Subscribed(u64::MAX);
     assert!(rt; is_told(rt.alloc(), &last, "ok 18446744073709551615\n")?);
     assert!(rt; is_told(rt.alloc(), &Answer::Stands(FULLEST), FULLEST_TEXT)?);
+    Ok(())
+}
+
+/// Whether an answer is refused where three octets more can be counted, and none of it written.
+fn is_uncounted(alloc: Global, answer: &Answer) -> Result<bool, AllocError> {
+    let mut buffer = AnswerBuffer::new(alloc)?;
+    let mut writer = Device::new(Narrow::new(alloc, ROOM, 1, ROOM, BrokenPipe)?);
+    let sent = write_answer(alloc, &mut buffer, &mut writer, answer, u64::MAX - 3);
+    Ok(sent == Err(Stopped::Uncounted) && writer.into_inner().octets.is_empty())
+}
+
+/// The answer that has one audit entry, of a cut.
+fn one_cut(alloc: Global) -> Result<Answer, AllocError> {
+    let mut entries = Vec::new(alloc);
+    entries.push(AuditEntry {
+        position: 9,
+        index: 0,
+        sub: 2,
+        what: What::Cut,
+    })?;
+    Ok(Answer::Drained(entries))
+}
+
+#[test]
+fn counted_octets(rt: HostRuntime) -> Result<(), Fail> {
+    let drained = one_cut(rt.alloc())?;
+    assert!(rt; is_told(rt.alloc(), &drained, "ok 1\n9 0 2 cut\n")?);
+    assert!(rt; is_uncounted(rt.alloc(), &drained)?);
+    assert!(rt; is_uncounted(rt.alloc(), &Answer::BadLine)?);
     Ok(())
 }

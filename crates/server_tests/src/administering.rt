@@ -22,7 +22,7 @@ use std::test::Fail;
 use std::thread::Threads;
 
 /// Room for all answers of a connection here.
-const ROOM: usize = 8192;
+const ROOM: usize = 32_768;
 
 /// How many entries come before the messages: an edit, a subscription's begin, and a session's.
 const BEFORE: u64 = 3;
@@ -41,12 +41,16 @@ pub(crate) struct Row {
     /// How many reads come before one that fails.
     reads: usize,
     turns: u64,
-    /// How many writes, each of one octet, come before one that fails.
+    /// The most octets that a write takes.
+    takes: usize,
+    /// How many writes come before one that fails.
     writes: usize,
     due: Result<u64, ServeFault>,
     answered: &'static [u8],
     /// How many audit entries are handed out behind that, each time.
     drains: &'static [u64],
+    /// The most octets of all that are written.
+    front: usize,
     /// How many entries the calls add to the journal.
     entries: u64,
 }
@@ -61,10 +65,12 @@ const SESSION: Row = Row {
     most: 1,
     reads: ENOUGH,
     turns: 1000,
+    takes: 1,
     writes: ENOUGH,
     due: Ok(8),
     answered: b"ok 1 0 live\nerr BadName\nerr AlreadySubscribed 1\nok\nerr ClockBack 1000\nok 0\nok\nerr UnknownSub\n",
     drains: &[],
+    front: ENOUGH,
     entries: 2,
 };
 
@@ -82,7 +88,7 @@ pub(crate) fn administer<E: EntryLedger, H: RecordLedger, R: Wait + Abort>(
         None
     };
     let mut reader = Device::new(Sparing::new(row.asked, row.most, row.reads, ConnectionReset));
-    let mut writer = Device::new(Narrow::new(alloc, ROOM, 1, row.writes, BrokenPipe)?);
+    let mut writer = Device::new(Narrow::new(alloc, ROOM, row.takes, row.writes, BrokenPipe)?);
     let served = serve_admin(
         rt,
         alloc,
@@ -132,6 +138,7 @@ fn answered(alloc: Global, row: Row) -> Result<Vec<u8>, AllocError> {
     }
     let mut octets = Vec::from_slice(alloc, row.answered)?;
     octets.extend_from_slice(text.as_bytes())?;
+    octets.truncate(row.front);
     Ok(octets)
 }
 
@@ -148,58 +155,116 @@ fn expect_row(
     Ok(())
 }
 
-/// The octets of a read, how many reads come before one that fails, and how many are allowed; how many octets are written before
-/// one that can't be; what the session ends in then, how many octets of its answers are written, and how many entries it adds. Octet by
-/// octet it takes 94 reads, and one more for its end. The call that was to be answered is made before a write fails.
-const DEVICES: &[(
+/// The octets of a read, how many reads come before one that fails, and how many are allowed; the octets that a write takes, and how
+/// many writes come before one that fails; what the session ends in then, how many octets of its answers are written, and how many
+/// entries it adds.
+type Devices = (
     usize,
     usize,
     u64,
+    usize,
     usize,
     Result<u64, ServeFault>,
     usize,
     u64,
-)] = &[
-    (65_536, ENOUGH, 1000, ENOUGH, Ok(8), 93, 2),
-    (7, ENOUGH, 1000, ENOUGH, Ok(8), 93, 2),
-    (1, ENOUGH, 95, ENOUGH, Ok(8), 93, 2),
-    (1, ENOUGH, 94, ENOUGH, Err(ServeFault::Turns), 93, 2),
-    (1, ENOUGH, 0, ENOUGH, Err(ServeFault::Turns), 0, 0),
-    (1, 0, 1000, ENOUGH, Err(ServeFault::Read), 0, 0),
-    (1, 60, 1000, ENOUGH, Err(ServeFault::Read), 51, 1),
-    (1, ENOUGH, 1000, 0, Err(ServeFault::Write { sent: 0 }), 0, 0),
-    (
-        1,
-        ENOUGH,
-        1000,
-        71,
-        Err(ServeFault::Write { sent: 71 }),
-        71,
-        1,
-    ),
-    (
-        1,
-        ENOUGH,
-        1000,
-        75,
-        Err(ServeFault::Write { sent: 75 }),
-        75,
-        2,
-    ),
+);
+
+const READ: Result<u64, ServeFault> = Err(ServeFault::Read);
+
+const TURNS: Result<u64, ServeFault> = Err(ServeFault::Turns);
+
+const NO_WRITE: Result<u64, ServeFault> = Err(ServeFault::Write { sent: 0 });
+
+/// Octet by octet the session takes 94 reads, and one more for its end. What was read by then is answered, up to a line's end.
+const DEVICES: &[Devices] = &[
+    (65_536, ENOUGH, 1000, 1, ENOUGH, Ok(8), 93, 2),
+    (65_536, ENOUGH, 1000, 65_536, 8, Ok(8), 93, 2),
+    (65_536, 1, 1000, 1, ENOUGH, READ, 93, 2),
+    (7, ENOUGH, 1000, 7, ENOUGH, Ok(8), 93, 2),
+    (7, 13, 1000, 1, ENOUGH, READ, 78, 2),
+    (40, 1, 1000, 1, ENOUGH, READ, 48, 0),
+    (1, 95, 95, 1, 93, Ok(8), 93, 2),
+    (1, 94, 1000, 1, ENOUGH, READ, 93, 2),
+    (1, ENOUGH, 94, 1, ENOUGH, TURNS, 93, 2),
+    (1, ENOUGH, 0, 1, ENOUGH, TURNS, 0, 0),
+    // A write that takes nothing is one that fails.
+    (1, ENOUGH, 1000, 0, ENOUGH, NO_WRITE, 0, 0),
 ];
+
+/// Where a line of the session begins and ends, and where its answer does; and how many entries the session has added before the
+/// line, and behind it.
+type Line = (usize, usize, usize, usize, u64, u64);
+
+const LINES: &[Line] = &[
+    (0, 9, 0, 12, 0, 0),
+    (9, 24, 12, 24, 0, 0),
+    (24, 39, 24, 48, 0, 0),
+    (39, 52, 48, 51, 0, 1),
+    (52, 62, 51, 70, 1, 1),
+    (62, 71, 70, 75, 1, 1),
+    (71, 85, 75, 78, 1, 2),
+    (85, 94, 78, 93, 2, 2),
+];
+
+/// Plays the worked session by these devices.
+fn expect_session(
+    rt: &(impl Threads + Wait + Abort + Sync),
+    alloc: Global,
+    (most, reads, turns, takes, writes, due, answered, entries): Devices,
+) -> Result<(), AllocError> {
+    let mut row = SESSION;
+    row.most = most;
+    row.reads = reads;
+    row.turns = turns;
+    row.takes = takes;
+    row.writes = writes;
+    row.due = due;
+    row.answered = SESSION.answered.get(..answered).unwrap_or(&[]);
+    row.entries = entries;
+    expect_row(rt, alloc, row)
+}
+
+/// The writer failed behind so many octets.
+fn stopped(sent: usize) -> Result<u64, ServeFault> {
+    Err(ServeFault::Write { sent: sent as u64 })
+}
+
+/// Each read of a line fails: nothing is done of it. Each write of its answer fails, by one octet and by all: its call was made, and
+/// nothing is done behind it.
+fn expect_line(
+    rt: &(impl Threads + Wait + Abort + Sync),
+    alloc: Global,
+    place: usize,
+    (begin, end, first, last, before, behind): Line,
+) -> Result<(), AllocError> {
+    for reads in begin..end {
+        let failing = (1, reads, 1000, 1, ENOUGH, READ, first, before);
+        expect_session(rt, alloc, failing)?;
+    }
+    for sent in first..last {
+        let failing = (1, ENOUGH, 1000, 1, sent, stopped(sent), sent, behind);
+        expect_session(rt, alloc, failing)?;
+    }
+    let failing = (
+        1,
+        ENOUGH,
+        1000,
+        65_536,
+        place,
+        stopped(first),
+        first,
+        behind,
+    );
+    expect_session(rt, alloc, failing)
+}
 
 #[test]
 fn worked_session(rt: HostRuntime) -> Result<(), Fail> {
-    for (most, reads, turns, writes, due, answered, entries) in DEVICES {
-        let mut row = SESSION;
-        row.most = *most;
-        row.reads = *reads;
-        row.turns = *turns;
-        row.writes = *writes;
-        row.due = *due;
-        row.answered = SESSION.answered.get(..*answered).unwrap_or(&[]);
-        row.entries = *entries;
-        expect_row(&rt, rt.alloc(), row)?;
+    for devices in DEVICES {
+        expect_session(&rt, rt.alloc(), *devices)?;
+    }
+    for (place, line) in LINES.iter().enumerate() {
+        expect_line(&rt, rt.alloc(), place, *line)?;
     }
     Ok(())
 }
@@ -314,18 +379,40 @@ ok\nerr UnknownSub\nok 5 3 cut\nok 4\nok 0 0 live\n";
     Ok(())
 }
 
-/// Of two hundred audit entries each line has as many as it asks for, and the last one those that are left.
+/// The octets that a write takes, and how many writes come before one that fails; what a connection ends in then, and how many octets
+/// are written.
+type Writes = (usize, usize, Result<u64, ServeFault>, usize);
+
+/// The answers have 19,005 octets: 682, and then 18,323, which are more than wait at once. Octet by octet the writer fails in the
+/// first one, behind it, and in the other before the octets that wait of it at first have ended, behind them, and at the last octet.
+const WRITES: &[Writes] = &[
+    (65_536, ENOUGH, Ok(2), 65_536),
+    (1000, ENOUGH, Ok(2), 65_536),
+    (1, 19_005, Ok(2), 65_536),
+    (1, 5, Err(ServeFault::Write { sent: 5 }), 5),
+    (1, 682, Err(ServeFault::Write { sent: 682 }), 682),
+    (1, 16_900, Err(ServeFault::Write { sent: 16_900 }), 16_900),
+    (1, 17_100, Err(ServeFault::Write { sent: 17_100 }), 17_100),
+    (1, 19_004, Err(ServeFault::Write { sent: 19_004 }), 19_004),
+];
+
+/// Of eight hundred audit entries each line has as many as it asks for, and the last one those that are left.
 #[test]
 fn long_audit(rt: HostRuntime) -> Result<(), Fail> {
     let mut row = SESSION;
-    row.bounds = (1000, 200, 100);
+    row.bounds = (1000, 800, 100);
     row.policy = NOTHING;
-    row.offered = &[TWO_RECORDS; 100];
-    row.asked = b"audit 150\naudit 30\naudit 200\n";
-    row.due = Ok(3);
+    row.offered = &[TWO_RECORDS; 400];
+    row.asked = b"audit 30\naudit 1000\n";
     row.answered = b"";
-    row.drains = &[150, 30, 20];
+    row.drains = &[30, 770];
     row.entries = 0;
-    expect_row(&rt, rt.alloc(), row)?;
+    for (takes, writes, due, front) in WRITES {
+        row.takes = *takes;
+        row.writes = *writes;
+        row.due = *due;
+        row.front = *front;
+        expect_row(&rt, rt.alloc(), row)?;
+    }
     Ok(())
 }

@@ -90,8 +90,8 @@ pub(crate) fn deliver_row<E: EntryLedger, H: RecordLedger, R: Wait + Abort>(
         Act::End => admin.unsubscribe(rt, shared, SubId(1)).expect(rt, "an end"),
         Act::Leave => {}
     }
-    let delivered = deliver_by(rt, alloc, shared, admin, delivery, row)?;
-    expect_delivered(rt, shared, &delivered, row);
+    let mut delivered = deliver_by(rt, alloc, shared, admin, delivery, row)?;
+    expect_delivered(rt, shared, &mut delivered, row);
     hands(alloc, exporter, delivered.admin, Some(delivered.delivery))
 }
 
@@ -124,11 +124,11 @@ fn deliver_by<E: EntryLedger, H: RecordLedger, R: Wait + Abort>(
     })
 }
 
-/// What was answered, written and left is as the row says.
+/// What was answered, written and left is as the row says; and where the subscription is gone, one of its name has a new number.
 fn expect_delivered<E: EntryLedger, H: RecordLedger, R: Wait + Abort>(
     rt: &R,
     shared: &SharedMediator<E, H>,
-    delivered: &Delivered<E, H>,
+    delivered: &mut Delivered<E, H>,
     row: Row,
 ) {
     let answer = delivered.answer;
@@ -141,6 +141,12 @@ fn expect_delivered<E: EntryLedger, H: RecordLedger, R: Wait + Abort>(
         Err(UnknownSub) => None,
     };
     assert!(rt; left == row.left, "{left:?}");
+    let again = delivered.admin.subscribe(rt, shared, "acme");
+    let due = match row.left {
+        Some(_) => Err(Fault::AlreadySubscribed { sub: 1 }),
+        None => Ok(SubId(2)),
+    };
+    assert!(rt; again == due, "{again:?}");
 }
 
 const ONE: &[&[u8]] = &[ONE_RECORD];
@@ -169,34 +175,51 @@ fn all_is_sent(rt: HostRuntime) -> Result<(), Fail> {
     Ok(())
 }
 
-/// How much a write takes, how many come before one that fails, and how many octets are written by then: messages of 36, 30 and 30
-/// octets, which are pulled at once and written in one piece. A write that takes nothing is one that fails. Where the journal has no
-/// room for its end, the subscription stays, and both records were handed out.
-const FAILING: &[(usize, usize, usize, Bounds, Option<(u32, u64)>)] = &[
-    (1, 0, 0, ROOMY, None),
-    (1, 36, 36, ROOMY, None),
-    (1, 95, 95, ROOMY, None),
-    (7, 6, 42, ROOMY, None),
-    (7, 8, 56, ROOMY, None),
-    (0, ENOUGH, 0, ROOMY, None),
-    (1, 0, 0, (4, 100, 100), Some((0, 2))),
-    (1, 36, 36, (4, 100, 100), Some((0, 2))),
+/// A journal that has no room for more.
+const FULL: Bounds = (4, 100, 100);
+
+/// What is offered, the most octets of a message, and what is due; how much a write takes, how many of them come to be made, and what
+/// is left where one of them fails. Whichever that is, the octets that were taken before it are told, and are a front of what is due.
+/// Messages that are pulled at once are written in one piece: those of two records have 36, 30 and 30 octets. A write that takes
+/// nothing is one that fails. Where the journal has no room for its end, the subscription stays, and both records were handed out.
+const FAILING: &[(
+    &[&[u8]],
+    u16,
+    &[u8],
+    usize,
+    usize,
+    Bounds,
+    Option<(u32, u64)>,
+)] = &[
+    (ONE, 1400, ONE_DELIVERED, 1, 50, ROOMY, None),
+    (ONE, 1400, ONE_DELIVERED, 7, 8, ROOMY, None),
+    (ONE, 1400, ONE_DELIVERED, 65_536, 1, ROOMY, None),
+    (ONE, 1400, ONE_DELIVERED, 0, 2, ROOMY, None),
+    (TWO, SMALL, PART_BY_PART, 1, 96, ROOMY, None),
+    (TWO, SMALL, PART_BY_PART, 7, 14, ROOMY, None),
+    (TWO, SMALL, PART_BY_PART, 65_536, 1, ROOMY, None),
+    (TWO, SMALL, PART_BY_PART, 0, 2, ROOMY, None),
+    (TWO, SMALL, PART_BY_PART, 1, 96, FULL, Some((0, 2))),
+    (TWO, SMALL, PART_BY_PART, 0, 2, FULL, Some((0, 2))),
 ];
 
 #[test]
 fn failing_writers(rt: HostRuntime) -> Result<(), Fail> {
-    for (most, writes, sent, bounds, left) in FAILING {
-        let row = Row {
-            offered: TWO,
-            act: Act::Stop,
-            target: SMALL,
-            most: *most,
-            writes: *writes,
-            due: Err(ServeFault::Write { sent: *sent as u64 }),
-            written: Some(PART_BY_PART.get(..*sent).unwrap_or(&[])),
-            left: *left,
-        };
-        play(&rt, rt.alloc(), limits_of(*bounds), Case::Deliver(row))?;
+    for (offered, target, whole, most, made, bounds, left) in FAILING {
+        for writes in 0..*made {
+            let sent = writes.saturating_mul(*most);
+            let row = Row {
+                offered: *offered,
+                act: Act::Stop,
+                target: *target,
+                most: *most,
+                writes,
+                due: Err(ServeFault::Write { sent: sent as u64 }),
+                written: Some(whole.get(..sent).unwrap_or(&[])),
+                left: *left,
+            };
+            play(&rt, rt.alloc(), limits_of(*bounds), Case::Deliver(row))?;
+        }
     }
     Ok(())
 }
@@ -208,6 +231,8 @@ const FORTY: &[&[u8]] = &[TWO_RECORDS; 20];
 const CUT: &[&[u8]] = &[ONE_RECORD, TWO_RECORDS];
 
 const FIRST_WRITE: Result<u64, ServeFault> = Err(ServeFault::Write { sent: 966 });
+
+const NOTHING_SENT: Result<u64, ServeFault> = Err(ServeFault::Write { sent: 0 });
 
 const UNKNOWN: Result<u64, ServeFault> = Err(ServeFault::Core(PullFault::Core(Fault::UnknownSub)));
 
@@ -222,8 +247,9 @@ const ENDS: &[(
     Option<(u32, u64)>,
 )] = &[
     // What isn't pulled at once is pulled then.
-    (FORTY, ROOMY, Act::Stop, ENOUGH, Ok(1236), Some((0, 40))),
+    (FORTY, ROOMY, Act::Stop, 2, Ok(1236), Some((0, 40))),
     (FORTY, ROOMY, Act::Stop, 1, FIRST_WRITE, None),
+    (FORTY, ROOMY, Act::Stop, 0, NOTHING_SENT, None),
     // A pull is refused.
     (FORTY, ROOMY, Act::End, ENOUGH, UNKNOWN, None),
     // A subscription that was cut has what waits for it, and then it ends without a stop.
@@ -270,9 +296,9 @@ pub(crate) fn deliver_meanwhile<
     let delivery = shared.delivery(rt, SubId(1)).expect(rt, "a delivery");
     thread::scope(thread::scope_env(), rt, |scope| {
         let offering = scope.spawn(move || offer_slowly(rt, alloc, shared, exporter, row))?;
-        let delivered = deliver_by(rt, alloc, shared, admin, delivery, row)?;
+        let mut delivered = deliver_by(rt, alloc, shared, admin, delivery, row)?;
         let (second, exporter) = offering.join(rt);
-        expect_delivered(rt, shared, &delivered, row);
+        expect_delivered(rt, shared, &mut delivered, row);
         let mut all = hands(alloc, exporter, delivered.admin, Some(delivered.delivery))?;
         all.admins.push(second)?;
         Ok(all)

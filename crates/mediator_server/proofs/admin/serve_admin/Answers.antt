@@ -16,6 +16,15 @@ returns-in_err-input-clause-stops g c =
           (stops_begun c.args.turns (g.R.Source.remaining c.args.reader.now) (g.W.Sink.contents c.args.writer.now) (g.W.Sink.has_failed c.args.writer.now) c.args.handle.now),
     ))
 
+pub returns-in_err-buffer-clause-stops : goal.returns-in_err-buffer-clause-stops
+returns-in_err-buffer-clause-stops g c =
+    err_gives c.from_residual-in_err-buffer.result c.from_residual-in_err-buffer.ensures
+    (λ e is. (
+      [],
+      subst (λ x. StopsAdmin x c.args.turns (g.R.Source.remaining c.args.reader.now) (g.R.Source.remaining c.args.reader.now) (g.W.Sink.contents c.args.writer.now) (g.W.Sink.contents c.args.writer.now) (g.W.Sink.has_failed c.args.writer.now) c.args.handle.now c.args.handle.now []) (sym is)
+          (stops_begun c.args.turns (g.R.Source.remaining c.args.reader.now) (g.W.Sink.contents c.args.writer.now) (g.W.Sink.has_failed c.args.writer.now) c.args.handle.now),
+    ))
+
 pub commands-init : goal.commands-init
 commands-init g c =
     (tt, tt, serving_starts c.args.turns c.in_ok-input.input (g.R.Source.remaining c.args.reader.now) (g.W.Sink.contents c.args.writer.now) c.args.handle.now c.in_ok-input.ensures, c.requires.reader, c.requires.writer)

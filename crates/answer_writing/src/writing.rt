@@ -1,0 +1,129 @@
+//! Counting the octets of an answer, and writing them.
+ghost use Rattle.std.specs.Prelude.{◌≡◌, ◌+◌, ◌<◌, ◌≤◌, ◌^◌, [], length, IfOk, IfErr, OnOk, MatchOption};
+ghost use Rattle.answer_writing.specs.Written.{drained_octets, WritesAll, StopsWriting};
+
+use crate::buffer::AnswerBuffer;
+use crate::pieces::{Rest, put_count, put_next};
+use disclosure_audit::AuditEntry;
+use octet_devices::{Sink, write_all};
+use thiserror::Error;
+
+/// Why an answer was not written whole.
+#[derive(Clone, Copy, Debug, PartialEq, Eq, Error)]
+pub enum Stopped {
+    /// The sink failed, after so many octets in all.
+    #[error("Failed")]
+    Failed { sent: u64 },
+    /// The octets can't be counted in 64 bits.
+    #[error("Uncounted")]
+    Uncounted,
+}
+
+/// Writes octets behind so many, and answers how many were sent then.
+///
+/// # Errors
+/// The sink failed; or the octets can't be counted, and then none was written.
+pub fn write_octets<S: Sink>(sink: &mut S, octets: &[u8], sent: u64) -> Result<u64, Stopped>
+    ensures ok { IfOk result (λ n. WritesAll octets.now sent n (S.contents sink.old) (S.contents sink.new)) }
+    ensures stays { OnOk result (S.has_failed sink.new ≡ S.has_failed sink.old) }
+    ensures err { IfErr result (λ e. StopsWriting e octets.now sent (S.contents sink.old) (S.contents sink.new) (S.has_failed sink.old) (S.has_failed sink.new)) }
+{
+    let length = octets.len() as u64;
+    if length > u64::MAX - sent {
+        return Err(Stopped::Uncounted);
+    }
+    match write_all(sink, octets) {
+        Ok(()) => Ok(sent + length),
+        Err(stopped) => Err(Stopped::Failed {
+            sent: sent + stopped.sent as u64,
+        }),
+    }
+}
+
+/// Writes the answer with these entries behind so many octets, and answers how many were sent then: `ok COUNT`, and a line for
+/// each entry. What waited in the buffer is lost.
+///
+/// # Errors
+/// Those of [`write_octets`].
+pub fn write_drained<S: Sink>(
+    buffer: &mut AnswerBuffer,
+    sink: &mut S,
+    entries: &[AuditEntry],
+    sent: u64,
+) -> Result<u64, Stopped>
+    ensures ok { IfOk result (λ n. WritesAll (drained_octets entries.now) sent n (S.contents sink.old) (S.contents sink.new)) }
+    ensures stays { OnOk result (S.has_failed sink.new ≡ S.has_failed sink.old) }
+    ensures err { IfErr result (λ e. StopsWriting e (drained_octets entries.now) sent (S.contents sink.old) (S.contents sink.new) (S.has_failed sink.old) (S.has_failed sink.new)) }
+{
+    match count_drained(buffer, entries, sent) {
+        Some(_) => write_counted(buffer, sink, entries, sent),
+        None => Err(Stopped::Uncounted),
+    }
+}
+
+/// How many octets will have been sent behind the answer; `None` where they can't be counted.
+fn count_drained(buffer: &mut AnswerBuffer, entries: &[AuditEntry], sent: u64) -> Option<u64>
+    ensures { MatchOption result (2 ^ 64 ≤ sent + length (drained_octets entries.now)) (λ n. n ≡ sent + length (drained_octets entries.now)) }
+{
+    buffer.clear();
+    put_count(buffer, entries.len());
+    let mut count = count_waiting(buffer, sent)?;
+    let mut rest = Rest::all_of(entries);
+    'pieces: while let Some(after) = put_next(buffer, rest) {
+        count = count_waiting(buffer, count)?;
+        rest = after;
+    }
+    Some(count)
+}
+
+/// Adds what waits to a count, and forgets it.
+fn count_waiting(buffer: &mut AnswerBuffer, count: u64) -> Option<u64>
+    ensures counts { MatchOption result (2 ^ 64 ≤ count + length buffer.old) (λ n. n ≡ count + length buffer.old) }
+    ensures cleared { buffer.new ≡ [] }
+{
+    let octets = buffer.as_slice().len() as u64;
+    buffer.clear();
+    count.checked_add(octets)
+}
+
+/// Writes an answer whose octets can be counted.
+///
+/// # Errors
+/// The sink failed.
+fn write_counted<S: Sink>(
+    buffer: &mut AnswerBuffer,
+    sink: &mut S,
+    entries: &[AuditEntry],
+    mut sent: u64,
+) -> Result<u64, Stopped>
+    requires fits { sent + length (drained_octets entries.now) < 2 ^ 64 }
+    ensures ok { IfOk result (λ n. WritesAll (drained_octets entries.now) sent n (S.contents sink.old) (S.contents sink.new)) }
+    ensures stays { OnOk result (S.has_failed sink.new ≡ S.has_failed sink.old) }
+    ensures err { IfErr result (λ e. StopsWriting e (drained_octets entries.now) sent (S.contents sink.old) (S.contents sink.new) (S.has_failed sink.old) (S.has_failed sink.new)) }
+{
+    buffer.clear();
+    put_count(buffer, entries.len());
+    let mut rest = Rest::all_of(entries);
+    'pieces: while let Some(after) = put_next(buffer, rest) {
+        if !buffer.has_room() {
+            sent = send(buffer, sink, sent)?;
+        }
+        rest = after;
+    }
+    send(buffer, sink, sent)
+}
+
+/// Writes what waits, and forgets it.
+///
+/// # Errors
+/// Those of [`write_octets`].
+fn send<S: Sink>(buffer: &mut AnswerBuffer, sink: &mut S, sent: u64) -> Result<u64, Stopped>
+    ensures ok { IfOk result (λ n. WritesAll buffer.old sent n (S.contents sink.old) (S.contents sink.new)) }
+    ensures cleared { OnOk result (buffer.new ≡ []) }
+    ensures stays { OnOk result (S.has_failed sink.new ≡ S.has_failed sink.old) }
+    ensures err { IfErr result (λ e. StopsWriting e buffer.old sent (S.contents sink.old) (S.contents sink.new) (S.has_failed sink.old) (S.has_failed sink.new)) }
+{
+    let sent = write_octets(sink, buffer.as_slice(), sent)?;
+    buffer.clear();
+    Ok(sent)
+}
