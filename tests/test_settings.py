@@ -1,5 +1,5 @@
-"""The settings of `ipmd serve`: at each key what is missing, of another type or at the ends of its range; texts that are no TOML;
-and what is said where nothing can be served."""
+"""The settings of `ipmd serve`: at each key what is missing, of another type or at the ends of its range; texts that are no TOML
+or too long; and what is said where nothing can be served."""
 import unittest
 
 from runs import DEVICE, ProgramTest, run
@@ -117,6 +117,23 @@ def settings(values):
     return "".join(f"{key} = {value}\n" for key, value in rows if value is not None)
 
 
+# The most octets that settings may have.
+LONGEST_TEXT = 65536
+
+# Texts that a comment makes as long as they may be, and how a run ends then: at the policy's file, at a key, as no TOML.
+LONG = [
+    (settings({}), 3, DEVICE),
+    (settings({}) + "# a letter of two octets: \u00e9\n", 3, DEVICE),
+    (settings({"turns": "0"}), 1, "ipmd: settings: turns\n"),
+    ("exporters\n", 1, "ipmd: settings: toml\n"),
+]
+
+
+def padded(text, octets):
+    """The text with a comment behind it, so that it has this many octets."""
+    return text.encode().ljust(octets, b"#")
+
+
 class Settings(ProgramTest):
     def serve(self, text):
         return run(["serve", "--settings", self.file("settings.toml", text)])
@@ -144,6 +161,13 @@ class Settings(ProgramTest):
     def test_no_toml(self):
         for text in NO_TOML:
             self.expect(text, 1, "ipmd: settings: toml\n")
+
+    def test_length(self):
+        """A text of the greatest length is read, and of a longer one nothing else is judged."""
+        for text, status, errors in LONG:
+            with self.subTest(text):
+                self.expect_ran(self.serve(padded(text, LONGEST_TEXT)), status, "", errors)
+                self.expect_ran(self.serve(padded(text, LONGEST_TEXT + 1)), 1, "", "ipmd: settings: length\n")
 
     def test_first_fault(self):
         for text, key in FIRST + [(settings(values), key) for values, key in FIRST_BEHIND_TURNS]:

@@ -171,6 +171,7 @@ Standard error notes what happens, a line each, with its level: info for the run
 connects and ends, warn for a fault that ended a connection, or a subscription that was cut, and
 error for what the run itself can't do. A fault of one connection ends that connection alone.
 What standard error says last where the run fails, and what to do:
+  ipmd: settings: length     the settings have more than 65536 octets
   ipmd: settings: toml       the settings are no TOML
   ipmd: settings: KEY        the value at KEY is missing, of another type or out of its range
   ipmd: policy line N: KIND  line N of the policy is at fault; see ipmd check-policy --help

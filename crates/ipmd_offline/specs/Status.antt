@@ -81,6 +81,7 @@ command_line_fault_of command.OutOfMemory = OutOfMemory
 -- settings that are refused for want of memory aren't at fault
 abbrev pub settings_fault_of : SettingsFault → ProgramFault
 settings_fault_of settings.OutOfMemory = OutOfMemory
+settings_fault_of settings.TooLong = Settings settings.TooLong
 settings_fault_of settings.Toml = Settings settings.Toml
 settings_fault_of (settings.Key key) = Settings (settings.Key key)
 

@@ -241,6 +241,7 @@ impl From<SettingsFault> for ProgramFault {
     fn from(fault: SettingsFault) -> ProgramFault {
         match fault {
             SettingsFault::OutOfMemory => ProgramFault::OutOfMemory,
+            SettingsFault::TooLong => ProgramFault::Settings(SettingsFault::TooLong),
             SettingsFault::Toml => ProgramFault::Settings(SettingsFault::Toml),
             SettingsFault::Key(key) => ProgramFault::Settings(SettingsFault::Key(key)),
         }

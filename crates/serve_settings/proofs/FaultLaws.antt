@@ -1,5 +1,5 @@
 -- The first key at fault, said of each key alone.
-use Rattle.std.proofs.Common.{◌≡◌, ℕ, true, false, not, List, [], ◌∷◌, Option, Some, None, Result, Ok, Err, IfErr, is_some, find, ◌^◌, refl, sym, subst}
+use Rattle.std.proofs.Common.{◌≡◌, ℕ, ◌≤◌, true, false, not, List, [], ◌∷◌, length, Option, Some, None, Result, Ok, Err, IfErr, is_some, find, refl, sym, subst}
 use Rattle.sequences.specs.Results.{◌>>=◌}
 use Rattle.toml.specs.Data.{Members}
 use Rattle.toml.specs.Parse.{parse_document}
@@ -7,6 +7,7 @@ use Rattle.serve_settings.specs.declared.key.Key.{Key}
 use Rattle.serve_settings.specs.declared.key.Key.TheVariants.{Exporters, Admin, Policy, Connections, Target, Workers, Queue, Shapes, Audit, JournalEntries, JournalOctets, Turns, Deliver, Journal, Runs}
 use Rattle.serve_settings.specs.declared.fault.SettingsFault.{SettingsFault}
 use Rattle.serve_settings.specs.declared.fault.SettingsFault.TheVariants as fault
+use Rattle.serve_settings.specs.declared.reading.TheConstants.{LONGEST_TEXT}
 use Rattle.serve_settings.specs.Asked.{Asked}
 use Rattle.serve_settings.specs.Faults.{has, keys, lacking, IsFaultOf}
 use Rattle.serve_settings.specs.Reading.{limits_in, settings_in}
@@ -66,18 +67,19 @@ settings_in-judges table =
     step table Journal _ (text_or_none_in Journal table) _ refl (λ journal.
     step table Runs [] (number_or_in Runs 1 1 1000 table) _ refl (λ runs. record { judged = tt })))))))))))))))
 
-of_table : (text : List ℕ) (table : Members) (f : SettingsFault) → parse_document text ≡ Some table → settings_in table ≡ Err f → IsFaultOf f text
-of_table text table f parsed fails = by_first f (subst (λ (r : Result Asked SettingsFault). Judges table keys r) fails (settings_in-judges table)).judged
+of_table : (text : List ℕ) (table : Members) (f : SettingsFault) → length text ≤ LONGEST_TEXT → parse_document text ≡ Some table → settings_in table ≡ Err f → IsFaultOf f text
+of_table text table f short parsed fails = by_first f (subst (λ (r : Result Asked SettingsFault). Judges table keys r) fails (settings_in-judges table)).judged
   where
     by_key : (k : Key) → lacking table ≡ Some k → IsFaultOf (fault.Key k) text
-    by_key k first = (table, parsed, first)
+    by_key k first = (table, short, parsed, first)
 
     by_first : (f : SettingsFault) → IsFirst table keys f → IsFaultOf f text
     by_first f first = subst (λ (f : SettingsFault). IsFaultOf f text) (sym first.fault_is) (by_key first.key first.first)
 
--- what was returned at a fault, of a text that is this table
-pub returned-first : {X : Type 0} (view : X → Asked) (text : List ℕ) (table : Members) (answer : Result X SettingsFault) → parse_document text ≡ Some table → Gives view answer (settings_in table) → IfErr answer (λ f. IsFaultOf f text)
-returned-first view text table (Ok x) parsed gives = tt
-returned-first view text table (Err fault.Toml) parsed gives = of_table text table fault.Toml parsed gives
-returned-first view text table (Err (fault.Key k)) parsed gives = of_table text table (fault.Key k) parsed gives
-returned-first view text table (Err fault.OutOfMemory) parsed gives = tt
+-- what was returned at a fault, of a text that is not too long and is this table
+pub returned-first : {X : Type 0} (view : X → Asked) (text : List ℕ) (table : Members) (answer : Result X SettingsFault) → length text ≤ LONGEST_TEXT → parse_document text ≡ Some table → Gives view answer (settings_in table) → IfErr answer (λ f. IsFaultOf f text)
+returned-first view text table (Ok x) short parsed gives = tt
+returned-first view text table (Err fault.TooLong) short parsed gives = of_table text table fault.TooLong short parsed gives
+returned-first view text table (Err fault.Toml) short parsed gives = of_table text table fault.Toml short parsed gives
+returned-first view text table (Err (fault.Key k)) short parsed gives = of_table text table (fault.Key k) short parsed gives
+returned-first view text table (Err fault.OutOfMemory) short parsed gives = short

@@ -1,5 +1,5 @@
 -- Which key of settings is at fault, said of each key alone.
-use Rattle.std.specs.Prelude.{◌≡◌, ℕ, Bool, not, List, [], ◌∷◌, Option, Some, None, is_some, find}
+use Rattle.std.specs.Prelude.{◌≡◌, ℕ, ◌<◌, ◌≤◌, Bool, not, List, [], ◌∷◌, length, Option, Some, None, is_some, find}
 use Rattle.toml.specs.Data.{Members}
 use Rattle.toml.specs.Parse.{parse_document}
 use Rattle.ipfix_octets.specs.MessageFormat.{header_octets, longest_message}
@@ -10,6 +10,7 @@ use Rattle.serve_settings.specs.declared.key.Key.{Key}
 use Rattle.serve_settings.specs.declared.key.Key.TheVariants.{Exporters, Admin, Policy, Connections, Target, Workers, Queue, Shapes, Audit, JournalEntries, JournalOctets, Turns, Deliver, Journal, Runs}
 use Rattle.serve_settings.specs.declared.fault.SettingsFault.{SettingsFault}
 use Rattle.serve_settings.specs.declared.fault.SettingsFault.TheVariants as fault
+use Rattle.serve_settings.specs.declared.reading.TheConstants.{LONGEST_TEXT}
 use Rattle.serve_settings.specs.Values.{text_in, text_or_none_in, number_in, number_or_in, collectors_in}
 
 -- whether a table has a value at a key that the key may have; Journal and Runs may be absent too
@@ -38,8 +39,10 @@ keys = Exporters ∷ Admin ∷ Policy ∷ Connections ∷ Target ∷ Workers ∷
 abbrev pub lacking : Members → Option Key
 lacking table = find (λ k. not (has table k)) keys
 
--- the text is no TOML, or a table that lacks this key and none before it; want of memory says nothing
+-- the text is too long; else no TOML, or a table that lacks this key and none before it; want of memory says only that it isn't too
+-- long
 abbrev pub IsFaultOf : SettingsFault → List ℕ → Type 0
-IsFaultOf fault.Toml text = parse_document text ≡ None
-IsFaultOf (fault.Key k) text = (table : Members) × (parse_document text ≡ Some table) × (lacking table ≡ Some k)
-IsFaultOf fault.OutOfMemory text = Unit {0}
+IsFaultOf fault.TooLong text = LONGEST_TEXT < length text
+IsFaultOf fault.Toml text = (length text ≤ LONGEST_TEXT) × (parse_document text ≡ None)
+IsFaultOf (fault.Key k) text = (table : Members) × (length text ≤ LONGEST_TEXT) × (parse_document text ≡ Some table) × (lacking table ≡ Some k)
+IsFaultOf fault.OutOfMemory text = length text ≤ LONGEST_TEXT

@@ -23,6 +23,7 @@ name_of key.Journal = codes "journal"
 name_of key.Runs = codes "runs"
 
 abbrev pub text_of_fault : SettingsFault → List ℕ
+text_of_fault fault.TooLong = codes "length"
 text_of_fault fault.Toml = codes "toml"
 text_of_fault (fault.Key k) = name_of k
 text_of_fault fault.OutOfMemory = codes "OutOfMemory"

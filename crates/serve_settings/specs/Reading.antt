@@ -1,5 +1,5 @@
 -- What a text of settings asks for, or its first fault.
-use Rattle.std.specs.Prelude.{ℕ, List, Option, Some, None, Result, Ok, Err}
+use Rattle.std.specs.Prelude.{ℕ, List, length, Option, Some, None, Result, Ok, Err, nat_lt, if◌then◌else◌}
 use Rattle.toml.specs.Data.{Members}
 use Rattle.toml.specs.Parse.{parse_document}
 use Rattle.sequences.specs.Results.{◌>>=◌}
@@ -10,7 +10,8 @@ use Rattle.event_journal.specs.declared.limits.TheConstants.{MOST_ENTRIES, MOST_
 use Rattle.mediator_calls.specs.declared.limits.Limits.{Limits}
 use Rattle.serve_settings.specs.declared.key.Key.TheVariants.{Exporters, Admin, Policy, Connections, Target, Workers, Queue, Shapes, Audit, JournalEntries, JournalOctets, Turns, Journal, Runs}
 use Rattle.serve_settings.specs.declared.fault.SettingsFault.{SettingsFault}
-use Rattle.serve_settings.specs.declared.fault.SettingsFault.TheVariants.{Toml}
+use Rattle.serve_settings.specs.declared.fault.SettingsFault.TheVariants.{TooLong, Toml}
+use Rattle.serve_settings.specs.declared.reading.TheConstants.{LONGEST_TEXT}
 use Rattle.serve_settings.specs.Asked.{Asked}
 use Rattle.serve_settings.specs.Values.{text_at, text_or_none, number_at, number_or, collectors_at}
 
@@ -59,4 +60,4 @@ table_of (Some table) = Ok table
 
 -- the settings that a text gives, or its first fault
 abbrev pub settings_of : List ℕ → Result Asked SettingsFault
-settings_of text = table_of (parse_document text) >>= settings_in
+settings_of text = if nat_lt LONGEST_TEXT (length text) then Err TooLong else (table_of (parse_document text) >>= settings_in)

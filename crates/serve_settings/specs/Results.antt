@@ -11,6 +11,7 @@ needed k None = Err (fault.Key k)
 needed k (Some a) = Ok a
 
 abbrev pub is_memory : SettingsFault → Bool
+is_memory fault.TooLong = false
 is_memory fault.Toml = false
 is_memory (fault.Key k) = false
 is_memory fault.OutOfMemory = true

@@ -5,9 +5,11 @@ use std::alloc::{AllocError, AllocFailed};
 use std::error::Error;
 use std::fmt::{self, Display, Formatter, Write};
 
-/// Why a text gives no settings. Its text is the key at fault, or `toml`.
+/// Why a text gives no settings. Its text is the key at fault, `toml`, or `length`.
 #[derive(Clone, Copy, Debug, PartialEq, Eq)]
 pub enum SettingsFault {
+    /// The text has more octets than settings may have.
+    TooLong,
     /// The text is no TOML.
     Toml,
     /// The first key that must be there and isn't, or whose value is of another type or out of its range.
@@ -26,6 +28,7 @@ impl Display for SettingsFault {
 
     fn fmt<W: Write>(&self, f: &mut Formatter<W>) -> fmt::Result {
         f.write_str(match self {
+            SettingsFault::TooLong => "length",
             SettingsFault::Toml => "toml",
             SettingsFault::Key(key) => key.name(),
             SettingsFault::OutOfMemory => "OutOfMemory",

@@ -2,15 +2,15 @@
 //! here, and whoever uses them says what is wrong with them.
 //!
 //! - `settings`: [`Settings`] and [`Collector`], what was read.
-//! - `reading`: [`read_settings`].
+//! - `reading`: [`read_settings`], with [`LONGEST_TEXT`].
 //! - `key`: [`Key`], a key of settings. `fault`: [`SettingsFault`], why a text gives no settings.
 //! - `values`: what stands at a key.
 //! - `laws`: [`allowed_limits_are_read`], proved over the definitions.
 //!
-//! Proved: `read_settings` answers what the definitions say of the parsed table: `Toml` exactly where the text is no TOML,
-//! else the first key, in the order of the format, that must be there and isn't, or whose value is of another type or out of
-//! its range, else the settings (`exact`). That it is the first such key is said once more without the order of reading
-//! (`first`). Two keys may be absent: without `journal` none is written, and without `runs` there is one. The limits that
+//! Proved: `read_settings` answers `TooLong` exactly where the text has more than [`LONGEST_TEXT`] octets, and then needs no
+//! memory; else what the definitions say of the parsed table: `Toml` exactly where the text is no TOML, else the first key, in
+//! the order of the format, that must be there and isn't, or whose value is of another type or out of its range, else the
+//! settings (`exact`). That it is the first such key is said once more without the order of reading (`first`). Two keys may be absent: without `journal` none is written, and without `runs` there is one. The limits that
 //! come out are ones that a mediator takes (`allowed`), and each that it takes comes out (`allowed_limits_are_read`). The
 //! collectors' subscribers ascend by their octets, so that none stands twice (`sorted`). Want of memory says nothing.
 #![tactic(auto)]
@@ -25,5 +25,5 @@ mod values;
 pub use fault::SettingsFault;
 pub use key::Key;
 pub use laws::allowed_limits_are_read;
-pub use reading::read_settings;
+pub use reading::{LONGEST_TEXT, read_settings};
 pub use settings::{Collector, Settings};

@@ -19,6 +19,10 @@ use std::alloc::Global;
 use subscriber_stream::{MOST_QUEUE, MOST_SHAPES};
 use toml::Table;
 
+/// The most octets that a text of settings may have, 64 KiB. It bounds the memory that reading TOML takes, which keeps a map for
+/// each table.
+pub const LONGEST_TEXT: usize = 65_536;
+
 /// The most connections of exporters that may be accepted.
 const MOST_CONNECTIONS: u64 = 1000;
 
@@ -46,12 +50,14 @@ const MOST_RUNS: u64 = 1000;
 /// Reads settings from a TOML document, whose keys are those that [`Key`] names. Other keys are ignored.
 ///
 /// # Errors
-/// `Toml` where the text is no TOML, `Key` with the first key that must be there and isn't, or whose value is of another type
-/// or out of its range, `OutOfMemory`.
+/// `TooLong` where the text has more than [`LONGEST_TEXT`] octets, which takes no memory to say; else `Toml` where the text is no
+/// TOML, `Key` with the first key that must be there and isn't, or whose value is of another type or out of its range,
+/// `OutOfMemory`.
 pub fn read_settings(alloc: Global, text: &str) -> Result<Settings, SettingsFault>
     // What the text gives, or its first fault.
     ensures exact { Gives asked result (settings_of text.now) }
-    // Which key is at fault: the first that must be there and isn't, or has a value that it may not have.
+    // Which key is at fault: the first that must be there and isn't, or has a value that it may not have. A text that is too long
+    // has no other fault, nor want of memory.
     ensures first { IfErr result (λ fault. IsFaultOf fault text.now) }
     // A mediator takes these limits.
     ensures allowed { IfOk result (λ settings. AreAllowed settings.limits) }
@@ -60,6 +66,9 @@ pub fn read_settings(alloc: Global, text: &str) -> Result<Settings, SettingsFaul
     // A run may be made.
     ensures some_run { IfOk result (λ settings. 1 ≤ settings.runs) }
 {
+    if text.len() > LONGEST_TEXT {
+        return Err(SettingsFault::TooLong);
+    }
     let table = toml::table_from_str(alloc, text)?;
     settings_in(alloc, &table)
 }
