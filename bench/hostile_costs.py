@@ -34,6 +34,15 @@ MOST = "limits 1000000 65280 10000000 100000000 1099511627776\n"
 # The longest message, and how long a run may last in seconds.
 LONGEST = 65535
 PATIENCE = float(os.environ.get("PATIENCE", "100"))
+# No message that a server takes may hold the lock for more seconds, or take more times as long as a plain one.
+LOCKED_AT_MOST = 0.05
+TIMES_AT_MOST = 50
+# A server takes no message of which more records count in aggregates, for all subscriptions together, or whose Data Sets may have more
+# values for each of its octets.
+MOST_COUNTS = 131072
+VALUES_AN_OCTET = 2
+# What took more, a line each.
+OVER = []
 
 
 def template(number, fields):
@@ -208,16 +217,33 @@ def usual_of(build, subscriptions, length, least):
     return USUAL[found]
 
 
-def tell(name, rules, subscriptions, before, hostile, drained=0, behind=False):
+def see_bounds(name, build, once, ahead, judged, usual):
+    """Notes what a case takes that is more than a message may take. What the checks at run time take is not a server's."""
+    if build == "checked":
+        return
+    if not (once.whole and ahead.whole and judged.whole):
+        OVER.append("%s: a run was not whole" % name)
+        return
+    for how, one in ("prepared", ahead), ("never prepared", judged):
+        if one.locked > LOCKED_AT_MOST:
+            OVER.append("%s, %s: %s ms under the lock" % (name, how, number(one.locked, 1e3)))
+    if usual[0].locked and once.locked > TIMES_AT_MOST * usual[0].locked:
+        OVER.append("%s: %s times plain" % (name, times(once.locked, usual[0].locked)))
+
+
+def tell(name, rules, subscriptions, before, hostile, drained=0, behind=False, refused=False):
     """Measures a case by each program, and prints its row and that of plain messages. Where the messages are to be behind others, each
-    second one is measured, and a read brings it with the one before."""
+    second one is measured, and a read brings it with the one before. What a server refuses may take as long as it likes."""
     length = len(hostile[-1])
     # Messages are numbered from 0.
     numbers = range(len(before), len(before) + len(hostile))[1 if behind else 0::2 if behind else 1]
     for build in BUILDS:
         usual = usual_of(build, subscriptions, length, len(hostile))
         text = calls(rules, subscriptions, before + hostile, drained=drained)
-        row(name, build, length, *costs(build, text, numbers, ("once", "pairs" if behind else "ahead", "judged")), usual)
+        found = costs(build, text, numbers, ("once", "pairs" if behind else "ahead", "judged"))
+        row(name, build, length, *found, usual)
+        if not refused:
+            see_bounds(name, build, *found, usual)
 
 
 def thousands_of_domains():
@@ -245,14 +271,14 @@ def templates_redefined():
     tell("8,189 new templates in a domain of its own in each message", PASS, 1, [], new)
 
 
-def wide(fields, policy, records, what, subscriptions=1, count=3, together=False, drained=0):
+def wide(fields, policy, records, what, subscriptions=1, count=3, together=False, drained=0, refused=False):
     """Messages of records of a wide template."""
     define = set_of(2, template(256, fields))
     data = set_of(256, records)
     if together:
-        tell(what, policy, subscriptions, [], [message(define, data)] * count, drained)
+        tell(what, policy, subscriptions, [], [message(define, data)] * count, drained, refused=refused)
     else:
-        tell(what, policy, subscriptions, [message(define)], [message(data)] * count, drained)
+        tell(what, policy, subscriptions, [message(define)], [message(data)] * count, drained, refused=refused)
 
 
 def wide_addresses():
@@ -269,13 +295,13 @@ def wide_octets():
     """Templates of 16,000 fields, most of which take no octets."""
     width = int(os.environ.get("WIDTH", "16000"))
     many = LONGEST - 20
-    wide([(210, 0)] * (width - 1) + [(4, 1)], PASS, b"\x06" * many, "%d records of %d fields, one octet each" % (many, width))
+    wide([(210, 0)] * (width - 1) + [(4, 1)], PASS, b"\x06" * many, "%d records of %d fields, one octet each" % (many, width), refused=True)
     remove = PASS.replace("pass;", "pass;rule for * in * from * to * element interfaceName remove;")
     mixed = [(82, 0), (210, 0)] * (width // 2 - 1) + [(4, 1)]
-    wide(mixed, remove, b"\x06" * many, "the same, every second field removed")
+    wide(mixed, remove, b"\x06" * many, "the same, every second field removed", refused=True)
     wide([(210, 65535)] * width, PASS, b"\0" * (many // width * width), "records of %d values of no octets, each with its length" % width)
     wide([(210, 65535), *[(210, 0)] * (width - 2), (8, 4)], CUSTOMER, b"\0\xc6\x33\x64\x01" * (many // 5),
-         "%d records of an address behind %d values of no octets" % (many // 5, width - 1))
+         "%d records of an address behind %d values of no octets" % (many // 5, width - 1), refused=True)
 
 
 def small_records():
@@ -309,10 +335,10 @@ def wide_turns():
         fields = [(210, 0)] * (width - 1)
         sets = [set_of(2, template(number, fields + [(last, 1)])) for number, last in ((256, 4), (257, 5))]
         two = [message(one) for one in sets]
-        tell("16,379 empty Data Sets of a template of %d fields" % width, PASS, 1, two, [message(*[set_of(256, b"")] * 16379)] * 2)
+        tell("16,379 empty Data Sets of a template of %d fields" % width, PASS, 1, two, [message(*[set_of(256, b"")] * 16379)] * 2, refused=True)
         for numbers, what in ([256], "a template of %d fields" % width), ([256, 257], "two templates of %d fields in turns" % width):
             some = sets_of_one(numbers, LONGEST - 16)
-            tell("%d Data Sets of %s" % (len(some), what), PASS, 1, two, [message(*some)] * 2)
+            tell("%d Data Sets of %s" % (len(some), what), PASS, 1, two, [message(*some)] * 2, refused=True)
         # A message brings those of its templates that it has room for; the others came before.
         for brought in range(1, 3):
             room = LONGEST - 16 - sum(len(one) for one in sets[:brought])
@@ -321,7 +347,22 @@ def wide_turns():
                 if len(some) < 2 or brought > len(numbers):
                     continue
                 tell("%d Data Sets of %d templates of %d fields in turns, and %d of these templates"
-                     % (len(some), len(numbers), width, brought), PASS, 1, two, [message(*sets[:brought], *some)] * 2)
+                     % (len(some), len(numbers), width, brought), PASS, 1, two, [message(*sets[:brought], *some)] * 2, refused=True)
+
+
+def as_wide_as_may_be():
+    """Data Sets with one record each, of two templates in turns, with nearly as many values as a server takes: those of the record count,
+    and those of one more."""
+    for width in 5, 400, 16000:
+        # The other fields of a record take an octet each, so that their set has two values for each of its octets.
+        thin = width if width < VALUES_AN_OCTET * 5 else 0
+        fields = [(210, 0)] * (width - 1) if thin else [(5, 1)] * (width - 1)
+        two = [message(set_of(2, template(number, fields + [(last, 1)]))) for number, last in ((256, 4), (257, 5))]
+        record = b"\x06" * (1 if thin else width)
+        some = [set_of(256 + n % 2, record) for n in range((LONGEST - 16) // (4 + len(record)))]
+        for subscriptions in 1, 10:
+            tell("%d Data Sets of two templates of %d fields in turns, %s" % (len(some), width, served(subscriptions)), PASS, subscriptions,
+                 two, [message(*some)] * 3)
 
 
 def behind_templates():
@@ -334,7 +375,7 @@ def behind_templates():
 
     some = message(*sets_of_one([256, 257], LONGEST - 16))
     tell("%d Data Sets of two templates of %d fields in turns, behind these templates" % ((LONGEST - 16) // 5, width), PASS, 1, [],
-         [defined(4), some, defined(5), some], behind=True)
+         [defined(4), some, defined(5), some], behind=True, refused=True)
     # Plain ones, whose template is another each time.
     flows = [message(set_of(2, template(256, [(8, 4), (last, 2), (1, 4)]))) for last in (7, 11)]
     tell("plain messages, each behind its template", PASS, 1, [], [flows[0], plain(LONGEST), flows[1], plain(LONGEST)] * 4, behind=True)
@@ -422,6 +463,26 @@ def aggregates():
         struct.pack("!III", 1700000100, many * n + m, 0x0A000001 + 256 * (m * 7919 % 4096)) for m in range(many)))) for n in range(6)])
 
 
+def colliding_keys():
+    """Groups whose keys were chosen so that the hash, whose seed is fixed, puts all into one place; and others, as many."""
+    program = os.path.join(folder, "colliding_keys")
+    source = os.path.join(os.path.dirname(os.path.abspath(__file__)), "colliding_keys.c")
+    subprocess.run(["cc", "-O2", "-o", program, source], check=True)
+    many = (LONGEST - 20) // 8
+    first = message(set_of(2, template(256, [(150, 4), (10, 4)])))
+    rules = "aggregate a key ingressInterface interval 300 grace 60;rule for * in * from * to * aggregate a;"
+    chosen = subprocess.run([program, str(13 * many)], check=True, stdout=subprocess.PIPE).stdout
+    keys = [key for key, in struct.iter_unpack("=I", chosen)]
+
+    def one(keys):
+        return message(set_of(256, b"".join(struct.pack("!II", 1700000100, key) for key in keys)))
+
+    for what, keys in ("any", range(13 * many)), ("chosen", keys):
+        some = [one(keys[n * many:(n + 1) * many]) for n in range(13)]
+        tell("%d groups of %s keys a message, the first" % (many, what), rules, 1, [first], some[:2])
+        tell("the same, the twelfth", rules, 1, [first] + some[:11], some[11:])
+
+
 def many_subscriptions():
     """Plain messages, withheld records and groups, with many subscriptions."""
     flow, nothing = plain(LONGEST), "rule for * in * from * to * withhold;"
@@ -434,12 +495,13 @@ def many_subscriptions():
              "%d records of one octet, withheld, %d subscriptions" % (LONGEST - 20, subscriptions), subscriptions, drained=10_000_000)
         tell("plain records, withheld, %d subscriptions" % subscriptions, nothing, subscriptions, [FLOW], [flow] * 3, drained=10_000_000)
         tell("%d groups a message, %d subscriptions" % (many, subscriptions), groups, subscriptions, [first],
-             [message(set_of(256, b"".join(struct.pack("!II", 1700000100, many * n + m) for m in range(many)))) for n in range(3)])
+             [message(set_of(256, b"".join(struct.pack("!II", 1700000100, many * n + m) for m in range(many)))) for n in range(3)],
+             refused=many * subscriptions > MOST_COUNTS)
 
 
 CASES = {one.__name__: one for one in (
-    thousands_of_domains, templates_redefined, wide_addresses, wide_octets, small_records, turns, wide_turns, behind_templates, classes, unknown,
-    rules_for_one_source, rules_for_one_element, addresses_by_rules, aggregates,
+    thousands_of_domains, templates_redefined, wide_addresses, wide_octets, small_records, turns, wide_turns, as_wide_as_may_be, behind_templates, classes, unknown,
+    rules_for_one_source, rules_for_one_element, addresses_by_rules, aggregates, colliding_keys,
     many_subscriptions)}
 
 if __name__ == "__main__":
@@ -449,3 +511,5 @@ if __name__ == "__main__":
     print("| " + " | ".join(HEADS) + " |\n|" + "---|" * len(HEADS), flush=True)
     for name in sys.argv[3:] or CASES:
         CASES[name]()
+    print("\n".join(["more than a message may take:"] + OVER) if OVER else "no message takes more than it may")
+    sys.exit(1 if OVER else 0)
