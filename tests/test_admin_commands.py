@@ -112,6 +112,15 @@ OUTSIDE = FLOW.record(address("198.51.100.1"), 443, 1500)
 SECOND = Template(257, ((8, 4), (1, 4)))
 THIRD = Template(258, ((8, 4), (2, 4)))
 
+# The octet count is kept, and all else removed since no rule matches it.
+NARROW = """policy 1
+rule for acme in * from * to * pass
+rule for acme in * from * to * element octetDeltaCount keep
+"""
+
+# One octet count, and eight thousand numbers of protocols.
+WIDE = Template(256, ((1, 1), *[(4, 1)] * 8000))
+
 
 def flows(before, template, *records):
     return message(before, template.octets(), template.data(*records))
@@ -165,6 +174,15 @@ class AdminLines(ServeTest):
         exporter.send(flows(2, SECOND, SECOND.record(address("192.0.2.77"), 1500)))
         collector.take_all()
         self.assertEqual(admin.audit(10), ["3 1 1 withheld 0 rule", "4 0 1 cut"])
+        self.assertEqual(admin.audit(10), [])
+
+    def test_long_line(self):
+        """Of a record that loses eight thousand of its fields the audit's line has some 70,000 octets, and all of them come."""
+        run = self.start(NARROW)
+        admin, exporter = run.admin(), run.exporter()
+        exporter.send(flows(0, WIDE, WIDE.record(*[1] * len(WIDE.fields))))
+        lost = ",".join(f"{place}:0" for place in range(1, len(WIDE.fields)))
+        run.wait_for_audit(admin, [f"3 0 1 removed {lost}"])
         self.assertEqual(admin.audit(10), [])
 
 
