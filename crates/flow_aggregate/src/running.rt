@@ -17,6 +17,7 @@ use crate::closed::ClosedAggregate;
 use crate::count::Count;
 use crate::group::Group;
 use crate::sums::Sums;
+use hash_keys::HashKeys;
 use indexmap::IndexMap;
 use std::alloc::{AllocError, Global};
 use std::cmp::Ordering;
@@ -30,7 +31,7 @@ use std::marker::Model;
 pub struct Running {
     alloc: Global,
     // Those from `counted` on were made for what is yet to be added, and have no sums.
-    groups: IndexMap<Group, Sums>,
+    groups: IndexMap<Group, Sums, HashKeys>,
     counted: usize,
     // No group is due before this time, so that until then none is looked at.
     earliest: u64,
@@ -63,9 +64,16 @@ impl Running {
     pub fn new(alloc: Global) -> Running
         ensures { result ≡ nothing_held }
     {
+        Running::hashed(alloc, HashKeys::known())
+    }
+
+    /// No group, and those to come are hashed with these keys.
+    pub fn hashed(alloc: Global, keys: HashKeys) -> Running
+        ensures { result ≡ nothing_held }
+    {
         Running {
             alloc,
-            groups: IndexMap::new(alloc),
+            groups: IndexMap::with_hasher(alloc, keys),
             counted: 0,
             earliest: u64::MAX,
         }
@@ -235,7 +243,7 @@ impl Running {
 ghost use Rattle.flow_aggregate.specs.Additions.{with_addition, with_additions};
 
 /// Adds at the places of groups.
-fn add_all(groups: &mut IndexMap<Group, Sums>, additions: Vec<Addition>)
+fn add_all(groups: &mut IndexMap<Group, Sums, HashKeys>, additions: Vec<Addition>)
     ensures { groups.new.entries ≡ with_additions groups.old.entries additions.items }
 {
     for addition in additions {
@@ -243,7 +251,7 @@ fn add_all(groups: &mut IndexMap<Group, Sums>, additions: Vec<Addition>)
     }
 }
 
-fn add_one(groups: &mut IndexMap<Group, Sums>, addition: &Addition)
+fn add_one(groups: &mut IndexMap<Group, Sums, HashKeys>, addition: &Addition)
     ensures { groups.new.entries ≡ with_addition groups.old.entries addition.now }
 {
     if let Some(sums) = groups.get_index_mut(addition.place) {

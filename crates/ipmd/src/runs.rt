@@ -12,6 +12,7 @@ ghost use Rattle.ipmd.specs.Serving.{IsAskedFor, IsListenFault, IsPlanOf, MakesR
 use crate::serve::Service;
 use crate::system::System;
 use event_journal::Journal;
+use hash_keys::HashKeys;
 use ipmd_offline::{ProgramFault, write_text};
 use log::{Log, info};
 use mediator_calls::{Limits, Mediator};
@@ -20,8 +21,10 @@ use octet_devices::Device;
 use run_journals::{first_free, keep_run};
 use shared_mediator::Closed;
 use std::alloc::{AllocError, Global};
+use std::hash::RandomState;
 use std::io::Write;
 use std::net::{Net, TcpListener, TcpStream};
+use std::random::RandomSource;
 use std::rt::Files;
 use std::sync::Wait;
 use std::thread::Threads;
@@ -39,7 +42,7 @@ struct Keeping {
 /// Makes a run, and another one where its journal was full, as often as is allowed; and writes the line of each.
 ///
 /// # Errors
-/// `Device` for the journals' folder; then of a run the refusals of `listen`; `Device` where the output fails, and, behind the
+/// `Device` for the journals' folder, or for want of random numbers; then of a run the refusals of `listen`; `Device` where the output fails, and, behind the
 /// run's line, where its journal can't be kept; `OutOfMemory`.
 #[tactic(auto, using(ipmd_offline::proofs::Lines::kept))]
 pub(crate) fn serve_runs<
@@ -58,10 +61,11 @@ pub(crate) fn serve_runs<
         runs,
     } = service;
     let mut keeping = keeping_of(rt, journal, runs)?;
+    let keys = secret_keys(rt)?;
     let mut run = 1;
     'runs: loop {
         info!(noting; "run {run}");
-        if !serve_run(rt, noting, limits, &mut plan, &mut keeping, output)? {
+        if !serve_run(rt, noting, limits, keys, &mut plan, &mut keeping, output)? {
             return Ok(());
         }
         if run >= runs {
@@ -85,6 +89,7 @@ fn serve_run<
     rt: &R,
     noting: &N,
     limits: Limits,
+    keys: HashKeys,
     plan: &mut Plan,
     keeping: &mut Keeping,
     output: &mut Device<O>,
@@ -93,13 +98,26 @@ fn serve_run<
     ensures made { IfOk result (λ full. MakesRun full plan.old plan.new (O.contents (device_inner output.old)) (O.contents (device_inner output.new))) }
     ensures err { IfErr result (λ e. StopsRun e plan.old (O.contents (device_inner output.old)) (O.contents (device_inner output.new))) }
 {
-    let closed = make_run(noting, rt.alloc(), plan, limits)?;
+    let closed = make_run(noting, rt.alloc(), plan, limits, keys)?;
     let full = closed.full;
     let journal = end_run(rt, noting, keeping, closed, output)?;
     if full {
         renew_policy(rt.alloc(), plan, &journal)?;
     }
     Ok(full)
+}
+
+/// Keys of hash tables that no stranger knows.
+///
+/// # Errors
+/// `Device` where the system has no random numbers.
+fn secret_keys<R: RandomSource>(rt: &R) -> Result<HashKeys, ProgramFault>
+    ensures err { IfErr result IsListenFault }
+{
+    match RandomState::new(rt) {
+        Ok(state) => Ok(HashKeys::secret(&state)),
+        Err(_) => Err(ProgramFault::Device),
+    }
 }
 
 /// Where the journals of so many runs are kept. Where several may follow each other, their numbers go on behind those of the
@@ -126,12 +144,19 @@ fn keeping_of<R: Files + AllocGlobal>(
 /// Those of `listen`; `OutOfMemory`.
 fn make_run<
     N: Net<Listener = TcpListener, Stream = TcpStream> + Threads + Wait + Clock + Log + Sync,
->(noting: &N, alloc: Global, plan: &Plan, limits: Limits) -> Result<Closed, ProgramFault>
+>(
+    noting: &N,
+    alloc: Global,
+    plan: &Plan,
+    limits: Limits,
+    keys: HashKeys,
+) -> Result<Closed, ProgramFault>
     requires allowed { AreAllowed limits }
     ensures served { IfOk result (λ closed. IsServed plan.now [] closed.mediator.history closed.accepted closed.handed) }
     ensures err { IfErr result IsListenFault }
 {
-    let mediator = Mediator::new(alloc, limits)?;
+    let mut mediator = Mediator::new(alloc, limits)?;
+    mediator.hash_by(keys);
     match listen(noting, alloc, plan, mediator) {
         Ok(closed) => Ok(closed),
         Err(fault) => Err(fault_of(fault)),

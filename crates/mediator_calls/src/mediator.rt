@@ -12,6 +12,7 @@ use crate::{Limits, RunFault, SessionId, SubId, UnknownSub};
 use bytes::Bytes;
 use disclosure_audit::AuditEntry;
 use event_journal::Journal;
+use hash_keys::HashKeys;
 use mediator_state::{Fault, Receipt, State, Status};
 use prepared_message::{JudgedAhead, Prepared, Snapshot};
 use std::alloc::{AllocError, Global};
@@ -66,6 +67,14 @@ impl Mediator {
         let journal = Journal::new(alloc, limits.entries, limits.octets);
         let state = State::new(alloc, held, journal)?;
         Ok(Mediator { state })
+    }
+
+    /// Hashes with these keys what exporters choose: keys of groups, and templates, of subscriptions that begin from now on. By
+    /// secret keys no stranger can choose them so that look-ups take longer and longer. It shows in no answer.
+    pub fn hash_by(&mut self, keys: HashKeys)
+        ensures same { self.new ≡ self.old }
+    {
+        self.state.hash_by(keys);
     }
 
     /// The journal: all that was accepted, oldest first.

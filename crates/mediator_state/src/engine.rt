@@ -18,6 +18,7 @@ use crate::fault::Fault;
 use crate::plan::Plan;
 use crate::receipt::Receipt;
 use disclosure_audit::{Audit, AuditEntry, Note, What};
+use hash_keys::HashKeys;
 use ipfix_session::Reading;
 use live_subscriptions::{Share, Subscriptions};
 use open_sessions::Sessions;
@@ -33,6 +34,8 @@ use subscriber_stream::{Limits, Stream};
 /// by one entry, or by none.
 pub(crate) struct Engine {
     pub(crate) alloc: Global,
+    /// What tables are hashed with whose entries exporters choose.
+    keys: HashKeys,
     /// How much each subscription's stream may hold.
     pub(crate) limits: Limits,
     /// The policy in force, and the time of the clock.
@@ -57,6 +60,7 @@ impl Drop for Engine {
     fn drop(self) {
         let Engine {
             alloc: _,
+            keys: _,
             limits: _,
             in_force: _,
             edits: _,
@@ -90,6 +94,7 @@ impl Engine {
     {
         Ok(Engine {
             alloc,
+            keys: HashKeys::known(),
             limits,
             in_force: InForce::nothing(alloc)?,
             edits: 0,
@@ -101,6 +106,14 @@ impl Engine {
             audit: Audit::new(alloc, audit),
             terms: None,
         })
+    }
+
+    /// Hashes groups and templates of subscriptions that begin from now on with these keys.
+    pub(crate) fn hash_by(&mut self, keys: HashKeys)
+        ensures same { IsSameEngine self.old self.new }
+    {
+        self.keys = keys;
+        self.groups.hash_by(keys);
     }
 
     /// The number of the next session.
@@ -247,7 +260,7 @@ impl Engine {
         ensures untouched { IsUntouched self.old self.new }
         ensures err { OnErr result (IsSameEngine self.old self.new) }
     {
-        let stream = Stream::new(self.alloc, self.limits);
+        let stream = Stream::hashed(self.alloc, self.limits, self.keys);
         self.subscriptions.insert(number, name, stream)?;
         self.begun = number;
         Ok(())

@@ -15,6 +15,7 @@ use crate::receipt::{Receipt, Status};
 use bytes::Bytes;
 use disclosure_audit::AuditEntry;
 use event_journal::{Chronicle, Entry, PolicyText};
+use hash_keys::HashKeys;
 use ipfix_session::Reading;
 use policy_text::{FaultKind, Name, Policy, PolicyFault, is_name};
 use prepared_message::{JudgedAhead, Prepared, Snapshot};
@@ -71,6 +72,16 @@ impl<C: Chronicle + Drop> State<C> {
         };
         let engine = Engine::new(alloc, streams, limits.audit)?;
         Ok(State { chronicle, engine })
+    }
+
+    /// Hashes with these keys what exporters choose: the groups and templates of subscriptions that begin from now on. It shows in
+    /// no answer.
+    pub fn hash_by(&mut self, keys: HashKeys)
+        ensures same { (h : List Entry) → StandsFor C.tells self.old h → StandsFor C.tells self.new h }
+        ensures untouched { IsUntouched self.old.engine self.new.engine }
+        ensures journaled { C.limits self.new.chronicle ≡ C.limits self.old.chronicle }
+    {
+        self.engine.hash_by(keys);
     }
 
     /// What keeps its history.

@@ -12,6 +12,7 @@ ghost use Rattle.running_groups.specs.Adding.{tallied, reserved_for, IsReadyFor,
 
 use crate::tally::{Reserved, Tally};
 use flow_aggregate::{ClosedAggregate, Running};
+use hash_keys::HashKeys;
 use indexmap::IndexMap;
 use record_runs::Records;
 use std::alloc::{AllocError, Global};
@@ -23,6 +24,8 @@ use std::marker::Model;
 /// looks nothing up, takes no memory and can't fail.
 pub struct RunningGroups {
     alloc: Global,
+    // What the groups are hashed with; the numbers of subscriptions are chosen by nobody.
+    keys: HashKeys,
     // A subscription without a group keeps its place until the next `reserve` or `close`, so that what was made ready for
     // others finds theirs.
     by_number: IndexMap<u64, Running>,
@@ -33,6 +36,7 @@ impl Drop for RunningGroups {
     fn drop(self) {
         let RunningGroups {
             alloc: _,
+            keys: _,
             by_number: _,
         } = self;
     }
@@ -59,8 +63,16 @@ impl RunningGroups {
     {
         RunningGroups {
             alloc,
+            keys: HashKeys::known(),
             by_number: IndexMap::new(alloc),
         }
+    }
+
+    /// Hashes the groups of subscriptions that have none yet with these keys.
+    pub fn hash_by(&mut self, keys: HashKeys)
+        ensures { self.new ≡ self.old }
+    {
+        self.keys = keys;
     }
 
     /// How many groups are kept for a subscription, with those that were made for what is yet to be added. There are no more
@@ -172,7 +184,7 @@ impl RunningGroups {
         ensures places { keys_of self.new ≡ keys_of self.old }
     {
         if let Some(groups) = self.by_number.get_mut(&sub) {
-            *groups = Running::new(self.alloc);
+            *groups = Running::hashed(self.alloc, self.keys);
         }
     }
 }
@@ -221,7 +233,8 @@ impl RunningGroups {
             Some(place) => Ok(place),
             None => {
                 let place = self.by_number.len();
-                self.by_number.insert(sub, Running::new(self.alloc))?;
+                self.by_number
+                    .insert(sub, Running::hashed(self.alloc, self.keys))?;
                 Ok(place)
             }
         }

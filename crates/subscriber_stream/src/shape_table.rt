@@ -5,6 +5,7 @@ ghost use Rattle.std.specs.List.{position_or_len};
 ghost use Rattle.ipfix_template.specs.Equality.{same_template};
 ghost use Rattle.subscriber_stream.specs.Shapes.{is_among, with_shape};
 
+use hash_keys::HashKeys;
 use indexmap::IndexSet;
 use ipfix_template::Template;
 use std::alloc::{AllocError, Global};
@@ -15,7 +16,7 @@ use std::sync::Arc;
 /// found by its hash, but for the one that was placed last, which is tried before.
 #[derive(Drop)]
 pub(crate) struct ShapeTable {
-    shapes: IndexSet<Arc<Template>>,
+    shapes: IndexSet<Arc<Template>, HashKeys>,
     /// The place that was answered last: the next run most likely has the template that stands there.
     last: usize,
 }
@@ -32,12 +33,12 @@ impl Model for ShapeTable {
 }
 
 impl ShapeTable {
-    /// A table of no templates.
-    pub(crate) fn new(alloc: Global) -> ShapeTable
+    /// A table of no templates; those to come are hashed with these keys.
+    pub(crate) fn new(alloc: Global, keys: HashKeys) -> ShapeTable
         ensures { result.shapes ≡ [] }
     {
         ShapeTable {
-            shapes: IndexSet::new(alloc),
+            shapes: IndexSet::with_hasher(alloc, keys),
             last: 0,
         }
     }

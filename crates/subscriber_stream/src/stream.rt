@@ -18,6 +18,7 @@ use crate::texts::Texts;
 use crate::waiting::{Waiting, keep_rest, put_waiting};
 use crate::writing::message_of;
 use bytes::Bytes;
+use hash_keys::HashKeys;
 use ipfix_octets::message_format::LEAST_TEMPLATE_ID;
 use record_runs::{Records, Run};
 use std::alloc::{AllocError, Global};
@@ -84,10 +85,20 @@ impl Stream {
         // Each ID from 256 to 65,535 is one that a template can have (RFC 7011, section 3.4.1).
         ensures ids { least_template_id + MOST_SHAPES ≡ 2 ^ 16 }
     {
+        Stream::hashed(alloc, limits, HashKeys::known())
+    }
+
+    /// The same, with its templates hashed with these keys.
+    pub fn hashed(alloc: Global, limits: Limits, keys: HashKeys) -> Stream
+        requires { limits.shapes ≤ MOST_SHAPES }
+        ensures value { result ≡ record { standing = at_start; limits = limits; spare = 0 } }
+        ensures stands { StandsAt result.standing [] 0 }
+        ensures ids { least_template_id + MOST_SHAPES ≡ 2 ^ 16 }
+    {
         Stream {
             alloc,
             limits,
-            shapes: ShapeTable::new(alloc),
+            shapes: ShapeTable::new(alloc, keys),
             queue: VecDeque::new(alloc),
             waiting: 0,
             handed: 0,

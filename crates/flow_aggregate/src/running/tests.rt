@@ -2,12 +2,13 @@
 use crate::group::Group;
 use crate::running::Running;
 use crate::sums::Sums;
+use hash_keys::HashKeys;
 use indexmap::IndexMap;
 use std::process::Abort;
 use std::test::Fail;
 
 /// All that is kept.
-fn kept(running: &Running) -> (&IndexMap<Group, Sums>, usize, u64) {
+fn kept(running: &Running) -> (&IndexMap<Group, Sums, HashKeys>, usize, u64) {
     match running {
         Running {
             alloc: _,

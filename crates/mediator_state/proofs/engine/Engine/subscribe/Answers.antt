@@ -7,5 +7,5 @@ insert-requires-clause-new c = next_is_free c.args.self.now c.requires.somewhere
 
 pub returns-clause-ok : goal.returns-clause-ok
 returns-clause-ok c = λ h so.
-    stands-subscribe c.args.self.now _ h c.args.number c.args.name.now c.new-stream.result so c.requires.next refl refl refl refl refl refl refl refl
-    c.new-stream.ensures.stands (ap (λ k. k.limits) c.new-stream.ensures.value) c.in_ok-insert.ensures.ok c.in_ok-insert.ensures.served
+    stands-subscribe c.args.self.now _ h c.args.number c.args.name.now c.hashed-stream.result so c.requires.next refl refl refl refl refl refl refl refl
+    c.hashed-stream.ensures.stands (ap (λ k. k.limits) c.hashed-stream.ensures.value) c.in_ok-insert.ensures.ok c.in_ok-insert.ensures.served
