@@ -71,6 +71,15 @@ impl Live {
         }
     }
 
+    /// Whether the queue of a share's subscription, which isn't cut, has no room for what it is given until some of what waits is
+    /// pulled, and has room then.
+    pub(crate) fn is_held_up(&self, share: &Share) -> bool {
+        match self.get(share.sub) {
+            Some(kept) => !kept.is_cut && kept.stream.is_held_up(&share.given),
+            None => false,
+        }
+    }
+
     /// Makes room in each stream for what a share gives it.
     ///
     /// # Errors

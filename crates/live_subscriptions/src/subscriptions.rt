@@ -96,6 +96,12 @@ impl Subscriptions {
         self.live.lacks_room(share)
     }
 
+    /// Whether the queue of a share's subscription, which isn't cut, has no room for what it is given until some of what waits is
+    /// pulled, and has room then. It takes no memory.
+    pub fn is_held_up(&self, share: &Share) -> bool {
+        self.live.is_held_up(share)
+    }
+
     /// Makes room in each stream for what a share gives it.
     ///
     /// # Errors

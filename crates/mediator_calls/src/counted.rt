@@ -11,6 +11,7 @@ use crate::handed::Handed;
 use crate::{Mediator, PullFault, SessionId, SubId, UnknownSub};
 use bytes::Bytes;
 use disclosure_audit::AuditEntry;
+use live_subscriptions::Share;
 use mediator_state::{Fault, Receipt, Status};
 use prepared_message::{JudgedAhead, Prepared, Snapshot};
 use std::alloc::AllocError;
@@ -314,6 +315,22 @@ impl CountedMediator {
         ensures err { OnErr result (is_live sub.0 self.now.core.history ≡ false) }
     {
         self.mediator.status(sub)
+    }
+
+    /// Whether one of these shares, which a message would give, has no room in its subscription's queue until some of what waits
+    /// is pulled, and has room then: so that the message cuts a subscription now, and may not cut it later.
+    pub fn is_held_up(&self, shares: &[Share]) -> bool {
+        self.mediator.is_held_up(shares)
+    }
+
+    /// The same of what an advance of the clock to `t` would close. Not where there is no memory to find that out.
+    pub fn is_advance_held_up(&self, t: u64) -> bool {
+        self.mediator.is_advance_held_up(t)
+    }
+
+    /// How many entries of the audit wait to be handed out.
+    pub fn audit_waiting(&self) -> u32 {
+        self.mediator.audit_waiting()
     }
 
     /// Hands out the oldest `most` of the audit's entries that wait, as [`Mediator::drain_audit`] does.

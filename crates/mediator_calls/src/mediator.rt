@@ -13,6 +13,7 @@ use bytes::Bytes;
 use disclosure_audit::AuditEntry;
 use event_journal::Journal;
 use hash_keys::HashKeys;
+use live_subscriptions::Share;
 use mediator_state::{Fault, Receipt, State, Status};
 use prepared_message::{JudgedAhead, Prepared, Snapshot};
 use std::alloc::{AllocError, Global};
@@ -267,6 +268,22 @@ impl Mediator {
             Some(status) => Ok(status),
             None => Err(UnknownSub),
         }
+    }
+
+    /// Whether one of these shares, which a message would give, has no room in its subscription's queue until some of what waits
+    /// is pulled, and has room then: so that the message cuts a subscription now, and may not cut it later.
+    pub fn is_held_up(&self, shares: &[Share]) -> bool {
+        self.state.is_held_up(shares)
+    }
+
+    /// The same of what an advance of the clock to `t` would close. Not where there is no memory to find that out.
+    pub fn is_advance_held_up(&self, t: u64) -> bool {
+        self.state.is_advance_held_up(t)
+    }
+
+    /// How many entries of the audit wait to be handed out.
+    pub fn audit_waiting(&self) -> u32 {
+        self.state.audit_waiting()
     }
 
     /// Hands out the oldest `most` of the audit's entries that wait, or all if there are fewer.

@@ -37,6 +37,23 @@ impl Engine {
         Ok(closing)
     }
 
+    /// Whether what an advance of the clock to `t` would close has no room in the queue of one that is served until some of what
+    /// waits is pulled, and has room then. Not where there is no memory to find that out.
+    pub(crate) fn is_advance_held_up(&self, t: u64) -> bool {
+        match self.subscriptions.served() {
+            Ok(served) => served.iter().any(|who| self.is_closing_held_up(who.sub, t)),
+            Err(_) => false,
+        }
+    }
+
+    /// The same of one subscription.
+    fn is_closing_held_up(&self, sub: u64, t: u64) -> bool {
+        match self.groups.closing(sub, t) {
+            Ok(given) => self.subscriptions.is_held_up(&Share { sub, given }),
+            Err(_) => false,
+        }
+    }
+
     /// What it closes for each that is served, where the limits leave room for that; the others are cut.
     ///
     /// # Errors

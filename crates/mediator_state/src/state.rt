@@ -17,6 +17,7 @@ use disclosure_audit::AuditEntry;
 use event_journal::{Chronicle, Entry, PolicyText};
 use hash_keys::HashKeys;
 use ipfix_session::Reading;
+use live_subscriptions::Share;
 use policy_text::{FaultKind, Name, Policy, PolicyFault, is_name};
 use prepared_message::{JudgedAhead, Prepared, Snapshot};
 use record_sharing::Judgement;
@@ -475,6 +476,24 @@ impl<C: Chronicle + Drop> State<C> {
             shapes: kept.stream.shapes(),
             cut: kept.is_cut,
         })
+    }
+
+    /// Whether one of these shares, which a message would give, has no room in its subscription's queue until some of what waits
+    /// is pulled, and has room then: so that the message cuts a subscription now, and may not cut it later. It takes no memory.
+    pub fn is_held_up(&self, shares: &[Share]) -> bool {
+        let subscriptions = &self.engine.subscriptions;
+        shares.iter().any(|share| subscriptions.is_held_up(share))
+    }
+
+    /// The same of what an advance of the clock to `t` would close. Not where there is no memory to find that out.
+    pub fn is_advance_held_up(&self, t: u64) -> bool {
+        self.engine.is_advance_held_up(t)
+    }
+
+    /// How many entries of the audit wait to be handed out.
+    pub fn audit_waiting(&self) -> u32 {
+        let audit = &self.engine.audit;
+        audit.limit().saturating_sub(audit.room())
     }
 
     /// Hands out the oldest `most` of the audit's entries that wait, or all if there are fewer.

@@ -8,6 +8,7 @@ use crate::snapshot::Snapshot;
 use bytes::Bytes;
 use ipfix_message::{items, read_header};
 use ipfix_template::Template;
+use live_subscriptions::Share;
 use record_runs::{Records, Run};
 use record_sharing::{Judgement, Workspace};
 use std::marker::Model;
@@ -74,6 +75,11 @@ impl JudgedAhead {
             records,
             judgement,
         }))
+    }
+
+    /// What the records would give to each subscription on the snapshot's terms.
+    pub fn shares(&self) -> &[Share] {
+        self.judgement.shares()
     }
 
     /// The judgement, where it is of these records of this domain. It takes no memory.

@@ -16,6 +16,7 @@ use crate::used::{Used, are_in_force};
 use bytes::Bytes;
 use ipfix_message::Header;
 use ipfix_session::{Contents, Read, Reading, Session};
+use live_subscriptions::Share;
 use record_runs::Records;
 use record_sharing::{Judgement, Workspace};
 use std::alloc::{AllocError, Global};
@@ -137,6 +138,14 @@ impl Prepared {
             judgement: _,
         } = self;
         message
+    }
+
+    /// What the records would give to each subscription on the snapshot's terms; nothing where they were not judged.
+    pub fn shares(&self) -> &[Share] {
+        match &self.judgement {
+            Some(judgement) => judgement.shares(),
+            None => &[],
+        }
     }
 
     /// What was judged of the records on the snapshot's terms, if it wasn't taken yet. It takes no memory.

@@ -8,7 +8,7 @@ ghost use Rattle.record_sharing.specs.Judgements.{AreSharesOf, IsJudgementOf};
 use crate::in_force::InForce;
 use crate::shares::Shares;
 use crate::terms::Terms;
-use live_subscriptions::Served;
+use live_subscriptions::{Served, Share};
 use std::sync::Arc;
 
 /// The shares of a message's records, with the terms by which they were judged. Contracts say by `IsJudgementOf` of which records
@@ -20,6 +20,13 @@ pub struct Judgement {
 }
 
 impl Judgement {
+    /// What the records give to each subscription that was served, in their order.
+    pub fn shares(&self) -> &[Share]
+        ensures { result.now ≡ self.now.shares.shares.items }
+    {
+        self.shares.shares.as_slice()
+    }
+
     /// The shares, where they were judged by what is in force, for these subscriptions, with so many notes at most. Nothing is
     /// judged.
     pub fn shares_by(self, in_force: &InForce, served: &[Served<'_>], most: u64) -> Option<Shares>

@@ -12,9 +12,11 @@ ghost use Rattle.shared_mediator.specs.Calls.{Makes, Adds, RefusesExporter, Refu
 
 use crate::delivery::Waited;
 use crate::fault::HandleFault;
+use crate::fill::Fill;
 use crate::ledgers::{EntryLedger, RecordLedger};
 use bytes::Bytes;
 use disclosure_audit::AuditEntry;
+use live_subscriptions::Share as Given;
 use mediator_calls::{CountedMediator, Handed, Mediator, PullFault, SessionId, SubId, UnknownSub};
 use mediator_state::{Fault, Receipt, Status};
 use prepared_message::{JudgedAhead, Prepared, Snapshot};
@@ -354,6 +356,26 @@ impl<E: EntryLedger, H: RecordLedger> Desk<E, H> {
         ensures err { OnErr result (is_live sub.0 self.now.counted.core.history ≡ false) }
     {
         self.counted.status(sub)
+    }
+
+    /// Whether one of these shares has no room in its subscription's queue until some of what waits is pulled.
+    pub(crate) fn is_held_up(&self, shares: &[Given]) -> bool {
+        self.counted.is_held_up(shares)
+    }
+
+    /// The same of what an advance of the clock to `t` would close.
+    pub(crate) fn is_advance_held_up(&self, t: u64) -> bool {
+        self.counted.is_advance_held_up(t)
+    }
+
+    /// How full the journal and the audit are.
+    pub(crate) fn fill(&self) -> Fill {
+        let journal = self.counted.mediator().journal();
+        Fill {
+            entries: journal.len(),
+            octets: journal.octets(),
+            audit: self.counted.audit_waiting(),
+        }
     }
 
     /// All is to stop: a wait for which nothing is queued ends.

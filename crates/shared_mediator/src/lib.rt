@@ -5,7 +5,7 @@
 //! - `shared`: [`SharedMediator`]. `closing`: `SharedMediator::close`, with [`Closed`].
 //! - `exporter`, `delivery`, `admin`: [`ExporterHandle`], [`DeliveryHandle`] with [`Waited`], and [`AdminHandle`].
 //! - `desk`: what lies under the lock, and what each call does there. `ledgers`: [`EntryLedger`] and [`RecordLedger`].
-//! - `fault`: [`HandleFault`] and [`CloseFault`].
+//! - `fault`: [`HandleFault`] and [`CloseFault`]. `fill`: [`Fill`], how full the journal and the audit are.
 //!
 //! Proved: whenever the lock is taken, its mediator's state stands for its journal (`mediator_calls`), one book's total is the
 //! number of messages, edits, begins and ends of subscriptions and advances of the clock that came since `new`, and the
@@ -35,6 +35,7 @@ mod delivery;
 mod desk;
 mod exporter;
 mod fault;
+mod fill;
 mod ledgers;
 mod shared;
 
@@ -43,5 +44,6 @@ pub use closing::Closed;
 pub use delivery::{DeliveryHandle, Waited};
 pub use exporter::ExporterHandle;
 pub use fault::{CloseFault, HandleFault};
+pub use fill::Fill;
 pub use ledgers::{EntryLedger, RecordLedger};
 pub use shared::SharedMediator;

@@ -7,7 +7,9 @@ use crate::delivery::DeliveryHandle;
 use crate::desk::Desk;
 use crate::exporter::ExporterHandle;
 use crate::fault::HandleFault;
+use crate::fill::Fill;
 use crate::ledgers::{EntryLedger, RecordLedger};
+use live_subscriptions::Share;
 use mediator_calls::{Mediator, SubId};
 use std::alloc::Global;
 use std::sync::ledger::Blank;
@@ -89,6 +91,22 @@ impl<E: EntryLedger, H: RecordLedger> SharedMediator<E, H> {
     /// Wakes the deliveries that wait, so that each looks whether something is queued for it.
     pub fn wake(&self) {
         self.moved.notify_all();
+    }
+
+    /// Whether one of these shares, which a message would give, has no room in its subscription's queue until some of what waits
+    /// is pulled, and has room then: so that the message cuts a subscription now, and may not cut it later.
+    pub fn is_held_up(&self, rt: &impl Wait, shares: &[Share]) -> bool {
+        self.locked(rt).is_held_up(shares)
+    }
+
+    /// The same of what an advance of the clock to `t` would close. Not where there is no memory to find that out.
+    pub fn is_advance_held_up(&self, rt: &impl Wait, t: u64) -> bool {
+        self.locked(rt).is_advance_held_up(t)
+    }
+
+    /// How full the journal and the audit are now.
+    pub fn fill(&self, rt: &impl Wait) -> Fill {
+        self.locked(rt).fill()
     }
 
     /// Whether a call of [`exporter`](SharedMediator::exporter) or through a handle was refused since the journal is full.

@@ -146,6 +146,15 @@ impl Stream {
             && has_shape_room(&self.shapes, records.runs(), self.limits.shapes)
     }
 
+    /// Whether these records have no room in the queue until some of what waits is pulled, and have room then. It takes no
+    /// memory.
+    pub fn is_held_up(&self, records: &Records) -> bool
+        ensures { IsTrue result ↔ (self.now.limits.queue < queued self.now.standing + length records.now) × (length records.now ≤ self.now.limits.queue) }
+    {
+        let (count, most) = (records.len(), self.limits.queue as usize);
+        count <= most && self.queued() as usize + count > most
+    }
+
     /// Makes room for these records.
     ///
     /// # Errors
