@@ -41,6 +41,11 @@ REFUSED = {
     "deliver": ['"127.0.0.1:4740"', "[]", "{ acme = 4740 }", '{ acme = "127.0.0.1:4740", beta = {} }'],
     "journal": ["1", "false", '["/nowhere/journal"]', '{ path = "/nowhere/journal" }'],
     "runs": ["0", "1001", "-1", '"5"', "5.0", "[5]"],
+    "idle": ["0", "86401", "-1", '"60"', "60.0", "false"],
+    "reconnect": ["0", "3601", "-1", '"5"', "true"],
+    "hold": ["0", "60001", "-100", "1e3", "[100]"],
+    "drain": ["0", "86401", "-1", '"30"', "{ seconds = 30 }"],
+    "endless": ["0", "1", '"true"', '"false"', "[true]", "{}"],
 }
 
 # Values at the ends of the ranges, and texts that are judged elsewhere.
@@ -60,6 +65,11 @@ TAKEN = {
     "deliver": ["{}", '{ "No NAME" = "" }'],
     "journal": ['"/nowhere/journal"'],
     "runs": ["1", "1000"],
+    "idle": ["1", "86400"],
+    "reconnect": ["1", "3600"],
+    "hold": ["1", "60000", "60_000"],
+    "drain": ["1", "86400"],
+    "endless": ["true", "false"],
 }
 
 # Texts that are no TOML.
@@ -93,6 +103,12 @@ FIRST_BEHIND_TURNS = [
     ({"runs": "0", "journal": "1", "deliver": None}, "deliver"),
     ({"runs": "0", "journal": "1"}, "journal"),
     ({"runs": "0", "journal": '"/nowhere/journal"'}, "runs"),
+    ({"endless": "1", "drain": "0", "hold": "0", "reconnect": "0", "idle": "0", "runs": "0"}, "runs"),
+    ({"endless": "1", "drain": "0", "hold": "0", "reconnect": "0", "idle": "0"}, "idle"),
+    ({"endless": "1", "drain": "0", "hold": "0", "reconnect": "0", "idle": "1"}, "reconnect"),
+    ({"endless": "1", "drain": "0", "hold": "0", "reconnect": "1"}, "hold"),
+    ({"endless": "1", "drain": "0", "hold": "1"}, "drain"),
+    ({"endless": "1", "drain": "1"}, "endless"),
 ]
 
 PASS_ALL = "policy 1\nrule for * in * from * to * pass\nrule for * in * from * to * element * keep\n"

@@ -157,6 +157,68 @@ const REFUSED: &[(&str, Key)] = &[
     ("runs = 0\njournal = \"run\"\ndeliver = {}\n", Key::Runs),
 ];
 
+/// What may stand behind an empty table of collectors, and the numbers that are read: those of idle, reconnect, hold and drain; and
+/// whether a run is endless.
+const WAITS: &[(&str, [Option<u64>; 4], bool)] = &[
+    ("", [None, None, None, None], false),
+    ("idle = 1\n", [Some(1), None, None, None], false),
+    ("idle = 86400\n", [Some(86400), None, None, None], false),
+    ("reconnect = 1\n", [None, Some(1), None, None], false),
+    ("reconnect = 3600\n", [None, Some(3600), None, None], false),
+    ("hold = 1\n", [None, None, Some(1), None], false),
+    ("hold = 60000\n", [None, None, Some(60000), None], false),
+    ("drain = 1\n", [None, None, None, Some(1)], false),
+    ("drain = 86400\n", [None, None, None, Some(86400)], false),
+    ("endless = true\n", [None, None, None, None], true),
+    ("endless = false\n", [None, None, None, None], false),
+    (
+        "endless = true\ndrain = 4\nhold = 3\nreconnect = 2\nidle = 1\n",
+        [Some(1), Some(2), Some(3), Some(4)],
+        true,
+    ),
+    // Below another key they are other keys.
+    (
+        "[log]\nendless = 1\nidle = 0\n",
+        [None, None, None, None],
+        false,
+    ),
+];
+
+/// What may not, and the key at fault: of another type, out of its range, or the first of several.
+const REFUSED_WAITS: &[(&str, Key)] = &[
+    ("idle = 0\n", Key::Idle),
+    ("idle = 86401\n", Key::Idle),
+    ("idle = -1\n", Key::Idle),
+    ("idle = \"60\"\n", Key::Idle),
+    ("idle = 60.0\n", Key::Idle),
+    ("reconnect = 0\n", Key::Reconnect),
+    ("reconnect = 3601\n", Key::Reconnect),
+    ("reconnect = true\n", Key::Reconnect),
+    ("hold = 0\n", Key::Hold),
+    ("hold = 60001\n", Key::Hold),
+    ("hold = [1]\n", Key::Hold),
+    ("drain = 0\n", Key::Drain),
+    ("drain = 86401\n", Key::Drain),
+    ("drain = {}\n", Key::Drain),
+    ("endless = 0\n", Key::Endless),
+    ("endless = 1\n", Key::Endless),
+    ("endless = \"true\"\n", Key::Endless),
+    (
+        "endless = 0\ndrain = 0\nhold = 0\nreconnect = 0\nidle = 0\nruns = 0\n",
+        Key::Runs,
+    ),
+    (
+        "endless = 0\ndrain = 0\nhold = 0\nreconnect = 0\nidle = 0\n",
+        Key::Idle,
+    ),
+    (
+        "endless = 0\ndrain = 0\nhold = 0\nreconnect = 0\n",
+        Key::Reconnect,
+    ),
+    ("endless = 0\ndrain = 0\nhold = 0\n", Key::Hold),
+    ("endless = 0\ndrain = 0\n", Key::Drain),
+];
+
 /// Settings with this behind the turns, read.
 fn read_last(alloc: Global, last: &str) -> Result<Result<Settings, SettingsFault>, AllocError> {
     let text = format!(in alloc; "{FRONT}{last}")?;
@@ -199,6 +261,55 @@ fn expect_refused(rt: &impl Abort, alloc: Global) -> Result<(), AllocError> {
         let answer = read_last(alloc, last)?;
         assert!(rt; is_at_fault(&answer, *key), "{last}");
     }
+    Ok(())
+}
+
+/// Whether settings were read with these numbers of idle, reconnect, hold and drain, and this of endless.
+fn has_waits(
+    answer: &Result<Settings, SettingsFault>,
+    waits: &[Option<u64>; 4],
+    endless: bool,
+) -> bool {
+    match answer {
+        Ok(settings) => {
+            [
+                settings.idle,
+                settings.reconnect,
+                settings.hold,
+                settings.drain,
+            ] == *waits
+                && settings.endless == endless
+        }
+        Err(_) => false,
+    }
+}
+
+/// Settings with this behind an empty table of collectors, read.
+fn read_waits(alloc: Global, last: &str) -> Result<Result<Settings, SettingsFault>, AllocError> {
+    let last = format!(in alloc; "deliver = {{}}\n{last}")?;
+    read_last(alloc, last.as_str())
+}
+
+fn expect_waits(rt: &impl Abort, alloc: Global) -> Result<(), AllocError> {
+    for (last, waits, endless) in WAITS {
+        let answer = read_waits(alloc, last)?;
+        assert!(rt; has_waits(&answer, waits, *endless), "{last}");
+    }
+    Ok(())
+}
+
+fn expect_refused_waits(rt: &impl Abort, alloc: Global) -> Result<(), AllocError> {
+    for (last, key) in REFUSED_WAITS {
+        let answer = read_waits(alloc, last)?;
+        assert!(rt; is_at_fault(&answer, *key), "{last}");
+    }
+    Ok(())
+}
+
+#[test]
+fn waits_and_endless(rt: HostRuntime) -> Result<(), Fail> {
+    expect_waits(&rt, rt.alloc())?;
+    expect_refused_waits(&rt, rt.alloc())?;
     Ok(())
 }
 

@@ -4,7 +4,7 @@ use Rattle.sequences.specs.Results.{◌>>=◌}
 use Rattle.toml.specs.Data.{Members}
 use Rattle.toml.specs.Parse.{parse_document}
 use Rattle.serve_settings.specs.declared.key.Key.{Key}
-use Rattle.serve_settings.specs.declared.key.Key.TheVariants.{Exporters, Admin, Policy, Connections, Target, Workers, Queue, Shapes, Audit, JournalEntries, JournalOctets, Turns, Deliver, Journal, Runs}
+use Rattle.serve_settings.specs.declared.key.Key.TheVariants.{Exporters, Admin, Policy, Connections, Target, Workers, Queue, Shapes, Audit, JournalEntries, JournalOctets, Turns, Deliver, Journal, Runs, Idle, Reconnect, Hold, Drain, Endless}
 use Rattle.serve_settings.specs.declared.fault.SettingsFault.{SettingsFault}
 use Rattle.serve_settings.specs.declared.fault.SettingsFault.TheVariants as fault
 use Rattle.serve_settings.specs.declared.reading.TheConstants.{LONGEST_TEXT}
@@ -12,7 +12,7 @@ use Rattle.serve_settings.specs.Asked.{Asked}
 use Rattle.serve_settings.specs.Faults.{has, keys, lacking, IsFaultOf}
 use Rattle.serve_settings.specs.Reading.{limits_in, settings_in}
 use Rattle.serve_settings.specs.Results.{Gives, needed}
-use Rattle.serve_settings.specs.Values.{text_in, text_or_none_in, number_in, number_or_in, collectors_in}
+use Rattle.serve_settings.specs.Values.{text_in, text_or_none_in, number_in, number_or_in, number_or_none_in, flag_or_false_in, collectors_in}
 use Rattle.subscriber_stream.specs.declared.limits.TheConstants.{MOST_QUEUE, MOST_SHAPES}
 use Rattle.disclosure_audit.specs.declared.audit.TheConstants.{MOST_ENTRIES as MOST_AUDITED}
 use Rattle.event_journal.specs.declared.limits.TheConstants.{MOST_ENTRIES, MOST_OCTETS}
@@ -65,7 +65,12 @@ settings_in-judges table =
     step table Turns _ (number_in Turns 1 1000000000 table) _ refl (λ turns.
     step table Deliver _ (collectors_in Deliver table) _ refl (λ collectors.
     step table Journal _ (text_or_none_in Journal table) _ refl (λ journal.
-    step table Runs [] (number_or_in Runs 1 1 1000 table) _ refl (λ runs. record { judged = tt })))))))))))))))
+    step table Runs _ (number_or_in Runs 1 1 1000 table) _ refl (λ runs.
+    step table Idle _ (number_or_none_in Idle 1 86400 table) _ refl (λ idle.
+    step table Reconnect _ (number_or_none_in Reconnect 1 3600 table) _ refl (λ reconnect.
+    step table Hold _ (number_or_none_in Hold 1 60000 table) _ refl (λ hold.
+    step table Drain _ (number_or_none_in Drain 1 86400 table) _ refl (λ drain.
+    step table Endless [] (flag_or_false_in Endless table) _ refl (λ endless. record { judged = tt }))))))))))))))))))))
 
 of_table : (text : List ℕ) (table : Members) (f : SettingsFault) → length text ≤ LONGEST_TEXT → parse_document text ≡ Some table → settings_in table ≡ Err f → IsFaultOf f text
 of_table text table f short parsed fails = by_first f (subst (λ (r : Result Asked SettingsFault). Judges table keys r) fails (settings_in-judges table)).judged

@@ -1,5 +1,5 @@
 -- What settings ask for, in texts and numbers.
-use Rattle.std.specs.Prelude.{ℕ, List, map, Option, option_map, string_bytes, Vec}
+use Rattle.std.specs.Prelude.{ℕ, Bool, List, map, Option, option_map, string_bytes, Vec}
 use Rattle.std.specs.declared.alloc.Global.{Global}
 use Rattle.mediator_calls.specs.declared.limits.Limits.{Limits}
 use Rattle.serve_settings.specs.declared.settings.Settings.{Settings}
@@ -21,6 +21,11 @@ pub record Asked : Type 0 where
   pub collectors : List Pair
   pub journal : Option (List ℕ)
   pub runs : ℕ
+  pub idle : Option ℕ
+  pub reconnect : Option ℕ
+  pub hold : Option ℕ
+  pub drain : Option ℕ
+  pub endless : Bool
 
 abbrev pub pair : Collector → Pair
 pair collector = (string_bytes collector.subscriber, string_bytes collector.address)
@@ -42,4 +47,9 @@ asked settings = record {
   collectors = pairs settings.collectors;
   journal = option_map string_bytes settings.journal;
   runs = settings.runs;
+  idle = settings.idle;
+  reconnect = settings.reconnect;
+  hold = settings.hold;
+  drain = settings.drain;
+  endless = settings.endless;
 }

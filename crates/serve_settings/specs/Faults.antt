@@ -7,13 +7,13 @@ use Rattle.subscriber_stream.specs.declared.limits.TheConstants.{MOST_QUEUE, MOS
 use Rattle.disclosure_audit.specs.declared.audit.TheConstants.{MOST_ENTRIES as MOST_AUDITED}
 use Rattle.event_journal.specs.declared.limits.TheConstants.{MOST_ENTRIES, MOST_OCTETS}
 use Rattle.serve_settings.specs.declared.key.Key.{Key}
-use Rattle.serve_settings.specs.declared.key.Key.TheVariants.{Exporters, Admin, Policy, Connections, Target, Workers, Queue, Shapes, Audit, JournalEntries, JournalOctets, Turns, Deliver, Journal, Runs}
+use Rattle.serve_settings.specs.declared.key.Key.TheVariants.{Exporters, Admin, Policy, Connections, Target, Workers, Queue, Shapes, Audit, JournalEntries, JournalOctets, Turns, Deliver, Journal, Runs, Idle, Reconnect, Hold, Drain, Endless}
 use Rattle.serve_settings.specs.declared.fault.SettingsFault.{SettingsFault}
 use Rattle.serve_settings.specs.declared.fault.SettingsFault.TheVariants as fault
 use Rattle.serve_settings.specs.declared.reading.TheConstants.{LONGEST_TEXT}
-use Rattle.serve_settings.specs.Values.{text_in, text_or_none_in, number_in, number_or_in, collectors_in}
+use Rattle.serve_settings.specs.Values.{text_in, text_or_none_in, number_in, number_or_in, number_or_none_in, flag_or_false_in, collectors_in}
 
--- whether a table has a value at a key that the key may have; Journal and Runs may be absent too
+-- whether a table has a value at a key that the key may have; those from Journal on may be absent too
 abbrev pub has : Members → Key → Bool
 has table Exporters = is_some (text_in Exporters table)
 has table Admin = is_some (text_in Admin table)
@@ -30,10 +30,16 @@ has table Turns = is_some (number_in Turns 1 1000000000 table)
 has table Deliver = is_some (collectors_in Deliver table)
 has table Journal = is_some (text_or_none_in Journal table)
 has table Runs = is_some (number_or_in Runs 1 1 1000 table)
+has table Idle = is_some (number_or_none_in Idle 1 86400 table)
+has table Reconnect = is_some (number_or_none_in Reconnect 1 3600 table)
+has table Hold = is_some (number_or_none_in Hold 1 60000 table)
+has table Drain = is_some (number_or_none_in Drain 1 86400 table)
+has table Endless = is_some (flag_or_false_in Endless table)
 
 -- the keys, in the order in which they are judged
 abbrev pub keys : List Key
-keys = Exporters ∷ Admin ∷ Policy ∷ Connections ∷ Target ∷ Workers ∷ Queue ∷ Shapes ∷ Audit ∷ JournalEntries ∷ JournalOctets ∷ Turns ∷ Deliver ∷ Journal ∷ Runs ∷ []
+keys = Exporters ∷ Admin ∷ Policy ∷ Connections ∷ Target ∷ Workers ∷ Queue ∷ Shapes ∷ Audit ∷ JournalEntries ∷ JournalOctets ∷ Turns ∷ Deliver ∷ Journal ∷ Runs
+    ∷ Idle ∷ Reconnect ∷ Hold ∷ Drain ∷ Endless ∷ []
 
 -- the first key that a table lacks
 abbrev pub lacking : Members → Option Key

@@ -21,6 +21,11 @@ name_of key.Turns = codes "turns"
 name_of key.Deliver = codes "deliver"
 name_of key.Journal = codes "journal"
 name_of key.Runs = codes "runs"
+name_of key.Idle = codes "idle"
+name_of key.Reconnect = codes "reconnect"
+name_of key.Hold = codes "hold"
+name_of key.Drain = codes "drain"
+name_of key.Endless = codes "endless"
 
 abbrev pub text_of_fault : SettingsFault → List ℕ
 text_of_fault fault.TooLong = codes "length"

@@ -8,12 +8,12 @@ use Rattle.subscriber_stream.specs.declared.limits.TheConstants.{MOST_QUEUE, MOS
 use Rattle.disclosure_audit.specs.declared.audit.TheConstants.{MOST_ENTRIES as MOST_AUDITED}
 use Rattle.event_journal.specs.declared.limits.TheConstants.{MOST_ENTRIES, MOST_OCTETS}
 use Rattle.mediator_calls.specs.declared.limits.Limits.{Limits}
-use Rattle.serve_settings.specs.declared.key.Key.TheVariants.{Exporters, Admin, Policy, Connections, Target, Workers, Queue, Shapes, Audit, JournalEntries, JournalOctets, Turns, Journal, Runs}
+use Rattle.serve_settings.specs.declared.key.Key.TheVariants.{Exporters, Admin, Policy, Connections, Target, Workers, Queue, Shapes, Audit, JournalEntries, JournalOctets, Turns, Journal, Runs, Idle, Reconnect, Hold, Drain, Endless}
 use Rattle.serve_settings.specs.declared.fault.SettingsFault.{SettingsFault}
 use Rattle.serve_settings.specs.declared.fault.SettingsFault.TheVariants.{TooLong, Toml}
 use Rattle.serve_settings.specs.declared.reading.TheConstants.{LONGEST_TEXT}
 use Rattle.serve_settings.specs.Asked.{Asked}
-use Rattle.serve_settings.specs.Values.{text_at, text_or_none, number_at, number_or, collectors_at}
+use Rattle.serve_settings.specs.Values.{text_at, text_or_none, number_at, number_or, number_or_none, flag_or_false, collectors_at}
 
 -- the limits of the mediator
 unfoldable pub limits_in : Members → Result Limits SettingsFault
@@ -39,6 +39,11 @@ settings_in table = do
   collectors ← collectors_at table
   journal ← text_or_none Journal table
   runs ← number_or Runs 1 1 1000 table
+  idle ← number_or_none Idle 1 86400 table
+  reconnect ← number_or_none Reconnect 1 3600 table
+  hold ← number_or_none Hold 1 60000 table
+  drain ← number_or_none Drain 1 86400 table
+  endless ← flag_or_false Endless table
   Ok (record {
     exporters = exporters;
     admin = admin;
@@ -51,6 +56,11 @@ settings_in table = do
     collectors = collectors;
     journal = journal;
     runs = runs;
+    idle = idle;
+    reconnect = reconnect;
+    hold = hold;
+    drain = drain;
+    endless = endless;
   })
 
 -- the table that a text is

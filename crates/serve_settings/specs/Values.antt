@@ -1,9 +1,9 @@
 -- What stands at a key of a table.
-use Rattle.std.specs.Prelude.{ℕ, ℤ, pos, negsuc, nat_le, ◌&&◌, List, [], ◌∷◌, map, Option, Some, None, Result, if◌then◌else◌, option_and_then, option_map}
+use Rattle.std.specs.Prelude.{ℕ, ℤ, pos, negsuc, nat_le, Bool, false, ◌&&◌, List, [], ◌∷◌, map, Option, Some, None, Result, if◌then◌else◌, option_and_then, option_map}
 use Rattle.std.specs.List.Sorted.{IsStrictlySortedBy}
 use Rattle.std.specs.Cmp.Lexicographic.{slice_cmp}
 use Rattle.std.specs.Ordering.{nat_cmp}
-use Rattle.toml.specs.Data.{Data, Members, no_members, member, as_str, as_integer, as_table, get_member}
+use Rattle.toml.specs.Data.{Data, Members, no_members, member, as_bool, as_str, as_integer, as_table, get_member}
 use Rattle.sequences.specs.Options.{◌>>=◌}
 use Rattle.serve_settings.specs.declared.key.Key.{Key}
 use Rattle.serve_settings.specs.declared.key.Key.TheVariants as key
@@ -49,6 +49,20 @@ number_or_in k absent least most table = read_or absent (λ value. option_and_th
 
 abbrev pub number_or : Key → ℕ → ℕ → ℕ → Members → Result ℕ SettingsFault
 number_or k absent least most table = needed k (number_or_in k absent least most table)
+
+-- the number at a key, where it is from least to most, or none where the key is absent
+abbrev pub number_or_none_in : Key → ℕ → ℕ → Members → Option (Option ℕ)
+number_or_none_in k least most table = read_or None (λ value. option_map Some (option_and_then (within least most) (as_integer value))) (get_member (name_of k) table)
+
+abbrev pub number_or_none : Key → ℕ → ℕ → Members → Result (Option ℕ) SettingsFault
+number_or_none k least most table = needed k (number_or_none_in k least most table)
+
+-- whether a key says yes; where it is absent it says no
+abbrev pub flag_or_false_in : Key → Members → Option Bool
+flag_or_false_in k table = read_or false as_bool (get_member (name_of k) table)
+
+abbrev pub flag_or_false : Key → Members → Result Bool SettingsFault
+flag_or_false k table = needed k (flag_or_false_in k table)
 
 -- each key of a table is a subscriber, and its value the address, which is a text
 abbrev pub collectors_of : Members → Option (List Pair)

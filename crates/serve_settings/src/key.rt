@@ -2,8 +2,8 @@
 
 use std::fmt::{self, Display, Formatter, Write};
 
-/// A key of settings, in the order in which they are judged. `Journal` and `Runs` may be absent, the others must be there.
-/// Its text is the key as the settings have it.
+/// A key of settings, in the order in which they are judged. Those from `Journal` on may be absent, the others must be
+/// there. Its text is the key as the settings have it.
 #[derive(Clone, Copy, Debug, PartialEq, Eq)]
 pub enum Key {
     /// Where exporters connect.
@@ -36,6 +36,16 @@ pub enum Key {
     Journal,
     /// How many runs may follow each other.
     Runs,
+    /// How long an exporter may send nothing.
+    Idle,
+    /// How long it takes until a collector that has gone is tried again.
+    Reconnect,
+    /// How long a message waits for room in the queues.
+    Hold,
+    /// How long the end of a run waits for collectors.
+    Drain,
+    /// Whether a run goes on when as many exporters have come as are accepted.
+    Endless,
 }
 
 impl Key {
@@ -62,6 +72,11 @@ impl Key {
             Key::Deliver => "deliver",
             Key::Journal => "journal",
             Key::Runs => "runs",
+            Key::Idle => "idle",
+            Key::Reconnect => "reconnect",
+            Key::Hold => "hold",
+            Key::Drain => "drain",
+            Key::Endless => "endless",
         }
     }
 }

@@ -11,7 +11,9 @@ ghost use Rattle.serve_settings.specs.Values.{Ascend};
 use crate::fault::SettingsFault;
 use crate::key::Key;
 use crate::settings::Settings;
-use crate::values::{collectors_at, number_at, number_or, text_at, text_or_none};
+use crate::values::{
+    collectors_at, flag_or_false, number_at, number_or, number_or_none, text_at, text_or_none,
+};
 use event_journal::{MOST_ENTRIES, MOST_OCTETS};
 use ipfix_octets::message_format::{HEADER_OCTETS, LONGEST_MESSAGE};
 use mediator_calls::Limits;
@@ -46,6 +48,18 @@ const USUAL_RUNS: u64 = 1;
 
 /// The most runs that may follow each other.
 const MOST_RUNS: u64 = 1000;
+
+/// The most seconds that an exporter may send nothing: a day.
+const MOST_IDLE: u64 = 86_400;
+
+/// The most seconds until a collector is tried again: an hour.
+const MOST_RECONNECT: u64 = 3600;
+
+/// The most milliseconds that a message waits for room: a minute.
+const MOST_HOLD: u64 = 60_000;
+
+/// The most seconds that the end of a run waits for collectors: a day.
+const MOST_DRAIN: u64 = 86_400;
 
 /// Reads settings from a TOML document, whose keys are those that [`Key`] names. Other keys are ignored.
 ///
@@ -92,6 +106,11 @@ fn settings_in(alloc: Global, table: &Table) -> Result<Settings, SettingsFault>
         collectors: collectors_at(alloc, table)?,
         journal: text_or_none(alloc, table, Key::Journal)?,
         runs: number_or(table, Key::Runs, USUAL_RUNS, 1, MOST_RUNS)?,
+        idle: number_or_none(table, Key::Idle, 1, MOST_IDLE)?,
+        reconnect: number_or_none(table, Key::Reconnect, 1, MOST_RECONNECT)?,
+        hold: number_or_none(table, Key::Hold, 1, MOST_HOLD)?,
+        drain: number_or_none(table, Key::Drain, 1, MOST_DRAIN)?,
+        endless: flag_or_false(table, Key::Endless)?,
     })
 }
 

@@ -11,7 +11,7 @@ pub struct Settings {
     pub admin: String,
     /// The path of the file with the first policy.
     pub policy: String,
-    /// How many connections of exporters are accepted, 1 to 1,000.
+    /// How many connections of exporters are accepted in a run, 1 to 1,000.
     pub connections: u32,
     /// How many octets a message to a collector may have, 16 to 65,535.
     pub target: u16,
@@ -27,6 +27,17 @@ pub struct Settings {
     pub journal: Option<String>,
     /// How many runs may follow each other, 1 to 1,000.
     pub runs: u64,
+    /// After how many seconds without an octet an exporter's connection is closed, 1 to 86,400. None: never.
+    pub idle: Option<u64>,
+    /// After how many seconds a collector that refuses or has gone is tried again, 1 to 3,600. None: never.
+    pub reconnect: Option<u64>,
+    /// How many milliseconds at most a message waits for room in the queues, 1 to 60,000. None: it doesn't wait.
+    pub hold: Option<u64>,
+    /// How many seconds at most the end of a run waits for collectors, 1 to 86,400. None: as long as they take what is queued.
+    pub drain: Option<u64>,
+    /// Whether a run goes on when as many exporters have come as are accepted. Then `connections` says how many may be open at a
+    /// time.
+    pub endless: bool,
 }
 
 /// Where a subscriber's messages are sent.

@@ -6,7 +6,7 @@ ghost use Rattle.serve_settings.specs.declared.key.Key.TheVariants as key;
 ghost use Rattle.serve_settings.specs.Asked.{pair, pairs};
 ghost use Rattle.serve_settings.specs.Names.{name_of};
 ghost use Rattle.serve_settings.specs.Results.{Gives, needed};
-ghost use Rattle.serve_settings.specs.Values.{text_in, text_at, text_or_none, within, number_in, number_at, number_or_in, number_or, collectors_of, collectors_at, Ascend};
+ghost use Rattle.serve_settings.specs.Values.{text_in, text_at, text_or_none, within, number_in, number_at, number_or_in, number_or, number_or_none_in, number_or_none, flag_or_false_in, flag_or_false, collectors_of, collectors_at, Ascend};
 
 use crate::fault::SettingsFault;
 use crate::key::Key;
@@ -105,6 +105,43 @@ fn number_or_in(table: &Table, key: Key, absent: u64, least: u64, most: u64) -> 
     match value_at(table, key) {
         Some(value) => number_of(value, least, most),
         None => Some(absent),
+    }
+}
+
+/// The number at a key, which has to be from `least` to `most`, or none where the key is absent.
+pub(crate) fn number_or_none(
+    table: &Table,
+    key: Key,
+    least: u64,
+    most: u64,
+) -> Result<Option<u64>, SettingsFault>
+    ensures { result ≡ number_or_none key least most (table_view table.now) }
+{
+    number_or_none_in(table, key, least, most).ok_or(SettingsFault::Key(key))
+}
+
+fn number_or_none_in(table: &Table, key: Key, least: u64, most: u64) -> Option<Option<u64>>
+    ensures { result ≡ number_or_none_in key least most (table_view table.now) }
+{
+    match value_at(table, key) {
+        Some(value) => Some(Some(number_of(value, least, most)?)),
+        None => Some(None),
+    }
+}
+
+/// Whether a key says `true`. Where it is absent it says `false`.
+pub(crate) fn flag_or_false(table: &Table, key: Key) -> Result<bool, SettingsFault>
+    ensures { result ≡ flag_or_false key (table_view table.now) }
+{
+    flag_or_false_in(table, key).ok_or(SettingsFault::Key(key))
+}
+
+fn flag_or_false_in(table: &Table, key: Key) -> Option<bool>
+    ensures { result ≡ flag_or_false_in key (table_view table.now) }
+{
+    match value_at(table, key) {
+        Some(value) => value.as_bool(),
+        None => Some(false),
     }
 }
 
