@@ -87,8 +87,15 @@ OTHERS = [
     b"status 18446744073709551616",
     b"audit 0",
     b"audit 10001",
+    # Words before or behind the one that stands alone.
+    b"stop ",
+    b"stop 1",
+    b" stop",
+    b"stop\r",
     # Other names of commands.
     b"Status 1",
+    b"Stop",
+    b"stops",
     b"statu 1",
     b"statuses 1",
     b"open 1",
@@ -146,6 +153,17 @@ class AdminLines(ServeTest):
                 admin = self.start(subscribers=()).admin()
                 admin.send(line + b"\n")
                 self.assertEqual(admin.take_all(), b"err Line\n")
+
+    def test_stop(self):
+        """A stop ends the connection and the run, in which an exporter is still connected. Nothing behind it is answered."""
+        run = self.start()
+        admin, exporter, collector = run.admin(), run.exporter(), run.collector()
+        exporter.send(flows(0, FLOW, INSIDE))
+        wait_until(lambda: admin.ask("status 1") == "ok 0 1 live", "the record is handed out")
+        admin.send(b"stop\nstatus 1\n")
+        self.assertEqual(admin.take_all(), b"ok\n")
+        collector.take_all()
+        self.expect_served(run, 1, 1)
 
     def test_waiting(self):
         """A subscription that no collector takes from has its records in its queue."""

@@ -19,9 +19,9 @@ use Rattle.call_lists.specs.Grammar.{IsNumberLine}
 use Rattle.call_lists.specs.Lines.{greatest}
 use Rattle.admin_lines.specs.declared.command.Command.{Command}
 use Rattle.admin_lines.specs.Sayings.{Saying, saying}
-use Rattle.admin_lines.specs.Sayings.Saying.{to_edit, to_subscribe, to_unsubscribe, to_advance, to_tell_status, to_drain_audit}
+use Rattle.admin_lines.specs.Sayings.Saying.{to_edit, to_subscribe, to_unsubscribe, to_advance, to_tell_status, to_drain_audit, to_stop}
 use Rattle.admin_lines.specs.Grammar.{longest_line, longest_policy, most_audit_entries, IsSubscribeLine, AsksFor, IsCommandLine, IsSubscription}
-use Rattle.admin_lines.specs.Reading.{is_one_word, edit_of, subscribe_of, unsubscribe_of, advance_of, status_of, audit_of, some_entries, command_by, command_of, NamesSubscriber}
+use Rattle.admin_lines.specs.Reading.{is_one_word, edit_of, subscribe_of, unsubscribe_of, advance_of, status_of, audit_of, some_entries, command_alone, command_in, command_by, command_of, NamesSubscriber}
 use Rattle.admin_lines.proofs.ArgumentLaws.{lacks_from_test, test_from_lacks}
 
 -- a name, a space and an argument
@@ -117,12 +117,22 @@ words_found line said words cut e =
     let P : List ℕ → Type 0 = λ l. AsksFor said l in
     subst P (sym (cut_at-text 32 line words.0 words.1 cut)) (command_by-found words.0 words.1 said e)
 
-line_found : (line : List ℕ) (said : Saying) (long : Bool) → ltb longest_line (length line) ≡ long → cond long None (cut_at 32 line >>= λ words. command_by words.0 words.1) ≡ Some said → IsCommandLine said line
+alone_found : (line : List ℕ) (said : Saying) → command_alone line ≡ Some said → AsksFor said line
+unfolding command_alone
+alone_found line said e =
+    let found = cond_some (bytes_eq line (codes "stop")) to_stop said e in
+    let P : Saying → Type 0 = λ s. AsksFor s line in
+    subst P found.1 ((bytes_eq-Decides line (codes "stop")).0 found.0)
+
+found_in : (line : List ℕ) (said : Saying) (words : Option (List ℕ × List ℕ)) → cut_at 32 line ≡ words → command_in line words ≡ Some said → AsksFor said line
+found_in line said None cut e = alone_found line said e
+found_in line said (Some words) cut e = words_found line said words cut e
+
+line_found : (line : List ℕ) (said : Saying) (long : Bool) → ltb longest_line (length line) ≡ long → cond long None (command_in line (cut_at 32 line)) ≡ Some said → IsCommandLine said line
 line_found line said true is e = absurd (none-some said e)
 line_found line said false is e =
-    let words = bind_some (cut_at 32 line) _ said e in
     let within = ltb-false longest_line (length line) is in
-    record { fits = omega (arith, within); asks = words_found line said words.0 words.1 words.2 }
+    record { fits = omega (arith, within); asks = found_in line said (cut_at 32 line) refl e }
 
 pub command_of-found : (line : List ℕ) (said : Saying) → command_of line ≡ Some said → IsCommandLine said line
 unfolding command_of
@@ -173,41 +183,31 @@ subscribe_read name begun lacks =
     let word = test_from_lacks name lacks in
     rw (some, word) refl
 
--- the name of a command
-abbrev name_of : Saying → List ℕ
-name_of (to_edit octets) = codes "edit"
-name_of (to_subscribe name) = codes "subscribe"
-name_of (to_unsubscribe sub) = codes "unsubscribe"
-name_of (to_advance t) = codes "advance"
-name_of (to_tell_status sub) = codes "status"
-name_of (to_drain_audit max) = codes "audit"
+stop_read : (line : List ℕ) → line ≡ codes "stop" → command_of line ≡ Some to_stop
+unfolding command_of command_alone cut_at
+stop_read line is = rw is refl
 
-name_lacks : (said : Saying) → Lacks 32 (name_of said)
-name_lacks (to_edit octets) = (refl, (refl, (refl, (refl, tt))))
-name_lacks (to_subscribe name) = (refl, (refl, (refl, (refl, (refl, (refl, (refl, (refl, (refl, tt)))))))))
-name_lacks (to_unsubscribe sub) = (refl, (refl, (refl, (refl, (refl, (refl, (refl, (refl, (refl, (refl, (refl, tt)))))))))))
-name_lacks (to_advance t) = (refl, (refl, (refl, (refl, (refl, (refl, (refl, tt)))))))
-name_lacks (to_tell_status sub) = (refl, (refl, (refl, (refl, (refl, (refl, tt))))))
-name_lacks (to_drain_audit max) = (refl, (refl, (refl, (refl, (refl, tt)))))
+-- a line of a name and an argument, which is read by the name
+named_read : (name argument line : List ℕ) (said : Saying) → Lacks 32 name → line ≡ line_of name argument → length line ≤ longest_line → command_by name argument ≡ Some said → command_of line ≡ Some said
+named_read name argument line said lacks is fits read = line_by name argument line lacks is fits ∙ read
 
--- the argument, and that it is read
-pub record IsArgument (said : Saying) (line : List ℕ) : Type 0 where
-  pub argument : List ℕ
-  pub text : line ≡ line_of (name_of said) argument
-  pub read : command_by (name_of said) argument ≡ Some said
-
-argument_of : (said : Saying) (line : List ℕ) → AsksFor said line → IsArgument said line
-argument_of (to_edit octets) line is = record { argument = decimal octets; text = is.text; read = edit_read octets is.bound }
-argument_of (to_subscribe name) line is = record { argument = name; text = is.text; read = subscribe_read name is.begun is.word }
-argument_of (to_unsubscribe sub) line is = record { argument = decimal sub; text = is.text; read = unsubscribe_read sub is.bound }
-argument_of (to_advance t) line is = record { argument = decimal t; text = is.text; read = advance_read t is.bound }
-argument_of (to_tell_status sub) line is = record { argument = decimal sub; text = is.text; read = status_read sub is.bound }
-argument_of (to_drain_audit max) line is = record { argument = decimal max; text = is.number.text; read = audit_read max is.begun is.number.bound }
+asked_read : (said : Saying) (line : List ℕ) → length line ≤ longest_line → AsksFor said line → command_of line ≡ Some said
+asked_read (to_edit octets) line fits is =
+    named_read (codes "edit") (decimal octets) line (to_edit octets) (refl, (refl, (refl, (refl, tt)))) is.text fits (edit_read octets is.bound)
+asked_read (to_subscribe name) line fits is =
+    named_read (codes "subscribe") name line (to_subscribe name) (refl, (refl, (refl, (refl, (refl, (refl, (refl, (refl, (refl, tt))))))))) is.text fits (subscribe_read name is.begun is.word)
+asked_read (to_unsubscribe sub) line fits is =
+    named_read (codes "unsubscribe") (decimal sub) line (to_unsubscribe sub) (refl, (refl, (refl, (refl, (refl, (refl, (refl, (refl, (refl, (refl, (refl, tt))))))))))) is.text fits (unsubscribe_read sub is.bound)
+asked_read (to_advance t) line fits is =
+    named_read (codes "advance") (decimal t) line (to_advance t) (refl, (refl, (refl, (refl, (refl, (refl, (refl, tt))))))) is.text fits (advance_read t is.bound)
+asked_read (to_tell_status sub) line fits is =
+    named_read (codes "status") (decimal sub) line (to_tell_status sub) (refl, (refl, (refl, (refl, (refl, (refl, tt)))))) is.text fits (status_read sub is.bound)
+asked_read (to_drain_audit max) line fits is =
+    named_read (codes "audit") (decimal max) line (to_drain_audit max) (refl, (refl, (refl, (refl, (refl, tt))))) is.number.text fits (audit_read max is.begun is.number.bound)
+asked_read to_stop line fits is = stop_read line is
 
 pub command_of-only : (line : List ℕ) (said : Saying) → IsCommandLine said line → command_of line ≡ Some said
-command_of-only line said is =
-    let argument = argument_of said line is.asks in
-    line_by (name_of said) argument.argument line (name_lacks said) argument.text is.fits ∙ argument.read
+command_of-only line said is = asked_read said line is.fits is.asks
 
 -- ---- laws
 

@@ -1,10 +1,10 @@
--- Which lines are commands, in the words of the format: two words with one space between, the first of which names the command;
--- numbers are decimal without leading zeros. A line is meant without its line feed.
+-- Which lines are commands, in the words of the format: `stop` alone, or two words with one space between, the first of which names
+-- the command; numbers are decimal without leading zeros. A line is meant without its line feed.
 use Rattle.std.specs.Prelude.{◌≡◌, ℕ, ◌<◌, ◌≤◌, List, [], ◌∷◌, length, codes}
 use Rattle.call_lists.specs.Grammar.{words_text, IsWord, IsNumberLine}
 use Rattle.call_lists.specs.Lines.{greatest}
 use Rattle.admin_lines.specs.Sayings.{Saying}
-use Rattle.admin_lines.specs.Sayings.Saying.{to_edit, to_subscribe, to_unsubscribe, to_advance, to_tell_status, to_drain_audit}
+use Rattle.admin_lines.specs.Sayings.Saying.{to_edit, to_subscribe, to_unsubscribe, to_advance, to_tell_status, to_drain_audit, to_stop}
 
 -- the octets of the longest line, and of the longest text of a policy
 abbrev pub longest_line : ℕ
@@ -36,6 +36,7 @@ AsksFor (to_unsubscribe sub) line = IsNumberLine (codes "unsubscribe") (greatest
 AsksFor (to_advance t) line = IsNumberLine (codes "advance") (greatest 64) t line
 AsksFor (to_tell_status sub) line = IsNumberLine (codes "status") (greatest 64) sub line
 AsksFor (to_drain_audit max) line = IsAuditLine max line
+AsksFor to_stop line = line ≡ codes "stop"
 
 -- the line is this command
 pub record IsCommandLine (said : Saying) (line : List ℕ) : Type 0 where

@@ -1,4 +1,4 @@
--- Which command a line is read as: the first space (32) parts the name of the command from its argument.
+-- Which command a line is read as: the first space (32) parts the name of the command from its argument, if there is one.
 use Rattle.std.specs.Prelude.{◌≡◌, ℕ, Bool, not, ◌&&◌, ◌==◌, List, length, Option, Some, None, nat_lt, if◌then◌else◌, codes}
 use Rattle.std.specs.List.{list_all}
 use Rattle.std.specs.Str.{bytes_eq}
@@ -8,7 +8,7 @@ use Rattle.flow_prefix.specs.Reading.{cut_at}
 use Rattle.call_lists.specs.Lines.{greatest}
 use Rattle.admin_lines.specs.Grammar.{longest_line, longest_policy, most_audit_entries}
 use Rattle.admin_lines.specs.Sayings.{Saying}
-use Rattle.admin_lines.specs.Sayings.Saying.{to_edit, to_subscribe, to_unsubscribe, to_advance, to_tell_status, to_drain_audit}
+use Rattle.admin_lines.specs.Sayings.Saying.{to_edit, to_subscribe, to_unsubscribe, to_advance, to_tell_status, to_drain_audit, to_stop}
 
 -- some octets, none of them a space
 abbrev pub is_one_word : List ℕ → Bool
@@ -51,8 +51,17 @@ command_by word argument =
     else if bytes_eq word (codes "audit") then audit_of argument
     else None
 
+-- by the one word of a line that has no space
+unfoldable pub command_alone : List ℕ → Option Saying
+command_alone word = if bytes_eq word (codes "stop") then Some to_stop else None
+
+-- by what the first space parts, if there is one
+abbrev pub command_in : List ℕ → Option (List ℕ × List ℕ) → Option Saying
+command_in line None = command_alone line
+command_in line (Some words) = command_by words.0 words.1
+
 unfoldable pub command_of : List ℕ → Option Saying
-command_of line = if nat_lt longest_line (length line) then None else (cut_at 32 line >>= λ words. command_by words.0 words.1)
+command_of line = if nat_lt longest_line (length line) then None else command_in line (cut_at 32 line)
 
 -- what is asked for has a name
 abbrev pub NamesSubscriber : Option Saying → Type 0

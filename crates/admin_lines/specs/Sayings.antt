@@ -12,6 +12,7 @@ pub data Saying : Type 0 where
   to_advance : ℕ → Saying
   to_tell_status : ℕ → Saying
   to_drain_audit : ℕ → Saying
+  to_stop : Saying
 
 abbrev pub saying : Command → Saying
 saying (command.Edit octets) = to_edit octets
@@ -20,3 +21,4 @@ saying (command.Unsubscribe sub) = to_unsubscribe sub
 saying (command.Advance t) = to_advance t
 saying (command.Status sub) = to_tell_status sub
 saying (command.Audit max) = to_drain_audit max
+saying command.Stop = to_stop

@@ -3,7 +3,7 @@ ghost use Rattle.std.specs.Prelude.{◌≡◌, Some, IfErr, IfOk, IfSome};
 ghost use Rattle.std.specs.Option.{option_map};
 ghost use Rattle.admin_lines.specs.Sayings.{Saying, saying};
 ghost use Rattle.admin_lines.specs.Grammar.{IsCommandLine, IsSubscription};
-ghost use Rattle.admin_lines.specs.Reading.{command_of, command_by, edit_of, subscribe_of, unsubscribe_of, advance_of, status_of, audit_of, NamesSubscriber};
+ghost use Rattle.admin_lines.specs.Reading.{command_of, command_alone, command_by, edit_of, subscribe_of, unsubscribe_of, advance_of, status_of, audit_of, NamesSubscriber};
 
 use crate::argument::{is_one_word, read_number};
 use flow_prefix::cut_at;
@@ -35,6 +35,8 @@ pub enum Command {
     Status { sub: u64 },
     /// `audit MAX`: the oldest audit entries are handed out, from 1 to 10,000 of them.
     Audit { max: u32 },
+    /// `stop`: the run is to end.
+    Stop,
 }
 
 /// The command that a line asks for, given without its line feed; `None` where it asks for nothing, as a line of more than
@@ -65,9 +67,21 @@ fn read_line(alloc: Global, line: &[u8]) -> Result<Option<Command>, AllocError>
         return Ok(None);
     }
     let Some((word, argument)) = cut_at(line, b' ') else {
-        return Ok(None);
+        return Ok(read_alone(line));
     };
     read_by(alloc, word, argument)
+}
+
+/// The command that a line of one word is.
+#[tactic(auto, unfolding(crate::specs::Reading::command_alone))]
+fn read_alone(word: &[u8]) -> Option<Command>
+    ensures { option_map saying result ≡ command_alone word.now }
+{
+    if is_word(word, b"stop") {
+        Some(Command::Stop)
+    } else {
+        None
+    }
 }
 
 /// The command that the first word names, with the argument behind it.
