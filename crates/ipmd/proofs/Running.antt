@@ -1,5 +1,5 @@
 -- Runs that follow each other.
-use Rattle.std.proofs.Common.{Bool, ◌≡◌, ◌⊎◌, inl, inr, ℕ, ◌+◌, ◌≤◌, ◌<◌, true, false, List, [], ◌∷◌, ◌++◌, length, Option, refl, sym, ap, ◌∙◌, subst, arith, append-nil}
+use Rattle.std.proofs.Common.{Bool, ◌≡◌, ◌⊎◌, inl, inr, ℕ, ◌+◌, ◌≤◌, ◌<◌, true, false, not, ◌&&◌, true≢false, List, [], ◌∷◌, ◌++◌, length, Option, refl, sym, ap, ◌∙◌, subst, arith, append-nil}
 use Rattle.std.specs.Io.KnownBytes.{Appends}
 use Rattle.std.specs.List.{flat_map}
 use Rattle.std.proofs.KnownBytes.{Appends-trans, Appends-nil, Keeps-refl}
@@ -44,10 +44,22 @@ pub is_run : (plan : Plan) (runs run : ℕ) (held holds : Option (List ℕ)) (ma
 is_run plan runs run held holds made so is_served = record { plan = plan; plan_is = so.plan_is; is_served = is_served }
 
 -- a run more whose journal was full
-full_more : (asked : Asked) (first : List ℕ) (before : List Run) (policy : List ℕ) (made : Run) → AreFull asked first before policy → IsRun asked policy made → made.full ≡ true
+full_more : (asked : Asked) (first : List ℕ) (before : List Run) (policy : List ℕ) (made : Run) → AreFull asked first before policy → IsRun asked policy made → made.full ≡ true → made.stopped ≡ false
     → AreFull asked first (before ++ made ∷ []) (policy_after policy made.history)
-full_more asked first [] policy made are is full = (subst (λ p. IsRun asked p made) are is, full, ap (λ p. policy_after p made.history) are)
-full_more asked first (run ∷ before) policy made are is full = (are.0, are.1, full_more asked (policy_after first run.history) before policy made are.2 is full)
+full_more asked first [] policy made are is full unstopped = (subst (λ p. IsRun asked p made) are is, full, unstopped, ap (λ p. policy_after p made.history) are)
+full_more asked first (run ∷ before) policy made are is full unstopped = (are.0, are.1, are.2, full_more asked (policy_after first run.history) before policy made are.3 is full unstopped)
+
+-- another run follows
+followed : (full stopped : Bool) → true ≡ full && not stopped → (full ≡ true) × (stopped ≡ false)
+followed true false is = (refl, refl)
+followed true true is = absurd (true≢false is)
+followed false stopped is = absurd (true≢false is)
+
+-- none does
+unfollowed : (full stopped : Bool) → false ≡ full && not stopped → (full ≡ false) ⊎ (stopped ≡ true)
+unfollowed false stopped is = inl refl
+unfollowed true true is = inr refl
+unfollowed true false is = absurd (true≢false (sym is))
 
 told_more : (before : List Run) (made : Run) (held holds writes : Option (List ℕ)) → Appends held holds (flat_map served before) → Appends holds writes (served made) → Appends held writes (flat_map served (before ++ made ∷ []))
 told_more before made held holds writes so more =
@@ -62,17 +74,19 @@ goes_on plan next runs run held holds writes so makes more = record {
   first = so.first;
   before = so.before ++ makes.made ∷ [];
   policy = policy_after so.policy makes.made.history;
-  are_full = full_more so.asked so.first so.before so.policy makes.made so.are_full (is_run plan runs run held holds makes.made so makes.is_served) makes.full_is;
+  are_full = full_more so.asked so.first so.before so.policy makes.made so.are_full (is_run plan runs run held holds makes.made so makes.is_served) follows.0 follows.1;
   plan_is = makes.renewed refl so.asked so.policy so.plan_is;
   runs_are = so.runs_are;
   counted = omega (arith, so.counted, length-append so.before (makes.made ∷ []));
   allowed = omega (arith, more);
   written = told_more so.before makes.made held holds writes so.written makes.told;
-}
+} where
+  follows : (makes.made.full ≡ true) × (makes.made.stopped ≡ false)
+  follows = followed makes.made.full makes.made.stopped makes.more_is
 
 -- it was the last one
-ends : (plan next : Plan) (runs run : ℕ) (full : Bool) (held holds writes : Option (List ℕ)) → IsToRun plan runs run held holds → MakesRun full plan next holds writes → (full ≡ false) ⊎ (runs ≤ run) → Serves held writes
-ends plan next runs run full held holds writes so makes last = record {
+ends : (plan next : Plan) (runs run : ℕ) (more : Bool) (held holds writes : Option (List ℕ)) → IsToRun plan runs run held holds → MakesRun more plan next holds writes → (more ≡ false) ⊎ (runs ≤ run) → Serves held writes
+ends plan next runs run more held holds writes so makes last = record {
   text = so.text;
   asked = so.asked;
   read = so.read;
@@ -86,15 +100,19 @@ ends plan next runs run full held holds writes so makes last = record {
   ends = ended last;
   written = told_more so.before makes.made held holds writes so.written makes.told;
 } where
-  ended : (full ≡ false) ⊎ (runs ≤ run) → (makes.made.full ≡ false) ⊎ (so.asked.runs ≡ length so.before + 1)
-  ended (inl not_full) = inl (makes.full_is ∙ not_full)
-  ended (inr all) = inr (omega (arith, so.counted, so.allowed, so.runs_are, all))
+  unmade : (makes.made.full ≡ false) ⊎ (makes.made.stopped ≡ true) → (makes.made.full ≡ false) ⊎ ((makes.made.stopped ≡ true) ⊎ (so.asked.runs ≡ length so.before + 1))
+  unmade (inl not_full) = inl not_full
+  unmade (inr stopped) = inr (inl stopped)
 
-pub ends_early : (plan next : Plan) (runs run : ℕ) (full : Bool) (held holds writes : Option (List ℕ)) → IsToRun plan runs run held holds → MakesRun full plan next holds writes → full ≡ false → Serves held writes
-ends_early plan next runs run full held holds writes so makes not_full = ends plan next runs run full held holds writes so makes (inl not_full)
+  ended : (more ≡ false) ⊎ (runs ≤ run) → (makes.made.full ≡ false) ⊎ ((makes.made.stopped ≡ true) ⊎ (so.asked.runs ≡ length so.before + 1))
+  ended (inl none) = unmade (unfollowed makes.made.full makes.made.stopped (sym none ∙ makes.more_is))
+  ended (inr all) = inr (inr (omega (arith, so.counted, so.allowed, so.runs_are, all)))
 
-pub ends_at_last : (plan next : Plan) (runs run : ℕ) (full : Bool) (held holds writes : Option (List ℕ)) → IsToRun plan runs run held holds → MakesRun full plan next holds writes → runs ≤ run → Serves held writes
-ends_at_last plan next runs run full held holds writes so makes all = ends plan next runs run full held holds writes so makes (inr all)
+pub ends_early : (plan next : Plan) (runs run : ℕ) (more : Bool) (held holds writes : Option (List ℕ)) → IsToRun plan runs run held holds → MakesRun more plan next holds writes → more ≡ false → Serves held writes
+ends_early plan next runs run more held holds writes so makes none = ends plan next runs run more held holds writes so makes (inl none)
+
+pub ends_at_last : (plan next : Plan) (runs run : ℕ) (more : Bool) (held holds writes : Option (List ℕ)) → IsToRun plan runs run held holds → MakesRun more plan next holds writes → runs ≤ run → Serves held writes
+ends_at_last plan next runs run more held holds writes so makes all = ends plan next runs run more held holds writes so makes (inr all)
 
 -- it stops behind the runs that were told
 pub stops : (plan : Plan) (runs run : ℕ) (held holds writes : Option (List ℕ)) (e : ProgramFault) → IsToRun plan runs run held holds → StopsRun e plan holds writes → StopsServing e held writes

@@ -1,5 +1,5 @@
 -- What `ipmd serve` does, as far as it can be told: what comes from other threads, from sockets and from files isn't told here.
-use Rattle.std.specs.Prelude.{◌≡◌, ◌⊎◌, ℕ, ◌+◌, ◌≤◌, ◌<◌, Bool, true, false, List, ◌∷◌, [], ◌++◌, length, map, codes, string_bytes, Vec, Option, Ok, unwrap_or}
+use Rattle.std.specs.Prelude.{◌≡◌, ◌⊎◌, ℕ, ◌+◌, ◌≤◌, ◌<◌, Bool, true, false, not, ◌&&◌, List, ◌∷◌, [], ◌++◌, length, map, codes, string_bytes, Vec, Option, Ok, unwrap_or}
 use Rattle.std.specs.List.{flat_map}
 use Rattle.std.specs.declared.alloc.Global.{Global}
 use Rattle.std.specs.Fmt.{decimal}
@@ -13,9 +13,9 @@ use Rattle.serve_settings.specs.Reading.{settings_of}
 use Rattle.mediator_server.specs.Listening.{IsServed}
 use Rattle.mediator_server.specs.declared.plan.Plan.{Plan}
 use Rattle.mediator_server.specs.declared.plan.Collector.{Collector}
+use Rattle.mediator_server.specs.declared.listening.Ended.{Ended}
 use Rattle.mediator_server.specs.declared.listening.ListenFault.{ListenFault}
 use Rattle.mediator_server.specs.declared.listening.ListenFault.TheVariants as listen
-use Rattle.shared_mediator.specs.declared.closing.Closed.{Closed}
 use Rattle.ipmd_offline.specs.declared.fault.ProgramFault.{ProgramFault}
 use Rattle.ipmd_offline.specs.declared.fault.ProgramFault.TheVariants.{CommandLine, Settings, Policy, Hex, Framing, Core, Cut, Calls, BadLimits, Journal, History, Absent, Close, OutOfMemory, Device}
 use Rattle.ipmd_offline.specs.HexText.{WritesSome}
@@ -40,6 +40,12 @@ pub record IsPlanOf (asked : Asked) (policy : List ℕ) (plan : Plan) : Type 0 w
   pub target : plan.target ≡ asked.target
   pub workers : plan.workers ≡ asked.workers
   pub turns : plan.turns ≡ asked.turns
+  pub endless : plan.endless ≡ asked.endless
+  pub idle : plan.idle ≡ asked.idle
+  pub reconnect : plan.reconnect ≡ asked.reconnect
+  pub hold : plan.hold ≡ asked.hold
+  pub drain : plan.drain ≡ asked.drain
+  pub limits : plan.limits ≡ asked.limits
   pub deliver : collectors_in plan.deliver ≡ asked.collectors
 
 -- what these settings ask for, with a policy of this text
@@ -78,15 +84,23 @@ RefusesToPrepare Close = ⊥
 
 -- ---- a run
 
--- how a run ended: its history, how many messages it accepted and how many records it handed out, and whether its journal was full
+-- how a run ended: its history, how many messages it accepted and how many records it handed out, whether its journal was full, and
+-- whether it was stopped
 pub record Run : Type 0 where
   pub history : List Entry
   pub accepted : ℕ
   pub handed : ℕ
   pub full : Bool
+  pub stopped : Bool
 
-abbrev pub run_of : Closed → Run
-run_of closed = record { history = closed.mediator.history; accepted = closed.accepted; handed = closed.handed; full = closed.full }
+abbrev pub run_of : Ended → Run
+run_of ended = record {
+  history = ended.closed.mediator.history;
+  accepted = ended.closed.accepted;
+  handed = ended.closed.handed;
+  full = ended.closed.full;
+  stopped = ended.stopped;
+}
 
 -- a plan that these settings ask for, with a policy of this text, was served to its end: in the journal, which began empty, each entry
 -- that is to have a receipt has one, and as many messages and records as the receipts have are the run's counts
@@ -105,14 +119,14 @@ served run = codes "accepted " ++ decimal run.accepted ++ codes " handed " ++ de
 abbrev pub policy_after : List ℕ → List Entry → List ℕ
 policy_after policy h = unwrap_or (last_edit h) policy
 
--- these runs follow each other, the first of them with this policy; the journal of each was full, and another run is to follow
--- with the policy at the end
+-- these runs follow each other, the first of them with this policy; the journal of each was full and none was stopped, and another
+-- run is to follow with the policy at the end
 abbrev pub AreFull : Asked → List ℕ → List Run → List ℕ → Type 0
 AreFull asked policy [] next = next ≡ policy
-AreFull asked policy (run ∷ runs) next = IsRun asked policy run × (run.full ≡ true) × AreFull asked (policy_after policy run.history) runs next
+AreFull asked policy (run ∷ runs) next = IsRun asked policy run × (run.full ≡ true) × (run.stopped ≡ false) × AreFull asked (policy_after policy run.history) runs next
 
--- runs were made as settings ask for: another one behind each whose journal was full, but no more than are allowed; and the line of
--- each was written
+-- runs were made as settings ask for: another one behind each whose journal was full and that was not stopped, but no more than are
+-- allowed; and the line of each was written
 pub record Serves (held holds : Option (List ℕ)) : Type 0 where
   pub text : List ℕ
   pub asked : Asked
@@ -124,7 +138,7 @@ pub record Serves (held holds : Option (List ℕ)) : Type 0 where
   pub last : Run
   pub is_run : IsRun asked policy last
   pub few : length before < asked.runs
-  pub ends : (last.full ≡ false) ⊎ (asked.runs ≡ length before + 1)
+  pub ends : (last.full ≡ false) ⊎ ((last.stopped ≡ true) ⊎ (asked.runs ≡ length before + 1))
   pub written : Appends held holds (flat_map served (before ++ last ∷ []))
 
 -- ---- where it stops
@@ -169,13 +183,17 @@ FailsToServe e held holds before after = ((after ≡ before) × RefusesToPrepare
 
 -- ---- what no public clause cites
 
--- a run was made by the plan and told; where its journal was full, the plan begins with its last policy then
-pub record MakesRun (full : Bool) (old new : Plan) (held holds : Option (List ℕ)) : Type 0 where
+-- another run is to follow one that ended so
+abbrev pub is_followed : Run → Bool
+is_followed run = run.full && not run.stopped
+
+-- a run was made by the plan and told; where another is to follow, the plan begins with its last policy then
+pub record MakesRun (more : Bool) (old new : Plan) (held holds : Option (List ℕ)) : Type 0 where
   pub made : Run
   pub is_served : IsServed old [] made.history made.accepted made.handed
   pub told : Appends held holds (served made)
-  pub full_is : made.full ≡ full
-  pub renewed : full ≡ true → (asked : Asked) (policy : List ℕ) → IsPlanOf asked policy old → IsPlanOf asked (policy_after policy made.history) new
+  pub more_is : more ≡ is_followed made
+  pub renewed : more ≡ true → (asked : Asked) (policy : List ℕ) → IsPlanOf asked policy old → IsPlanOf asked (policy_after policy made.history) new
 
 -- the server ended by a fault, and nothing was written; or a run was made, and isn't told whole or kept
 abbrev pub StopsRun : ProgramFault → Plan → Option (List ℕ) → Option (List ℕ) → Type 0

@@ -2,7 +2,8 @@
 //! exporters, of one stream or served over TCP; and checks policies.
 //!
 //! - [`program`]: all that the process does, over streams and files that it is handed.
-//! - `serve`: `ipmd serve`, with `runs`, the runs that follow each other; `noting`: the runtime that a server is handed, with its log.
+//! - `serve`: `ipmd serve`, with `runs`, the runs that follow each other; `noting`: the runtime that a server is handed, with
+//!   its log; `notes`: where that goes; `descriptors`: whether there may be as many as a service needs.
 //! - `replay`: `ipmd replay`.
 //! - `system`: [`System`], what the program asks of the system.
 //!
@@ -30,6 +31,8 @@ ghost use Rattle.ipmd_offline.specs.Status.{status_of};
 ghost use Rattle.ipmd_offline.specs.declared.fault.ProgramFault.{ProgramFault};
 ghost use Rattle.ipmd.specs.Program.{Does, FailsFor, IsDone, IsFault};
 
+mod descriptors;
+mod notes;
 mod noting;
 mod replay;
 mod runs;
@@ -49,6 +52,7 @@ use std::convert::AsStr;
 use std::env;
 use std::io::{IsTerminal, Read, Write};
 use std::net::{Net, TcpListener, TcpStream};
+use std::os::fd::{AsRawFd, RawFd};
 use std::process::ExitCode;
 use std::rt::Env;
 
@@ -63,6 +67,7 @@ fn main(rt: HostRuntime) -> ExitCode {
             rt.stdin(),
             &mut Device::new(rt.stdout()),
             &mut Device::new(rt.stderr()),
+            rt.stderr().as_raw_fd(),
             &mut OnTerminal::new(Device::new(rt.stderr()), rt.stderr().is_terminal()),
         ),
         Err(fault) => fault.report(&mut Device::new(rt.stderr())),
@@ -78,7 +83,8 @@ fn words_after_name<R: Env + AllocGlobal>(rt: &R) -> Result<Vec<String>, Program
 
 /// Does what the words ask for, and answers the exit status: 0 where it is done, 1 where the input is
 /// refused, 2 for a refused command line, 3 where a device fails. `output` gets what was asked for, and
-/// `errors` the report or the fault, and a server's notes; what `errors` doesn't take is dropped. `progress` is told how far
+/// `errors` the report or the fault, and a server's notes; what `errors` doesn't take is dropped.
+/// `descriptor` is that of `errors`, by which a server finds out whether a note would wait. `progress` is told how far
 /// a journal's file was read.
 #[tactic(auto, using(crate::proofs::Statuses::no_fault_is_done))]
 pub fn program<
@@ -94,12 +100,13 @@ pub fn program<
     input: I,
     output: &mut Device<O>,
     errors: &mut Device<E>,
+    descriptor: RawFd,
     progress: &mut P,
 ) -> u8
     ensures done { result ≡ 0 → IsDone (map S.text words.now) (I.remaining input) (O.contents (device_inner output.old)) (O.contents (device_inner output.new)) (device_failed errors.new) (E.contents (device_inner errors.old)) (E.contents (device_inner errors.new)) }
     ensures fails { result ≢ 0 → (e : ProgramFault) × (result ≡ status_of e) × IsFault (map S.text words.now) e (I.remaining input) (O.contents (device_inner output.old)) (O.contents (device_inner output.new)) (device_failed errors.new) (E.contents (device_inner errors.old)) (E.contents (device_inner errors.new)) }
 {
-    match run(rt, words, input, output, errors, progress) {
+    match run(rt, words, input, output, errors, descriptor, progress) {
         Ok(Some(report)) => {
             tell(report, errors);
             DONE
@@ -124,6 +131,7 @@ fn run<
     input: I,
     output: &mut Device<O>,
     errors: &mut Device<E>,
+    descriptor: RawFd,
     progress: &mut P,
 ) -> Result<Option<OfflineReport>, ProgramFault>
     ensures ok { IfOk result (λ report. Does (map S.text words.now) report (I.remaining input) (O.contents (device_inner output.old)) (O.contents (device_inner output.new)) errors.old errors.new) }
@@ -140,7 +148,7 @@ fn run<
             Ok(None)
         }
         Task::Serve(path) => {
-            serve(rt, path, output, errors)?;
+            serve(rt, path, output, errors, descriptor)?;
             Ok(None)
         }
         Task::Verify(options) => {

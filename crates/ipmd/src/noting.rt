@@ -3,9 +3,8 @@
 use log::kv::Source;
 use log::span::Spans;
 use log::{LevelFilter, Log, Metadata, Record};
-use octet_devices::{Device, Sink};
 use std::fmt::Display;
-use std::io::{self, ErrorKind, Write};
+use std::io;
 use std::net::{Net, SocketAddr};
 use std::sync::Wait;
 use std::thread::Threads;
@@ -85,33 +84,5 @@ impl<R: Net, L> Net for Noting<'_, R, L> {
 
     fn lookup_host(&self, host: &str, port: u16, found: &mut [SocketAddr]) -> io::Result<usize> {
         self.rt.lookup_host(host, port, found)
-    }
-}
-
-/// A device as a writer of std.
-#[derive(Drop)]
-pub(crate) struct DeviceWriter<'a, T> {
-    device: &'a mut Device<T>,
-}
-
-impl<'a, T> DeviceWriter<'a, T> {
-    pub(crate) fn over(device: &'a mut Device<T>) -> DeviceWriter<'a, T> {
-        DeviceWriter { device }
-    }
-}
-
-impl<T: Write> Write for DeviceWriter<'_, T> {
-    fn write(&mut self, octets: &[u8]) -> io::Result<usize> {
-        match Sink::write(self.device, octets) {
-            Ok(count) => Ok(count),
-            Err(_) => Err(io::Error::from(ErrorKind::Other)),
-        }
-    }
-
-    fn flush(&mut self) -> io::Result<()> {
-        match self.device.flush() {
-            Ok(()) => Ok(()),
-            Err(_) => Err(io::Error::from(ErrorKind::Other)),
-        }
     }
 }

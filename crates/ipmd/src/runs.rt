@@ -7,7 +7,7 @@ ghost use Rattle.mediator_server.specs.Listening.{IsServed};
 ghost use Rattle.octet_devices.specs.Device.{device_inner};
 ghost use Rattle.serve_settings.specs.Asked.{Asked};
 ghost use Rattle.run_journals.specs.Keeping.{IsKeepingFault};
-ghost use Rattle.ipmd.specs.Serving.{IsAskedFor, IsListenFault, IsPlanOf, MakesRun, RefusesToTell, Serves, StopsRun, StopsServing, listen_fault_of, policy_after, run_of, served};
+ghost use Rattle.ipmd.specs.Serving.{IsAskedFor, IsListenFault, IsPlanOf, MakesRun, RefusesToTell, Serves, StopsRun, StopsServing, is_followed, listen_fault_of, policy_after, run_of, served};
 
 use crate::serve::Service;
 use crate::system::System;
@@ -16,10 +16,9 @@ use hash_keys::HashKeys;
 use ipmd_offline::{ProgramFault, write_text};
 use log::{Log, info};
 use mediator_calls::{Limits, Mediator};
-use mediator_server::{ListenFault, Plan, listen};
+use mediator_server::{Ended, ListenFault, Plan, listen};
 use octet_devices::Device;
 use run_journals::{first_free, keep_run};
-use shared_mediator::Closed;
 use std::alloc::{AllocError, Global};
 use std::hash::RandomState;
 use std::io::Write;
@@ -39,7 +38,8 @@ struct Keeping {
     next: u64,
 }
 
-/// Makes a run, and another one where its journal was full, as often as is allowed; and writes the line of each.
+/// Makes a run, and another one where its journal was full and nobody stopped it, as often as is allowed; and writes the line of
+/// each.
 ///
 /// # Errors
 /// `Device` for the journals' folder, or for want of random numbers; then of a run the refusals of `listen`; `Device` where the output fails, and, behind the
@@ -75,8 +75,8 @@ pub(crate) fn serve_runs<
     }
 }
 
-/// Makes a run by a plan, keeps its journal, and writes its line. Answers whether its journal was full; then the plan begins with
-/// the policy that was last in force.
+/// Makes a run by a plan, keeps its journal, and writes its line. Answers whether another run is to follow; then the plan begins
+/// with the policy that was last in force.
 ///
 /// # Errors
 /// Those of [`serve_runs`] for a run.
@@ -95,16 +95,23 @@ fn serve_run<
     output: &mut Device<O>,
 ) -> Result<bool, ProgramFault>
     requires allowed { AreAllowed limits }
-    ensures made { IfOk result (λ full. MakesRun full plan.old plan.new (O.contents (device_inner output.old)) (O.contents (device_inner output.new))) }
+    ensures made { IfOk result (λ more. MakesRun more plan.old plan.new (O.contents (device_inner output.old)) (O.contents (device_inner output.new))) }
     ensures err { IfErr result (λ e. StopsRun e plan.old (O.contents (device_inner output.old)) (O.contents (device_inner output.new))) }
 {
-    let closed = make_run(noting, rt.alloc(), plan, limits, keys)?;
-    let full = closed.full;
-    let journal = end_run(rt, noting, keeping, closed, output)?;
-    if full {
+    let ended = make_run(noting, rt.alloc(), plan, limits, keys)?;
+    let more = is_followed(&ended);
+    let journal = end_run(rt, noting, keeping, ended, output)?;
+    if more {
         renew_policy(rt.alloc(), plan, &journal)?;
     }
-    Ok(full)
+    Ok(more)
+}
+
+/// Whether another run follows one that ended so: its journal was full, and nobody stopped it.
+fn is_followed(ended: &Ended) -> bool
+    ensures { result ≡ is_followed (run_of ended.now) }
+{
+    ended.closed.full && !ended.stopped
 }
 
 /// Keys of hash tables that no stranger knows.
@@ -150,15 +157,15 @@ fn make_run<
     plan: &Plan,
     limits: Limits,
     keys: HashKeys,
-) -> Result<Closed, ProgramFault>
+) -> Result<Ended, ProgramFault>
     requires allowed { AreAllowed limits }
-    ensures served { IfOk result (λ closed. IsServed plan.now [] closed.mediator.history closed.accepted closed.handed) }
+    ensures served { IfOk result (λ ended. IsServed plan.now [] ended.closed.mediator.history ended.closed.accepted ended.closed.handed) }
     ensures err { IfErr result IsListenFault }
 {
     let mut mediator = Mediator::new(alloc, limits)?;
     mediator.hash_by(keys);
     match listen(noting, alloc, plan, mediator) {
-        Ok(closed) => Ok(closed),
+        Ok(ended) => Ok(ended),
         Err(fault) => Err(fault_of(fault)),
     }
 }
@@ -186,14 +193,15 @@ fn end_run<R: Files + AllocGlobal, O: Write>(
     rt: &R,
     noting: &impl Log,
     keeping: &mut Keeping,
-    closed: Closed,
+    ended: Ended,
     output: &mut Device<O>,
 ) -> Result<Journal, ProgramFault>
-    ensures told { OnOk result (Appends (O.contents (device_inner output.old)) (O.contents (device_inner output.new)) (served (run_of closed))) }
-    ensures journal { IfOk result (λ journal. journal.entries ≡ closed.mediator.history) }
-    ensures err { IfErr result (λ e. RefusesToTell e (run_of closed) (O.contents (device_inner output.old)) (O.contents (device_inner output.new))) }
+    ensures told { OnOk result (Appends (O.contents (device_inner output.old)) (O.contents (device_inner output.new)) (served (run_of ended))) }
+    ensures journal { IfOk result (λ journal. journal.entries ≡ ended.closed.mediator.history) }
+    ensures err { IfErr result (λ e. RefusesToTell e (run_of ended) (O.contents (device_inner output.old)) (O.contents (device_inner output.new))) }
 {
-    let line = line_of(rt.alloc(), &closed)?;
+    let line = line_of(rt.alloc(), &ended)?;
+    let Ended { closed, stopped: _ } = ended;
     let journal = closed.mediator.finish().journal;
     let kept = keep(rt, noting, keeping, &journal);
     write_text(output, line.as_str())?;
@@ -235,10 +243,10 @@ fn renew_policy(alloc: Global, plan: &mut Plan, journal: &Journal) -> Result<(),
 }
 
 /// How many messages were accepted, and how many records were handed out, as a line.
-fn line_of(alloc: Global, closed: &Closed) -> Result<String, AllocError>
-    ensures { IfOk result (λ line. string_bytes line ≡ served (run_of closed.now)) }
+fn line_of(alloc: Global, ended: &Ended) -> Result<String, AllocError>
+    ensures { IfOk result (λ line. string_bytes line ≡ served (run_of ended.now)) }
 {
-    let accepted = closed.accepted;
-    let handed = closed.handed;
+    let accepted = ended.closed.accepted;
+    let handed = ended.closed.handed;
     format!(in alloc; "accepted {accepted} handed {handed}\n")
 }

@@ -6,11 +6,13 @@ ghost use Rattle.serve_settings.specs.Asked.{asked, pairs};
 ghost use Rattle.ipmd_offline.specs.declared.fault.ProgramFault.TheVariants.{OutOfMemory};
 ghost use Rattle.ipmd.specs.Serving.{FailsToServe, IsAskedFor, IsServiceOf, RefusesToPrepare, Serves, collectors_in};
 
-use crate::noting::{DeviceWriter, Noting};
+use crate::descriptors::warn_of_few;
+use crate::notes::Notes;
+use crate::noting::Noting;
 use crate::runs::serve_runs;
 use crate::system::System;
 use ipmd_offline::ProgramFault;
-use log::sink::Locked;
+use log::Log;
 use mediator_calls::Limits;
 use mediator_server::{Collector, Plan};
 use octet_devices::Device;
@@ -19,6 +21,7 @@ use std::alloc::{AllocError, Global};
 use std::fs;
 use std::io::Write;
 use std::net::{Net, TcpListener, TcpStream};
+use std::os::fd::RawFd;
 use std::rt::Files;
 
 /// What is to be served.
@@ -35,8 +38,9 @@ pub(crate) struct Service {
 }
 
 /// Serves exporters and collectors as the settings in a file say, and writes what was accepted and handed out when all of
-/// them have ended: a run. Where its journal was full, another run begins with the policy that was last in force, as often as
-/// the settings allow. Each run's journal is kept, where the settings have a path for it. `errors` gets the notes of the runs.
+/// them have ended: a run. Where its journal was full and nobody stopped it, another run begins with the policy that was last in
+/// force, as often as the settings allow. Each run's journal is kept, where the settings have a path for it. `errors`, which has
+/// this descriptor, gets the notes of the runs, but for those that would wait there.
 ///
 /// # Errors
 /// In this order: `Device` where the settings' file can't be read or isn't UTF-8, `Settings`, and `Device` for the policy's file
@@ -48,13 +52,23 @@ pub(crate) fn serve<
     R: System + Net<Listener = TcpListener, Stream = TcpStream>,
     O: Write,
     E: Write + Send,
->(rt: &R, path: &str, output: &mut Device<O>, errors: &mut Device<E>) -> Result<(), ProgramFault>
+>(
+    rt: &R,
+    path: &str,
+    output: &mut Device<O>,
+    errors: &mut Device<E>,
+    descriptor: RawFd,
+) -> Result<(), ProgramFault>
     ensures ok { OnOk result (Serves (O.contents (device_inner output.old)) (O.contents (device_inner output.new))) }
     ensures err { IfErr result (λ e. FailsToServe e (O.contents (device_inner output.old)) (O.contents (device_inner output.new)) errors.old errors.new) }
 {
     let service = prepare(rt, path)?;
-    let notes = Locked::new(rt, DeviceWriter::over(errors));
-    serve_runs(rt, &Noting::new(rt, &notes), service, output)
+    let notes = Notes::over(rt, errors, descriptor);
+    let noting = Noting::new(rt, &notes);
+    warn_of_few(rt, &noting, &service.plan);
+    let served = serve_runs(rt, &noting, service, output);
+    noting.flush();
+    served
 }
 
 /// Reads the settings and the policy.
@@ -88,15 +102,26 @@ fn service_of(alloc: Global, settings: Settings, policy: String) -> Result<Servi
         collectors,
         journal,
         runs,
+        idle,
+        reconnect,
+        hold,
+        drain,
+        endless,
     } = settings;
     let plan = Plan {
         exporters,
         admin,
         policy,
         connections: u64::from(connections),
+        endless,
         target,
         turns,
         workers,
+        idle,
+        reconnect,
+        hold,
+        drain,
+        limits,
         deliver: collectors_of(alloc, collectors)?,
     };
     Ok(Service {

@@ -134,11 +134,12 @@ Exit status: 0 each call was answered, 1 refused or out of memory, 2 wrong comma
 
 /// Below the help of `ipmd serve`.
 pub const SERVE: &str = "\
-The settings are a TOML table with these keys, all but journal and runs; any other is ignored:
+The settings are a TOML table with these keys; those behind turns may be absent, but not [deliver],
+and any other key is ignored:
   exporters = \"0.0.0.0:4739\"      where exporters connect
-  admin = \"127.0.0.1:4750\"        where the one admin connection is made
+  admin = \"127.0.0.1:4750\"        where admins connect, one after another
   policy = \"policy.txt\"           the file with the first policy
-  connections = 4                 how many exporter connections are accepted, 1 to 1000
+  connections = 4                 how many exporter connections are accepted in a run, 1 to 1000
   target = 1400                   the most octets of a message to a collector, 16 to 65535
   workers = 2                     the threads that read an exporter's messages, 1 to 64
   queue = 65536                   the records that may wait for a subscription, 1 to 1000000
@@ -149,27 +150,43 @@ The settings are a TOML table with these keys, all but journal and runs; any oth
   turns = 1000000000              the reads of one connection, 1 to 1000000000
   journal = \"/var/lib/ipmd/run\"  the journal of run 1 is written to the file with .1 behind this
   runs = 30                       how many runs may follow each other, 1 to 1000, else 1
+  idle = 3600                     the seconds without an octet after which an exporter's connection
+                                  is closed, 1 to 86400, else never
+  reconnect = 5                   the seconds after which a collector that refuses or has gone is
+                                  tried again, 1 to 3600, else never
+  hold = 500                      the milliseconds that a message waits for room in the queues
+                                  before it cuts a subscription, 1 to 60000, else none
+  drain = 60                      the seconds that the end of a run waits for collectors, 1 to
+                                  86400, else as long as they take what is queued
+  endless = true                  a run goes on when `connections` exporters have come: so many may
+                                  be connected at a time; else false
   [deliver]
   acme = \"192.0.2.1:4739\"         a subscriber's name, and the address of its collector
 
-It connects to each collector, and takes `connections` connections of exporters and one of the
-admin. When all of these have ended it sends what is queued, and standard output says
-`accepted A handed H`: messages accepted, and records handed to subscriptions. That is a run. When
-its journal is full, the next one begins with the policy that was last in force, as `runs` allows.
+It connects to each collector, and takes `connections` connections of exporters. When all of these
+have come and ended, or the journal is full, or an admin says `stop`, it sends what is queued, and
+standard output says `accepted A handed H`: messages accepted, and records handed to subscriptions.
+That is a run. When its journal was full, the next one begins with the policy that was last in
+force, as `runs` allows.
 
-The admin connection takes a command a line, and answers each before the next:
+An admin connection takes a command a line, and answers each before the next. One that is silent for
+ten seconds gives way to another that waits:
   edit N, and N octets of policy behind the line end     ok REVISION
   subscribe NAME                                         ok SUB
   unsubscribe SUB                                        ok
   advance T, the clock in milliseconds since 1970        ok
   status SUB                                             ok QUEUED HANDED live, or with cut
   audit MOST, from 1 to 10000                            ok COUNT, and COUNT audit lines
+  stop                                                   ok
 A refused call is answered err and its name, as ipmd replay --help has them, and the connection
-goes on. What is no command is answered err Line, and the connection ends.
+goes on. What is no command is answered err Line, and the connection ends. It ends behind `stop`
+too, and the run is to end: no more exporters are taken, those connected end behind the message in
+hand, what is queued is sent, and no run follows.
 
 Standard error notes what happens, a line each, with its level: info for the run and for what
 connects and ends, warn for a fault that ended a connection, or a subscription that was cut, and
-error for what the run itself can't do. A fault of one connection ends that connection alone.
+error for what the run itself can't do. A fault of one connection ends that connection alone. A note
+that would wait for its reader is dropped, and a later one says how many were.
 What standard error says last where the run fails, and what to do:
   ipmd: settings: length     the settings have more than 65536 octets
   ipmd: settings: toml       the settings are no TOML

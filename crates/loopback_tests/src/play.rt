@@ -92,7 +92,10 @@ fn meet<R: Net<Listener = TcpListener, Stream = TcpStream> + Threads + Wait + Cl
         let server = scope.spawn(move || run(world, alloc, stage))?;
         let mut collectors = Vec::new(alloc);
         for door in &stage.doors {
-            collectors.push(door.accept().expect(rt, "a server").0)?;
+            let collector = door.accept().expect(rt, "a server").0;
+            // It sends nothing, so that the server need not wait for its end.
+            collector.shutdown(Shutdown::Write).expect(rt, "an end");
+            collectors.push(collector)?;
         }
         let exporter = reach(rt, stage.plan.exporters.as_str());
         let admin = reach(rt, stage.plan.admin.as_str());

@@ -2,7 +2,7 @@
 
 use log::Log;
 use mediator_calls::{Limits, Mediator};
-use mediator_server::{Collector, ListenFault, Plan, listen};
+use mediator_server::{Collector, Ended, ListenFault, Plan, listen};
 use mediator_state::Fault;
 use shared_mediator::Closed;
 use std::alloc::{AllocError, Global};
@@ -79,22 +79,28 @@ pub(crate) fn set_up<R: Net<Listener = TcpListener, Stream = TcpStream> + Abort>
         })?;
         doors.push(door)?;
     }
-    let plan = Plan {
-        exporters: free_address(rt, alloc)?,
-        admin: free_address(rt, alloc)?,
-        policy: String::from_str(alloc, scene.policy)?,
-        connections: 1,
-        target: scene.target,
-        turns: scene.turns,
-        workers: 2,
-        deliver,
-    };
     let limits = Limits {
         queue: 100,
         shapes: scene.shapes,
         audit: 100,
         entries: 100,
         octets: 1_000_000,
+    };
+    let plan = Plan {
+        exporters: free_address(rt, alloc)?,
+        admin: free_address(rt, alloc)?,
+        policy: String::from_str(alloc, scene.policy)?,
+        connections: 1,
+        endless: false,
+        target: scene.target,
+        turns: scene.turns,
+        workers: 2,
+        idle: None,
+        reconnect: None,
+        hold: None,
+        drain: None,
+        limits,
+        deliver,
     };
     Ok(Stage {
         plan,
@@ -108,7 +114,10 @@ pub(crate) fn run<
     R: Net<Listener = TcpListener, Stream = TcpStream> + Threads + Wait + Clock + Log + Sync,
 >(rt: &R, alloc: Global, stage: &Stage) -> Result<Closed, ListenFault> {
     match Mediator::new(alloc, stage.limits) {
-        Ok(mediator) => listen(rt, alloc, &stage.plan, mediator),
+        Ok(mediator) => {
+            let Ended { closed, stopped: _ } = listen(rt, alloc, &stage.plan, mediator)?;
+            Ok(closed)
+        }
         Err(_) => Err(ListenFault::Core(Fault::OutOfMemory)),
     }
 }

@@ -1,4 +1,4 @@
-//! What a server is run on: the machine, but for a clock that stands; and what it notes and connects to is kept.
+//! What a server is run on: the machine, but for the time of day, which stands; and what it notes and connects to is kept.
 
 use log::kv::Source;
 use log::sink::Locked;
@@ -15,11 +15,11 @@ use std::time::{Clock, Duration};
 /// A time since 1970, in milliseconds.
 pub(crate) type Time = u64;
 
-/// The machine with another clock, and a list of notes and one of connections that were made.
+/// The machine with another time of day, and a list of notes and one of connections that were made.
 #[derive(Drop)]
 pub(crate) struct World<'a, R: Wait> {
     rt: &'a R,
-    /// What the clock shows; none where it can't be read.
+    /// The time of day; none where it can't be read.
     time: Option<Time>,
     notes: Locked<&'a R, Vec<u8>>,
     connected: Mutex<Vec<TcpStream>>,
@@ -60,9 +60,9 @@ impl<R: Wait> Wait for World<'_, R> {}
 
 impl<R: Threads + Wait> Threads for World<'_, R> {}
 
-impl<R: Wait> Clock for World<'_, R> {
+impl<R: Wait + Clock> Clock for World<'_, R> {
     fn monotonic(&self) -> io::Result<Duration> {
-        self.since_1970()
+        self.rt.monotonic()
     }
 
     fn since_1970(&self) -> io::Result<Duration> {
@@ -70,6 +70,10 @@ impl<R: Wait> Clock for World<'_, R> {
             Some(time) => Ok(Duration::from_millis(time)),
             None => Err(io::Error::from(ErrorKind::Other)),
         }
+    }
+
+    fn sleep(&self, duration: Duration) {
+        self.rt.sleep(duration)
     }
 }
 
@@ -83,14 +87,14 @@ impl<R: Net<Listener = TcpListener, Stream = TcpStream> + Wait> Net for World<'_
     }
 
     fn connect(&self, address: SocketAddr) -> io::Result<TcpStream> {
-        let stream = self.rt.connect(address)?;
-        let same = stream.try_clone()?;
-        self.connected.lock(self.rt).push(same)?;
-        Ok(stream)
+        self.rt.connect(address)
     }
 
     fn connect_timeout(&self, address: SocketAddr, patience: Duration) -> io::Result<TcpStream> {
-        self.rt.connect_timeout(address, patience)
+        let stream = self.rt.connect_timeout(address, patience)?;
+        let same = stream.try_clone()?;
+        self.connected.lock(self.rt).push(same)?;
+        Ok(stream)
     }
 
     fn lookup_host(&self, host: &str, port: u16, found: &mut [SocketAddr]) -> io::Result<usize> {

@@ -1,6 +1,6 @@
 -- Commands that are read and answered one after another, and where that ends or stops.
-use Rattle.std.proofs.Common.{◌≡◌, ◌⊎◌, inl, inr, ℕ, ◌+◌, ◌≤◌, ◌<◌, Bool, List, [], ◌∷◌, ◌++◌, length, take, Option, Some, None, refl, sym, ap, ◌∙◌, subst, append-nil, append_assoc, arith, length-append}
-use Rattle.std.specs.Prelude.{IsSome}
+use Rattle.std.proofs.Common.{◌≡◌, ◌≢◌, ◌⊎◌, inl, inr, ℕ, ◌+◌, ◌≤◌, ◌<◌, Bool, false, List, [], ◌∷◌, ◌++◌, length, take, Option, Some, None, refl, sym, ap, ◌∙◌, subst, append-nil, append_assoc, arith, length-append}
+use Rattle.std.specs.Prelude.{IsSome, IsTrue, ◌↔◌}
 use Rattle.std.specs.List.{AllByRecursion}
 use Rattle.std.specs.Io.KnownBytes.{Consumes, Appends, prepend_known}
 use Rattle.std.proofs.KnownBytes.{Appends-trans, Appends-nil, Consumes-trans, Consumes-nil, prepend_known-nil}
@@ -12,7 +12,7 @@ use Rattle.mediator_history.proofs.HistoryLaws.{flat_map-push}
 use Rattle.mediator_state.specs.declared.fault.Fault.TheVariants as fault
 use Rattle.mediator_calls.specs.declared.fault.PullFault.TheVariants as pull
 use Rattle.admin_lines.specs.Sayings.{Saying}
-use Rattle.admin_lines.specs.Sayings.Saying.{to_edit, to_subscribe, to_unsubscribe, to_advance, to_tell_status, to_drain_audit}
+use Rattle.admin_lines.specs.Sayings.Saying.{to_edit, to_subscribe, to_unsubscribe, to_advance, to_tell_status, to_drain_audit, to_stop}
 use Rattle.admin_lines.specs.Grammar.{longest_line, IsSubscription}
 use Rattle.admin_lines.specs.Reading.{command_of}
 use Rattle.call_lists.specs.Answers.{refusal_text}
@@ -24,7 +24,7 @@ use Rattle.mediator_server.specs.declared.fault.ServeFault.{ServeFault}
 use Rattle.mediator_server.specs.declared.fault.ServeFault.TheVariants.{Read, Write, Framing, Turns, Core}
 use Rattle.mediator_server.specs.Faults.{out_of_memory}
 use Rattle.mediator_server.specs.CommandInput.{InputState, unread, ahead, HandsOut, EndsBehind, IsLine, IsBegun, StopsReading}
-use Rattle.mediator_server.specs.Answering.{Answers, Exchange, asked, answered, IsExchange, AreExchanges, IsCommand, Exchanges, ServesAdmin, StopsInside, StopsAdmin, Performs, Hears, StopsHearing, StopsReplying}
+use Rattle.mediator_server.specs.Answering.{Answers, Exchange, asked, answered, IsExchange, AreExchanges, GoesOn, Exchanges, ServesAdmin, StopsInside, StopsAdmin, Performs, Hears, StopsHearing, StopsReplying}
 use Rattle.mediator_server.proofs.Commands.{hands_out_none, hands_out_then, stops_then}
 
 -- ---- what a reply says of its line
@@ -38,10 +38,21 @@ bad_line (Some (to_unsubscribe sub)) text old new so = absurd so.1
 bad_line (Some (to_advance t)) text old new so = absurd so.1
 bad_line (Some (to_tell_status sub)) text old new so = absurd so.1
 bad_line (Some (to_drain_audit max)) text old new so = absurd so.1
+bad_line (Some to_stop) text old new so = absurd (other so.1)
+  where
+    other : answer.BadLine ≡ answer.Done → ⊥
+    other e = cc
 
 pub good_line : (read : Option Saying) (text : List ℕ) (reply : Answer) (old new : List KeptEntry) → (reply ≡ answer.BadLine → ⊥) → Answers read text reply old new → IsSome read
 good_line None text reply old new good so = absurd (good so.1)
 good_line (Some said) text reply old new good so = refl
+
+no_stop : (stops : Bool) (read : Option Saying) → stops ≡ false → (IsTrue stops ↔ (read ≡ Some to_stop)) → read ≢ Some to_stop
+no_stop stops read goes stop is = let asked = stop.1 is in cc
+
+pub other_line : (read : Option Saying) (text : List ℕ) (reply : Answer) (stops : Bool) (old new : List KeptEntry) → (reply ≡ answer.BadLine → ⊥) → stops ≡ false → (IsTrue stops ↔ (read ≡ Some to_stop)) → Answers read text reply old new
+    → IsSome read × (read ≢ Some to_stop)
+other_line read text reply stops old new good goes stop so = (good_line read text reply old new good so, no_stop stops read goes stop)
 
 -- a text has some octets
 ended_some : (xs : List ℕ) (x : ℕ) → 0 < length (xs ++ x ∷ [])
@@ -81,6 +92,16 @@ name_lost line i given kept named = record {
   answers = subst (λ read. Answers read [] (answer.Refused fault.OutOfMemory) kept kept) (sym (command_of-only line (to_subscribe named.0) named.1)) (refl, refl);
 }
 
+-- and it was no stop
+pub named_no_stop : (line : List ℕ) → IsSubscription line → IsTrue false ↔ (command_of line ≡ Some to_stop)
+named_no_stop line named = (λ said. absurd (never said), λ is. absurd (differ (sym (command_of-only line (to_subscribe named.0) named.1) ∙ is)))
+  where
+    never : IsTrue false → ⊥
+    never said = cc
+
+    differ : Some (to_subscribe named.0) ≡ Some to_stop → ⊥
+    differ e = cc
+
 line_some : (line octets : List ℕ) → IsLine line octets → 0 < length octets
 line_some line octets is = some is.cut
   where
@@ -105,15 +126,16 @@ pub stops_in_line : (e w : ServeFault) (i k : InputState) (given left : Option (
 stops_in_line e w i k given left is stops = rw is (record { octets = stops.0; stops = stops.1; begun = stops.2 })
 
 -- a line was handed out, and its call was made
-pub hears_line : (reply : Answer) (i k l : InputState) (given mid left : Option (List ℕ)) (line shown : List ℕ) (before after : List KeptEntry) → shown ≡ line → (octets : List ℕ) × IsLine line octets × HandsOut i given mid octets k
-    → Performs (command_of shown) reply k mid left l before after → Hears reply i given left l before after
-hears_line reply i k l given mid left line shown before after is heard so = record {
+pub hears_line : (reply : Answer) (stops : Bool) (i k l : InputState) (given mid left : Option (List ℕ)) (line shown : List ℕ) (before after : List KeptEntry) → shown ≡ line → (octets : List ℕ) × IsLine line octets × HandsOut i given mid octets k
+    → Performs (command_of shown) reply k mid left l before after → (IsTrue stops ↔ (command_of shown ≡ Some to_stop)) → Hears reply stops i given left l before after
+hears_line reply stops i k l given mid left line shown before after is heard so stop = record {
   line = line;
   octets = heard.0;
   text = so.text;
   is_line = heard.1;
   handed = hands_out_then i k l given mid left heard.0 so.text heard.2 so.handed;
   answers = subst (λ t. Answers (command_of t) so.text reply before after) is so.answers;
+  stop = subst (λ t. IsTrue stops ↔ (command_of t ≡ Some to_stop)) is stop;
 }
 
 -- ---- one exchange more
@@ -147,7 +169,7 @@ from_start turns given left octets taken = subst (λ g. Consumes g left octets) 
 -- commands were read and answered, and counted
 pub record Serving (turns : ℕ) (i : InputState) (count sent : ℕ) (given left held holds : Option (List ℕ)) (old new : List KeptEntry) : Type 0 where
   pub commands : List Exchange
-  pub are : AllByRecursion IsCommand commands
+  pub are : AllByRecursion GoesOn commands
   pub done : AreExchanges commands old new
   pub handed : HandsOut (unread turns) given left (asked commands) i
   pub written : Appends held holds (answered commands)
@@ -168,8 +190,8 @@ serving_starts turns i given held old new = record {
 }
 
 -- the exchange of a line that was heard, with what was due for its reply
-abbrev exchange_of : (reply : Answer) (i k : InputState) (mid left : Option (List ℕ)) (before after : List KeptEntry) → Hears reply i mid left k before after → List ℕ → Exchange
-exchange_of reply i k mid left before after hears written = record { line = hears.line; octets = hears.octets; text = hears.text; reply = reply; written = written }
+abbrev exchange_of : (reply : Answer) (stops : Bool) (i k : InputState) (mid left : Option (List ℕ)) (before after : List KeptEntry) → Hears reply stops i mid left k before after → List ℕ → Exchange
+exchange_of reply stops i k mid left before after hears written = record { line = hears.line; octets = hears.octets; text = hears.text; reply = reply; written = written }
 
 -- a line more was heard: its call was made, and its octets were handed out
 record Heard (turns : ℕ) (k : InputState) (commands : List Exchange) (x : Exchange) (given left : Option (List ℕ)) (old new : List KeptEntry) : Type 0 where
@@ -177,11 +199,11 @@ record Heard (turns : ℕ) (k : InputState) (commands : List Exchange) (x : Exch
   pub handed : HandsOut (unread turns) given left (asked (commands ++ x ∷ [])) k
   pub written : answered (commands ++ x ∷ []) ≡ answered commands ++ x.written
 
-heard : (turns : ℕ) (i k : InputState) (count sent : ℕ) (given mid left held holds : Option (List ℕ)) (old before new : List KeptEntry) (reply : Answer) (text : List ℕ)
-    → (so : Serving turns i count sent given mid held holds old before) → (hears : Hears reply i mid left k before new) → IsTextOf reply text
-    → Heard turns k so.commands (exchange_of reply i k mid left before new hears text) given left old new
-heard turns i k count sent given mid left held holds old before new reply text so hears is =
-    let x : Exchange = exchange_of reply i k mid left before new hears text in
+heard : (turns : ℕ) (i k : InputState) (count sent : ℕ) (given mid left held holds : Option (List ℕ)) (old before new : List KeptEntry) (reply : Answer) (stops : Bool) (text : List ℕ)
+    → (so : Serving turns i count sent given mid held holds old before) → (hears : Hears reply stops i mid left k before new) → IsTextOf reply text
+    → Heard turns k so.commands (exchange_of reply stops i k mid left before new hears text) given left old new
+heard turns i k count sent given mid left held holds old before new reply stops text so hears is =
+    let x : Exchange = exchange_of reply stops i k mid left before new hears text in
     record {
       done = done_pushed so.commands x old before new so.done (record { line = hears.is_line; answers = hears.answers; written = is });
       handed = subst (λ t. HandsOut (unread turns) given left t k) (sym (asked_pushed so.commands x)) (hands_out_then (unread turns) i k given mid left (asked so.commands) (hears.octets ++ hears.text) so.handed hears.handed);
@@ -190,7 +212,7 @@ heard turns i k count sent given mid left held holds old before new reply text s
 
 -- the octets that were read for it, and those behind it
 exchanges_of : (turns : ℕ) (k : InputState) (commands last : List Exchange) (given left : Option (List ℕ)) (old new : List KeptEntry)
-    → AllByRecursion IsCommand commands → AreExchanges (commands ++ last) old new → HandsOut (unread turns) given left (asked (commands ++ last)) k → Exchanges commands last k.pending given left old new
+    → AllByRecursion GoesOn commands → AreExchanges (commands ++ last) old new → HandsOut (unread turns) given left (asked (commands ++ last)) k → Exchanges commands last k.pending given left old new
 exchanges_of turns k commands last given left old new are done handed = record {
   are = are;
   done = done;
@@ -198,15 +220,15 @@ exchanges_of turns k commands last given left old new are done handed = record {
 }
 
 -- a command more was heard and answered
-pub serving_on : (turns : ℕ) (i k : InputState) (count sent n : ℕ) (given mid left held holds writes : Option (List ℕ)) (old before new : List KeptEntry) (reply : Answer)
-    → Serving turns i count sent given mid held holds old before → Hears reply i mid left k before new → WritesAnswer reply sent n holds writes → (reply ≡ answer.BadLine → ⊥)
+pub serving_on : (turns : ℕ) (i k : InputState) (count sent n : ℕ) (given mid left held holds writes : Option (List ℕ)) (old before new : List KeptEntry) (reply : Answer) (stops : Bool)
+    → Serving turns i count sent given mid held holds old before → Hears reply stops i mid left k before new → WritesAnswer reply sent n holds writes → (reply ≡ answer.BadLine → ⊥) → stops ≡ false
     → Serving turns k (count + 1) n given left held writes old new
-serving_on turns i k count sent n given mid left held holds writes old before new reply so hears replies good =
-    let x : Exchange = exchange_of reply i k mid left before new hears replies.text in
-    let h : Heard turns k so.commands x given left old new = heard turns i k count sent given mid left held holds old before new reply replies.text so hears replies.is in
+serving_on turns i k count sent n given mid left held holds writes old before new reply stops so hears replies good goes =
+    let x : Exchange = exchange_of reply stops i k mid left before new hears replies.text in
+    let h : Heard turns k so.commands x given left old new = heard turns i k count sent given mid left held holds old before new reply stops replies.text so hears replies.is in
     record {
       commands = so.commands ++ x ∷ [];
-      are = all_pushed IsCommand so.commands x so.are (good_line (command_of hears.line) hears.text reply before new good hears.answers);
+      are = all_pushed GoesOn so.commands x so.are (other_line (command_of hears.line) hears.text reply stops before new good goes hears.stop hears.answers);
       done = h.done;
       handed = h.handed;
       written = subst (Appends held writes) (sym h.written) (Appends-trans held holds writes (answered so.commands) replies.text so.written replies.writes.written);
@@ -230,25 +252,41 @@ serving_ends turns i count sent given mid left held holds old new so ends = reco
         (from_start turns given left (asked so.commands ++ []) (Consumes-trans (ahead (unread turns) given) (ahead i mid) left (asked so.commands) [] so.handed.taken ends.taken));
   };
   written = subst (λ xs. Appends held holds (answered xs)) (sym (append-nil so.commands)) so.written;
-  counted = so.counted;
-  ends = (refl, ends.end);
+  more = 0;
+  counted = omega (arith, so.counted);
+  ends = (refl, refl, ends.end);
 }
 
--- a line behind them was no command
-pub serving_ends_line : (turns : ℕ) (i k : InputState) (count sent n : ℕ) (given mid left held holds writes : Option (List ℕ)) (old before new : List KeptEntry) (reply : Answer)
-    → Serving turns i count sent given mid held holds old before → Hears reply i mid left k before new → WritesAnswer reply sent n holds writes → reply ≡ answer.BadLine → ServesAdmin count given left held writes old new
-serving_ends_line turns i k count sent n given mid left held holds writes old before new reply so hears replies bad =
-    let x : Exchange = exchange_of reply i k mid left before new hears replies.text in
-    let h : Heard turns k so.commands x given left old new = heard turns i k count sent given mid left held holds old before new reply replies.text so hears replies.is in
+-- a line behind them was the last
+serving_ends_by : (turns : ℕ) (i k : InputState) (count sent n more total : ℕ) (given mid left held holds writes : Option (List ℕ)) (old before new : List KeptEntry) (reply : Answer) (stops : Bool)
+    → Serving turns i count sent given mid held holds old before → (hears : Hears reply stops i mid left k before new) → WritesAnswer reply sent n holds writes
+    → ((command_of hears.line ≡ None) × (more ≡ 0)) ⊎ ((command_of hears.line ≡ Some to_stop) × (more ≡ 1)) → total ≡ count + more → ServesAdmin total given left held writes old new
+serving_ends_by turns i k count sent n more total given mid left held holds writes old before new reply stops so hears replies last is =
+    let x : Exchange = exchange_of reply stops i k mid left before new hears replies.text in
+    let h : Heard turns k so.commands x given left old new = heard turns i k count sent given mid left held holds old before new reply stops replies.text so hears replies.is in
     record {
       commands = so.commands;
       last = x ∷ [];
       rest = k.pending;
       exchanges = exchanges_of turns k so.commands (x ∷ []) given left old new so.are h.done h.handed;
       written = subst (Appends held writes) (sym h.written) (Appends-trans held holds writes (answered so.commands) replies.text so.written replies.writes.written);
-      counted = so.counted;
-      ends = bad_line (command_of hears.line) hears.text before new (subst (λ r. Answers (command_of hears.line) hears.text r before new) bad hears.answers);
+      more = more;
+      counted = omega (arith, is, so.counted);
+      ends = last;
     }
+
+-- it was no command
+pub serving_ends_line : (turns : ℕ) (i k : InputState) (count sent n : ℕ) (given mid left held holds writes : Option (List ℕ)) (old before new : List KeptEntry) (reply : Answer) (stops : Bool)
+    → Serving turns i count sent given mid held holds old before → Hears reply stops i mid left k before new → WritesAnswer reply sent n holds writes → reply ≡ answer.BadLine → ServesAdmin count given left held writes old new
+serving_ends_line turns i k count sent n given mid left held holds writes old before new reply stops so hears replies bad =
+    serving_ends_by turns i k count sent n 0 count given mid left held holds writes old before new reply stops so hears replies
+    (inl (bad_line (command_of hears.line) hears.text before new (subst (λ r. Answers (command_of hears.line) hears.text r before new) bad hears.answers), refl)) (omega arith)
+
+-- it was to stop
+pub serving_stops : (turns : ℕ) (i k : InputState) (count sent n : ℕ) (given mid left held holds writes : Option (List ℕ)) (old before new : List KeptEntry) (reply : Answer) (stops : Bool)
+    → Serving turns i count sent given mid held holds old before → Hears reply stops i mid left k before new → WritesAnswer reply sent n holds writes → IsTrue stops → ServesAdmin (count + 1) given left held writes old new
+serving_stops turns i k count sent n given mid left held holds writes old before new reply stops so hears replies asked =
+    serving_ends_by turns i k count sent n 1 (count + 1) given mid left held holds writes old before new reply stops so hears replies (inr (hears.stop.0 asked, refl)) refl
 
 -- ---- where it stops
 
@@ -288,43 +326,43 @@ stops_begun turns given held failed old = (
 )
 
 -- the writer failed inside the answer, or its octets can't be counted
-pub stops_replying : (e : ServeFault) (turns : ℕ) (i k : InputState) (count sent : ℕ) (given mid left held holds writes : Option (List ℕ)) (failed : Bool) (old before new : List KeptEntry) (reply : Answer)
-    → (so : Serving turns i count sent given mid held holds old before) → Hears reply i mid left k before new → StopsReplying e reply sent holds writes failed → StopsAdmin e turns given left held writes failed old new so.commands
-stops_replying (Write n) turns i k count sent given mid left held holds writes failed old before new reply so hears stops =
-    let x : Exchange = exchange_of reply i k mid left before new hears stops.text in
-    let h : Heard turns k so.commands x given left old new = heard turns i k count sent given mid left held holds old before new reply stops.text so hears stops.is in (
+pub stops_replying : (e : ServeFault) (turns : ℕ) (i k : InputState) (count sent : ℕ) (given mid left held holds writes : Option (List ℕ)) (failed : Bool) (old before new : List KeptEntry) (reply : Answer) (last : Bool)
+    → (so : Serving turns i count sent given mid held holds old before) → Hears reply last i mid left k before new → StopsReplying e reply sent holds writes failed → StopsAdmin e turns given left held writes failed old new so.commands
+stops_replying (Write n) turns i k count sent given mid left held holds writes failed old before new reply last so hears stopped =
+    let x : Exchange = exchange_of reply last i k mid left before new hears stopped.text in
+    let h : Heard turns k so.commands x given left old new = heard turns i k count sent given mid left held holds old before new reply last stopped.text so hears stopped.is in (
       x,
       record { rest = k.pending; exchanges = exchanges_of turns k so.commands (x ∷ []) given left old new so.are h.done h.handed },
-      subst (λ t. WritesFront held writes t n failed) (sym h.written) (subst (λ m. WritesFront held writes (answered so.commands ++ stops.text) m failed) (sym (place stops.stops.1))
+      subst (λ t. WritesFront held writes t n failed) (sym h.written) (subst (λ m. WritesFront held writes (answered so.commands ++ stopped.text) m failed) (sym (place stopped.stops.1))
           (record {
-            short = omega (arith, stops.stops.2.short, length-append (answered so.commands) stops.text);
-            written = subst (Appends held writes) (sym (take-add-append (answered so.commands) stops.text stops.stops.0)) (Appends-trans held holds writes (answered so.commands) (take stops.stops.0 stops.text) so.written stops.stops.2.written);
-            failed = stops.stops.2.failed;
+            short = omega (arith, stopped.stops.2.short, length-append (answered so.commands) stopped.text);
+            written = subst (Appends held writes) (sym (take-add-append (answered so.commands) stopped.text stopped.stops.0)) (Appends-trans held holds writes (answered so.commands) (take stopped.stops.0 stopped.text) so.written stopped.stops.2.written);
+            failed = stopped.stops.2.failed;
           })),
-      omega (arith, stops.stops.1, so.sent_are),
+      omega (arith, stopped.stops.1, so.sent_are),
     )
   where
-    place : n ≡ sent + stops.stops.0 → n ≡ length (answered so.commands) + stops.stops.0
-    place is = is ∙ ap (λ m. m + stops.stops.0) so.sent_are
-stops_replying (Core pull.HandedFull) turns i k count sent given mid left held holds writes failed old before new reply so hears stops =
-    let x : Exchange = exchange_of reply i k mid left before new hears stops.text in
-    let h : Heard turns k so.commands x given left old new = heard turns i k count sent given mid left held holds old before new reply stops.text so hears stops.is in (
+    place : n ≡ sent + stopped.stops.0 → n ≡ length (answered so.commands) + stopped.stops.0
+    place is = is ∙ ap (λ m. m + stopped.stops.0) so.sent_are
+stops_replying (Core pull.HandedFull) turns i k count sent given mid left held holds writes failed old before new reply last so hears stopped =
+    let x : Exchange = exchange_of reply last i k mid left before new hears stopped.text in
+    let h : Heard turns k so.commands x given left old new = heard turns i k count sent given mid left held holds old before new reply last stopped.text so hears stopped.is in (
       x,
       record { rest = k.pending; exchanges = exchanges_of turns k so.commands (x ∷ []) given left old new so.are h.done h.handed },
-      subst (λ t. Appends held t (answered so.commands)) (sym stops.stops.0) so.written,
-      omega (arith, stops.stops.1, so.sent_are, ap length h.written, length-append (answered so.commands) stops.text),
+      subst (λ t. Appends held t (answered so.commands)) (sym stopped.stops.0) so.written,
+      omega (arith, stopped.stops.1, so.sent_are, ap length h.written, length-append (answered so.commands) stopped.text),
     )
-stops_replying _ turns i k count sent given mid left held holds writes failed old before new reply so hears stops = absurd stops.stops
+stops_replying _ turns i k count sent given mid left held holds writes failed old before new reply last so hears stopped = absurd stopped.stops
 
 pub stopped_hearing : (e w : ServeFault) (turns : ℕ) (i k : InputState) (count sent : ℕ) (given mid left held holds : Option (List ℕ)) (failed : Bool) (old before new : List KeptEntry) → e ≡ w
     → Serving turns i count sent given mid held holds old before → StopsHearing w i mid left k → new ≡ before → (commands : List Exchange) × StopsAdmin e turns given left held holds failed old new commands
 stopped_hearing e w turns i k count sent given mid left held holds failed old before new is so stops same =
     rw (is, same) (so.commands, stops_hearing w turns i k count sent given mid left held holds failed old before stops.octets so stops.stops stops.begun)
 
-pub stopped_replying : (e w : ServeFault) (turns : ℕ) (i k : InputState) (count sent : ℕ) (given mid left held holds writes : Option (List ℕ)) (failed : Bool) (old before new : List KeptEntry) (reply : Answer) → e ≡ w
-    → Serving turns i count sent given mid held holds old before → Hears reply i mid left k before new → StopsReplying w reply sent holds writes failed → (commands : List Exchange) × StopsAdmin e turns given left held writes failed old new commands
-stopped_replying e w turns i k count sent given mid left held holds writes failed old before new reply is so hears stops =
-    rw is (so.commands, stops_replying w turns i k count sent given mid left held holds writes failed old before new reply so hears stops)
+pub stopped_replying : (e w : ServeFault) (turns : ℕ) (i k : InputState) (count sent : ℕ) (given mid left held holds writes : Option (List ℕ)) (failed : Bool) (old before new : List KeptEntry) (reply : Answer) (last : Bool) → e ≡ w
+    → Serving turns i count sent given mid held holds old before → Hears reply last i mid left k before new → StopsReplying w reply sent holds writes failed → (commands : List Exchange) × StopsAdmin e turns given left held writes failed old new commands
+stopped_replying e w turns i k count sent given mid left held holds writes failed old before new reply last is so hears stops =
+    rw is (so.commands, stops_replying w turns i k count sent given mid left held holds writes failed old before new reply last so hears stops)
 
 pub serving_ended : (turns : ℕ) (i : InputState) (count sent : ℕ) (given mid left held holds : Option (List ℕ)) (old before new : List KeptEntry) → Serving turns i count sent given mid held holds old before → EndsBehind i mid left [] × (new ≡ before)
     → ServesAdmin count given left held holds old new

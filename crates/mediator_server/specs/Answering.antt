@@ -1,5 +1,5 @@
 -- The commands of an administrator's connection with their answers, and where serving it stops.
-use Rattle.std.specs.Prelude.{◌≡◌, ℕ, ◌+◌, ◌≤◌, ◌<◌, ◌^◌, Bool, List, [], ◌∷◌, ◌++◌, length, Option, Some, None, IsSome, IsUtf8}
+use Rattle.std.specs.Prelude.{◌≡◌, ◌≢◌, ◌⊎◌, ◌↔◌, IsTrue, ℕ, ◌+◌, ◌≤◌, ◌<◌, ◌^◌, Bool, List, [], ◌∷◌, ◌++◌, length, Option, Some, None, IsSome, IsUtf8}
 use Rattle.std.specs.List.{flat_map, AllByRecursion}
 use Rattle.std.specs.Io.KnownBytes.{Consumes, Appends, IsAtEnd}
 use Rattle.octet_devices.specs.Written.{WritesFront}
@@ -10,7 +10,7 @@ use Rattle.mediator_state.specs.declared.fault.Fault.TheVariants as fault
 use Rattle.mediator_calls.specs.declared.fault.PullFault.TheVariants as pull
 use Rattle.shared_mediator.specs.Handles.{KeepsEntry}
 use Rattle.admin_lines.specs.Sayings.{Saying}
-use Rattle.admin_lines.specs.Sayings.Saying.{to_edit, to_subscribe, to_unsubscribe, to_advance, to_tell_status, to_drain_audit}
+use Rattle.admin_lines.specs.Sayings.Saying.{to_edit, to_subscribe, to_unsubscribe, to_advance, to_tell_status, to_drain_audit, to_stop}
 use Rattle.admin_lines.specs.Reading.{command_of}
 use Rattle.admin_lines.specs.Answers.{IsTextOf}
 use Rattle.admin_lines.specs.declared.answer.Answer.{Answer}
@@ -62,6 +62,7 @@ Answers (Some (to_unsubscribe sub)) text reply old new = (text ≡ []) × Unsubs
 Answers (Some (to_advance t)) text reply old new = (text ≡ []) × Advances t reply old new
 Answers (Some (to_tell_status sub)) text reply old new = (text ≡ []) × TellsStatus reply old new
 Answers (Some (to_drain_audit max)) text reply old new = (text ≡ []) × DrainsAudit reply old new
+Answers (Some to_stop) text reply old new = (text ≡ []) × (reply ≡ answer.Done) × (new ≡ old)
 Answers None text reply old new = (text ≡ []) × (reply ≡ answer.BadLine) × (new ≡ old)
 
 -- ---- one line after another
@@ -91,22 +92,23 @@ abbrev pub AreExchanges : List Exchange → List KeptEntry → List KeptEntry �
 AreExchanges [] old new = new ≡ old
 AreExchanges (x ∷ xs) old new = (mid : List KeptEntry) × IsExchange x old mid × AreExchanges xs mid new
 
-abbrev pub IsCommand : Exchange → Type 0
-IsCommand x = IsSome (command_of x.line)
+-- a command, behind which more may come: one that isn't to stop
+abbrev pub GoesOn : Exchange → Type 0
+GoesOn x = IsSome (command_of x.line) × (command_of x.line ≢ Some to_stop)
 
 -- commands were read and their calls were made, in order, and then this line's, if there is one; and these octets behind them were read
 pub record Exchanges (commands last : List Exchange) (rest : List ℕ) (given left : Option (List ℕ)) (old new : List KeptEntry) : Type 0 where
-  pub are : AllByRecursion IsCommand commands
+  pub are : AllByRecursion GoesOn commands
   pub done : AreExchanges (commands ++ last) old new
   pub read : Consumes given left (asked (commands ++ last) ++ rest)
 
 -- ---- where it ends
 
--- the input ended behind the commands; or behind them one line is no command
-abbrev pub EndsAt : List Exchange → List ℕ → Option (List ℕ) → Type 0
-EndsAt [] rest left = (rest ≡ []) × IsAtEnd left
-EndsAt (x ∷ []) rest left = command_of x.line ≡ None
-EndsAt _ rest left = ⊥
+-- the input ended behind the commands; or behind them one line more is no command, or to stop, and this one is counted too
+abbrev pub EndsAt : List Exchange → ℕ → List ℕ → Option (List ℕ) → Type 0
+EndsAt [] more rest left = (more ≡ 0) × (rest ≡ []) × IsAtEnd left
+EndsAt (x ∷ []) more rest left = ((command_of x.line ≡ None) × (more ≡ 0)) ⊎ ((command_of x.line ≡ Some to_stop) × (more ≡ 1))
+EndsAt _ more rest left = ⊥
 
 -- all were answered, and the commands counted
 pub record ServesAdmin (count : ℕ) (given left held holds : Option (List ℕ)) (old new : List KeptEntry) : Type 0 where
@@ -115,8 +117,9 @@ pub record ServesAdmin (count : ℕ) (given left held holds : Option (List ℕ))
   pub rest : List ℕ
   pub exchanges : Exchanges commands last rest given left old new
   pub written : Appends held holds (answered (commands ++ last))
-  pub counted : count ≡ length commands
-  pub ends : EndsAt last rest left
+  pub more : ℕ
+  pub counted : count ≡ length commands + more
+  pub ends : EndsAt last more rest left
 
 -- ---- where it stops
 
@@ -157,14 +160,15 @@ pub record Performs (read : Option Saying) (reply : Answer) (old : InputState) (
   pub handed : HandsOut old given left text new
   pub answers : Answers read text reply before after
 
--- a line was handed out, with the text behind it, and answered so
-pub record Hears (reply : Answer) (old : InputState) (given left : Option (List ℕ)) (new : InputState) (before after : List KeptEntry) : Type 0 where
+-- a line was handed out, with the text behind it, and answered so; and whether it asks to stop
+pub record Hears (reply : Answer) (stops : Bool) (old : InputState) (given left : Option (List ℕ)) (new : InputState) (before after : List KeptEntry) : Type 0 where
   pub line : List ℕ
   pub octets : List ℕ
   pub text : List ℕ
   pub is_line : IsLine line octets
   pub handed : HandsOut old given left (octets ++ text) new
   pub answers : Answers (command_of line) text reply before after
+  pub stop : IsTrue stops ↔ (command_of line ≡ Some to_stop)
 
 -- nothing was answered, behind these octets of a command
 pub record StopsHearing (e : ServeFault) (old : InputState) (given left : Option (List ℕ)) (new : InputState) : Type 0 where

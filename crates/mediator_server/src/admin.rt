@@ -1,6 +1,7 @@
 //! An administrator's connection.
-ghost use Rattle.std.specs.Prelude.{◌≡◌, ℕ, List, [], Some, false, IfOk, IfErr, OnOk, OnErr, MatchOption};
+ghost use Rattle.std.specs.Prelude.{◌≡◌, ◌↔◌, IsTrue, ℕ, List, [], Some, false, IfOk, IfErr, OnOk, OnErr, MatchOption};
 ghost use Rattle.admin_lines.specs.Sayings.{saying};
+ghost use Rattle.admin_lines.specs.Sayings.Saying.{to_stop};
 ghost use Rattle.admin_lines.specs.Reading.{command_of};
 ghost use Rattle.admin_lines.specs.Answers.{WritesAnswer};
 ghost use Rattle.mediator_server.specs.Faults.{reader_after, writer_after};
@@ -8,7 +9,9 @@ ghost use Rattle.mediator_server.specs.CommandInput.{EndsBehind, StopsReading};
 ghost use Rattle.mediator_server.specs.Answering.{Edits, Subscribes, Unsubscribes, Advances, TellsStatus, DrainsAudit, Exchange, ServesAdmin, StopsAdmin, Performs, Hears, StopsHearing, StopsReplying};
 
 use crate::command_input::CommandInput;
+use crate::control::{Control, Patience};
 use crate::fault::ServeFault;
+use crate::room::wait_for_advance;
 use admin_lines::{Answer, Command, read_command, write_answer};
 use answer_writing::{AnswerBuffer, Stopped};
 use mediator_calls::{PullFault, SubId, UnknownSub};
@@ -19,16 +22,26 @@ use std::alloc::{AllocError, Global};
 use std::str::from_utf8;
 use std::sync::Wait;
 
+/// What came of a line.
+#[derive(Drop)]
+struct Heard {
+    answer: Answer,
+    /// Whether it was a `stop`.
+    stops: bool,
+}
+
 /// Serves an administrator's connection: reads its commands, one line each, by at most so many reads; makes each call by the
 /// handle, and then writes its answer. Answers how many commands were answered. The end of the input between two commands ends
-/// it, and so does a line that is no command: that is answered too, but not counted. What an answer is written with is made before
-/// the first command is read, so that no want of memory keeps back what a call handed out or did.
+/// it, and so does a `stop`, of which the server is told by `control`, and a line that is no command: that is answered too, but not
+/// counted. What an answer is written with is made before the first command is read, so that no want of memory keeps back what a
+/// call handed out or did. Before an advance is made, `control` has it wait for room in the queues of those to whom it would give
+/// records, as long as that has patience with it.
 ///
 /// # Errors
 /// The reader failed; or the input ends inside a command; or its end isn't read within `turns` reads; or memory ran out for what
 /// is read. Or the writer failed, after so many octets of all answers, or the octets sent can't be counted in 64 bits: then the
 /// call that was to be answered has been made. What the mediator refuses is an answer, and no error.
-pub fn serve_admin<E: EntryLedger, H: RecordLedger, R: Source, W: Sink>(
+pub fn serve_admin<E: EntryLedger, H: RecordLedger, R: Source, W: Sink, C: Control>(
     rt: &impl Wait,
     alloc: Global,
     shared: &SharedMediator<E, H>,
@@ -36,6 +49,7 @@ pub fn serve_admin<E: EntryLedger, H: RecordLedger, R: Source, W: Sink>(
     reader: &mut R,
     writer: &mut W,
     turns: u64,
+    control: &C,
 ) -> Result<u64, ServeFault>
     requires reader { R.has_failed reader.old ≡ false }
     requires writer { W.has_failed writer.old ≡ false }
@@ -50,14 +64,18 @@ pub fn serve_admin<E: EntryLedger, H: RecordLedger, R: Source, W: Sink>(
     let mut buffer = AnswerBuffer::new(alloc)?;
     let (mut count, mut sent) = (0u64, 0u64);
     'commands: for _ in rt.forever() {
-        let Some(answer) = hear(rt, alloc, shared, handle, &mut input, reader)? else {
+        let heard = hear(rt, alloc, shared, handle, &mut input, reader, control)?;
+        let Some(heard) = heard else {
             return Ok(count);
         };
-        sent = reply(alloc, &mut buffer, writer, &answer, sent)?;
-        if matches!(answer, Answer::BadLine) {
+        sent = reply(alloc, &mut buffer, writer, &heard.answer, sent)?;
+        if matches!(heard.answer, Answer::BadLine) {
             return Ok(count);
         }
         count += 1;
+        if heard.stops {
+            return Ok(count);
+        }
     }
     unreachable!()
 }
@@ -67,18 +85,19 @@ pub fn serve_admin<E: EntryLedger, H: RecordLedger, R: Source, W: Sink>(
 /// # Errors
 /// The reader failed; or the input ends inside the command; or no read is left; or memory ran out for what was read. Then no
 /// call was made.
-fn hear<E: EntryLedger, H: RecordLedger, R: Source>(
+fn hear<E: EntryLedger, H: RecordLedger, R: Source, C: Control>(
     rt: &impl Wait,
     alloc: Global,
     shared: &SharedMediator<E, H>,
     handle: &mut AdminHandle<E>,
     input: &mut CommandInput,
     reader: &mut R,
-) -> Result<Option<Answer>, ServeFault>
+    control: &C,
+) -> Result<Option<Heard>, ServeFault>
     requires reader { R.has_failed reader.old ≡ false }
     ensures ok { IfOk result (λ found. MatchOption found
         (EndsBehind input.old (R.remaining reader.old) (R.remaining reader.new) [] × (handle.new ≡ handle.old))
-        (λ answer. Hears answer input.old (R.remaining reader.old) (R.remaining reader.new) input.new handle.old handle.new)) }
+        (λ heard. Hears heard.answer heard.stops input.old (R.remaining reader.old) (R.remaining reader.new) input.new handle.old handle.new)) }
     ensures sound { OnOk result (R.has_failed reader.new ≡ false) }
     ensures fails { IfErr result (λ e. R.has_failed reader.new ≡ reader_after e) }
     ensures err { IfErr result (λ e. StopsHearing e input.old (R.remaining reader.old) (R.remaining reader.new) input.new) }
@@ -87,8 +106,9 @@ fn hear<E: EntryLedger, H: RecordLedger, R: Source>(
     let Some(line) = input.next_line(alloc, reader)? else {
         return Ok(None);
     };
-    let answer = answer_line(rt, alloc, shared, handle, input, reader, line.as_slice())?;
-    Ok(Some(answer))
+    let line = line.as_slice();
+    let heard = answer_line(rt, alloc, shared, handle, input, reader, line, control)?;
+    Ok(Some(heard))
 }
 
 /// Makes the call that a line asks for, with what stands behind the line.
@@ -96,7 +116,7 @@ fn hear<E: EntryLedger, H: RecordLedger, R: Source>(
 /// # Errors
 /// The reader failed; or the input ends before the octets of an edit; or no read is left; or memory ran out for these octets.
 /// Then no call was made.
-fn answer_line<E: EntryLedger, H: RecordLedger, R: Source>(
+fn answer_line<E: EntryLedger, H: RecordLedger, R: Source, C: Control>(
     rt: &impl Wait,
     alloc: Global,
     shared: &SharedMediator<E, H>,
@@ -104,18 +124,45 @@ fn answer_line<E: EntryLedger, H: RecordLedger, R: Source>(
     input: &mut CommandInput,
     reader: &mut R,
     line: &[u8],
-) -> Result<Answer, ServeFault>
+    control: &C,
+) -> Result<Heard, ServeFault>
     requires reader { R.has_failed reader.old ≡ false }
-    ensures ok { IfOk result (λ answer. Performs (command_of line.now) answer input.old (R.remaining reader.old) (R.remaining reader.new) input.new handle.old handle.new) }
+    ensures ok { IfOk result (λ heard. Performs (command_of line.now) heard.answer input.old (R.remaining reader.old) (R.remaining reader.new) input.new handle.old handle.new) }
+    ensures stops { IfOk result (λ heard. IsTrue heard.stops ↔ (command_of line.now ≡ Some to_stop)) }
     ensures sound { OnOk result (R.has_failed reader.new ≡ false) }
     ensures fails { IfErr result (λ e. R.has_failed reader.new ≡ reader_after e) }
     ensures err { IfErr result (λ e. (octets : List ℕ) × StopsReading e input.old (R.remaining reader.old) (R.remaining reader.new) octets input.new) }
     ensures same { OnErr result (handle.new ≡ handle.old) }
 {
     match read_command(alloc, line) {
-        Ok(Some(command)) => perform(rt, alloc, shared, handle, input, reader, command),
-        Ok(None) => Ok(Answer::BadLine),
-        Err(AllocError) => Ok(Answer::Refused(Fault::OutOfMemory)),
+        Ok(Some(command)) => {
+            let stops = is_stop(&command);
+            let answer = perform(rt, alloc, shared, handle, input, reader, command, control)?;
+            Ok(Heard { answer, stops })
+        }
+        Ok(None) => Ok(Heard {
+            answer: Answer::BadLine,
+            stops: false,
+        }),
+        Err(AllocError) => Ok(Heard {
+            answer: Answer::Refused(Fault::OutOfMemory),
+            stops: false,
+        }),
+    }
+}
+
+/// Whether a command is a `stop`.
+const fn is_stop(command: &Command) -> bool
+    ensures { IsTrue result ↔ (saying command.now ≡ to_stop) }
+{
+    match command {
+        Command::Stop => true,
+        Command::Edit { .. }
+        | Command::Subscribe { .. }
+        | Command::Unsubscribe { .. }
+        | Command::Advance { .. }
+        | Command::Status { .. }
+        | Command::Audit { .. } => false,
     }
 }
 
@@ -123,7 +170,7 @@ fn answer_line<E: EntryLedger, H: RecordLedger, R: Source>(
 ///
 /// # Errors
 /// Those of [`answer_line`].
-fn perform<E: EntryLedger, H: RecordLedger, R: Source>(
+fn perform<E: EntryLedger, H: RecordLedger, R: Source, C: Control>(
     rt: &impl Wait,
     alloc: Global,
     shared: &SharedMediator<E, H>,
@@ -131,6 +178,7 @@ fn perform<E: EntryLedger, H: RecordLedger, R: Source>(
     input: &mut CommandInput,
     reader: &mut R,
     command: Command,
+    control: &C,
 ) -> Result<Answer, ServeFault>
     requires reader { R.has_failed reader.old ≡ false }
     ensures ok { IfOk result (λ answer. Performs (Some (saying command)) answer input.old (R.remaining reader.old) (R.remaining reader.new) input.new handle.old handle.new) }
@@ -146,9 +194,13 @@ fn perform<E: EntryLedger, H: RecordLedger, R: Source>(
         }
         Command::Subscribe { name } => Ok(subscribe(rt, shared, handle, name.as_slice())),
         Command::Unsubscribe { sub } => Ok(unsubscribe(rt, shared, handle, sub)),
-        Command::Advance { t } => Ok(advance(rt, shared, handle, t)),
+        Command::Advance { t } => Ok(advance(rt, shared, handle, t, control)),
         Command::Status { sub } => Ok(status(rt, shared, handle, sub)),
         Command::Audit { max } => Ok(drain_audit(rt, shared, handle, max)),
+        Command::Stop => {
+            control.stop();
+            Ok(Answer::Done)
+        }
     }
 }
 
@@ -228,15 +280,17 @@ fn unsubscribe<E: EntryLedger, H: RecordLedger>(
     }
 }
 
-/// Advances the clock, to so many milliseconds since 1970.
-fn advance<E: EntryLedger, H: RecordLedger>(
+/// Advances the clock, to so many milliseconds since 1970, once there is room for what that closes.
+fn advance<E: EntryLedger, H: RecordLedger, P: Patience>(
     rt: &impl Wait,
     shared: &SharedMediator<E, H>,
     handle: &mut AdminHandle<E>,
     t: u64,
+    patience: &P,
 ) -> Answer
     ensures { Advances t result handle.old handle.new }
 {
+    wait_for_advance(rt, shared, t, patience);
     match handle.advance(rt, shared, t) {
         Ok(()) => Answer::Done,
         Err(why) => Answer::Refused(why),

@@ -6,7 +6,7 @@ ghost use Rattle.mediator_server.specs.Delivering.{Delivers, FailsToDeliver, Sen
 
 use crate::clock::Clock;
 use crate::fault::ServeFault;
-use mediator_calls::{Handed, PullFault, SubId};
+use mediator_calls::{Handed, PullFault, SubId, UnknownSub};
 use octet_devices::{Sink, write_all};
 use shared_mediator::{
     AdminHandle, DeliveryHandle, EntryLedger, RecordLedger, SharedMediator, Waited,
@@ -27,7 +27,8 @@ const MOST_AT_ONCE: u64 = 32;
 /// # Errors
 /// The writer failed, after so many octets of all that was pulled, of which at most the messages of the last pull weren't all
 /// written; or the mediator refuses a pull, or the octets sent, and those
-/// of one message more, might not be counted in 64 bits.
+/// of one message more, might not be counted in 64 bits. Beside the fault stands how many records waited for the subscription then,
+/// before it was ended; 0 where it is no longer live.
 pub fn deliver<E: EntryLedger, H: RecordLedger, W: Sink, C: Clock>(
     rt: &impl Wait,
     shared: &SharedMediator<E, H>,
@@ -36,21 +37,35 @@ pub fn deliver<E: EntryLedger, H: RecordLedger, W: Sink, C: Clock>(
     writer: &mut W,
     target: u16,
     clock: &C,
-) -> Result<u64, ServeFault>
+) -> Result<u64, (ServeFault, u64)>
     requires writer { W.has_failed writer.old ≡ false }
     ensures delivers { IfOk result (λ sent. Delivers (C.shows clock.now) target sent handle.old handle.new (W.contents writer.old) (W.contents writer.new)) }
     ensures sound { OnOk result (W.has_failed writer.new ≡ false) }
-    ensures stops { IfErr result (λ e. FailsToDeliver e (C.shows clock.now) target handle.old handle.new (W.contents writer.old) (W.contents writer.new) (W.has_failed writer.new)) }
-    ensures fails { IfErr result (λ e. W.has_failed writer.new ≡ writer_after e) }
+    ensures stops { IfErr result (λ e. FailsToDeliver e.0 (C.shows clock.now) target handle.old handle.new (W.contents writer.old) (W.contents writer.new) (W.has_failed writer.new)) }
+    ensures fails { IfErr result (λ e. W.has_failed writer.new ≡ writer_after e.0) }
     ensures same { OnOk result (admin.new ≡ admin.old) }
-    ensures gone { IfErr result (λ e. EndsOnWrite e handle.old.sub admin.old admin.new) }
+    ensures gone { IfErr result (λ e. EndsOnWrite e.0 handle.old.sub admin.old admin.new) }
 {
     match send_messages(rt, shared, handle, writer, target, clock) {
         Ok(sent) => Ok(sent),
         Err(fault) => {
+            let waiting = records_waiting(rt, shared, handle.sub(), admin);
             end_on_write(rt, shared, handle.sub(), admin, fault);
-            Err(fault)
+            Err((fault, waiting))
         }
+    }
+}
+
+/// How many records wait for a subscription; 0 where it isn't live.
+fn records_waiting<E: EntryLedger, H: RecordLedger>(
+    rt: &impl Wait,
+    shared: &SharedMediator<E, H>,
+    sub: SubId,
+    admin: &AdminHandle<E>,
+) -> u64 {
+    match admin.status(rt, shared, sub) {
+        Ok(status) => u64::from(status.queued),
+        Err(UnknownSub) => 0,
     }
 }
 

@@ -7,7 +7,9 @@ ghost use Rattle.mediator_server.specs.Serving.{IsRefusalOf, IsTooWideAt, Offers
 ghost use Rattle.mediator_server.specs.Preparing.{ArePreparations, IsFrontOf};
 ghost use Rattle.mediator_server.specs.Faults.{reader_after};
 
+use crate::control::{Patience, Reception};
 use crate::fault::ServeFault;
+use crate::room::wait_for_room;
 use bytes::Bytes;
 use decode_workers::{NoGate, Workers};
 use mediator_state::{Fault, Receipt};
@@ -92,7 +94,16 @@ impl Progress {
 /// How many records count is found out without the lock. So a message of which nothing was judged for want of memory, or whose
 /// judgement is stale when the lock is taken, since there was an edit, an advance or another subscription meanwhile, is taken in
 /// whatever counts.
-pub fn serve_exporter<E: EntryLedger, H: RecordLedger, R: Source, T: Threads + Wait + Sync>(
+///
+/// Before a message is offered, `reception` has it wait for room in the queues of those to whom it would give records, as long as
+/// that has patience with it; and behind each that was accepted it's told of it.
+pub fn serve_exporter<
+    E: EntryLedger,
+    H: RecordLedger,
+    R: Source,
+    O: Reception,
+    T: Threads + Wait + Sync,
+>(
     rt: &T,
     alloc: Global,
     shared: &SharedMediator<E, H>,
@@ -100,6 +111,7 @@ pub fn serve_exporter<E: EntryLedger, H: RecordLedger, R: Source, T: Threads + W
     reader: &mut R,
     turns: u64,
     workers: u64,
+    reception: &O,
 ) -> Result<Served, (ServeFault, Served)>
     requires reader { R.has_failed reader.old ≡ false }
     ensures serves { IfOk result (λ served. Serves turns served.messages (R.remaining reader.old) (R.remaining reader.new) handle.old handle.new) }
@@ -111,7 +123,16 @@ pub fn serve_exporter<E: EntryLedger, H: RecordLedger, R: Source, T: Threads + W
     let before = handle.kept().len();
     let mut progress = Progress::none();
     let pace = Pace { turns, workers };
-    let offered = offer_stream(rt, alloc, shared, handle, reader, pace, &mut progress);
+    let offered = offer_stream(
+        rt,
+        alloc,
+        shared,
+        handle,
+        reader,
+        pace,
+        &mut progress,
+        reception,
+    );
     // Whether the session could be closed changes nothing of what was served.
     let _closed = handle.end(rt, shared);
     match offered {
@@ -127,7 +148,7 @@ pub fn serve_exporter<E: EntryLedger, H: RecordLedger, R: Source, T: Threads + W
 ///
 /// # Errors
 /// Those of [`serve_exporter`].
-fn offer_stream<E: EntryLedger, H: RecordLedger, R: Source, T: Threads + Wait + Sync>(
+fn offer_stream<E: EntryLedger, H: RecordLedger, R: Source, O: Reception, T: Threads + Wait + Sync>(
     rt: &T,
     alloc: Global,
     shared: &SharedMediator<E, H>,
@@ -135,6 +156,7 @@ fn offer_stream<E: EntryLedger, H: RecordLedger, R: Source, T: Threads + Wait + 
     reader: &mut R,
     pace: Pace,
     progress: &mut Progress,
+    reception: &O,
 ) -> Result<u64, ServeFault>
     requires reader { R.has_failed reader.old ≡ false }
     ensures serves { IfOk result (λ offered. Serves pace.turns offered (R.remaining reader.old) (R.remaining reader.new) handle.old handle.new) }
@@ -150,7 +172,7 @@ fn offer_stream<E: EntryLedger, H: RecordLedger, R: Source, T: Threads + Wait + 
             return Ok((handle.kept().len() - before) as u64);
         };
         let answers = prepare_piece(rt, shared, handle, &messages, &mut workers);
-        offer_piece(rt, shared, handle, messages, answers, progress)?;
+        offer_piece(rt, shared, handle, messages, answers, progress, reception)?;
     }
 }
 
@@ -204,19 +226,20 @@ fn narrow_front(snapshot: &Snapshot, messages: &Vec<Bytes>) -> Option<Vec<Bytes>
 ///
 /// # Errors
 /// The refusal of the first that is refused.
-fn offer_piece<E: EntryLedger, H: RecordLedger>(
+fn offer_piece<E: EntryLedger, H: RecordLedger, O: Reception>(
     rt: &impl Wait,
     shared: &SharedMediator<E, H>,
     handle: &mut ExporterHandle<E>,
     messages: Vec<Bytes>,
     answers: Vec<Result<Prepared, PrepareFault>>,
     progress: &mut Progress,
+    reception: &O,
 ) -> Result<(), ServeFault>
     requires prepared { ArePreparations messages.items answers.items }
     ensures ok { OnOk result (Offers handle.old handle.new messages.items) }
     ensures err { IfErr result (λ e. RefusesAmong e handle.old handle.new messages.items) }
 {
-    let offered = offer_each(rt, shared, handle, messages, answers, progress);
+    let offered = offer_each(rt, shared, handle, messages, answers, progress, reception);
     shared.wake();
     offered
 }
@@ -225,13 +248,14 @@ fn offer_piece<E: EntryLedger, H: RecordLedger>(
 ///
 /// # Errors
 /// The refusal of the first that is refused.
-fn offer_each<E: EntryLedger, H: RecordLedger>(
+fn offer_each<E: EntryLedger, H: RecordLedger, O: Reception>(
     rt: &impl Wait,
     shared: &SharedMediator<E, H>,
     handle: &mut ExporterHandle<E>,
     messages: Vec<Bytes>,
     answers: Vec<Result<Prepared, PrepareFault>>,
     progress: &mut Progress,
+    reception: &O,
 ) -> Result<(), ServeFault>
     requires prepared { ArePreparations messages.items answers.items }
     ensures ok { OnOk result (Offers handle.old handle.new messages.items) }
@@ -239,10 +263,12 @@ fn offer_each<E: EntryLedger, H: RecordLedger>(
 {
     let mut answers = answers.into_iter();
     'messages: for message in messages {
+        let octets = message.len();
         let prepared = next_prepared(&mut answers);
         let workspace = &mut progress.workspace;
-        let receipt = offer_one(rt, shared, handle, prepared, message, workspace)?;
+        let receipt = offer_one(rt, shared, handle, prepared, message, workspace, reception)?;
         progress.add(&receipt);
+        reception.accept(&receipt, octets);
     }
     Ok(())
 }
@@ -255,18 +281,19 @@ fn next_prepared(answers: &mut IntoIter<Result<Prepared, PrepareFault>>) -> Opti
     answers.next()?.ok()
 }
 
-/// Offers a message as it was prepared; or with what is judged of it ahead, where it wasn't, or too many of its records count, or
-/// the session has other templates by then.
+/// Offers a message as it was prepared, once there is room for what it gives; or with what is judged of it ahead, where it wasn't
+/// prepared, or too many of its records count, or the session has other templates by then.
 ///
 /// # Errors
 /// The mediator's refusal; or the message is too wide, or too many of its records count.
-fn offer_one<E: EntryLedger, H: RecordLedger>(
+fn offer_one<E: EntryLedger, H: RecordLedger, P: Patience>(
     rt: &impl Wait,
     shared: &SharedMediator<E, H>,
     handle: &mut ExporterHandle<E>,
     prepared: Option<Prepared>,
     message: Bytes,
     workspace: &mut Workspace,
+    patience: &P,
 ) -> Result<Receipt, ServeFault>
     requires prepared { IfSome prepared (λ p. p.message ≡ message) }
     ensures kept { IfOk result (λ receipt. handle.new.kept ≡ handle.old.kept ++ record { position = receipt.position; entry = Message handle.old.session (length handle.old.kept) message } ∷ []) }
@@ -275,30 +302,35 @@ fn offer_one<E: EntryLedger, H: RecordLedger>(
     ensures refuses { IfErr result (λ e. IsRefusalOf e message) }
 {
     let Some(prepared) = prepared else {
-        return offer_judged(rt, shared, handle, message, workspace);
+        return offer_judged(rt, shared, handle, message, workspace, patience, 0);
     };
     // By the session's templates of now it may be other records.
     if prepared.counts_too_many() {
-        return offer_judged(rt, shared, handle, message, workspace);
+        return offer_judged(rt, shared, handle, message, workspace, patience, 0);
     }
+    let waited = wait_for_room(rt, shared, prepared.shares(), patience, 0);
     match handle.offer_prepared_silently(rt, shared, prepared) {
         Ok(receipt) => Ok(receipt),
-        Err((Fault::Stale, _prepared)) => offer_judged(rt, shared, handle, message, workspace),
+        Err((Fault::Stale, _prepared)) => {
+            offer_judged(rt, shared, handle, message, workspace, patience, waited)
+        }
         Err((fault, _prepared)) => Err(ServeFault::from(fault)),
     }
 }
 
-/// Judges a message without the lock, by the session's templates as they are now, and offers it with what was judged. Where it
-/// can't be judged, the offer tells why.
+/// Judges a message without the lock, by the session's templates as they are now, and offers it with what was judged, once there is
+/// room for what it gives; it has waited so often before. Where it can't be judged, the offer tells why.
 ///
 /// # Errors
 /// Those of [`offer_one`].
-fn offer_judged<E: EntryLedger, H: RecordLedger>(
+fn offer_judged<E: EntryLedger, H: RecordLedger, P: Patience>(
     rt: &impl Wait,
     shared: &SharedMediator<E, H>,
     handle: &mut ExporterHandle<E>,
     message: Bytes,
     workspace: &mut Workspace,
+    patience: &P,
+    waited: u64,
 ) -> Result<Receipt, ServeFault>
     ensures kept { IfOk result (λ receipt. handle.new.kept ≡ handle.old.kept ++ record { position = receipt.position; entry = Message handle.old.session (length handle.old.kept) message } ∷ []) }
     ensures session { handle.new.session ≡ handle.old.session }
@@ -313,7 +345,21 @@ fn offer_judged<E: EntryLedger, H: RecordLedger>(
     if counts_too_many(&ahead) {
         return Err(ServeFault::TooManyCounts);
     }
+    wait_for_judged(rt, shared, &ahead, patience, waited);
     Ok(handle.offer_judged_silently(rt, shared, message, ahead)?)
+}
+
+/// Waits for room for what was judged of a message ahead, where anything was; it has waited so often before.
+fn wait_for_judged<E: EntryLedger, H: RecordLedger, P: Patience>(
+    rt: &impl Wait,
+    shared: &SharedMediator<E, H>,
+    ahead: &Option<JudgedAhead>,
+    patience: &P,
+    waited: u64,
+) {
+    if let Some(ahead) = ahead {
+        let _turns = wait_for_room(rt, shared, ahead.shares(), patience, waited);
+    }
 }
 
 /// Whether a message is too wide by these templates. Octets that are no message aren't.

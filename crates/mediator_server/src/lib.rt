@@ -6,11 +6,14 @@
 //! - `exporter`: [`serve_exporter`], the messages of a stream.
 //! - `delivery`: [`deliver`], the messages of a subscription.
 //! - `admin`: [`serve_admin`], the commands of an administrator's connection, which `command_input` cuts out of its octets.
+//! - `control`: [`Reception`] and [`Control`], what an exporter's and an administrator's connection ask of their server, and
+//!   [`Patience`], how long they wait for room in the queues, as `room` does.
 //! - `clock`: [`Clock`], which tells the Export Times.
 //! - `fault`: [`ServeFault`], why a call stops.
-//! - `listening`: [`listen`], all of this on sockets, as a [`Plan`] says. `doors` has the sockets, `service` the threads, one for
-//!   each connection, `closing_time` its end where the journal is full, `notes` what the log is told, and `machine_clock` the
-//!   clock.
+//! - `listening`: [`listen`], all of this on sockets, as a [`Plan`] says. `service` has its threads: that which takes who comes in
+//!   by the `listeners`, and those of `exporters`, `collectors` and `administrators`, which tell each other by `run_state` how far
+//!   the run is. `connections` has those that are open, `stream_calls` and `socket_options` what is done on one; `notes` is what
+//!   the log is told; `machine_clock` and `time` are its clocks.
 //!
 //! Proved of `serve_exporter`: the messages that it adds to its handle's receipts, under the handle's session and numbered on,
 //! are those that the octets that it read are cut into (RFC 7011, section 10.4): all of them at Ok, where the stream ended
@@ -28,8 +31,8 @@
 //! Proved of `serve_admin`: the octets that it read are lines with the texts behind them, and the octets that it wrote are their
 //! answers, one for each line in order. Each answer is one that the line's call may give, and says what the handle kept: an `ok`
 //! to an edit, a subscription, its end or an advance stands only where the handle has the receipt of just that call, and no other
-//! answer where it has one. At Ok all commands were answered and are counted, and the input ended behind them, or one line more
-//! is none (`serves`). At a fault the commands before were (`stops`), and `Read` and `Write` stand only where that device has
+//! answer where it has one. At Ok all commands were answered and are counted, and the input ended behind them, or the last of them is
+//! a `stop`, and none before it is, or one line more is none (`serves`). At a fault the commands before were (`stops`), and `Read` and `Write` stand only where that device has
 //! failed (`reader_fails`, `writer_fails`); at `Write` exactly `sent` octets of all answers were written, which end inside the last,
 //! and its call was made; `Turns` stands only where so many reads were made, and `CutOff` where the input ended inside a command.
 //! No want of memory keeps an answer back; only a refusal for another reason may be answered as one for want of memory.
@@ -41,28 +44,39 @@
 //! shown by tests over loopback alone; `bench/interop` runs it with real tools.
 //!
 //! Shown by tests alone, in `server_tests`: that the session is closed and the subscription ended, which happens under the lock,
-//! where no clause can look; and so why a call of an administrator is refused, how a subscription stands, and what of the audit is
-//! handed out. Nothing promises that a call returns.
+//! where no clause can look; and so why a call of an administrator is refused, how a subscription stands, what of the audit is
+//! handed out, and what waits for room in a queue; and what a server is told, and how many records waited when a delivery failed.
+//! Nothing promises that a call returns.
 #![tactic(auto)]
 
 mod admin;
+mod administrators;
 mod clock;
-mod closing_time;
+mod collectors;
 mod command_input;
+mod connections;
+mod control;
 mod delivery;
-mod doors;
 mod exporter;
+mod exporters;
 mod fault;
+mod listeners;
 mod listening;
 mod machine_clock;
 mod notes;
 mod plan;
+mod room;
+mod run_state;
 mod service;
+mod socket_options;
+mod stream_calls;
+mod time;
 
 pub use admin::serve_admin;
 pub use clock::Clock;
+pub use control::{Control, Patience, Reception};
 pub use delivery::deliver;
 pub use exporter::{Served, serve_exporter};
 pub use fault::ServeFault;
-pub use listening::{ListenFault, listen};
+pub use listening::{Ended, ListenFault, listen};
 pub use plan::{Collector, Plan};

@@ -5,7 +5,7 @@ ghost use Rattle.mediator_server.specs.Listening.{IsServed};
 
 use crate::notes;
 use crate::plan::Plan;
-use crate::service::{Hands, serve};
+use crate::service::{Handles, serve};
 use log::Log;
 use mediator_calls::Mediator;
 use mediator_state::Fault;
@@ -37,6 +37,15 @@ pub enum ListenFault {
 }
 
 impl Error for ListenFault {}
+
+/// How a run ended that gave its mediator back.
+#[derive(Drop)]
+pub struct Ended {
+    /// The mediator, and what its receipts come to.
+    pub closed: Closed,
+    /// Whether an administrator stopped the run.
+    pub stopped: bool,
+}
 
 impl Display for ListenFault {
     ghost use Rattle.std.specs.Prelude.{Option, Some};
@@ -94,19 +103,25 @@ const MOST_HANDLES: u64 = 0xffff_ffff;
 fn handles_for(plan: &Plan) -> u64
     ensures { result ≤ 0xffff_ffff }
 {
+    if plan.endless || plan.reconnect.is_some() {
+        return MOST_HANDLES;
+    }
     let deliveries = plan.deliver.len() as u64;
     let admins = deliveries.saturating_add(2);
     plan.connections.max(admins).min(MOST_HANDLES)
 }
 
 /// Serves a mediator on sockets as the plan says: puts the policy in force, subscribes each collector, connects to it and
-/// delivers to it, serves the exporters that connect and one connection of the administrator, each in a thread of its own; and
-/// gives the mediator back when those have ended and all that was queued is sent. When the journal is full, the administrator's
-/// connection ends behind its next answer, the next connection that comes is closed unread, and no more come in.
+/// delivers to it, serves the exporters that connect, each in a thread of its own, and administrators one after another; and gives
+/// the mediator back when those have ended and what was queued is sent. An administrator may stop the run: then no more exporters
+/// come in, those that are there end behind the message in hand, and so it is when the journal is full. Where all exporters have
+/// come and gone, administrators are served for ten seconds more.
 ///
-/// A fault of a connection ends that connection alone: one that sends nonsense, or an exporter whose session can't be opened. A
-/// collector that takes nothing holds up nobody: its subscription is cut when its queue is full, and its writes fail after a while.
-/// A subscription that the administrator begins is delivered to nobody. Who comes and goes is noted in the log.
+/// A fault of a connection ends that connection alone: one that sends nonsense, an exporter whose session can't be opened, or one
+/// for which descriptors, threads or memory are short. A collector that takes nothing holds up nobody, unless the plan has messages
+/// wait for room: its subscription is cut when its queue is full, and its writes fail after a while. One that has gone is connected
+/// to again, and subscribed anew, where the plan has that. A subscription that an administrator begins is delivered to nobody. Who
+/// comes and goes is noted in the log.
 ///
 /// # Errors
 /// The policy or a subscription was refused; an address can't be listened on, or a connection couldn't be accepted; a collector
@@ -114,9 +129,9 @@ fn handles_for(plan: &Plan) -> u64
 /// came in are hung up, and what is queued is sent.
 pub fn listen<
     R: Net<Listener = TcpListener, Stream = TcpStream> + Threads + Wait + Clock + Log + Sync,
->(rt: &R, alloc: Global, plan: &Plan, mediator: Mediator) -> Result<Closed, ListenFault>
+>(rt: &R, alloc: Global, plan: &Plan, mediator: Mediator) -> Result<Ended, ListenFault>
     requires fresh { handed_live mediator ≡ 0 }
-    ensures served { IfOk result (λ closed. IsServed plan.now mediator.history closed.mediator.history closed.accepted closed.handed) }
+    ensures served { IfOk result (λ ended. IsServed plan.now mediator.history ended.closed.mediator.history ended.closed.accepted ended.closed.handed) }
 {
     let handles = handles_for(plan);
     let (entries, handed) = (Blank::new(2 * handles + 1), Blank::new(handles + 1));
@@ -136,25 +151,26 @@ fn listen_with<
     handles: u64,
     entries: Blank,
     handed: Blank,
-) -> Result<Closed, ListenFault>
+) -> Result<Ended, ListenFault>
     requires fresh { handed_live mediator ≡ 0 }
     requires before { E.before ≡ mediator.history }
     requires entries_name { entries.name ≡ E.name }
     requires entries_parts { (entries.parts ≡ E.parts) × (E.parts ≡ E.all) × (E.all ≡ 2 * handles + 1) }
     requires handed_name { handed.name ≡ H.name }
     requires handed_parts { (handed.parts ≡ H.parts) × (H.parts ≡ H.all) × (H.all ≡ handles + 1) }
-    ensures served { IfOk result (λ closed. IsServed plan.now mediator.history closed.mediator.history closed.accepted closed.handed) }
+    ensures served { IfOk result (λ ended. IsServed plan.now mediator.history ended.closed.mediator.history ended.closed.accepted ended.closed.handed) }
 {
     let shared = SharedMediator::<E, H>::new(alloc, mediator, handles, entries, handed);
-    let Hands {
+    let Handles {
         exporters,
         deliveries,
         admins,
+        stopped,
     } = serve(rt, alloc, &shared, plan)?;
     match shared.close(exporters, deliveries, admins) {
         Ok(closed) => {
             notes::totals(rt, &closed);
-            Ok(closed)
+            Ok(Ended { closed, stopped })
         }
         Err(fault) => Err(ListenFault::Close(fault)),
     }

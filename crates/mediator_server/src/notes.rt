@@ -1,11 +1,14 @@
 //! The notes of a run, a line each: who came and went, and the totals.
 
 use crate::exporter::Served;
+use crate::exporters::WhyEnded;
 use crate::fault::ServeFault;
 use crate::plan::Collector;
+use crate::run_state::TurnOver;
 use log::{Log, error, info, warn};
-use mediator_calls::Handed;
-use shared_mediator::{Closed, HandleFault};
+use mediator_calls::{Handed, Limits};
+use mediator_state::Receipt;
+use shared_mediator::{Closed, Fill, HandleFault};
 use std::fmt::{self, Display, Formatter, Write};
 use std::io;
 use std::net::SocketAddr;
@@ -55,6 +58,27 @@ pub(crate) fn cannot_connect(rt: &impl Log, collector: &Collector, why: &io::Err
     error!(rt; "cannot connect to collector {name} {address}: {why}");
 }
 
+/// A collector can't be connected to, and is tried again.
+pub(crate) fn cannot_reach(rt: &impl Log, collector: &Collector, why: &io::Error) {
+    let (name, address) = (collector.name.as_str(), collector.address.as_str());
+    warn!(rt; "cannot connect to collector {name} {address} yet: {why}");
+}
+
+/// A connection is closed, since no descriptor or no memory is left for it.
+pub(crate) fn refused_for_want(rt: &impl Log, peer: SocketAddr, why: &io::Error) {
+    warn!(rt; "{peer} refused: {why}");
+}
+
+/// A connection is closed, since no memory is left for it.
+pub(crate) fn refused_for_memory(rt: &impl Log, peer: SocketAddr) {
+    warn!(rt; "{peer} refused: no memory");
+}
+
+/// A connection is closed, since no thread is left for it.
+pub(crate) fn refused_for_threads(rt: &impl Log, peer: SocketAddr) {
+    warn!(rt; "{peer} refused: no thread");
+}
+
 /// An exporter has connected, and has a session.
 pub(crate) fn exporter_begins(rt: &impl Log, peer: SocketAddr) {
     info!(rt; "exporter {peer} connected");
@@ -70,22 +94,64 @@ pub(crate) fn exporter_ends(
     rt: &impl Log,
     peer: SocketAddr,
     ended: Result<Served, (ServeFault, Served)>,
+    why: WhyEnded,
 ) {
-    match ended {
-        Ok(served) => {
+    match (why, ended) {
+        (WhyEnded::Idle, Ok(served) | Err((_, served))) => {
+            let brought = Brought(served);
+            warn!(rt; "exporter {peer} closed, idle: {brought}")
+        }
+        (WhyEnded::Closing, Ok(served) | Err((_, served))) => {
+            let brought = Brought(served);
+            info!(rt; "exporter {peer} closed, the run ends: {brought}")
+        }
+        (WhyEnded::ItsOwn, Ok(served)) => {
             let brought = Brought(served);
             info!(rt; "exporter {peer} ended: {brought}")
         }
-        Err((fault, served)) => {
+        (WhyEnded::ItsOwn, Err((fault, served))) => {
             let (why, brought) = (Cause(fault), Brought(served));
             warn!(rt; "exporter {peer} failed, {why}: {brought}")
         }
     }
 }
 
-/// A connection is closed as it comes, since the journal is full.
-pub(crate) fn turned_away(rt: &impl Log, peer: SocketAddr) {
-    warn!(rt; "{peer} turned away: the journal is full");
+/// A message of an exporter cut subscriptions: it had records for them for which there was no room, or with one layout too many.
+pub(crate) fn exporter_cuts(rt: &impl Log, peer: SocketAddr, receipt: &Receipt) {
+    let (position, cut) = (receipt.position, receipt.cut);
+    warn!(rt; "exporter {peer} cut subscriptions: {cut} by the message at {position}");
+}
+
+/// The journal is nearly full.
+pub(crate) fn journal_nearly_full(rt: &impl Log, fill: Fill, limits: &Limits) {
+    let (entries, octets) = (fill.entries, fill.octets);
+    let (most_entries, most_octets) = (limits.entries, limits.octets);
+    warn!(rt; "the journal is nearly full: entries {entries} of {most_entries} octets {octets} of {most_octets}");
+}
+
+/// The journal is full, and the run ends.
+pub(crate) fn closes_full(rt: &impl Log) {
+    warn!(rt; "the journal is full: the run ends");
+}
+
+/// Most of the connections that a run takes were taken.
+pub(crate) fn connections_nearly_taken(rt: &impl Log, taken: u64, most: u64) {
+    warn!(rt; "connections are nearly used up: {taken} of {most}");
+}
+
+/// An exporter is closed as it comes, since as many are there as may be.
+pub(crate) fn turned_away(rt: &impl Log, peer: SocketAddr, there: u64) {
+    warn!(rt; "exporter {peer} turned away: {there} are connected");
+}
+
+/// Collectors that haven't taken what is queued are waited for no longer.
+pub(crate) fn collectors_given_up(rt: &impl Log, count: usize) {
+    warn!(rt; "collectors given up: {count} did not take what is queued in time");
+}
+
+/// An administrator is closed as it comes, since too many wait.
+pub(crate) fn administrator_refused(rt: &impl Log, peer: SocketAddr) {
+    warn!(rt; "admin {peer} refused: others wait, or the run ends");
 }
 
 /// The administrator has connected.
@@ -94,10 +160,19 @@ pub(crate) fn admin_begins(rt: &impl Log, peer: SocketAddr) {
 }
 
 /// The administrator's connection has ended, after so many commands.
-pub(crate) fn admin_ends(rt: &impl Log, peer: SocketAddr, answered: Result<u64, ServeFault>) {
-    match answered {
-        Ok(commands) => info!(rt; "admin {peer} ended: commands {commands}"),
-        Err(fault) => {
+pub(crate) fn admin_ends(
+    rt: &impl Log,
+    peer: SocketAddr,
+    answered: Result<u64, ServeFault>,
+    over: Option<TurnOver>,
+) {
+    match (over, answered) {
+        (Some(TurnOver::Silent), _) => {
+            warn!(rt; "admin {peer} closed: silent while another waits")
+        }
+        (Some(TurnOver::Closing), _) => info!(rt; "admin {peer} closed, the run ends"),
+        (None, Ok(commands)) => info!(rt; "admin {peer} ended: commands {commands}"),
+        (None, Err(fault)) => {
             let why = Cause(fault);
             warn!(rt; "admin {peer} failed, {why}")
         }
@@ -110,12 +185,30 @@ pub(crate) fn collector_begins(rt: &impl Log, collector: &Collector) {
     info!(rt; "collector {name} {address} connected");
 }
 
+/// A collector is connected to again: so many records waited and were dropped, and so many were accepted while it had no subscription.
+pub(crate) fn collector_again(rt: &impl Log, collector: &Collector, dropped: u64, accepted: u64) {
+    let (name, address) = (collector.name.as_str(), collector.address.as_str());
+    info!(rt; "collector {name} {address} connected again: dropped {dropped} accepted meanwhile {accepted}");
+}
+
+/// A collector can't be subscribed anew, and is tried again.
+pub(crate) fn cannot_subscribe(rt: &impl Log, collector: &Collector, why: HandleFault) {
+    let (name, address) = (collector.name.as_str(), collector.address.as_str());
+    warn!(rt; "collector {name} {address} not subscribed: {why}");
+}
+
+/// A collector isn't there when the run ends, and so many records wait for it.
+pub(crate) fn collector_absent(rt: &impl Log, collector: &Collector, waited: u64) {
+    let (name, address) = (collector.name.as_str(), collector.address.as_str());
+    warn!(rt; "collector {name} {address} absent at the end: dropped {waited}");
+}
+
 /// A delivery has ended, after these messages were pulled; or the subscription was cut before.
 pub(crate) fn collector_ends(
     rt: &impl Log,
     collector: &Collector,
     pulled: &[Handed],
-    sent: Result<u64, ServeFault>,
+    sent: Result<u64, (ServeFault, u64)>,
     cut: bool,
 ) {
     let (name, address) = (collector.name.as_str(), collector.address.as_str());
@@ -129,10 +222,10 @@ pub(crate) fn collector_ends(
         Ok(octets) => {
             info!(rt; "collector {name} {address} ended: octets {octets} records {records}")
         }
-        Err(ServeFault::Write { sent }) => {
-            warn!(rt; "collector {name} {address} failed, Write: octets {sent} records {records}")
+        Err((ServeFault::Write { sent }, waited)) => {
+            warn!(rt; "collector {name} {address} failed, Write: octets {sent} records {records} dropped {waited}")
         }
-        Err(fault) => {
+        Err((fault, _waited)) => {
             let why = Cause(fault);
             warn!(rt; "collector {name} {address} failed, {why}: records {records}")
         }

@@ -1,51 +1,96 @@
-//! The threads of a server: one for each collector, each exporter and the administrator.
+//! The threads of a server: one for each collector, one for each exporter, and one for the administrators.
 ghost use Rattle.std.specs.Prelude.{◌≡◌, [], IfOk, OnOk};
 ghost use Rattle.mediator_server.specs.Listening.{SetsUp, IsSetUp};
 
-use crate::admin::serve_admin;
-use crate::closing_time::{Answers, Commands};
-use crate::delivery::deliver;
-use crate::doors::{self, Came, Doors, Guest, Line, Lines};
-use crate::exporter::serve_exporter;
+use crate::collectors::{self, CollectorHandles};
+use crate::connections::{Connection, Connections};
+use crate::exporters::{self, ExporterHandles};
+use crate::listeners::{Caller, Came, Listeners, OwnAddresses};
 use crate::listening::ListenFault;
-use crate::machine_clock::MachineClock;
-use crate::notes;
 use crate::plan::{Collector, Plan};
+use crate::run_state::RunState;
+use crate::time::{has_passed, now};
+use crate::{administrators, notes};
 use log::Log;
 use mediator_calls::SubId;
-use octet_devices::Device;
+use mio::Waker;
 use shared_mediator::{
     AdminHandle, DeliveryHandle, EntryLedger, ExporterHandle, RecordLedger, SharedMediator,
 };
 use std::alloc::{AllocError, Global};
-use std::cell::Cell;
-use std::net::{Net, SocketAddr, TcpListener, TcpStream};
-use std::sync::Wait;
+use std::net::{Net, TcpListener, TcpStream};
+use std::sync::{Mutex, Wait};
 use std::thread;
 use std::thread::{JoinHandle, Scope, Threads};
-use std::time::Clock;
+use std::time::{Clock, Duration};
 
-/// All handles of a run that has ended.
+/// How many milliseconds pass before it is looked again whether all collectors have taken what is queued.
+const LOOK_EACH: u64 = 20;
+
+/// All handles of a run that has ended, and how it ended.
 #[derive(Drop)]
-pub(crate) struct Hands<E: EntryLedger, H: RecordLedger> {
+pub(crate) struct Handles<E: EntryLedger, H: RecordLedger> {
     pub(crate) exporters: Vec<ExporterHandle<E>>,
     pub(crate) deliveries: Vec<DeliveryHandle<H>>,
     pub(crate) admins: Vec<AdminHandle<E>>,
+    /// Whether an administrator stopped the run.
+    pub(crate) stopped: bool,
 }
 
-/// A collector that is connected to, with the handles of its delivery.
+/// What the threads of a run share.
 #[derive(Drop)]
-struct Outlet<E: EntryLedger, H: RecordLedger> {
-    delivery: DeliveryHandle<H>,
-    admin: AdminHandle<E>,
-    stream: TcpStream,
+pub(crate) struct Service<'m, E: EntryLedger, H: RecordLedger> {
+    pub(crate) alloc: Global,
+    pub(crate) shared: &'m SharedMediator<E, H>,
+    pub(crate) plan: &'m Plan,
+    pub(crate) own: OwnAddresses,
+    pub(crate) state: RunState,
+    pub(crate) exporters: Connections,
+    pub(crate) administrators: Connections,
+    pub(crate) collectors: Connections,
+    pub(crate) handles: ExporterHandles<E>,
+    /// Whether it was warned that the journal is nearly full.
+    is_warned: Mutex<bool>,
 }
 
-/// The handles of a delivery that has ended.
-#[derive(Drop)]
-struct Delivered<E: EntryLedger, H: RecordLedger> {
-    delivery: DeliveryHandle<H>,
-    admin: AdminHandle<E>,
+impl<'m, E: EntryLedger, H: RecordLedger> Service<'m, E, H> {
+    fn new(
+        alloc: Global,
+        shared: &'m SharedMediator<E, H>,
+        plan: &'m Plan,
+        own: OwnAddresses,
+        waker: Waker,
+    ) -> Service<'m, E, H> {
+        Service {
+            alloc,
+            shared,
+            plan,
+            own,
+            state: RunState::new(alloc, waker),
+            exporters: Connections::new(alloc),
+            administrators: Connections::new(alloc),
+            collectors: Connections::new(alloc),
+            handles: ExporterHandles::new(alloc),
+            is_warned: Mutex::new(false),
+        }
+    }
+
+    /// Warns once where the journal is nearly full.
+    pub(crate) fn warn_of_the_journal<R: Wait + Log>(&self, rt: &R) {
+        let (fill, limits) = (self.shared.fill(rt), &self.plan.limits);
+        if is_nearly(fill.entries, limits.entries) || is_nearly(fill.octets, limits.octets) {
+            let mut is_warned = self.is_warned.lock(rt);
+            if !*is_warned {
+                *is_warned = true;
+                notes::journal_nearly_full(rt, fill, limits);
+            }
+        }
+    }
+}
+
+/// Whether a number is four fifths of another one, or more.
+fn is_nearly(number: u64, most: u64) -> bool {
+    number >= most - most / 5
 }
 
 /// Serves a shared mediator on sockets as the plan says, and answers all handles when all has ended. The last of the
@@ -62,22 +107,40 @@ pub(crate) fn serve<
     alloc: Global,
     shared: &SharedMediator<E, H>,
     plan: &Plan,
-) -> Result<Hands<E, H>, ListenFault>
-    ensures set_up { IfOk result (λ hands. IsSetUp plan.now hands.admins.items) }
+) -> Result<Handles<E, H>, ListenFault>
+    ensures set_up { IfOk result (λ handles. IsSetUp plan.now handles.admins.items) }
 {
     let mut first = shared.admin(rt)?;
     let subs = set_up(rt, alloc, shared, &mut first, plan)?;
     let mut admin = shared.admin(rt)?;
-    let doors = match Doors::open(rt, alloc, plan) {
-        Ok(doors) => doors,
+    let (listeners, waker) = match open_listeners(rt, alloc, plan) {
+        Ok(opened) => opened,
+        Err(fault) => return Err(fault),
+    };
+    let service = Service::new(alloc, shared, plan, listeners.own(), waker);
+    let mut handles = serve_all(rt, &service, &mut admin, listeners, subs)?;
+    handles.stopped = service.state.is_stopped(rt);
+    handles.exporters = service.handles.into_ended();
+    handles.admins.reserve(2)?;
+    handles.admins.push_reserved(admin);
+    handles.admins.push_reserved(first);
+    Ok(handles)
+}
+
+/// Listens on both addresses.
+fn open_listeners<R: Net<Listener = TcpListener, Stream = TcpStream> + Log>(
+    rt: &R,
+    alloc: Global,
+    plan: &Plan,
+) -> Result<(Listeners, Waker), ListenFault> {
+    let listeners = match Listeners::open(rt, alloc, plan) {
+        Ok(listeners) => listeners,
         Err(fault) => return Err(ListenFault::at_door(&fault)),
     };
-    let outlets = connect_all(rt, alloc, shared, plan, subs)?;
-    let mut hands = run(rt, alloc, shared, plan, &mut admin, doors, outlets)?;
-    hands.admins.reserve(2)?;
-    hands.admins.push_reserved(admin);
-    hands.admins.push_reserved(first);
-    Ok(hands)
+    match listeners.waker() {
+        Ok(waker) => Ok((listeners, waker)),
+        Err(fault) => Err(ListenFault::at_door(&fault)),
+    }
 }
 
 /// Puts the plan's policy in force, and subscribes each collector, in the order of the plan.
@@ -101,81 +164,107 @@ fn set_up<E: EntryLedger, H: RecordLedger>(
     Ok(subs)
 }
 
-/// Connects to each collector, and makes the handles of its delivery.
-fn connect_all<
-    E: EntryLedger,
-    H: RecordLedger,
-    R: Net<Listener = TcpListener, Stream = TcpStream> + Wait + Log,
->(
-    rt: &R,
-    alloc: Global,
-    shared: &SharedMediator<E, H>,
-    plan: &Plan,
-    subs: Vec<SubId>,
-) -> Result<Vec<Outlet<E, H>>, ListenFault> {
-    let mut outlets = Vec::new(alloc);
-    for (place, (collector, sub)) in plan.deliver.iter().zip(subs).enumerate() {
-        outlets.reserve(1)?;
-        let stream = match doors::connect(rt, collector.address.as_str()) {
-            Ok(stream) => stream,
-            Err(why) => {
-                notes::cannot_connect(rt, collector, &why);
-                return Err(ListenFault::Connect { collector: place });
-            }
-        };
-        let outlet = Outlet {
-            delivery: shared.delivery(rt, sub)?,
-            admin: shared.admin(rt)?,
-            stream,
-        };
-        outlets.push_reserved(outlet);
-    }
-    Ok(outlets)
+/// A delivery that is about to start: its handles, and its connection where there is one already.
+#[derive(Drop)]
+struct Start<E: EntryLedger, H: RecordLedger> {
+    handles: CollectorHandles<E, H>,
+    connection: Option<Connection>,
 }
 
-/// Delivers in a thread for each collector while the doors are served; then stops, and waits until all that is queued is sent.
-fn run<
+/// Makes the handles of each delivery, and connects to its collector, unless that is tried again and again.
+fn prepare_deliveries<
+    E: EntryLedger,
+    H: RecordLedger,
+    R: Net<Listener = TcpListener, Stream = TcpStream> + Wait + Clock + Log,
+>(rt: &R, service: &Service<'_, E, H>, subs: Vec<SubId>) -> Result<Vec<Start<E, H>>, ListenFault> {
+    let mut starts = Vec::new(service.alloc);
+    for (place, (collector, sub)) in service.plan.deliver.iter().zip(subs).enumerate() {
+        starts.reserve(1)?;
+        let connection = if service.plan.reconnect.is_some() {
+            None
+        } else {
+            Some(connect_once(rt, service, collector, place)?)
+        };
+        let mut deliveries = Vec::new(service.alloc);
+        deliveries.reserve(1)?;
+        deliveries.push_reserved(service.shared.delivery(rt, sub)?);
+        let admin = service.shared.admin(rt)?;
+        starts.push_reserved(Start {
+            handles: CollectorHandles { deliveries, admin },
+            connection,
+        });
+    }
+    Ok(starts)
+}
+
+/// Connects to the collector at a place of the plan's list.
+fn connect_once<
+    E: EntryLedger,
+    H: RecordLedger,
+    R: Net<Listener = TcpListener, Stream = TcpStream> + Wait + Clock + Log,
+>(
+    rt: &R,
+    service: &Service<'_, E, H>,
+    collector: &Collector,
+    place: usize,
+) -> Result<Connection, ListenFault> {
+    match collectors::connect(rt, service.own, collector.address.as_str()) {
+        Ok((stream, peer)) => Ok(service.collectors.add(rt, stream, peer)?),
+        Err(why) => {
+            notes::cannot_connect(rt, collector, &why);
+            Err(ListenFault::Connect { collector: place })
+        }
+    }
+}
+
+/// Delivers in a thread for each collector while callers are served; then stops, and waits until what is queued is sent.
+fn serve_all<
     E: EntryLedger + Send + Sync,
     H: RecordLedger + Send + Sync,
     R: Net<Listener = TcpListener, Stream = TcpStream> + Threads + Wait + Clock + Log + Sync,
 >(
     rt: &R,
-    alloc: Global,
-    shared: &SharedMediator<E, H>,
-    plan: &Plan,
+    service: &Service<'_, E, H>,
     admin: &mut AdminHandle<E>,
-    doors: Doors,
-    outlets: Vec<Outlet<E, H>>,
-) -> Result<Hands<E, H>, ListenFault> {
+    listeners: Listeners,
+    subs: Vec<SubId>,
+) -> Result<Handles<E, H>, ListenFault> {
+    let starts = prepare_deliveries(rt, service, subs)?;
     thread::scope(thread::scope_env(), rt, |scope| {
-        let mut delivering = Vec::new(alloc);
-        let served = match start_deliveries(rt, shared, plan, scope, outlets, &mut delivering) {
-            Ok(()) => serve_doors(rt, alloc, shared, plan, admin, doors),
+        let mut delivering = Vec::new(service.alloc);
+        let served = match start_deliveries(rt, service, scope, starts, &mut delivering) {
+            Ok(()) => serve_callers(rt, service, admin, listeners),
             Err(fault) => Err(fault),
         };
-        admin.stop(rt, shared);
-        let mut hands = Hands {
-            exporters: served?,
-            deliveries: Vec::new(alloc),
-            admins: Vec::new(alloc),
+        admin.stop(rt, service.shared);
+        service.state.drain(rt);
+        end_slow_collectors(rt, service);
+        served?;
+        let mut handles = Handles {
+            exporters: Vec::new(service.alloc),
+            deliveries: Vec::new(service.alloc),
+            admins: Vec::new(service.alloc),
+            stopped: false,
         };
-        join_deliveries(rt, delivering, &mut hands)?;
-        Ok(hands)
+        join_deliveries(rt, delivering, &mut handles)?;
+        Ok(handles)
     })
 }
 
 /// Waits for the end of all deliveries, and adds their handles.
 fn join_deliveries<E: EntryLedger, H: RecordLedger, R: Threads>(
     rt: &R,
-    delivering: Vec<JoinHandle<Delivered<E, H>>>,
-    hands: &mut Hands<E, H>,
+    delivering: Vec<JoinHandle<CollectorHandles<E, H>>>,
+    handles: &mut Handles<E, H>,
 ) -> Result<(), AllocError> {
     for thread in delivering {
-        hands.deliveries.reserve(1)?;
-        hands.admins.reserve(1)?;
-        let Delivered { delivery, admin } = thread.join(rt);
-        hands.deliveries.push_reserved(delivery);
-        hands.admins.push_reserved(admin);
+        let CollectorHandles { deliveries, admin } = thread.join(rt);
+        handles.deliveries.reserve(deliveries.len())?;
+        handles.admins.reserve(1)?;
+        handles.admins.push_reserved(admin);
+        for delivery in deliveries {
+            handles.deliveries.push(delivery)?;
+        }
     }
     Ok(())
 }
@@ -185,23 +274,27 @@ fn start_deliveries<
     's,
     'r: 's,
     'm: 's,
-    'p: 's,
+    'v: 's,
     X: 's,
     E: EntryLedger + Send + Sync,
     H: RecordLedger + Send + Sync,
-    R: Threads + Wait + Clock + Log + Sync,
+    R: Net<Listener = TcpListener, Stream = TcpStream> + Threads + Wait + Clock + Log + Sync,
 >(
     rt: &'r R,
-    shared: &'m SharedMediator<E, H>,
-    plan: &'p Plan,
+    service: &'v Service<'m, E, H>,
     scope: &Scope<'s, X>,
-    outlets: Vec<Outlet<E, H>>,
-    delivering: &mut Vec<JoinHandle<Delivered<E, H>>>,
+    starts: Vec<Start<E, H>>,
+    delivering: &mut Vec<JoinHandle<CollectorHandles<E, H>>>,
 ) -> Result<(), ListenFault> {
-    for (collector, outlet) in plan.deliver.iter().zip(outlets) {
-        let target = plan.target;
+    for (collector, start) in service.plan.deliver.iter().zip(starts) {
         delivering.reserve(1)?;
-        let started = scope.spawn(move || deliver_to(rt, shared, collector, outlet, target));
+        let Start {
+            handles,
+            connection,
+        } = start;
+        let started = scope.spawn(move || collectors::serve(
+            rt, service, collector, handles, connection,
+        ));
         let Ok(thread) = started else {
             return Err(ListenFault::NoThread);
         };
@@ -210,249 +303,168 @@ fn start_deliveries<
     Ok(())
 }
 
-/// Delivers to a collector.
-fn deliver_to<E: EntryLedger, H: RecordLedger, R: Wait + Clock + Log>(
+/// Where the plan has a limit on that, waits until all collectors have taken what was queued, or until the limit, and then ends their
+/// connections.
+fn end_slow_collectors<E: EntryLedger, H: RecordLedger, R: Wait + Clock + Log>(
     rt: &R,
-    shared: &SharedMediator<E, H>,
-    collector: &Collector,
-    outlet: Outlet<E, H>,
-    target: u16,
-) -> Delivered<E, H> {
-    let Outlet {
-        mut delivery,
-        mut admin,
-        stream,
-    } = outlet;
-    notes::collector_begins(rt, collector);
-    let mut writer = Device::new(stream);
-    let clock = MachineClock::of(rt);
-    let sent = deliver(
-        rt,
-        shared,
-        &mut delivery,
-        &mut admin,
-        &mut writer,
-        target,
-        &clock,
-    );
-    let cut = match admin.status(rt, shared, delivery.sub()) {
-        Ok(stands) => stands.cut,
-        Err(_) => false,
+    service: &Service<'_, E, H>,
+) {
+    let Some(seconds) = service.plan.drain else {
+        return;
     };
-    notes::collector_ends(rt, collector, delivery.kept(), sent, cut);
-    Delivered { delivery, admin }
+    let begun = now(rt);
+    for _ in rt.forever() {
+        let left = service.collectors.len(rt);
+        if left == 0 {
+            return;
+        }
+        if has_passed(rt, begun, Duration::from_secs(seconds)) {
+            notes::collectors_given_up(rt, left);
+            service.collectors.end_all(rt);
+            return;
+        }
+        rt.sleep(Duration::from_millis(LOOK_EACH));
+    }
 }
 
-/// What the threads of those who come in share.
-#[derive(Drop)]
-struct Hall<'m, E: EntryLedger, H: RecordLedger> {
-    alloc: Global,
-    shared: &'m SharedMediator<E, H>,
-    plan: &'m Plan,
-    lines: Lines,
-}
-
-/// Serves who comes in by the doors, each in a thread of its own, until all who are wanted have come and ended; and answers the
-/// handles of the exporters. Where that fails, all who are served are hung up, and it waits for their ends.
-fn serve_doors<
+/// Serves who comes in, each exporter in a thread of its own and the administrators in one, until all who are wanted have come and
+/// ended. Where that fails, all who are served are hung up, and it waits for their ends.
+fn serve_callers<
     E: EntryLedger + Send + Sync,
     H: RecordLedger + Send + Sync,
-    R: Threads + Wait + Log + Sync,
+    R: Threads + Wait + Clock + Log + Sync,
 >(
     rt: &R,
-    alloc: Global,
-    shared: &SharedMediator<E, H>,
-    plan: &Plan,
+    service: &Service<'_, E, H>,
     admin: &mut AdminHandle<E>,
-    doors: Doors,
-) -> Result<Vec<ExporterHandle<E>>, ListenFault> {
-    let hall = Hall {
-        alloc,
-        shared,
-        plan,
-        lines: Lines::new(alloc),
-    };
-    let hall = &hall;
+    listeners: Listeners,
+) -> Result<(), ListenFault> {
     thread::scope(thread::scope_env(), rt, |scope| {
-        let mut exporting = Vec::new(alloc);
-        let ended = match receive_all(rt, hall, scope, doors, admin, &mut exporting) {
-            Ok(()) => join_exporters(rt, alloc, exporting),
+        let ended = match start_administrators(rt, service, scope, admin) {
+            Ok(()) => take_callers(rt, service, scope, listeners),
             Err(fault) => Err(fault),
         };
         if ended.is_err() {
-            hall.lines.hang_up(rt);
+            service.state.stop(rt);
+            service.state.note_exporters_gone(rt);
+            service.exporters.end_all(rt);
+            service.administrators.end_all(rt);
         }
         ended
     })
 }
 
-/// Receives all exporters, and the administrator.
-fn receive_all<
+/// Serves the administrators in a thread.
+fn start_administrators<
     's,
     'r: 's,
     'm: 's,
-    'h: 's,
+    'v: 's,
     'a: 's,
     X: 's,
     E: EntryLedger + Send + Sync,
     H: RecordLedger + Send + Sync,
-    R: Threads + Wait + Log + Sync,
+    R: Threads + Wait + Clock + Log + Sync,
 >(
     rt: &'r R,
-    hall: &'h Hall<'m, E, H>,
+    service: &'v Service<'m, E, H>,
     scope: &Scope<'s, X>,
-    mut doors: Doors,
     admin: &'a mut AdminHandle<E>,
-    exporting: &mut Vec<JoinHandle<ExporterHandle<E>>>,
 ) -> Result<(), ListenFault> {
-    let Some(guest) = receive_exporters(rt, hall, scope, &mut doors, exporting)? else {
-        return Ok(());
-    };
-    let line = hall.lines.add(rt, u64::MAX, guest)?;
-    match scope.spawn(move || serve_admin_line(rt, hall, admin, line)) {
-        Ok(_serving) => {}
-        Err(_refused) => return Err(ListenFault::NoThread),
+    match scope.spawn(move || administrators::serve_all(rt, service, admin)) {
+        Ok(_serving) => Ok(()),
+        Err(_refused) => Err(ListenFault::NoThread),
     }
-    // The administrator has come, so who comes now is an exporter.
-    let _no_one = receive_exporters(rt, hall, scope, &mut doors, exporting)?;
-    Ok(())
 }
 
-/// Receives exporters until the administrator comes, or nobody more is wanted: so many have come as the plan has, or the journal
-/// is full.
-fn receive_exporters<
+/// Takes who comes in, until the administrators' thread has ended.
+fn take_callers<
     's,
     'r: 's,
     'm: 's,
-    'h: 's,
+    'v: 's,
     X: 's,
     E: EntryLedger + Send + Sync,
     H: RecordLedger + Send + Sync,
-    R: Threads + Wait + Log + Sync,
+    R: Threads + Wait + Clock + Log + Sync,
 >(
     rt: &'r R,
-    hall: &'h Hall<'m, E, H>,
+    service: &'v Service<'m, E, H>,
     scope: &Scope<'s, X>,
-    doors: &mut Doors,
-    exporting: &mut Vec<JoinHandle<ExporterHandle<E>>>,
-) -> Result<Option<Guest>, ListenFault> {
+    mut listeners: Listeners,
+) -> Result<(), ListenFault> {
+    let mut taken = 0u64;
     for _ in rt.forever() {
-        exporting.reserve(1)?;
-        match next_wanted(rt, hall, doors)? {
-            Some(Came::Exporter(guest)) => {
-                if let Some(handle) = admit(rt, hall, guest.peer) {
-                    let line = hall.lines.add(rt, handle.session().0, guest)?;
-                    let serving = scope.spawn(move || serve_exporter_line(rt, hall, line, handle));
-                    let Ok(thread) = serving else {
-                        return Err(ListenFault::NoThread);
-                    };
-                    exporting.push_reserved(thread);
-                } else if hall.shared.full(rt) {
-                    return Ok(None);
-                }
+        if !service.state.is_administered(rt) {
+            return Ok(());
+        }
+        close_in_time(rt, service, &mut listeners, taken);
+        match listeners.next(rt) {
+            Ok(Some(Came::Exporter(caller))) => {
+                taken = taken.saturating_add(take_exporter(rt, service, scope, caller, taken))
             }
-            Some(Came::Admin(guest)) => return Ok(Some(guest)),
-            None => return Ok(None),
+            Ok(Some(Came::Administrator(caller))) => administrators::admit(rt, service, caller),
+            Ok(None) => {}
+            Err(why) => {
+                notes::cannot_accept(rt, &why);
+                return Err(ListenFault::at_door(&why));
+            }
         }
     }
     unreachable!()
 }
 
-/// Who comes next, if anyone more is wanted. Who comes when the journal is full is closed unread, and the last.
-fn next_wanted<E: EntryLedger, H: RecordLedger, R: Wait + Log>(
+/// Takes no more exporters where as many have come as the plan has, or where the run is stopped or its journal is full; then those that
+/// are there end too. Notes it when none is left.
+fn close_in_time<E: EntryLedger, H: RecordLedger, R: Wait + Clock + Log>(
     rt: &R,
-    hall: &Hall<'_, E, H>,
-    doors: &mut Doors,
-) -> Result<Option<Came>, ListenFault> {
-    match doors.next(rt) {
-        Ok(Some(came)) if hall.shared.full(rt) => {
-            notes::turned_away(rt, came.peer());
-            Ok(None)
-        }
-        Ok(next) => Ok(next),
-        Err(why) => {
-            notes::cannot_accept(rt, &why);
-            Err(ListenFault::at_door(&why))
-        }
-    }
-}
-
-/// Opens a session for an exporter, where one can be opened.
-fn admit<E: EntryLedger, H: RecordLedger, R: Wait + Log>(
-    rt: &R,
-    hall: &Hall<'_, E, H>,
-    peer: SocketAddr,
-) -> Option<ExporterHandle<E>> {
-    match hall.shared.exporter(rt) {
-        Ok(handle) => {
-            notes::exporter_begins(rt, peer);
-            Some(handle)
-        }
-        Err(why) => {
-            notes::exporter_refused(rt, peer, why);
-            None
-        }
-    }
-}
-
-/// Serves an exporter's connection, and answers its handle.
-fn serve_exporter_line<E: EntryLedger, H: RecordLedger, R: Threads + Wait + Log + Sync>(
-    rt: &R,
-    hall: &Hall<'_, E, H>,
-    line: Line,
-    mut handle: ExporterHandle<E>,
-) -> ExporterHandle<E> {
-    let mut reader = Device::new(line.stream());
-    let ended = serve_exporter(
-        rt,
-        hall.alloc,
-        hall.shared,
-        &mut handle,
-        &mut reader,
-        hall.plan.turns,
-        hall.plan.workers,
-    );
-    notes::exporter_ends(rt, line.peer, ended);
-    hall.lines.close(rt, line);
-    handle
-}
-
-/// Serves the administrator's connection.
-fn serve_admin_line<E: EntryLedger, H: RecordLedger, R: Wait + Log>(
-    rt: &R,
-    hall: &Hall<'_, E, H>,
-    admin: &mut AdminHandle<E>,
-    line: Line,
+    service: &Service<'_, E, H>,
+    listeners: &mut Listeners,
+    taken: u64,
 ) {
-    let peer = line.peer;
-    notes::admin_begins(rt, peer);
-    doors::send_at_once(line.stream());
-    let is_last = Cell::new(false);
-    let mut commands = Commands::new(Device::new(line.stream()), &is_last);
-    let mut answers = Answers::new(rt, hall.shared, Device::new(line.stream()), &is_last);
-    let answered = serve_admin(
-        rt,
-        hall.alloc,
-        hall.shared,
-        admin,
-        &mut commands,
-        &mut answers,
-        hall.plan.turns,
-    );
-    notes::admin_ends(rt, peer, answered);
-    hall.lines.close(rt, line);
+    let (state, plan) = (&service.state, service.plan);
+    if service.shared.full(rt) && !state.is_closing(rt) {
+        notes::closes_full(rt);
+        state.close(rt);
+    }
+    if state.is_closing(rt) {
+        listeners.close_to_exporters();
+        service.exporters.end_all(rt);
+    } else if !plan.endless && taken >= plan.connections {
+        listeners.close_to_exporters();
+    }
+    if !listeners.take_exporters() && service.exporters.len(rt) == 0 {
+        state.note_exporters_gone(rt);
+    }
 }
 
-/// Waits for the end of all exporters' threads, and answers their handles.
-fn join_exporters<E: EntryLedger, R: Threads>(
-    rt: &R,
-    alloc: Global,
-    exporting: Vec<JoinHandle<ExporterHandle<E>>>,
-) -> Result<Vec<ExporterHandle<E>>, ListenFault> {
-    let mut handles = Vec::new(alloc);
-    for thread in exporting {
-        handles.reserve(1)?;
-        handles.push_reserved(thread.join(rt));
+/// Serves an exporter, unless as many are there already as may be at a time; and answers how many were taken: one or none.
+fn take_exporter<
+    's,
+    'r: 's,
+    'm: 's,
+    'v: 's,
+    X: 's,
+    E: EntryLedger + Send + Sync,
+    H: RecordLedger + Send + Sync,
+    R: Threads + Wait + Clock + Log + Sync,
+>(
+    rt: &'r R,
+    service: &'v Service<'m, E, H>,
+    scope: &Scope<'s, X>,
+    caller: Caller,
+    taken: u64,
+) -> u64 {
+    let (plan, more) = (service.plan, taken.saturating_add(1));
+    if plan.endless {
+        let there = service.exporters.len(rt) as u64;
+        if there >= plan.connections {
+            notes::turned_away(rt, caller.peer, there);
+            return 0;
+        }
+    } else if more == plan.connections - plan.connections / 5 && plan.connections > 1 {
+        notes::connections_nearly_taken(rt, more, plan.connections);
     }
-    Ok(handles)
+    exporters::admit(rt, service, scope, caller);
+    1
 }

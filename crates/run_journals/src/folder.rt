@@ -8,6 +8,9 @@ use std::alloc::{AllocError, Global};
 use std::io::Read;
 use std::rt::Files;
 
+/// How many octets of a folder are read at once.
+const PIECE: usize = 8192;
+
 /// The number with which the files of runs go on under a path: one more than the greatest that its folder has, or 1.
 ///
 /// # Errors
@@ -16,10 +19,25 @@ pub fn first_free<R: Files + AllocGlobal>(rt: &R, path: &str) -> Result<u64, Pro
     ensures err { IfErr result IsKeepingFault }
 {
     let (folder, base) = parts_of(path);
-    let mut octets = Vec::new(rt.alloc());
-    rt.open_dir(folder)?.read_to_end(&mut octets)?;
+    let octets = read_all(rt.alloc(), &mut rt.open_dir(folder)?)?;
     let names = split_names(rt.alloc(), octets.as_slice())?;
     Ok(next_number(names.as_slice(), base.as_bytes()))
+}
+
+/// All that is read of a folder. The system gives whole names, so each read is lent room for the longest of them.
+fn read_all<F: Read>(alloc: Global, folder: &mut F) -> Result<Vec<u8>, ProgramFault>
+    ensures err { IfErr result IsKeepingFault }
+{
+    let mut octets = Vec::new(alloc);
+    let mut piece = [0u8; PIECE];
+    for _ in 0..u64::MAX {
+        let count = folder.read(&mut piece)?;
+        if count == 0 {
+            break;
+        }
+        octets.extend_from_slice(&piece[..count])?;
+    }
+    Ok(octets)
 }
 
 /// The folder of a path, with its last slash, and the name in it.

@@ -4,6 +4,7 @@ use crate::hands::{
     Bounds, ENOUGH, NOTHING, PASS, ROOMY, SMALL, begin, hands, limits_of, offer_all,
 };
 use crate::octets::{FLOW_TO_80, FLOW_TO_443, NOW, ONE_RECORD, TWO_RECORDS};
+use crate::server::Told;
 use crate::stage::{Case, Hands, play};
 use faulty_devices::{Narrow, Sparing};
 use mediator_core::SubId;
@@ -53,6 +54,8 @@ pub(crate) struct Row {
     front: usize,
     /// How many entries the calls add to the journal.
     entries: u64,
+    /// How often the server is told to stop.
+    stops: u64,
 }
 
 /// The worked session, behind one record that waits: each line is a command, and each line of the answers answers one.
@@ -72,9 +75,10 @@ const SESSION: Row = Row {
     drains: &[],
     front: ENOUGH,
     entries: 2,
+    stops: 0,
 };
 
-/// Serves a connection: the answer is the one that is due, and so are the octets that are written.
+/// Serves a connection: the answer is the one that is due, and so are the octets that are written, and what the server is told.
 pub(crate) fn administer<E: EntryLedger, H: RecordLedger, R: Wait + Abort>(
     rt: &R,
     alloc: Global,
@@ -89,6 +93,7 @@ pub(crate) fn administer<E: EntryLedger, H: RecordLedger, R: Wait + Abort>(
     };
     let mut reader = Device::new(Sparing::new(row.asked, row.most, row.reads, ConnectionReset));
     let mut writer = Device::new(Narrow::new(alloc, ROOM, row.takes, row.writes, BrokenPipe)?);
+    let told = Told::nothing(&[]);
     let served = serve_admin(
         rt,
         alloc,
@@ -97,8 +102,10 @@ pub(crate) fn administer<E: EntryLedger, H: RecordLedger, R: Wait + Abort>(
         &mut reader,
         &mut writer,
         row.turns,
+        &told,
     );
     assert!(rt; served == row.due, "{served:?}");
+    assert!(rt; told.stops() == row.stops);
     let written = writer.into_inner().octets;
     let answered = answered(alloc, row)?;
     assert!(rt; written.as_slice() == answered.as_slice(), "{written:?}");
@@ -306,6 +313,42 @@ const CONNECTIONS: &[(&[u8], Result<u64, ServeFault>, &[u8], u64)] = &[
         2,
     ),
 ];
+
+/// Connections with a `stop`, or nearly one; how many writes come before one that fails; what they end in, what is answered, and how
+/// often the server is told to stop. Nothing behind a `stop` is read.
+const STOPS: &[(&[u8], usize, Result<u64, ServeFault>, &[u8], u64)] = &[
+    (b"stop\n", ENOUGH, Ok(1), b"ok\n", 1),
+    (
+        b"status 1\nstop\nunsubscribe 1\nstop\n",
+        ENOUGH,
+        Ok(2),
+        b"ok 1 0 live\nok\n",
+        1,
+    ),
+    (b"stop\nedit 5\nhel", ENOUGH, Ok(1), b"ok\n", 1),
+    // Whoever can't be answered has been heard.
+    (b"stop\n", 2, Err(ServeFault::Write { sent: 2 }), b"ok", 1),
+    (b"stop", ENOUGH, CUT_OFF, b"", 0),
+    (b"stop 1\n", ENOUGH, Ok(0), b"err Line\n", 0),
+    (b"stop \n", ENOUGH, Ok(0), b"err Line\n", 0),
+    (b" stop\n", ENOUGH, Ok(0), b"err Line\n", 0),
+    (b"stops\n", ENOUGH, Ok(0), b"err Line\n", 0),
+];
+
+#[test]
+fn stops(rt: HostRuntime) -> Result<(), Fail> {
+    for (asked, writes, due, answered, stops) in STOPS {
+        let mut row = SESSION;
+        row.asked = *asked;
+        row.writes = *writes;
+        row.due = *due;
+        row.answered = *answered;
+        row.entries = 0;
+        row.stops = *stops;
+        expect_row(&rt, rt.alloc(), row)?;
+    }
+    Ok(())
+}
 
 #[test]
 fn connections(rt: HostRuntime) -> Result<(), Fail> {

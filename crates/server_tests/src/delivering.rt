@@ -27,7 +27,7 @@ const TURNS: u64 = 10_000;
 
 /// A clock that stands.
 #[derive(Drop)]
-struct Stands(u32);
+pub(crate) struct Stands(pub(crate) u32);
 
 impl Clock for Stands {
     ghost use Rattle.std.specs.Prelude.{◌≡◌};
@@ -38,6 +38,9 @@ impl Clock for Stands {
         self.0
     }
 }
+
+/// How many octets were sent; or the fault, and how many records waited then.
+type Answer = Result<u64, (ServeFault, u64)>;
 
 /// What is done before a delivery.
 #[derive(Clone, Copy)]
@@ -60,7 +63,7 @@ pub(crate) struct Row {
     most: usize,
     /// How many writes come before one that fails.
     writes: usize,
-    due: Result<u64, ServeFault>,
+    due: Answer,
     /// What is written, where that isn't left to its count.
     written: Option<&'static [u8]>,
     /// How many records are queued and were handed out then, where the subscription isn't gone.
@@ -72,7 +75,7 @@ pub(crate) struct Row {
 struct Delivered<E: EntryLedger, H: RecordLedger> {
     admin: AdminHandle<E>,
     delivery: DeliveryHandle<H>,
-    answer: Result<u64, ServeFault>,
+    answer: Answer,
     written: Vec<u8>,
 }
 
@@ -214,7 +217,7 @@ fn failing_writers(rt: HostRuntime) -> Result<(), Fail> {
                 target: *target,
                 most: *most,
                 writes,
-                due: Err(ServeFault::Write { sent: sent as u64 }),
+                due: Err((ServeFault::Write { sent: sent as u64 }, 0)),
                 written: Some(whole.get(..sent).unwrap_or(&[])),
                 left: *left,
             };
@@ -230,22 +233,16 @@ const FORTY: &[&[u8]] = &[TWO_RECORDS; 20];
 /// The second message has no room where two records may wait.
 const CUT: &[&[u8]] = &[ONE_RECORD, TWO_RECORDS];
 
-const FIRST_WRITE: Result<u64, ServeFault> = Err(ServeFault::Write { sent: 966 });
+const FIRST_WRITE: Answer = Err((ServeFault::Write { sent: 966 }, 0));
 
-const NOTHING_SENT: Result<u64, ServeFault> = Err(ServeFault::Write { sent: 0 });
+/// The first pull had the template and 31 of the records: nine wait.
+const NOTHING_SENT: Answer = Err((ServeFault::Write { sent: 0 }, 9));
 
-const UNKNOWN: Result<u64, ServeFault> = Err(ServeFault::Core(PullFault::Core(Fault::UnknownSub)));
+const UNKNOWN: Answer = Err((ServeFault::Core(PullFault::Core(Fault::UnknownSub)), 0));
 
 /// What is offered, the bounds, and what is done then; how many writes of any length come before one that fails; what is answered,
 /// and what is left. The template has 36 octets, and each record 30; the first write has 32 of these messages.
-const ENDS: &[(
-    &[&[u8]],
-    Bounds,
-    Act,
-    usize,
-    Result<u64, ServeFault>,
-    Option<(u32, u64)>,
-)] = &[
+const ENDS: &[(&[&[u8]], Bounds, Act, usize, Answer, Option<(u32, u64)>)] = &[
     // What isn't pulled at once is pulled then.
     (FORTY, ROOMY, Act::Stop, 2, Ok(1236), Some((0, 40))),
     (FORTY, ROOMY, Act::Stop, 1, FIRST_WRITE, None),
@@ -324,7 +321,7 @@ fn offer_slowly<E: EntryLedger, H: RecordLedger, R: Wait + Abort>(
     (admin, exporter)
 }
 
-fn give_way() {
+pub(crate) fn give_way() {
     for _ in 0..TURNS {
         thread::yield_now();
     }

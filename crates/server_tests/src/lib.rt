@@ -5,7 +5,8 @@
 //!
 //! - `stage`: a case is played on a new shared mediator, which is closed then.
 //! - `octets`: messages and streams; `hands`: the handles, and messages that are offered before.
-//! - `serving`: of `serve_exporter`. `delivering`: of `deliver`. `administering`: of `serve_admin`.
+//! - `serving`: of `serve_exporter`. `delivering`: of `deliver`. `administering`: of `serve_admin`. `holding`: what waits for room.
+//! - `server`: what a connection tells and asks its server, noted.
 #![tactic(auto)]
 
 #[cfg(test)]
@@ -15,7 +16,11 @@ mod delivering;
 #[cfg(test)]
 mod hands;
 #[cfg(test)]
+mod holding;
+#[cfg(test)]
 mod octets;
+#[cfg(test)]
+mod server;
 #[cfg(test)]
 mod serving;
 #[cfg(test)]

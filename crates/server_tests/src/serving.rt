@@ -5,6 +5,7 @@ use crate::octets::{
     CUT_OFF, EIGHT_EMPTY, LENGTH_15, LONG_TEMPLATE, ONE_RECORD, SET_OF_3, STREAM, TWO_RECORDS,
     VERSION_9,
 };
+use crate::server::Told;
 use crate::stage::{Case, Hands, play};
 use event_journal::Entry;
 use faulty_devices::Sparing;
@@ -109,7 +110,8 @@ const ROWS: &[(
     (CUT_OFF, 7, ENOUGH, 1000, ENDS_INSIDE, (1, 1, 0)),
 ];
 
-/// Serves a stream: the answer is the one that is due, and the session is closed, or can't be.
+/// Serves a stream: the answer is the one that is due, the server was told of each message that was accepted, and the session is
+/// closed, or can't be.
 pub(crate) fn serve<E: EntryLedger, H: RecordLedger, R: Threads + Wait + Abort + Sync>(
     rt: &R,
     alloc: Global,
@@ -123,6 +125,7 @@ pub(crate) fn serve<E: EntryLedger, H: RecordLedger, R: Threads + Wait + Abort +
     }
     let mut reader = Device::new(Sparing::new(row.stream, row.most, row.reads, ConnectionReset));
     let (turns, workers) = (row.turns, row.workers);
+    let told = Told::nothing(row.stream);
     let served = serve_exporter(
         rt,
         alloc,
@@ -131,12 +134,14 @@ pub(crate) fn serve<E: EntryLedger, H: RecordLedger, R: Threads + Wait + Abort +
         &mut reader,
         turns,
         workers,
+        &told,
     );
     let due = match row.due {
         Ok(()) => Ok(row.brought),
         Err(fault) => Err((fault, row.brought)),
     };
     assert!(rt; served == due, "{served:?}");
+    assert!(rt; told.messages() == Some(row.brought.messages));
     let ended = exporter.end(rt, shared);
     assert!(rt; ended == Err(Fault::UnknownSession) || ended == Err(Fault::JournalFull));
     let mut all = hands(alloc, exporter, admin, None)?;

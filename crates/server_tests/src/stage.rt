@@ -2,7 +2,7 @@
 ghost use Rattle.std.specs.Prelude.{◌≡◌, ◌+◌, ◌*◌};
 ghost use Rattle.mediator_calls.specs.Counted.{handed_live};
 
-use crate::{administering, delivering, serving};
+use crate::{administering, delivering, holding, serving};
 use mediator_core::{Limits, Mediator};
 use shared_mediator::{
     AdminHandle, CloseFault, Closed, DeliveryHandle, EntryLedger, ExporterHandle, RecordLedger,
@@ -29,6 +29,12 @@ pub(crate) enum Case {
     DeliverMeanwhile(delivering::Row),
     /// An administrator's connection is served.
     Administer(administering::Row),
+    /// A message is held up by a queue.
+    HoldMessage(holding::Row),
+    /// An advance is.
+    HoldAdvance(holding::Row),
+    /// A message is held up by one of the same piece, until a delivery that waits is woken.
+    HoldPiece,
 }
 
 /// The handles that come back.
@@ -99,5 +105,8 @@ fn play_case<
         Case::Deliver(row) => delivering::deliver_row(rt, alloc, shared, row),
         Case::DeliverMeanwhile(row) => delivering::deliver_meanwhile(rt, alloc, shared, row),
         Case::Administer(row) => administering::administer(rt, alloc, shared, row),
+        Case::HoldMessage(row) => holding::hold_message(rt, alloc, shared, row),
+        Case::HoldAdvance(row) => holding::hold_advance(rt, alloc, shared, row),
+        Case::HoldPiece => holding::hold_piece(rt, alloc, shared),
     }
 }

@@ -10,12 +10,12 @@ pub returns-in_err-line-clause-err : goal.returns-in_err-line-clause-err
 returns-in_err-line-clause-err g c =
     let held = g.O.Write.contents (device_inner c.args.output.now) in
     err_gives c.from_residual.result c.from_residual.ensures
-    (λ e is. subst (λ x. RefusesToTell x (run_of c.args.closed) held held) (sym is) (told_nothing (run_of c.args.closed) held))
+    (λ e is. subst (λ x. RefusesToTell x (run_of c.args.ended) held held) (sym is) (told_nothing (run_of c.args.ended) held))
 
 pub returns-in_err-kept-clause-err : goal.returns-in_err-kept-clause-err
 returns-in_err-kept-clause-err g c =
     let held = g.O.Write.contents (device_inner c.args.output.now) in
     let holds = g.O.Write.contents (device_inner c.write_text.new.output) in
-    let told : Appends held holds (served (run_of c.args.closed)) = subst (Appends held holds) (c.as_str.ensures.value ∙ c.in_ok-line.ensures) c.in_ok-write_text.ensures.ok in
+    let told : Appends held holds (served (run_of c.args.ended)) = subst (Appends held holds) (c.as_str.ensures.value ∙ c.in_ok-line.ensures) c.in_ok-write_text.ensures.ok in
     err_gives c.from_residual-in_err-kept.result c.from_residual-in_err-kept.ensures
-    (λ e is. subst (λ x. RefusesToTell x (run_of c.args.closed) held holds) (sym is) (told_all c.in_err-kept.field-0.0 (run_of c.args.closed) held holds c.in_err-kept.ensures.err told))
+    (λ e is. subst (λ x. RefusesToTell x (run_of c.args.ended) held holds) (sym is) (told_all c.in_err-kept.field-0.0 (run_of c.args.ended) held holds c.in_err-kept.ensures.err told))

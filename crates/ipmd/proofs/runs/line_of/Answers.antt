@@ -5,4 +5,4 @@ use Rattle.ipmd.specs.Serving.{run_of, served}
 use Rattle.ipmd.proofs.runs.line_of.Goals as goal
 
 pub returns : goal.returns
-returns c = IfOk-weaker c.format.result _ (λ line. string_bytes line ≡ served (run_of c.args.closed.now)) (λ line told. told ∙ simp append_assoc) c.format.ensures.ok
+returns c = IfOk-weaker c.format.result _ (λ line. string_bytes line ≡ served (run_of c.args.ended.now)) (λ line told. told ∙ simp append_assoc) c.format.ensures.ok

@@ -14,6 +14,12 @@ returns-in_err-keeping-clause-err g c =
     err_gives c.from_residual.result c.from_residual.ensures
     (λ e is. subst (λ x. StopsServing x held held) (sym is) (stops_first c.args.service held c.in_err-keeping.field-0.0 c.requires.asked c.in_err-keeping.ensures.err))
 
+pub returns-in_err-keys-clause-err : goal.returns-in_err-keys-clause-err
+returns-in_err-keys-clause-err g c =
+    let held = g.O.Write.contents (device_inner c.args.output.now) in
+    err_gives c.from_residual-in_err-keys.result c.from_residual-in_err-keys.ensures
+    (λ e is. subst (λ x. StopsServing x held held) (sym is) (stops_first c.args.service held c.in_err-keys.field-0.0 c.requires.asked c.in_err-keys.ensures.err))
+
 pub returns-in_err-serve_run-clause-err : goal.returns-in_err-serve_run-clause-err
 returns-in_err-serve_run-clause-err g c =
     let held = g.O.Write.contents (device_inner c.args.output.now) in
@@ -38,5 +44,5 @@ runs-preserved g c =
     let held = g.O.Write.contents (device_inner c.args.output.now) in
     let between = g.O.Write.contents (device_inner c.runs.output) in
     let holds = g.O.Write.contents (device_inner c.serve_run.new.output) in
-    let makes = subst (λ full. MakesRun full c.runs.plan c.serve_run.new.plan between holds) c.if-not-branch.false c.in_ok-serve_run.ensures.made in
+    let makes = subst (λ more. MakesRun more c.runs.plan c.serve_run.new.plan between holds) c.if-not-branch.false c.in_ok-serve_run.ensures.made in
     (goes_on c.runs.plan c.serve_run.new.plan c.args.service.runs c.runs.run held between holds c.runs.invariant.0 makes (omega (arith, c.if-run-runs.false)), c.runs.invariant.1)

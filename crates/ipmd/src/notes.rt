@@ -1,0 +1,155 @@
+//! Where a server's notes go: a stream that may be a pipe which nobody reads. A note that would wait there is dropped, and
+//! counted, so that no thread of the server waits for a reader of notes.
+
+use log::kv::Source;
+use log::span::Spans;
+use log::{Line, Log, Metadata, Record};
+use mio::unix::SourceFd;
+use mio::{Events, Interest, Poll, Token};
+use octet_devices::{Device, write_all};
+use std::alloc::{AllocError, Global};
+use std::fmt::Display;
+use std::io::{self, Write};
+use std::net::Net;
+use std::os::fd::RawFd;
+use std::sync::{Mutex, Wait};
+use std::time::Duration;
+
+/// The most octets of a note, its line feed among them. So many a pipe takes without waiting, where it takes any.
+const LONGEST_NOTE: usize = 4096;
+
+/// What says whether a descriptor takes octets now.
+#[derive(Drop)]
+struct Gate {
+    poll: Poll,
+    events: Events<Global>,
+    descriptor: RawFd,
+}
+
+impl Gate {
+    /// # Errors
+    /// Nothing says so of this descriptor, as of a file, where no write waits; or memory ran out.
+    fn before(rt: &impl Net, alloc: Global, descriptor: RawFd) -> io::Result<Gate> {
+        let events = Events::with_capacity(alloc, 1)?;
+        let poll = Poll::new(rt)?;
+        poll.registry()
+            .register(&mut SourceFd(&descriptor), Token(0), Interest::WRITABLE)?;
+        Ok(Gate {
+            poll,
+            events,
+            descriptor,
+        })
+    }
+
+    /// Whether the descriptor takes [`LONGEST_NOTE`] octets now.
+    fn is_open(&mut self) -> bool {
+        self.ask().is_ok() && !self.events.is_empty()
+    }
+
+    /// Asks the system. To register anew has it say once more what it has said.
+    fn ask(&mut self) -> io::Result<()> {
+        let mut source = SourceFd(&self.descriptor);
+        self.poll
+            .registry()
+            .reregister(&mut source, Token(0), Interest::WRITABLE)?;
+        self.poll.poll(&mut self.events, Some(Duration::ZERO))
+    }
+}
+
+/// A stream for notes.
+#[derive(Drop)]
+struct Stream<'e, E> {
+    device: &'e mut Device<E>,
+    /// None: what is written never waits.
+    gate: Option<Gate>,
+    /// How many notes were dropped since one was written.
+    dropped: u64,
+}
+
+impl<E: Write> Stream<'_, E> {
+    fn is_open(&mut self) -> bool {
+        match &mut self.gate {
+            Some(gate) => gate.is_open(),
+            None => true,
+        }
+    }
+
+    /// Writes a line, or counts it where that would wait.
+    fn note(&mut self, alloc: Global, line: Result<String, AllocError>) {
+        self.tell_dropped(alloc);
+        match line {
+            Ok(line) if self.dropped == 0 && self.is_open() => self.put(line.as_str()),
+            _ => self.dropped = self.dropped.saturating_add(1),
+        }
+    }
+
+    /// Says how many notes were dropped, where there are any and it doesn't wait.
+    fn tell_dropped(&mut self, alloc: Global) {
+        if self.dropped == 0 || !self.is_open() {
+            return;
+        }
+        let dropped = self.dropped;
+        if let Ok(line) = format!(in alloc; "[WARN  ipmd] {dropped} notes dropped") {
+            self.put(line.as_str());
+            self.dropped = 0;
+        }
+    }
+
+    /// Writes a line. A longer one than [`LONGEST_NOTE`] is cut, and what can't be written is dropped.
+    fn put(&mut self, line: &str) {
+        let octets = line.as_bytes();
+        let end = octets.len().min(LONGEST_NOTE - 1);
+        let _told = write_all(self.device, &octets[..end]);
+        let _ended = write_all(self.device, b"\n");
+    }
+}
+
+/// Where the notes of all threads go, a line each.
+#[derive(Drop)]
+pub(crate) struct Notes<'r, 'e, R, E> {
+    rt: &'r R,
+    alloc: Global,
+    stream: Mutex<Stream<'e, E>>,
+}
+
+impl<'r, 'e, R: Net + AllocGlobal, E> Notes<'r, 'e, R, E> {
+    /// Notes that are written to a device, which has this descriptor.
+    pub(crate) fn over(
+        rt: &'r R,
+        device: &'e mut Device<E>,
+        descriptor: RawFd,
+    ) -> Notes<'r, 'e, R, E> {
+        let alloc = rt.alloc();
+        let gate = Gate::before(rt, alloc, descriptor).ok();
+        Notes {
+            rt,
+            alloc,
+            stream: Mutex::new(Stream {
+                device,
+                gate,
+                dropped: 0,
+            }),
+        }
+    }
+}
+
+impl<R: Wait, E: Write> Log for Notes<'_, '_, R, E> {
+    fn enabled(&self, _metadata: &Metadata<'_>) -> bool {
+        true
+    }
+
+    fn log<D: Display, K: Source, S: Spans>(&self, record: &Record<'_, D, K, S>) {
+        let line = Line::new(record);
+        let line = format!(in self.alloc; "{line}");
+        self.stream.lock(self.rt).note(self.alloc, line);
+    }
+
+    /// Says how many notes were dropped, so that no later one need come.
+    fn flush(&self) {
+        self.stream.lock(self.rt).tell_dropped(self.alloc);
+    }
+
+    fn target(&self) -> &str {
+        ""
+    }
+}

@@ -1,0 +1,204 @@
+//! The connections of administrators, one after another.
+ghost use Rattle.std.specs.Prelude.{None};
+ghost use Rattle.std.specs.Io.{ReadsAtMost};
+
+use crate::admin::serve_admin;
+use crate::connections::Connection;
+use crate::control::{Control, Patience};
+use crate::exporters::wait_a_moment;
+use crate::listeners::Caller;
+use crate::notes;
+use crate::run_state::{RunState, TurnOver};
+use crate::service::Service;
+use crate::socket_options::{look_while_reading, prepare_to_write};
+use crate::stream_calls::{PatientWriter, is_late, read_on};
+use crate::time::now;
+use log::Log;
+use octet_devices::{Failed, Sink, Source};
+use shared_mediator::{AdminHandle, EntryLedger, RecordLedger, SharedMediator};
+use std::cell::Cell;
+use std::net::TcpStream;
+use std::sync::Wait;
+use std::time::{Clock, Duration};
+
+/// Has an administrator wait for its turn. Where too many wait, or there is no memory, its connection is closed.
+pub(crate) fn admit<E: EntryLedger, H: RecordLedger, R: Wait + Log>(
+    rt: &R,
+    service: &Service<'_, E, H>,
+    caller: Caller,
+) {
+    let Caller { stream, peer } = caller;
+    let Ok(connection) = service.administrators.add(rt, stream, peer) else {
+        notes::refused_for_memory(rt, peer);
+        return;
+    };
+    if let Err(connection) = service.state.admit(rt, connection) {
+        notes::administrator_refused(rt, peer);
+        service.administrators.forget(rt, connection.number());
+    }
+}
+
+/// Serves administrators, one after another, until none is to be served any more.
+pub(crate) fn serve_all<E: EntryLedger, H: RecordLedger, R: Wait + Clock + Log>(
+    rt: &R,
+    service: &Service<'_, E, H>,
+    admin: &mut AdminHandle<E>,
+) {
+    for _ in rt.forever() {
+        let Some(connection) = service.state.next_administrator(rt) else {
+            return;
+        };
+        serve_connection(rt, service, admin, &connection);
+        service.administrators.forget(rt, connection.number());
+    }
+}
+
+/// Serves an administrator's connection.
+fn serve_connection<E: EntryLedger, H: RecordLedger, R: Wait + Clock + Log>(
+    rt: &R,
+    service: &Service<'_, E, H>,
+    admin: &mut AdminHandle<E>,
+    connection: &Connection,
+) {
+    let (stream, peer, state) = (connection.stream(), connection.peer, &service.state);
+    notes::admin_begins(rt, peer);
+    prepare_to_write(stream);
+    look_while_reading(stream);
+    let (is_last, over) = (Cell::new(false), Cell::new(None));
+    let mut commands = Commands {
+        rt,
+        state,
+        stream,
+        is_last: &is_last,
+        over: &over,
+        heard: now(rt),
+        has_failed: false,
+    };
+    let mut answers = Answers {
+        rt,
+        service,
+        writer: PatientWriter::new(rt, stream),
+        is_last: &is_last,
+    };
+    let control = RunControl {
+        rt,
+        service,
+        begun: Cell::new(Duration::from_secs(0)),
+    };
+    let answered = serve_admin(
+        rt,
+        service.alloc,
+        service.shared,
+        admin,
+        &mut commands,
+        &mut answers,
+        service.plan.turns,
+        &control,
+    );
+    notes::admin_ends(rt, peer, answered, over.get());
+}
+
+/// What is read of an administrator: nothing more behind the last answer, or where its turn is over.
+#[derive(Drop)]
+struct Commands<'r, 'v, 'c, 'l, 'o, R> {
+    rt: &'r R,
+    state: &'v RunState,
+    stream: &'c TcpStream,
+    is_last: &'l Cell<bool>,
+    over: &'o Cell<Option<TurnOver>>,
+    /// When something came last.
+    heard: Duration,
+    has_failed: bool,
+}
+
+impl<R: Wait + Clock> Commands<'_, '_, '_, '_, '_, R> {
+    /// Waits for octets, as long as it is this administrator's turn.
+    fn wait_for(&self, buffer: &mut [u8]) -> Result<usize, Failed>
+        ensures { ReadsAtMost result buffer.new }
+    {
+        for _ in self.rt.forever() {
+            if self.is_last.get() {
+                return Ok(0);
+            }
+            if let Some(why) = self.state.turn_over(self.rt, self.heard) {
+                self.over.set(Some(why));
+                return Ok(0);
+            }
+            match read_on(self.rt, self.stream, buffer) {
+                Ok(count) => return Ok(count),
+                Err(kind) if is_late(kind) => {}
+                Err(_) => return Err(Failed),
+            }
+        }
+        unreachable!()
+    }
+}
+
+impl<R: Wait + Clock> Source for Commands<'_, '_, '_, '_, '_, R> {
+    ghost remaining = { λ _. None };
+
+    ghost has_failed = { λ commands. commands.has_failed };
+
+    fn read(&mut self, buffer: &mut [u8]) -> Result<usize, Failed> {
+        match self.wait_for(buffer) {
+            Ok(count) => {
+                self.heard = now(self.rt);
+                Ok(count)
+            }
+            Err(Failed) => {
+                self.has_failed = true;
+                Err(Failed)
+            }
+        }
+    }
+}
+
+/// What is written to an administrator. An answer that is written when the journal is full is the last one.
+#[derive(Drop)]
+struct Answers<'r, 'v, 'm, 'c, 'l, R, E: EntryLedger, H: RecordLedger> {
+    rt: &'r R,
+    service: &'v Service<'m, E, H>,
+    writer: PatientWriter<'r, 'c, R>,
+    is_last: &'l Cell<bool>,
+}
+
+impl<R: Wait + Clock, E: EntryLedger, H: RecordLedger> Sink
+    for Answers<'_, '_, '_, '_, '_, R, E, H> {
+    ghost contents = { λ _. None };
+
+    ghost has_failed = { λ answers. answers.writer.has_failed };
+
+    fn write(&mut self, octets: &[u8]) -> Result<usize, Failed> {
+        if self.service.shared.full(self.rt) {
+            self.is_last.set(true);
+            self.service.state.close(self.rt);
+        }
+        self.writer.write(octets)
+    }
+}
+
+/// What an administrator asks of the run.
+#[derive(Drop)]
+struct RunControl<'r, 'v, 'm, R, E: EntryLedger, H: RecordLedger> {
+    rt: &'r R,
+    service: &'v Service<'m, E, H>,
+    /// When the wait of the advance in hand began.
+    begun: Cell<Duration>,
+}
+
+impl<R: Wait + Clock, E: EntryLedger, H: RecordLedger> Patience
+    for RunControl<'_, '_, '_, R, E, H> {
+    fn has_any(&self) -> bool {
+        self.service.plan.hold.is_some()
+    }
+
+    fn wait(&self, turn: u64) -> bool {
+        wait_a_moment(self.rt, self.service, &self.begun, turn)
+    }
+}
+
+impl<R: Wait + Clock, E: EntryLedger, H: RecordLedger> Control for RunControl<'_, '_, '_, R, E, H> {
+    fn stop(&self) {
+        self.service.state.stop(self.rt);
+    }
+}

@@ -1,0 +1,25 @@
+//! What a connection asks of its server, beyond the mediator.
+
+use mediator_state::Receipt;
+
+/// How long a call waits for room in a queue before it cuts a subscription.
+pub trait Patience {
+    /// Whether anything is waited for.
+    fn has_any(&self) -> bool;
+
+    /// Waits a moment, and answers whether to look for room once more: the `turn`-th time for one call, from 0.
+    fn wait(&self, turn: u64) -> bool;
+}
+
+/// What an administrator may ask of a server.
+pub trait Control: Patience {
+    /// The run is to end: no more exporters are taken, those that are connected end behind the message in hand, and what is queued
+    /// is sent.
+    fn stop(&self);
+}
+
+/// What a server is told of an exporter's stream as it is read.
+pub trait Reception: Patience {
+    /// A message of so many octets was accepted.
+    fn accept(&self, receipt: &Receipt, octets: usize);
+}

@@ -1,0 +1,56 @@
+//! Waiting for room in the queues.
+
+use crate::control::Patience;
+use live_subscriptions::Share;
+use shared_mediator::{EntryLedger, RecordLedger, SharedMediator};
+use std::sync::Wait;
+
+/// Waits while a queue has no room for one of these shares, as long as the server has patience with their call, which has waited
+/// `first` times before; and answers how often it has waited then. Deliveries that wait themselves are woken before the first time,
+/// since what is queued may have been offered silently. No lock is held meanwhile.
+pub(crate) fn wait_for_room<E: EntryLedger, H: RecordLedger, P: Patience>(
+    rt: &impl Wait,
+    shared: &SharedMediator<E, H>,
+    shares: &[Share],
+    patience: &P,
+    first: u64,
+) -> u64 {
+    if !patience.has_any() {
+        return first;
+    }
+    for turn in first..u64::MAX {
+        if !shared.is_held_up(rt, shares) {
+            return turn;
+        }
+        if turn == 0 {
+            shared.wake();
+        }
+        if !patience.wait(turn) {
+            return turn;
+        }
+    }
+    u64::MAX
+}
+
+/// The same for what an advance of the clock to `t` would close.
+pub(crate) fn wait_for_advance<E: EntryLedger, H: RecordLedger, P: Patience>(
+    rt: &impl Wait,
+    shared: &SharedMediator<E, H>,
+    t: u64,
+    patience: &P,
+) {
+    if !patience.has_any() {
+        return;
+    }
+    for turn in 0..u64::MAX {
+        if !shared.is_advance_held_up(rt, t) {
+            return;
+        }
+        if turn == 0 {
+            shared.wake();
+        }
+        if !patience.wait(turn) {
+            return;
+        }
+    }
+}

@@ -1,0 +1,51 @@
+//! Options of a connection. One that the system refuses is left as it is.
+
+use libc::net::{
+    IPPROTO_TCP, SO_KEEPALIVE, SOL_SOCKET, TCP_KEEPCNT, TCP_KEEPIDLE, TCP_KEEPINTVL, setsockopt,
+};
+use std::net::TcpStream;
+use std::os::fd::AsRawFd;
+use std::time::Duration;
+
+/// A call on a connection waits so long at most, in milliseconds, before it is looked whether it is to go on.
+const LOOK_EACH: u64 = 250;
+
+/// A peer that has sent nothing for so many seconds is asked whether it is still there,
+const SILENCE: i32 = 60;
+
+/// again and again after so many seconds,
+const ASK_EACH: i32 = 10;
+
+/// and is gone when it hasn't answered so often.
+const ASK_TIMES: i32 = 6;
+
+/// Has what is written leave at once, and the system find out when the peer's machine is gone. A write that waits comes back from
+/// time to time.
+pub(crate) fn prepare_to_write(stream: &TcpStream) {
+    let _at_once = stream.set_nodelay(true);
+    let _looked_after = stream.set_write_timeout(Some(Duration::from_millis(LOOK_EACH)));
+    keep_alive(stream);
+}
+
+/// A read that waits comes back from time to time.
+pub(crate) fn look_while_reading(stream: &TcpStream) {
+    let _looked_after = stream.set_read_timeout(Some(Duration::from_millis(LOOK_EACH)));
+}
+
+/// Has the system find out when the peer's machine is gone.
+pub(crate) fn keep_alive(stream: &TcpStream) {
+    let socket = stream.as_raw_fd();
+    let on = value_of(1);
+    let (silence, each, times) = (value_of(SILENCE), value_of(ASK_EACH), value_of(ASK_TIMES));
+    let _on = unsafe { setsockopt(socket, SOL_SOCKET, SO_KEEPALIVE, &on, 4) };
+    let _silence = unsafe { setsockopt(socket, IPPROTO_TCP, TCP_KEEPIDLE, &silence, 4) };
+    let _each = unsafe { setsockopt(socket, IPPROTO_TCP, TCP_KEEPINTVL, &each, 4) };
+    let _times = unsafe { setsockopt(socket, IPPROTO_TCP, TCP_KEEPCNT, &times, 4) };
+}
+
+/// A number as the value of an option.
+fn value_of(number: i32) -> [u8; 16] {
+    let mut value = [0u8; 16];
+    value[..4].copy_from_slice(&number.to_ne_bytes());
+    value
+}
