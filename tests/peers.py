@@ -1,4 +1,5 @@
 """Peers of `ipmd serve`: exporters, collectors and the administrator. No wait of theirs is longer than PATIENCE seconds."""
+import contextlib
 import random
 import socket
 import time
@@ -73,8 +74,11 @@ class Peer:
         return line[:-1].decode()
 
     def take_all(self):
-        """Reads to the end."""
-        return b"".join(self.pieces())
+        """Reads to the end, and then says that no more comes."""
+        octets = b"".join(self.pieces())
+        with contextlib.suppress(OSError):
+            self.end_sending()
+        return octets
 
     def pieces(self):
         while more := self.stream.recv(1 << 20):

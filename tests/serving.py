@@ -42,9 +42,10 @@ class Run:
 
     A collector listens for each subscriber; `doors` may give the doors, by name. `settings` are those that aren't the usual
     ones; a value of None leaves the key out. `files` are empty files that its folder has before, and `links` links, by name.
+    `wrapper` is a script that runs the program, given the admin's address, without which it isn't wrapped.
     """
 
-    def __init__(self, rules=PASS, subscribers=("acme",), connections=1, doors=None, longest=LONGEST, files=(), links=None, **settings):
+    def __init__(self, rules=PASS, subscribers=("acme",), connections=1, doors=None, longest=LONGEST, files=(), links=None, wrapper=None, **settings):
         self.doors = {name: Door() for name in subscribers} | (doors or {})
         self.ports = {"exporters": free_port(), "admin": free_port()}
         self.folder = tempfile.TemporaryDirectory(prefix="ipmd-test-")
@@ -57,7 +58,7 @@ class Run:
         }
         self.settings |= ROOMY | settings
         self.rules, self.longest, self.peers = rules, longest, []
-        self.files, self.links = files, links or {}
+        self.files, self.links, self.wrapper = files, links or {}, wrapper
 
     def __enter__(self):
         self.write("policy.txt", self.rules)
@@ -67,15 +68,26 @@ class Run:
             os.symlink(target, self.path(name))
         self.write("settings.toml", settings_text(self.settings))
         words = [program.path(), "serve", "--settings", "settings.toml"]
-        with open(self.path("output"), "wb") as output, open(self.path("notes"), "wb") as notes:
-            self.child = subprocess.Popen(words, cwd=self.folder.name, stdin=subprocess.DEVNULL, stdout=output, stderr=notes)
-        self.watch = threading.Timer(self.longest, self.child.kill)
+        if self.wrapper is not None:
+            words = [self.wrapper, "--admin", self.settings["admin"], *words]
+        with open(self.path("output"), "wb") as output, self.open_notes() as notes:
+            environment = os.environ | {"IPMD_ADMIN": self.path("admin")}
+            self.child = subprocess.Popen(
+                words, cwd=self.folder.name, env=environment, stdin=subprocess.DEVNULL, stdout=output, stderr=notes
+            )
+        self.watch = threading.Timer(self.longest, self.kill)
         self.watch.start()
         return self
 
+    def kill(self):
+        """Kills the program, and what runs it."""
+        if self.wrapper is not None:
+            subprocess.run(["pkill", "-KILL", "-P", str(self.child.pid)], check=False)
+        self.child.kill()
+
     def __exit__(self, *_):
         self.watch.cancel()
-        self.child.kill()
+        self.kill()
         self.child.wait()
         for one in [*self.peers, *self.doors.values()]:
             one.close()
@@ -91,6 +103,10 @@ class Run:
     def text(self, name):
         with open(self.path(name), encoding="utf-8") as file:
             return file.read()
+
+    def open_notes(self):
+        """Where the program is to write its notes."""
+        return open(self.path("notes"), "wb")
 
     def exporter(self):
         """An exporter that has connected."""

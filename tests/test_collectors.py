@@ -74,7 +74,7 @@ class Collectors(ServeTest):
         ended = run.end()
         self.assertEqual(ended.status, 0)
         self.assertTrue(ended.output.startswith(f"accepted {sent} handed "), ended.output)
-        self.assertRegex(ended.notes, r"\[WARN  ipmd\] collector acme 127.0.0.1:\d+ failed, Write: octets \d+ records \d+\n")
+        self.assertRegex(ended.notes, r"\[WARN  ipmd\] collector acme 127.0.0.1:\d+ failed, Write: octets \d+ records \d+ dropped \d+\n")
         self.assertIn(f" ended: messages {sent} records {sent} gaps 0\n", ended.notes)
 
     def start_tight(self, **asked):
@@ -140,18 +140,18 @@ class Collectors(ServeTest):
             for n in range(STEADY):
                 exporter.send(steady_message(n))
             got = taken.result()
-        exporter.close()
         self.assertEqual(records(got), [BROAD.seen(steady_value(n)) for n in range(STEADY)])
         self.assertEqual(admin.ask("status 2"), f"ok 0 {STEADY} live")
         self.assertTrue(admin.ask("status 1").endswith(" live"))
         wait_until(lambda: admin.ask("status 1") == "err UnknownSub", "acme is given up", 90)
         self.assertGreaterEqual(time.monotonic() - begin, GIVEN_UP_AFTER)
+        exporter.close()
         admin.close()
         self.assertEqual(other.take_all(), b"")
         ended = run.end()
         self.assertEqual(ended.status, 0)
         self.assertTrue(ended.output.startswith(f"accepted {STEADY} handed "), ended.output)
-        self.assertRegex(ended.notes, r"\[WARN  ipmd\] collector acme 127.0.0.1:\d+ failed, Write: octets \d+ records \d+\n")
+        self.assertRegex(ended.notes, r"\[WARN  ipmd\] collector acme 127.0.0.1:\d+ failed, Write: octets \d+ records \d+ dropped \d+\n")
 
 
 if __name__ == "__main__":

@@ -1,9 +1,11 @@
 """Runs of `ipmd serve` that follow each other: a run whose journal is full ends, the next one begins with the policy in force,
 and the journal of each is kept in a file of its own."""
 import os
+import socket
 import unittest
 
 from messages import FLOW, address, flow_message, records
+from peers import HOST
 from runs import run as run_program
 from serving import ServeTest
 
@@ -139,19 +141,19 @@ class Runs(ServeTest):
                 self.assertEqual((ended.status, ended.output, ended.notes), (3, "", "ipmd: device\n"))
 
     def test_who_comes_when_full(self):
-        """When the journal is full the administrator has one answer more, and the next who comes is closed unread and the last."""
+        """When the journal is full the administrator has one answer more, and nobody is taken any more."""
         run = self.start(connections=5, **FIVE)
         collector, admin = run.collector(), run.admin()
         self.assertEqual(admin.ask("status 1"), "ok 0 0 live")
         self.fill(run)
         self.assertEqual(admin.ask("advance 1000"), "err JournalFull")
         self.assertEqual(admin.take_end(), b"")
-        late = run.exporter()
-        self.assertEqual(late.take_end(), b"")
         collector.take_all()
+        with self.assertRaises(ConnectionRefusedError):
+            socket.create_connection((HOST, run.ports["exporters"]), 5).close()
         ended = run.end()
         self.assertEqual((ended.status, ended.output), (0, "accepted 2 handed 2\n"))
-        self.assertEqual(ended.notes.count(" turned away: the journal is full\n"), 1)
+        self.assertEqual(ended.notes.count("the journal is full: the run ends\n"), 1)
 
     def test_full_at_the_door(self):
         """An exporter for whose session the journal has no room is closed, and the last that is let in."""
@@ -172,9 +174,21 @@ class Runs(ServeTest):
         collector, admin = run.collector(), run.admin()
         self.assertEqual(admin.ask("advance 1000"), "err JournalFull")
         self.assertEqual(admin.take_end(), b"")
-        self.assertEqual(run.exporter().take_end(), b"")
         self.assertEqual(collector.take_all(), b"")
         self.assertEqual(run.end().output, "accepted 0 handed 0\n")
+
+    def test_any_folder(self):
+        """The journals' folder may have any number of files, with names of any length."""
+        for count in range(0, 60, 3):
+            with self.subTest(files=count):
+                files = [f"{'n' * (1 + 7 * n % 97)}-{n}" for n in range(count)]
+                run = self.start(subscribers=(), files=files, journal="journal", endless=True)
+                self.assertEqual(run.admin().ask("stop"), "ok")
+                self.expect_ended(run)
+
+    def expect_ended(self, run):
+        ended = run.end()
+        self.assertEqual((ended.status, ended.output), (0, "accepted 0 handed 0\n"), ended.notes)
 
     def test_full_before_it_begins(self):
         """A journal without room for the first edit and the subscriptions ends it all."""

@@ -1,6 +1,7 @@
 """The operator's scripts in examples/serve: `advance` holds the administrator's connection, `ask` and `watch` ask through it, and
-`finish` takes up the connections that are left, so that the run ends."""
+`run` turns signals into the end of a run."""
 import os
+import signal
 import subprocess
 import unittest
 
@@ -36,12 +37,6 @@ class Scripts(ServeTest):
         self.assertEqual(done.returncode, status, done.stderr)
         return done.stdout
 
-    def finish(self, run):
-        """Ends a run as an operator does."""
-        words = [SCRIPTS / "finish", HOST, str(run.ports["exporters"])]
-        done = subprocess.run(words, capture_output=True, text=True, timeout=PATIENCE, check=True)
-        self.assertEqual(done.stdout, "no more exporters are taken\n")
-
     def test_ask(self):
         """`ask` tells how a subscription stands, puts a policy in force and reads the audit; `err` is its status 1."""
         run = self.start(connections=5)
@@ -59,8 +54,8 @@ class Scripts(ServeTest):
         answer = self.ask("audit", 10)
         self.assertTrue(answer.startswith("ok 1\n") and answer.endswith(" 0 1 withheld 0 rule\n"), answer)
         self.assertEqual(self.ask("status", 2, status=1), "err UnknownSub\n")
-        self.finish(run)
-        advance.terminate()
+        self.assertEqual(self.ask("stop"), "ok\n")
+        self.assertIn("advance: ", advance.communicate(timeout=PATIENCE)[1])
         self.assertEqual(collector.take_all(), b"")
         self.assertEqual(len(records(got)), 1)
         self.expect_served(run, 2, 1)
@@ -94,6 +89,24 @@ class Scripts(ServeTest):
         advance = self.start_advance(run)
         run.child.kill()
         self.assertIn("advance: ", self.ask_until_gone(advance))
+
+    def test_signals(self):
+        """Under `run` a hangup ends nothing, and SIGTERM or an interrupt ends the run in order, with `advance` beside it or not."""
+        for sent, held in ((signal.SIGTERM, False), (signal.SIGINT, False), (signal.SIGTERM, True)):
+            with self.subTest(signal=sent.name, held=held):
+                run = self.start(connections=5, endless=True, wrapper=SCRIPTS / "run")
+                collector, exporter = run.collector(), run.exporter()
+                if held:
+                    self.start_advance(run)
+                exporter.send(flow_message(0))
+                got = collector.take_message()
+                run.child.send_signal(signal.SIGHUP)
+                exporter.send(flow_message(1))
+                got += collector.take_message()
+                run.child.send_signal(sent)
+                self.assertEqual(exporter.take_end(), b"")
+                self.assertEqual(len(records(got + collector.take_all())), 2)
+                self.expect_served(run, 2, 2)
 
     def ask_until_gone(self, advance):
         """What `advance` says last, when it is asked of a run that is gone."""
