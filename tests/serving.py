@@ -8,6 +8,7 @@ import unittest
 from typing import NamedTuple
 
 import program
+from messages import flow_message
 from peers import HOST, Admin, Door, free_port, reach, wait_until
 
 # All is disclosed to all.
@@ -172,6 +173,19 @@ class ServeTest(unittest.TestCase):
     def start(self, rules=PASS, **asked):
         """A run that is over, at the latest, when the test is."""
         return self.enterContext(Run(rules, **asked))
+
+    def send_until_gone(self, exporter, admin):
+        """Sends messages of a record each, behind a first one, until subscription 1 has ended; answers how many were sent in all."""
+        sent = 1
+
+        def send_another():
+            nonlocal sent
+            exporter.send(flow_message(sent))
+            sent += 1
+            return admin.ask("status 1") == "err UnknownSub"
+
+        wait_until(send_another, "the subscription ends")
+        return sent
 
     def expect_served(self, run, accepted, handed, patience=20.0):
         """That a run ends as it should, with these counts; answers how it ended."""

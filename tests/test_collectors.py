@@ -57,15 +57,7 @@ class Collectors(ServeTest):
         exporter.send(flow_message(0))
         closing.take(10)
         closing.close()
-        sent = 1
-
-        def send_another():
-            nonlocal sent
-            exporter.send(flow_message(sent))
-            sent += 1
-            return admin.ask("status 1") == "err UnknownSub"
-
-        wait_until(send_another, "the subscription ends")
+        sent = self.send_until_gone(exporter, admin)
         # The name is free again, and has a new number.
         self.assertEqual(admin.ask("subscribe acme"), "ok 3")
         exporter.close()

@@ -90,16 +90,7 @@ class Reconnects(ServeTest):
         exporter.send(flow_message(0))
         self.assertEqual(len(records(first.take_message())), 1)
         first.close()
-        sent = 1
-
-        def send_another():
-            nonlocal sent
-            exporter.send(flow_message(sent))
-            sent += 1
-            time.sleep(0.01)
-            return admin.ask("status 1") == "err UnknownSub"
-
-        wait_until(send_another, "the subscription ends")
+        sent = self.send_until_gone(exporter, admin)
         gone = sent
         for _ in range(7):
             exporter.send(flow_message(sent))

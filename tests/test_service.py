@@ -49,20 +49,18 @@ class GoesOn(ServeTest):
         self.assertEqual(int.from_bytes(got[8:12], "big"), number - 1)
         self.assertIn(number.to_bytes(2, "big"), got[16:])
 
-    def test_no_descriptor(self):
-        """A connection for which no descriptor is left is closed with a note, and all others go on."""
+    def begin(self):
+        """A run that has served one exporter, with its collector and an admin."""
         run = self.start(connections=10)
         collector, admin = run.collector(), run.admin()
         self.send_one(run, collector, 1)
         run.wait_for_note(" ended: messages 1 records 1 gaps 0\n")
-        descriptors = [int(name) for name in os.listdir(f"/proc/{run.child.pid}/fd")]
-        before = limit(run, resource.RLIMIT_NOFILE, max(descriptors) + 1)
-        strangers = [run.exporter() for _ in range(3)]
-        for stranger in strangers[-2:]:
-            self.assertEqual(stranger.take_end(), b"")
+        return run, collector, admin
+
+    def expect_on(self, run, collector, admin, strangers, kind, before):
+        """That a run goes on where something is short, and takes exporters again when it isn't any more."""
         self.assertEqual(admin.ask("status 1"), "ok 0 1 live")
-        limit(run, resource.RLIMIT_NOFILE, before)
-        self.assertIn(" refused: Too many open files (os error 24)\n", run.notes())
+        limit(run, kind, before)
         for stranger in strangers:
             stranger.close()
         self.send_one(run, collector, 2)
@@ -70,12 +68,20 @@ class GoesOn(ServeTest):
         self.assertEqual(collector.take_all(), b"")
         self.expect_served(run, 2, 2)
 
+    def test_no_descriptor(self):
+        """A connection for which no descriptor is left is closed with a note, and all others go on."""
+        run, collector, admin = self.begin()
+        descriptors = [int(name) for name in os.listdir(f"/proc/{run.child.pid}/fd")]
+        before = limit(run, resource.RLIMIT_NOFILE, max(descriptors) + 1)
+        strangers = [run.exporter() for _ in range(3)]
+        for stranger in strangers[-2:]:
+            self.assertEqual(stranger.take_end(), b"")
+        self.expect_on(run, collector, admin, strangers, resource.RLIMIT_NOFILE, before)
+        self.assertIn(" refused: Too many open files (os error 24)\n", run.notes())
+
     def test_no_thread(self):
         """A connection for which no thread is left is closed with a note, and all others go on."""
-        run = self.start(connections=10)
-        collector, admin = run.collector(), run.admin()
-        self.send_one(run, collector, 1)
-        run.wait_for_note(" ended: messages 1 records 1 gaps 0\n")
+        run, collector, admin = self.begin()
         # A thread's stack is 8 MiB.
         pages = pathlib.Path(f"/proc/{run.child.pid}/statm").read_text(encoding="ascii").split()[0]
         size = int(pages) * resource.getpagesize()
@@ -83,14 +89,7 @@ class GoesOn(ServeTest):
         strangers = [run.exporter() for _ in range(4)]
         run.wait_for_note(" refused: no thread\n")
         self.assertEqual(strangers[-1].take_end(), b"")
-        self.assertEqual(admin.ask("status 1"), "ok 0 1 live")
-        limit(run, resource.RLIMIT_AS, before)
-        for stranger in strangers:
-            stranger.close()
-        self.send_one(run, collector, 2)
-        self.assertEqual(admin.ask("stop"), "ok")
-        self.assertEqual(collector.take_all(), b"")
-        self.expect_served(run, 2, 2)
+        self.expect_on(run, collector, admin, strangers, resource.RLIMIT_AS, before)
 
     def test_idle(self):
         """An exporter from which nothing comes for a second is closed, one that sends meanwhile isn't."""
