@@ -60,8 +60,8 @@ impl<E: EntryLedger, H: RecordLedger> SharedMediator<E, H> {
     pub fn exporter(&self, rt: &impl Wait) -> Result<ExporterHandle<E>, HandleFault>
         ensures { IfOk result (λ handle. handle.kept ≡ []) }
     {
-        let (session, share) = self.desk.lock(rt).exporter()?;
-        Ok(ExporterHandle::new(self.alloc, session, share))
+        let opened = self.desk.lock(rt).exporter()?;
+        Ok(ExporterHandle::new(self.alloc, opened))
     }
 
     /// Gives a handle for the delivery to a live subscription.
