@@ -19,7 +19,5 @@ mod command;
 mod laws;
 
 pub use answer::{Answer, write_answer};
-pub use command::{
-    Command, LONGEST_LINE, LONGEST_POLICY, MOST_AUDIT_ENTRIES, Topic, read_command,
-};
+pub use command::{Command, LONGEST_LINE, LONGEST_POLICY, MOST_AUDIT_ENTRIES, Topic, read_command};
 pub use laws::one_meaning;
