@@ -73,6 +73,8 @@ class Run:
             words = [self.wrapper, "--admin", self.settings["admin"], *words]
         with open(self.path("output"), "wb") as output, self.open_notes() as notes:
             environment = os.environ | {"IPMD_ADMIN": self.path("admin")}
+            # What is set where the notes go to a journal that has the time of each.
+            environment.pop("JOURNAL_STREAM", None)
             self.child = subprocess.Popen(
                 words, cwd=self.folder.name, env=environment, stdin=subprocess.DEVNULL, stdout=output, stderr=notes
             )
