@@ -163,7 +163,7 @@ struct Moment(Option<Timestamp>);
 impl Display for Moment {
     fn fmt<W: fmt::Write>(&self, f: &mut Formatter<W>) -> fmt::Result {
         match self.0 {
-            Some(time) => write!(f, "{time} "),
+            Some(time) => write!(f, "{time:.3} "),
             None => Ok(()),
         }
     }
