@@ -70,16 +70,17 @@ static void make_calls(void) {
 }
 
 static void put_command(void) {
-    static const char *const commands[] = {"edit ", "subscribe ", "unsubscribe ", "advance ", "status ", "audit ", "stop"};
-    u64 command = below(7);
+    static const char *const commands[] = {"edit ", "subscribe ", "unsubscribe ", "advance ", "status ", "audit ",
+        "stop", "status", "run", "policy", "help"};
+    u64 command = below(11);
     put_text(commands[command]);
     switch (command) {
     case 0: put_count(0, 1048576); break;
     case 1: put_name(); break;
     case 3: put_count(0, 18446744073709551615ul); break;
     case 5: put_count(1, 10000); break;
-    case 6: break;
-    default: put_count(0, 5); break;
+    case 2: case 4: put_count(0, 5); break;
+    default: break;
     }
 }
 

@@ -1,7 +1,7 @@
 //! Who connects to a server, and to whom it connects.
 
 use std::alloc::Global;
-use std::io::{Read, Write};
+use std::io::{ErrorKind, Read, Write};
 use std::net::{Net, TcpListener, TcpStream};
 use std::process::Abort;
 use std::thread;
@@ -31,9 +31,11 @@ pub(crate) fn send(rt: &impl Abort, mut stream: &TcpStream, octets: &[u8]) {
     stream.write_all(octets).expect(rt, "all is taken");
 }
 
-/// Reads to the end.
+/// Reads to the end, or to a reset, as the connection of a subscription that was cut ends.
 pub(crate) fn take_all(rt: &impl Abort, alloc: Global, mut stream: &TcpStream) -> Vec<u8> {
     let mut octets = Vec::new(alloc);
-    stream.read_to_end(&mut octets).expect(rt, "an end");
+    if let Err(why) = stream.read_to_end(&mut octets) {
+        assert!(rt; why.kind() == ErrorKind::ConnectionReset, "{why}");
+    }
     octets
 }

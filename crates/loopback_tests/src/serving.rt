@@ -53,7 +53,7 @@ fn notes_and_totals(rt: HostRuntime) -> Result<(), Fail> {
     let mut scene = USUAL;
     scene.policy = BY_SOURCE;
     scene.subscribers = &["acme", "beta"];
-    let asked = b"status 1\nstatus 2\nstatus 3\nadvance 5\nadvance 6\nstatus\nadvance 7\n";
+    let asked = b"status 1\nstatus 2\nstatus 3\nadvance 5\nadvance 6\nstat\nadvance 7\n";
     let played = play(&rt, alloc, scene, asked, FOUR_MESSAGES, NOW)?;
     let answered = b"ok 0 0 live\nok 0 0 live\nerr UnknownSub\nok\nok\nerr Line\n";
     assert!(rt; played.answered.as_slice() == answered.as_slice());

@@ -147,7 +147,9 @@ fn answer_line<E: EntryLedger, H: RecordLedger, R: Source, C: Control>(
             let stops = is_stop(&command);
             let before = handle.kept().len();
             let answer = perform(rt, alloc, shared, handle, input, reader, command, control)?;
-            tell_accepted(control, &handle.kept()[before..]);
+            if let Some(receipts) = handle.kept().get(before..) {
+                tell_accepted(control, receipts);
+            }
             Ok(Heard { answer, stops })
         }
         Ok(None) => Ok(Heard {
@@ -360,7 +362,10 @@ fn drain_audit<E: EntryLedger, H: RecordLedger>(
             break;
         }
         match drain_one(rt, shared, handle, &mut drained) {
-            Ok(true) => octets = octets.saturating_add(last_length(&mut buffer, &drained)),
+            Ok(true) => octets = octets.saturating_add(last_length(
+                &mut buffer,
+                drained.as_slice(),
+            )),
             Ok(false) => break,
             Err(AllocError) if drained.is_empty() => {
                 return Answer::Refused(Fault::OutOfMemory);
@@ -382,19 +387,22 @@ fn drain_one<E: EntryLedger, H: RecordLedger>(
     drained: &mut Vec<AuditEntry>,
 ) -> Result<bool, AllocError> {
     drained.reserve(1)?;
-    for entry in handle.drain_audit(rt, shared, 1)? {
-        drained.push_reserved(entry);
-        return Ok(true);
+    let mut oldest = handle.drain_audit(rt, shared, 1)?;
+    match oldest.pop() {
+        Some(entry) => {
+            drained.push_reserved(entry);
+            Ok(true)
+        }
+        None => Ok(false),
     }
-    Ok(false)
 }
 
 /// How many octets the answer with the last of these alone has.
-fn last_length(buffer: &mut AnswerBuffer, drained: &Vec<AuditEntry>) -> u64 {
+fn last_length(buffer: &mut AnswerBuffer, drained: &[AuditEntry]) -> u64 {
     let last = drained.len().saturating_sub(1);
-    match drained_length(buffer, &drained[last..]) {
-        Some(octets) => octets,
-        None => u64::MAX,
+    match drained.get(last..) {
+        Some(entries) => drained_length(buffer, entries).unwrap_or(u64::MAX),
+        None => 0,
     }
 }
 

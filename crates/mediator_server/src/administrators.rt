@@ -213,7 +213,7 @@ impl<R: Wait + Clock + Log, E: EntryLedger, H: RecordLedger> Control
     }
 
     fn accept(&self, receipt: &KeptEntry) {
-        let Service { state, roster, .. } = self.service;
+        let (state, roster) = (&self.service.state, &self.service.roster);
         match &receipt.entry {
             Entry::Edit { text: _ } => {
                 let edit = state.add_edit(self.rt);
@@ -229,12 +229,12 @@ impl<R: Wait + Clock + Log, E: EntryLedger, H: RecordLedger> Control
     }
 
     fn tell(&self, topic: Topic, receipts: &[KeptEntry]) -> Result<Vec<u8>, AllocError> {
-        let Service { alloc, plan, .. } = self.service;
+        let (alloc, plan) = (self.service.alloc, self.service.plan);
         match topic {
             Topic::Subscriptions => self.service.roster.page(self.rt, self.service.shared),
             Topic::Run => run_page(self.rt, self.service),
-            Topic::Policy => policy_page(*alloc, plan.policy.as_str(), receipts),
-            Topic::Help => help_page(*alloc),
+            Topic::Policy => policy_page(alloc, plan.policy.as_str(), receipts),
+            Topic::Help => help_page(alloc),
         }
     }
 }

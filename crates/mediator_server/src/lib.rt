@@ -6,14 +6,15 @@
 //! - `exporter`: [`serve_exporter`], the messages of a stream.
 //! - `delivery`: [`deliver`], the messages of a subscription.
 //! - `admin`: [`serve_admin`], the commands of an administrator's connection, which `command_input` cuts out of its octets.
-//! - `control`: [`Reception`] and [`Control`], what an exporter's and an administrator's connection ask of their server, and
-//!   [`Patience`], how long they wait for room in the queues, as `room` does.
+//! - `control`: [`Reception`] and [`Control`], what an exporter's and an administrator's connection ask of their server and tell it,
+//!   and [`Patience`], how long they wait for room in the queues, as `room` does.
 //! - `clock`: [`Clock`], which tells the Export Times.
 //! - `fault`: [`ServeFault`], why a call stops.
 //! - `listening`: [`listen`], all of this on sockets, as a [`Plan`] says. `service` has its threads: that which takes who comes in
 //!   by the `listeners`, and those of `exporters`, `collectors` and `administrators`, which tell each other by `run_state` how far
-//!   the run is. `connections` has those that are open, `stream_calls` and `socket_options` what is done on one; `notes` is what
-//!   the log is told; `machine_clock` and `time` are its clocks.
+//!   the run is. `connections` has those that are open, `stream_calls`, `socket_options` and `send_queue` what is done on one;
+//!   `roster` has the subscriptions, and `report` what an administrator is told; `notes` is what the log is told; `machine_clock` and
+//!   `time` are its clocks.
 //!
 //! Proved of `serve_exporter`: the messages that it adds to its handle's receipts, under the handle's session and numbered on,
 //! are those that the octets that it read are cut into (RFC 7011, section 10.4): all of them at Ok, where the stream ended
@@ -35,7 +36,8 @@
 //! a `stop`, and none before it is, or one line more is none (`serves`). At a fault the commands before were (`stops`), and `Read` and `Write` stand only where that device has
 //! failed (`reader_fails`, `writer_fails`); at `Write` exactly `sent` octets of all answers were written, which end inside the last,
 //! and its call was made; `Turns` stands only where so many reads were made, and `CutOff` where the input ended inside a command.
-//! No want of memory keeps an answer back; only a refusal for another reason may be answered as one for want of memory.
+//! No want of memory keeps an answer back; only a refusal for another reason may be answered as one for want of memory. Of a page
+//! (`status` alone, `run`, `policy`, `help`) no clause says what stands on it.
 //!
 //! Proved of `listen`: at Ok the history has gone on from that of the mediator handed in, and each message, edit, begin and
 //! end of a subscription and advance of the clock in it since then has a receipt of its own; those of one handle are an edit
@@ -45,7 +47,7 @@
 //!
 //! Shown by tests alone, in `server_tests`: that the session is closed and the subscription ended, which happens under the lock,
 //! where no clause can look; and so why a call of an administrator is refused, how a subscription stands, what of the audit is
-//! handed out, and what waits for room in a queue; and what a server is told, and how many records waited when a delivery failed.
+//! handed out, and what waits for room in a queue; and what a server is told and tells, and how many records waited when a delivery failed.
 //! Nothing promises that a call returns.
 #![tactic(auto)]
 

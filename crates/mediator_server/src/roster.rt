@@ -66,8 +66,8 @@ impl Roster {
     /// The collector of a subscription was connected, or has gone.
     pub(crate) fn reach(&self, rt: &impl Wait, sub: SubId, reach: Reach) {
         let mut listed = self.listed.lock(rt);
-        for one in listed.iter_mut() {
-            if one.sub == sub {
+        if let Some(place) = listed.iter().position(|one| one.sub == sub) {
+            if let Some(one) = listed.get_mut(place) {
                 one.reach = reach;
             }
         }

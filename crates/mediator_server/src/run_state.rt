@@ -186,12 +186,13 @@ impl RunState {
         if receipt.cut > 0 {
             standing.records_before_cut = standing.tally.records;
         }
-        let tally = &mut standing.tally;
-        tally.messages = tally.messages.saturating_add(1);
-        tally.records = tally.records.saturating_add(receipt.records);
-        if receipt.gap.is_some() {
-            tally.gaps = tally.gaps.saturating_add(1);
-        }
+        let tally = standing.tally;
+        standing.tally = Tally {
+            messages: tally.messages.saturating_add(1),
+            records: tally.records.saturating_add(receipt.records),
+            gaps: tally.gaps.saturating_add(u64::from(receipt.gap.is_some())),
+            ..tally
+        };
     }
 
     /// A message was not accepted.
