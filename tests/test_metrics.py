@@ -71,8 +71,10 @@ EXPECTED = {
 # What is told also of a mediator that doesn't answer.
 ALWAYS = {"ipmd_up", "ipmd_poll_timestamp_seconds", "ipmd_subscriptions_ended_total"}
 
-# The tags of the page.
+# The tags of the page, and their attributes.
 TAGS = set("html head meta title style body main header footer section div span p strong h1 h2 dl dt dd ul li svg rect path pre bdi a".split())
+ATTRIBUTES = set("lang charset name content http-equiv class role aria-label tabindex href width height rx viewbox preserveaspectratio d".split())
+ATTRIBUTES.add("vector-effect")
 
 NAME = re.compile(r"[a-z][a-z0-9_]*")
 SAMPLE = re.compile(r'([a-z][a-z0-9_]*)(?:\{((?:[a-z_]+="(?:[^"\\\n]|\\[\\"n])*",?)+)\})? (-?[0-9]+(?:\.[0-9]+)?)')
@@ -378,8 +380,7 @@ class Strangers(MetricsTest):
         self.assertEqual(reader.open, [])
         for tag, attributes in reader.tags:
             for name, value in attributes.items():
-                self.assertIn(name, ("lang", "charset", "name", "content", "http-equiv", "class", "role", "aria-label", "tabindex", "href", "width",
-                                     "height", "rx", "viewbox", "preserveaspectratio", "d", "vector-effect"), tag)
+                self.assertIn(name, ATTRIBUTES, tag)
                 self.assertNotIn("alert", value)
         for one in self.EVIL[:4]:
             self.assertGreaterEqual(reader.text.count(one), 3, one)
@@ -521,7 +522,8 @@ class OfTheProgram(ServeTest):
         acme, beta = run.collector("acme"), run.collector("beta")
         port, environment = free_port(), os.environ | {"IPMD_ADMIN": run.path("admin")}
         advance = [SCRIPTS / "advance", "--admin", run.settings["admin"], "--socket", run.path("admin"), "--seconds", "0.5"]
-        metrics = [SCRIPTS / "metrics", "--listen", f"{HOST}:{port}", "--settings", run.path("settings.toml"), "--notes", run.path("notes"), "--seconds", "0.2"]
+        metrics = [SCRIPTS / "metrics", "--listen", f"{HOST}:{port}", "--seconds", "0.2"]
+        metrics += ["--settings", run.path("settings.toml"), "--notes", run.path("notes")]
         for words in (advance, metrics):
             child = subprocess.Popen(words, env=environment, stdin=subprocess.DEVNULL, stderr=subprocess.DEVNULL)
             self.addCleanup(child.wait)
@@ -543,8 +545,10 @@ class OfTheProgram(ServeTest):
             exporter.send(flow_message(n))
         wait_until(lambda: value("ipmd_records_total") == 3, "three records were accepted")
         wait_until(lambda: value("ipmd_subscription_handed_records_total", sub="1", subscriber="acme") == 3, "they were handed out")
-        for name, wanted in (("ipmd_up", 1), ("ipmd_run_number", 1), ("ipmd_messages_total", 3), ("ipmd_audit_entries", 3), ("ipmd_audit_limit_entries", 1e6),
-                             ("ipmd_exporters_connected", 1), ("ipmd_exporters_limit", 5), ("ipmd_refused_messages_total", 0), ("ipmd_queue_limit_records", 1e6)):
+        for name, wanted in (
+            ("ipmd_up", 1), ("ipmd_run_number", 1), ("ipmd_messages_total", 3), ("ipmd_refused_messages_total", 0), ("ipmd_audit_entries", 3),
+            ("ipmd_audit_limit_entries", 1e6), ("ipmd_exporters_connected", 1), ("ipmd_exporters_limit", 5), ("ipmd_queue_limit_records", 1e6),
+        ):
             self.assertEqual(value(name), wanted, name)
         self.assertAlmostEqual(value("ipmd_clock_timestamp_seconds"), time.time(), delta=PATIENCE)
         self.assertEqual(value("ipmd_subscriber_connected", subscriber="beta"), 1)

@@ -452,13 +452,21 @@ class Watch(FakeTest):
 
     def test_files(self):
         """The audit's lines go to a file of the day, behind a line that names their run."""
-        self.open_door()
+        door = self.open_door()
         self.mediator.audit.extend(f"{n} 0 1 withheld 0 rule" for n in range(25_000))
         child = self.begin_watch()
         wait_until(lambda: len(self.lines()) == 25_000, "all is read")
-        self.mediator.run |= {"run": "2", "started": "1700000099999"}
-        self.mediator.audit.append("3 0 1 cut")
-        wait_until(lambda: len(self.lines()) == 25_001, "all is read")
+        # Another `advance` in the same run, and then one of another run.
+        for run, started, line in (("1", "1700000000123", "9 0 1 cut"), ("2", "1700000099999", "3 0 1 cut")):
+            count = len(self.lines())
+            door.end()
+            self.mediator.run |= {"run": run, "started": started}
+            self.mediator.audit.append(line)
+            door = self.open_door()
+            wait_until(lambda: len(self.lines()) == count + 1, "all is read")
+        self.mediator.asked.clear()
+        wait_until(lambda: len(self.mediator.asked) > 3, "looks")
+        self.assertEqual(set(self.mediator.asked), {"audit 10000"})
         self.end(child)
         (path,) = self.days.iterdir()
         self.assertRegex(path.name, r"\A\d{4}-\d\d-\d\d\.txt\Z")
@@ -466,8 +474,7 @@ class Watch(FakeTest):
         lines = path.read_text().splitlines()
         self.assertEqual(lines[0], "# run 1 started 1700000000123")
         self.assertEqual(lines[1:25_001], [f"{n} 0 1 withheld 0 rule" for n in range(25_000)])
-        self.assertEqual(lines[25_001:], ["# run 2 started 1700000099999", "3 0 1 cut"])
-        self.assertEqual(self.said("watch"), "")
+        self.assertEqual(lines[25_001:], ["9 0 1 cut", "# run 2 started 1700000099999", "3 0 1 cut"])
 
     def test_older(self):
         """A mediator that doesn't know `run` has its lines there all the same."""
@@ -609,20 +616,16 @@ class Watch(FakeTest):
         script = importlib.util.module_from_spec(importlib.util.spec_from_loader(loader.name, loader))
         with mock.patch.object(sys, "dont_write_bytecode", True):
             loader.exec_module(script)
-        midnight = 1_795_910_400
+        # 2026-11-29T00:00:00Z, and the second before, and so the next day.
+        times = [time.gmtime(1_795_910_400 + seconds) for seconds in (-1, 0, 86_399, 86_400)]
         folder = script.Folder(None, self.days)
-        with mock.patch.object(time, "gmtime", wraps=time.gmtime) as day:
-            for seconds, lines in ((-1, b"1\n2\n"), (0, b"3\n"), (86_399, b"4\n"), (86_400, b"5\n")):
-                day.side_effect = lambda *_, at=midnight + seconds: time.struct_time(DAY(at))
+        with mock.patch.object(time, "gmtime", side_effect=times):
+            for lines in (b"1\n2\n", b"3\n", b"4\n", b"5\n"):
                 folder.keep(lines)
         self.assertEqual(
             {path.name: path.read_text() for path in self.days.iterdir()},
             {"2026-11-28.txt": "1\n2\n", "2026-11-29.txt": "3\n4\n", "2026-11-30.txt": "5\n"},
         )
-
-
-# The day and time of seconds since 1970, where a test says which time it is.
-DAY = time.gmtime
 
 
 if __name__ == "__main__":
