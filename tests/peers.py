@@ -94,6 +94,16 @@ class Peer:
             pass
         return octets
 
+    def take_reset(self):
+        """Reads until the connection is reset, as that of a subscription is that was cut."""
+        octets = b""
+        try:
+            for more in self.pieces():
+                octets += more
+        except ConnectionResetError:
+            return octets
+        raise AssertionError(f"an end behind {len(octets)} octets, and no reset")
+
     def end_sending(self):
         """Says that no more comes."""
         self.stream.shutdown(socket.SHUT_WR)
@@ -118,7 +128,11 @@ class Admin(Peer):
 
     def audit(self, most=10000):
         """Answers the audit's lines, so many at most."""
-        first = self.ask(f"audit {most}").split()
+        return self.page(f"audit {most}")
+
+    def page(self, command):
+        """Gives a command that is answered by lines, and answers these."""
+        first = self.ask(command).split()
         assert first[0] == "ok", first
         return [self.take_line() for _ in range(int(first[1]))]
 

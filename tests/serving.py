@@ -29,6 +29,9 @@ ROOMY = {
 # How long a run may last before it is killed, in seconds.
 LONGEST = 60
 
+# The operator's scripts.
+SCRIPTS = program.TOP / "examples" / "serve"
+
 
 class Ended(NamedTuple):
     """How a run ended: its status, what it said on standard output, and its notes on standard error."""
@@ -73,6 +76,8 @@ class Run:
             words = [self.wrapper, "--admin", self.settings["admin"], *words]
         with open(self.path("output"), "wb") as output, self.open_notes() as notes:
             environment = os.environ | {"IPMD_ADMIN": self.path("admin")}
+            # What is set where the notes go to a journal that has the time of each.
+            environment.pop("JOURNAL_STREAM", None)
             self.child = subprocess.Popen(
                 words, cwd=self.folder.name, env=environment, stdin=subprocess.DEVNULL, stdout=output, stderr=notes
             )
@@ -173,6 +178,15 @@ class ServeTest(unittest.TestCase):
     def start(self, rules=PASS, **asked):
         """A run that is over, at the latest, when the test is."""
         return self.enterContext(Run(rules, **asked))
+
+    def start_advance(self, run):
+        """`advance`, which connects as a run's administrator and listens in its folder; it is ended, at the latest, when the test is."""
+        words = [SCRIPTS / "advance", "--admin", run.settings["admin"], "--socket", run.path("admin"), "--seconds", "3600"]
+        advance = subprocess.Popen(words, stdout=subprocess.DEVNULL, stderr=subprocess.PIPE, text=True)
+        self.addCleanup(advance.communicate)
+        self.addCleanup(advance.kill)
+        wait_until(lambda: os.path.exists(run.path("admin")), "advance listens")
+        return advance
 
     def send_until_gone(self, exporter, admin):
         """Sends messages of a record each, behind a first one, until subscription 1 has ended; answers how many were sent in all."""

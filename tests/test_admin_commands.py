@@ -57,8 +57,9 @@ OTHERS = [
     b"subscribe ",
     b"unsubscribe",
     b"advance",
-    b"status",
     b"audit",
+    b"run ",
+    b"policy 1",
     # Other spaces than the one between two words.
     b" status 1",
     b"status  1",
@@ -180,7 +181,7 @@ class AdminLines(ServeTest):
         exporter.send(flows(0, FLOW, *[INSIDE] * 6))
         exporter.send(flows(6, SECOND, SECOND.record(address("192.0.2.77"), 1500)))
         exporter.send(flows(7, THIRD, THIRD.record(address("192.0.2.77"), 15)))
-        collector.take_all()
+        collector.take_reset()
         self.assertEqual(admin.ask("status 1"), "ok 0 7 cut")
 
     def test_audit(self):
@@ -190,7 +191,7 @@ class AdminLines(ServeTest):
         admin, collector, exporter = run.admin(), run.collector(), run.exporter()
         exporter.send(flows(0, FLOW, INSIDE, OUTSIDE))
         exporter.send(flows(2, SECOND, SECOND.record(address("192.0.2.77"), 1500)))
-        collector.take_all()
+        collector.take_reset()
         self.assertEqual(admin.audit(10), ["3 1 1 withheld 0 rule", "4 0 1 cut"])
         self.assertEqual(admin.audit(10), [])
 

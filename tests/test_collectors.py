@@ -104,13 +104,14 @@ class Collectors(ServeTest):
         self.assertRegex(ended.notes, r"\[WARN  ipmd\] collector acme 127.0.0.1:\d+ failed, Write: ")
 
     def test_wakes_late(self):
-        """Acme's collector takes nothing until its subscription is cut, and then all: it is sent what was queued by then."""
+        """Acme's collector takes nothing until its subscription is cut, and then all: it is sent what was queued by then, and then
+        its connection is reset."""
         run, idle, other = self.start_tight()
         admin, exporter = run.admin(), run.exporter()
         sent = self.send_until_cut(exporter, admin, other)
         exporter.close()
         admin.close()
-        self.assertEqual(records(idle.take_all()), [BROAD.seen(broad_value(n)) for n in range(sent - 1)])
+        self.assertEqual(records(idle.take_reset()), [BROAD.seen(broad_value(n)) for n in range(sent - 1)])
         self.assertEqual(other.take_all(), b"")
         notes = self.expect_served(run, sent, sent + sent - 1).notes
         self.assertRegex(notes, rf"\[WARN  ipmd\] collector acme 127.0.0.1:\d+ was cut: octets \d+ records {sent - 1}\n")

@@ -173,12 +173,12 @@ class Hostile(ServeTest):
         self.expect_noted(self.expect_served(run, 182, 182).notes)
 
     def expect_noted(self, notes):
-        """Nine good exporters and nine others, a collector and an administrator begin and end; the begin, the totals, and a warning that
-        most of the connections were taken."""
+        """Nine good exporters and nine others, a collector and an administrator begin and end; the begin, the first policy, the totals,
+        and a warning that most of the connections were taken."""
         for _, _, text in HOSTILE:
             self.assertIn(f" {text}\n", notes)
         self.assertEqual(notes.count(" ended: messages 20 records 20 gaps 0\n"), GOOD_EXPORTERS)
-        self.assertEqual(len(notes.splitlines()), 43, notes)
+        self.assertEqual(len(notes.splitlines()), 44, notes)
 
     def test_wide_messages(self):
         """A message that may have more values than are allowed ends its connection; what came before it stays."""

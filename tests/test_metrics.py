@@ -19,13 +19,11 @@ import unittest
 import urllib.request
 
 import browser
-import program
 from mediators import AskDoor, Mediator
 from messages import flow_message, records
 from peers import HOST, PATIENCE, free_port, wait_until
-from serving import ServeTest
+from serving import SCRIPTS, ServeTest
 
-SCRIPTS = program.TOP / "examples" / "serve"
 ALERTS = SCRIPTS / "alerts.yml"
 
 SETTINGS = """queue = 100

@@ -119,7 +119,9 @@ class Descriptors(ProgramTest):
         for allowed, warning in FEW:
             with self.subTest(allowed):
                 limited = ["bash", "-c", f'ulimit -n {allowed} && exec "$@"', "limited", *words]
-                ran = subprocess.run(limited, capture_output=True, text=True, timeout=60)
+                # As systemd has it, whose journal has the time of each note.
+                journal = os.environ | {"JOURNAL_STREAM": "8:4711"}
+                ran = subprocess.run(limited, capture_output=True, text=True, timeout=60, env=journal)
                 self.assertTrue(ran.stderr.startswith(warning + "[INFO  ipmd] run 1\n"), ran.stderr)
                 self.assertEqual((ran.stdout, ran.returncode), ("", 3))
 

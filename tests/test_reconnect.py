@@ -124,7 +124,7 @@ class Reconnects(ServeTest):
             self.assertLess(sent, 10_000)
             time.sleep(0.002)
         run.wait_for_note(f" cut subscriptions: 1 by the message at ")
-        first = records(idle.take_all())
+        first = records(idle.take_reset())
         second = doors["acme"].accept()
         run.wait_for_note(" connected again: dropped 0 accepted meanwhile ")
         exporter.send(burst(sent))

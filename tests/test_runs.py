@@ -159,7 +159,7 @@ class Runs(ServeTest):
         """An exporter for whose session the journal has no room is closed, and the last that is let in."""
         run = self.start(connections=5, journal_entries=3)
         collector, first = run.collector(), run.exporter()
-        run.wait_for_note(" connected\n", 2)
+        run.wait_for_note(" connected", 2)
         second = run.exporter()
         self.assertEqual(second.take_end(), b"")
         first.close()

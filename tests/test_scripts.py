@@ -16,13 +16,10 @@ import time
 import unittest
 from unittest import mock
 
-import program
 from mediators import AdminDoor, AskDoor, Mediator
 from messages import flow_message, records
 from peers import HOST, wait_until
-from serving import PASS, ServeTest
-
-SCRIPTS = program.TOP / "examples" / "serve"
+from serving import PASS, SCRIPTS, ServeTest
 
 # How many seconds a script may take.
 PATIENCE = 15
@@ -33,14 +30,9 @@ DENY = "policy 1\n"
 
 class Scripts(ServeTest):
     def start_advance(self, run):
-        """`advance`, which connects as the administrator; it is ended, at the latest, when the test is."""
+        """`advance`, which `ask` and `watch` are to ask through."""
         self.environment = os.environ | {"IPMD_ADMIN": run.path("admin")}
-        words = [SCRIPTS / "advance", "--admin", run.settings["admin"], "--socket", run.path("admin"), "--seconds", "3600"]
-        advance = subprocess.Popen(words, stdout=subprocess.DEVNULL, stderr=subprocess.PIPE, text=True)
-        self.addCleanup(advance.communicate)
-        self.addCleanup(advance.kill)
-        wait_until(lambda: os.path.exists(run.path("admin")), "advance listens")
-        return advance
+        return super().start_advance(run)
 
     def ask(self, *words, status=0):
         """What `ask` prints; it ends in this status."""

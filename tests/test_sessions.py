@@ -87,7 +87,7 @@ class Sessions(ServeTest):
             "[INFO  ipmd] accepted 1 handed 1\n",
         ):
             self.assertIn(text, notes)
-        self.assertEqual(len(notes.splitlines()), 8, notes)
+        self.assertEqual(len(notes.splitlines()), 9, notes)
 
     def test_two_mediators(self):
         """A mediator that truncates addresses delivers to a second one, which passes all on to a collector."""

@@ -197,7 +197,7 @@ class Settings(ProgramTest):
             with self.subTest(name):
                 path = self.file("policy.txt", policy)
                 ran = self.serve(settings({"policy": f'"{path}"'} | values))
-                self.assertTrue(ran.errors.startswith("[INFO  ipmd] run 1\n"), ran.errors)
+                self.assertRegex(ran.errors.partition("\n")[0], r"^(\S+ )?\[INFO  ipmd\] run 1$")
                 self.assertTrue(ran.errors.endswith(fault), ran.errors)
                 self.assertEqual((ran.output, ran.status), (b"", status))
 

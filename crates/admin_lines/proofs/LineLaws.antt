@@ -19,8 +19,10 @@ use Rattle.call_lists.specs.Grammar.{IsNumberLine}
 use Rattle.call_lists.specs.Lines.{greatest}
 use Rattle.admin_lines.specs.declared.command.Command.{Command}
 use Rattle.admin_lines.specs.Sayings.{Saying, saying}
-use Rattle.admin_lines.specs.Sayings.Saying.{to_edit, to_subscribe, to_unsubscribe, to_advance, to_tell_status, to_drain_audit, to_stop}
-use Rattle.admin_lines.specs.Grammar.{longest_line, longest_policy, most_audit_entries, IsSubscribeLine, AsksFor, IsCommandLine, IsSubscription}
+use Rattle.admin_lines.specs.Sayings.Saying.{to_edit, to_subscribe, to_unsubscribe, to_advance, to_tell_status, to_drain_audit, to_tell, to_stop}
+use Rattle.admin_lines.specs.declared.command.Topic.{Topic}
+use Rattle.admin_lines.specs.declared.command.Topic.TheVariants as topic
+use Rattle.admin_lines.specs.Grammar.{longest_line, longest_policy, most_audit_entries, topic_word, IsSubscribeLine, AsksFor, IsCommandLine, IsSubscription}
 use Rattle.admin_lines.specs.Reading.{is_one_word, edit_of, subscribe_of, unsubscribe_of, advance_of, status_of, audit_of, some_entries, command_alone, command_in, command_by, command_of, NamesSubscriber}
 use Rattle.admin_lines.proofs.ArgumentLaws.{lacks_from_test, test_from_lacks}
 
@@ -119,10 +121,21 @@ words_found line said words cut e =
 
 alone_found : (line : List ℕ) (said : Saying) → command_alone line ≡ Some said → AsksFor said line
 unfolding command_alone
-alone_found line said e =
-    let found = cond_some (bytes_eq line (codes "stop")) to_stop said e in
-    let P : Saying → Type 0 = λ s. AsksFor s line in
-    subst P found.1 ((bytes_eq-Decides line (codes "stop")).0 found.0)
+alone_found line said e = by_word (codes "status") (to_tell topic.Subscriptions) (λ is. is)
+    (λ e. by_word (codes "run") (to_tell topic.Run) (λ is. is)
+    (λ e. by_word (codes "policy") (to_tell topic.Policy) (λ is. is)
+    (λ e. by_word (codes "help") (to_tell topic.Help) (λ is. is)
+    (λ e. by_word (codes "stop") to_stop (λ is. is) (λ e. absurd (none-some said e)) e) e) e) e) e
+  where
+    chosen : (word : List ℕ) (read : Saying) (rest : Option Saying) (b : Bool) → bytes_eq line word ≡ b → (line ≡ word → AsksFor read line) → (rest ≡ Some said → AsksFor said line)
+        → cond b (Some read) rest ≡ Some said → AsksFor said line
+    chosen word read rest true is asks other e =
+        let P : Saying → Type 0 = λ s. AsksFor s line in
+        subst P (same_Some read said e) (asks ((bytes_eq-Decides line word).0 is))
+    chosen word read rest false is asks other e = other e
+
+    by_word : (word : List ℕ) (read : Saying) {rest : Option Saying} → (line ≡ word → AsksFor read line) → (rest ≡ Some said → AsksFor said line) → cond (bytes_eq line word) (Some read) rest ≡ Some said → AsksFor said line
+    by_word word read {rest} asks other e = chosen word read rest (bytes_eq line word) refl asks other e
 
 found_in : (line : List ℕ) (said : Saying) (words : Option (List ℕ × List ℕ)) → cut_at 32 line ≡ words → command_in line words ≡ Some said → AsksFor said line
 found_in line said None cut e = alone_found line said e
@@ -187,6 +200,13 @@ stop_read : (line : List ℕ) → line ≡ codes "stop" → command_of line ≡ 
 unfolding command_of command_alone cut_at
 stop_read line is = rw is refl
 
+topic_read : (about : Topic) (line : List ℕ) → line ≡ topic_word about → command_of line ≡ Some (to_tell about)
+unfolding command_of command_alone cut_at
+topic_read topic.Subscriptions line is = rw is refl
+topic_read topic.Run line is = rw is refl
+topic_read topic.Policy line is = rw is refl
+topic_read topic.Help line is = rw is refl
+
 -- a line of a name and an argument, which is read by the name
 named_read : (name argument line : List ℕ) (said : Saying) → Lacks 32 name → line ≡ line_of name argument → length line ≤ longest_line → command_by name argument ≡ Some said → command_of line ≡ Some said
 named_read name argument line said lacks is fits read = line_by name argument line lacks is fits ∙ read
@@ -204,6 +224,7 @@ asked_read (to_tell_status sub) line fits is =
     named_read (codes "status") (decimal sub) line (to_tell_status sub) (refl, (refl, (refl, (refl, (refl, (refl, tt)))))) is.text fits (status_read sub is.bound)
 asked_read (to_drain_audit max) line fits is =
     named_read (codes "audit") (decimal max) line (to_drain_audit max) (refl, (refl, (refl, (refl, (refl, tt))))) is.number.text fits (audit_read max is.begun is.number.bound)
+asked_read (to_tell about) line fits is = topic_read about line is
 asked_read to_stop line fits is = stop_read line is
 
 pub command_of-only : (line : List ℕ) (said : Saying) → IsCommandLine said line → command_of line ≡ Some said

@@ -1,5 +1,5 @@
 -- The lines of an answer: words parted by one space, each line with a line feed (10) behind it; all numbers are decimal.
-use Rattle.std.specs.Prelude.{◌≡◌, ◌⊎◌, ℕ, List, [], ◌∷◌, ◌++◌, codes, Bool, Option}
+use Rattle.std.specs.Prelude.{◌≡◌, ◌⊎◌, ℕ, List, [], ◌∷◌, ◌++◌, ◌==◌, length, codes, Bool, Option, filter}
 use Rattle.std.specs.Fmt.{decimal}
 use Rattle.mediator_state.specs.declared.fault.Fault.TheVariants.{OutOfMemory}
 use Rattle.mediator_state.specs.declared.receipt.Status.{Status}
@@ -12,12 +12,17 @@ use Rattle.admin_lines.specs.declared.answer.Answer.TheVariants as answer
 abbrev pub status_text : Status → List ℕ
 status_text status = codes "ok " ++ decimal status.queued ++ codes " " ++ decimal status.handed ++ codes " " ++ cut_word status.cut ++ 10 ∷ []
 
+-- the lines of a page: the octets are as many lines as they have line feeds
+abbrev pub page_text : List ℕ → List ℕ
+page_text page = codes "ok " ++ decimal (length (filter (λ c. c == 10) page)) ++ 10 ∷ page
+
 abbrev pub answer_text : Answer → List ℕ
 answer_text (answer.Edited revision) = codes "ok " ++ decimal revision ++ 10 ∷ []
 answer_text (answer.Subscribed sub) = codes "ok " ++ decimal sub ++ 10 ∷ []
 answer_text answer.Done = codes "ok" ++ 10 ∷ []
 answer_text (answer.Stands status) = status_text status
 answer_text (answer.Drained entries) = drained_text entries.items
+answer_text (answer.Told page) = page_text page.items
 answer_text (answer.Refused why) = refusal_text why ++ 10 ∷ []
 answer_text answer.BadLine = codes "err Line" ++ 10 ∷ []
 answer_text answer.BadText = codes "err Text" ++ 10 ∷ []

@@ -1,10 +1,12 @@
--- Which lines are commands, in the words of the format: `stop` alone, or two words with one space between, the first of which names
+-- Which lines are commands, in the words of the format: one word alone, or two words with one space between, the first of which names
 -- the command; numbers are decimal without leading zeros. A line is meant without its line feed.
 use Rattle.std.specs.Prelude.{◌≡◌, ℕ, ◌<◌, ◌≤◌, List, [], ◌∷◌, length, codes}
 use Rattle.call_lists.specs.Grammar.{words_text, IsWord, IsNumberLine}
 use Rattle.call_lists.specs.Lines.{greatest}
 use Rattle.admin_lines.specs.Sayings.{Saying}
-use Rattle.admin_lines.specs.Sayings.Saying.{to_edit, to_subscribe, to_unsubscribe, to_advance, to_tell_status, to_drain_audit, to_stop}
+use Rattle.admin_lines.specs.Sayings.Saying.{to_edit, to_subscribe, to_unsubscribe, to_advance, to_tell_status, to_drain_audit, to_tell, to_stop}
+use Rattle.admin_lines.specs.declared.command.Topic.{Topic}
+use Rattle.admin_lines.specs.declared.command.Topic.TheVariants as topic
 
 -- the octets of the longest line, and of the longest text of a policy
 abbrev pub longest_line : ℕ
@@ -28,6 +30,13 @@ pub record IsAuditLine (max : ℕ) (line : List ℕ) : Type 0 where
   pub begun : 1 ≤ max
   pub number : IsNumberLine (codes "audit") most_audit_entries max line
 
+-- the word that asks for this
+abbrev pub topic_word : Topic → List ℕ
+topic_word topic.Subscriptions = codes "status"
+topic_word topic.Run = codes "run"
+topic_word topic.Policy = codes "policy"
+topic_word topic.Help = codes "help"
+
 -- the words ask for this
 abbrev pub AsksFor : Saying → List ℕ → Type 0
 AsksFor (to_edit octets) line = IsNumberLine (codes "edit") longest_policy octets line
@@ -36,6 +45,7 @@ AsksFor (to_unsubscribe sub) line = IsNumberLine (codes "unsubscribe") (greatest
 AsksFor (to_advance t) line = IsNumberLine (codes "advance") (greatest 64) t line
 AsksFor (to_tell_status sub) line = IsNumberLine (codes "status") (greatest 64) sub line
 AsksFor (to_drain_audit max) line = IsAuditLine max line
+AsksFor (to_tell about) line = line ≡ topic_word about
 AsksFor to_stop line = line ≡ codes "stop"
 
 -- the line is this command

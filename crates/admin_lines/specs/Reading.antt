@@ -8,7 +8,8 @@ use Rattle.flow_prefix.specs.Reading.{cut_at}
 use Rattle.call_lists.specs.Lines.{greatest}
 use Rattle.admin_lines.specs.Grammar.{longest_line, longest_policy, most_audit_entries}
 use Rattle.admin_lines.specs.Sayings.{Saying}
-use Rattle.admin_lines.specs.Sayings.Saying.{to_edit, to_subscribe, to_unsubscribe, to_advance, to_tell_status, to_drain_audit, to_stop}
+use Rattle.admin_lines.specs.Sayings.Saying.{to_edit, to_subscribe, to_unsubscribe, to_advance, to_tell_status, to_drain_audit, to_tell, to_stop}
+use Rattle.admin_lines.specs.declared.command.Topic.TheVariants as topic
 
 -- some octets, none of them a space
 abbrev pub is_one_word : List ℕ → Bool
@@ -53,7 +54,13 @@ command_by word argument =
 
 -- by the one word of a line that has no space
 unfoldable pub command_alone : List ℕ → Option Saying
-command_alone word = if bytes_eq word (codes "stop") then Some to_stop else None
+command_alone word =
+    if bytes_eq word (codes "status") then Some (to_tell topic.Subscriptions)
+    else if bytes_eq word (codes "run") then Some (to_tell topic.Run)
+    else if bytes_eq word (codes "policy") then Some (to_tell topic.Policy)
+    else if bytes_eq word (codes "help") then Some (to_tell topic.Help)
+    else if bytes_eq word (codes "stop") then Some to_stop
+    else None
 
 -- by what the first space parts, if there is one
 abbrev pub command_in : List ℕ → Option (List ℕ × List ℕ) → Option Saying

@@ -1,5 +1,6 @@
 -- What a command says: the command with the octets of its name.
 use Rattle.std.specs.Prelude.{ℕ, List}
+use Rattle.admin_lines.specs.declared.command.Topic.{Topic}
 use Rattle.admin_lines.specs.declared.command.Command.{Command}
 use Rattle.admin_lines.specs.declared.command.Command.TheVariants as command
 
@@ -12,6 +13,7 @@ pub data Saying : Type 0 where
   to_advance : ℕ → Saying
   to_tell_status : ℕ → Saying
   to_drain_audit : ℕ → Saying
+  to_tell : Topic → Saying
   to_stop : Saying
 
 abbrev pub saying : Command → Saying
@@ -21,4 +23,5 @@ saying (command.Unsubscribe sub) = to_unsubscribe sub
 saying (command.Advance t) = to_advance t
 saying (command.Status sub) = to_tell_status sub
 saying (command.Audit max) = to_drain_audit max
+saying (command.Tell topic) = to_tell topic
 saying command.Stop = to_stop

@@ -1,10 +1,10 @@
 //! The lines that answer a command, and how they are written.
-ghost use Rattle.std.specs.Prelude.{◌≡◌, ◌++◌, ◌∷◌, [], codes, IfOk, IfErr, OnOk};
+ghost use Rattle.std.specs.Prelude.{◌≡◌, ◌==◌, ◌++◌, ◌∷◌, [], codes, filter, length, IfOk, IfErr, OnOk};
 ghost use Rattle.std.specs.Fmt.{decimal};
 ghost use Rattle.answer_writing.specs.Written.{WritesAll, StopsWriting};
-ghost use Rattle.admin_lines.specs.Answers.{status_text, WritesAnswer, StopsAnswering};
+ghost use Rattle.admin_lines.specs.Answers.{status_text, page_text, WritesAnswer, StopsAnswering};
 
-use answer_writing::{AnswerBuffer, Stopped, write_drained, write_octets};
+use answer_writing::{AnswerBuffer, Stopped, write_both, write_drained, write_octets};
 use call_lists::{cut_word, refusal_text};
 use disclosure_audit::AuditEntry;
 use mediator_state::{Fault, Status};
@@ -24,6 +24,8 @@ pub enum Answer {
     Stands(Status),
     /// The audit entries that were handed out, oldest first: `ok COUNT`, and a line for each.
     Drained(Vec<AuditEntry>),
+    /// A page, as many lines as it has line feeds: `ok COUNT`, and the lines.
+    Told(Vec<u8>),
     /// The call was refused, and changed nothing: `err` with the name of why, and what belongs to it.
     Refused(Fault),
     /// The line is no command: `err Line`.
@@ -54,6 +56,7 @@ pub fn write_answer<S: Sink>(
         Answer::Done => write_octets(sink, b"ok\n", sent),
         Answer::Stands(status) => write_status(buffer, sink, status, sent),
         Answer::Drained(entries) => write_drained(buffer, sink, entries.as_slice(), sent),
+        Answer::Told(page) => write_page(buffer, sink, page.as_slice(), sent),
         Answer::Refused(why) => match refusal_text(alloc, why) {
             Ok(text) => write_octets(sink, text.as_bytes(), sent),
             Err(AllocError) => write_octets(sink, b"err OutOfMemory\n", sent),
@@ -82,6 +85,34 @@ fn write_number<S: Sink>(
     buffer.put_number(number);
     buffer.put(b"\n");
     write_octets(sink, buffer.as_slice(), sent)
+}
+
+/// Writes a page: how many lines it has, and these.
+///
+/// # Errors
+/// Those of [`write_answer`].
+fn write_page<S: Sink>(
+    buffer: &mut AnswerBuffer,
+    sink: &mut S,
+    page: &[u8],
+    sent: u64,
+) -> Result<u64, Stopped>
+    ensures ok { IfOk result (λ n. WritesAll (page_text page.now) sent n (S.contents sink.old) (S.contents sink.new)) }
+    ensures stays { OnOk result (S.has_failed sink.new ≡ S.has_failed sink.old) }
+    ensures err { IfErr result (λ e. StopsWriting e (page_text page.now) sent (S.contents sink.old) (S.contents sink.new) (S.has_failed sink.old) (S.has_failed sink.new)) }
+{
+    buffer.clear();
+    buffer.put(b"ok ");
+    buffer.put_number(count_lines(page));
+    buffer.put(b"\n");
+    write_both(sink, buffer.as_slice(), page, sent)
+}
+
+/// How many line feeds there are.
+fn count_lines(page: &[u8]) -> u64
+    ensures { result ≡ length (filter (λ c. c == 10) page.now) }
+{
+    page.iter().filter(|octet| **octet == b'\n').count() as u64
 }
 
 /// Writes how a subscription stands.

@@ -2,6 +2,7 @@
 ghost use Rattle.std.specs.Prelude.{◌≡◌, Some, IfErr, IfOk, IfSome};
 ghost use Rattle.std.specs.Option.{option_map};
 ghost use Rattle.admin_lines.specs.Sayings.{Saying, saying};
+ghost use Rattle.admin_lines.specs.Sayings.Saying.{to_tell};
 ghost use Rattle.admin_lines.specs.Grammar.{IsCommandLine, IsSubscription};
 ghost use Rattle.admin_lines.specs.Reading.{command_of, command_alone, command_by, edit_of, subscribe_of, unsubscribe_of, advance_of, status_of, audit_of, NamesSubscriber};
 
@@ -19,6 +20,19 @@ pub const LONGEST_POLICY: u32 = 1_048_576;
 /// The most audit entries that one line may ask for.
 pub const MOST_AUDIT_ENTRIES: u32 = 10_000;
 
+/// What an administrator may be told of, beside one subscription.
+#[derive(Clone, Copy, Debug, PartialEq, Eq)]
+pub enum Topic {
+    /// How all subscriptions stand.
+    Subscriptions,
+    /// How the run stands.
+    Run,
+    /// The text of the policy in force.
+    Policy,
+    /// Which commands there are.
+    Help,
+}
+
 /// What a line asks for.
 #[derive(Debug, Drop)]
 pub enum Command {
@@ -35,6 +49,8 @@ pub enum Command {
     Status { sub: u64 },
     /// `audit MAX`: the oldest audit entries are handed out, from 1 to 10,000 of them.
     Audit { max: u32 },
+    /// `status`, `run`, `policy` or `help` alone: a page of lines.
+    Tell { topic: Topic },
     /// `stop`: the run is to end.
     Stop,
 }
@@ -77,11 +93,25 @@ fn read_line(alloc: Global, line: &[u8]) -> Result<Option<Command>, AllocError>
 fn read_alone(word: &[u8]) -> Option<Command>
     ensures { option_map saying result ≡ command_alone word.now }
 {
-    if is_word(word, b"stop") {
+    if is_word(word, b"status") {
+        tell(Topic::Subscriptions)
+    } else if is_word(word, b"run") {
+        tell(Topic::Run)
+    } else if is_word(word, b"policy") {
+        tell(Topic::Policy)
+    } else if is_word(word, b"help") {
+        tell(Topic::Help)
+    } else if is_word(word, b"stop") {
         Some(Command::Stop)
     } else {
         None
     }
+}
+
+const fn tell(topic: Topic) -> Option<Command>
+    ensures { option_map saying result ≡ Some (to_tell topic) }
+{
+    Some(Command::Tell { topic })
 }
 
 /// The command that the first word names, with the argument behind it.

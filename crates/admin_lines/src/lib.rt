@@ -1,7 +1,7 @@
 //! The lines of the admin connection: what a line asks for, and how the lines that answer it are written. It makes no call and
 //! reads no connection: its caller cuts the lines at their line feeds, and takes the octets of a policy that stand behind an `edit`.
 //!
-//! - `command`: [`Command`] and [`read_command`], with [`LONGEST_LINE`], [`LONGEST_POLICY`] and [`MOST_AUDIT_ENTRIES`].
+//! - `command`: [`Command`] with [`Topic`], and [`read_command`], with [`LONGEST_LINE`], [`LONGEST_POLICY`] and [`MOST_AUDIT_ENTRIES`].
 //! - `answer`: [`Answer`] and [`write_answer`].
 //! - `argument`: the word behind the name of a command.
 //! - `laws`: [`one_meaning`], proved over the definitions.
@@ -19,5 +19,5 @@ mod command;
 mod laws;
 
 pub use answer::{Answer, write_answer};
-pub use command::{Command, LONGEST_LINE, LONGEST_POLICY, MOST_AUDIT_ENTRIES, read_command};
+pub use command::{Command, LONGEST_LINE, LONGEST_POLICY, MOST_AUDIT_ENTRIES, Topic, read_command};
 pub use laws::one_meaning;

@@ -4,9 +4,10 @@
 //!
 //! - `buffer`: [`AnswerBuffer`], in which octets wait until they are written.
 //! - `pieces`: the pieces of the lines of entries.
-//! - `writing`: [`write_octets`], and [`write_drained`], the answer that has entries. [`Stopped`] says why not all was written.
+//! - `writing`: [`write_octets`], and [`write_both`], and [`write_drained`], the answer that has entries, with
+//!   [`drained_length`], how long that is. [`Stopped`] says why not all was written.
 //!
-//! Proved: `write_octets` and `write_drained` write exactly what is due and count its octets (`ok`); or the sink failed, and exactly
+//! Proved: `write_octets`, `write_both` and `write_drained` write exactly what is due and count its octets (`ok`); or the sink failed, and exactly
 //! the front that is told was written; or the octets can't be counted in 64 bits, and none was written (`err`). Neither has another
 //! error, and neither asks for memory. What is put into a buffer waits behind what waited there (`added`).
 #![tactic(auto)]
@@ -16,4 +17,4 @@ mod pieces;
 mod writing;
 
 pub use buffer::AnswerBuffer;
-pub use writing::{Stopped, write_drained, write_octets};
+pub use writing::{Stopped, drained_length, write_both, write_drained, write_octets};

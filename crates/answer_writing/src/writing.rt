@@ -1,5 +1,5 @@
 //! Counting the octets of an answer, and writing them.
-ghost use Rattle.std.specs.Prelude.{◌≡◌, ◌+◌, ◌<◌, ◌≤◌, ◌^◌, [], length, IfOk, IfErr, OnOk, MatchOption};
+ghost use Rattle.std.specs.Prelude.{◌≡◌, ◌+◌, ◌<◌, ◌≤◌, ◌^◌, ◌++◌, [], length, IfOk, IfErr, OnOk, MatchOption};
 ghost use Rattle.answer_writing.specs.Written.{drained_octets, WritesAll, StopsWriting};
 
 use crate::buffer::AnswerBuffer;
@@ -38,6 +38,36 @@ pub fn write_octets<S: Sink>(sink: &mut S, octets: &[u8], sent: u64) -> Result<u
             sent: sent + stopped.sent as u64,
         }),
     }
+}
+
+/// Writes two pieces, one directly behind the other, behind so many octets, and answers how many were sent then.
+///
+/// # Errors
+/// Those of [`write_octets`] for both together.
+pub fn write_both<S: Sink>(
+    sink: &mut S,
+    first: &[u8],
+    second: &[u8],
+    sent: u64,
+) -> Result<u64, Stopped>
+    ensures ok { IfOk result (λ n. WritesAll (first.now ++ second.now) sent n (S.contents sink.old) (S.contents sink.new)) }
+    ensures stays { OnOk result (S.has_failed sink.new ≡ S.has_failed sink.old) }
+    ensures err { IfErr result (λ e. StopsWriting e (first.now ++ second.now) sent (S.contents sink.old) (S.contents sink.new) (S.has_failed sink.old) (S.has_failed sink.new)) }
+{
+    let length = first.len() as u64 + second.len() as u64;
+    if length > u64::MAX - sent {
+        return Err(Stopped::Uncounted);
+    }
+    let between = write_octets(sink, first, sent)?;
+    write_octets(sink, second, between)
+}
+
+/// How many octets the answer with these entries has: `ok COUNT`, and a line for each entry. `None` where they can't be counted in
+/// 64 bits. What waited in the buffer is lost.
+pub fn drained_length(buffer: &mut AnswerBuffer, entries: &[AuditEntry]) -> Option<u64>
+    ensures { MatchOption result (2 ^ 64 ≤ length (drained_octets entries.now)) (λ n. n ≡ length (drained_octets entries.now)) }
+{
+    count_drained(buffer, entries, 0)
 }
 
 /// Writes the answer with these entries behind so many octets, and answers how many were sent then: `ok COUNT`, and a line for

@@ -1,6 +1,7 @@
 //! Where a server's notes go: a stream that may be a pipe which nobody reads. A note that would wait there is dropped, and
 //! counted, so that no thread of the server waits for a reader of notes.
 
+use jiff::Timestamp;
 use log::kv::Source;
 use log::span::Spans;
 use log::{Line, Log, Metadata, Record};
@@ -8,12 +9,12 @@ use mio::unix::SourceFd;
 use mio::{Events, Interest, Poll, Token};
 use octet_devices::{Device, write_all};
 use std::alloc::{AllocError, Global};
-use std::fmt::Display;
+use std::fmt::{self, Display, Formatter};
 use std::io::{self, Write};
 use std::net::Net;
 use std::os::fd::RawFd;
 use std::sync::{Mutex, Wait};
-use std::time::Duration;
+use std::time::{Clock, Duration};
 
 /// The most octets of a note, its line feed among them. So many a pipe takes without waiting, where it takes any.
 const LONGEST_NOTE: usize = 4096;
@@ -75,8 +76,8 @@ impl<E: Write> Stream<'_, E> {
     }
 
     /// Writes a line, or counts it where that would wait.
-    fn note(&mut self, alloc: Global, line: Result<String, AllocError>) {
-        self.tell_dropped(alloc);
+    fn note(&mut self, alloc: Global, moment: Moment, line: Result<String, AllocError>) {
+        self.tell_dropped(alloc, moment);
         match line {
             Ok(line) if self.dropped == 0 && self.is_open() => self.put(line.as_str()),
             _ => self.dropped = self.dropped.saturating_add(1),
@@ -84,12 +85,12 @@ impl<E: Write> Stream<'_, E> {
     }
 
     /// Says how many notes were dropped, where there are any and it doesn't wait.
-    fn tell_dropped(&mut self, alloc: Global) {
+    fn tell_dropped(&mut self, alloc: Global, moment: Moment) {
         if self.dropped == 0 || !self.is_open() {
             return;
         }
         let dropped = self.dropped;
-        if let Ok(line) = format!(in alloc; "[WARN  ipmd] {dropped} notes dropped") {
+        if let Ok(line) = format!(in alloc; "{moment}[WARN  ipmd] {dropped} notes dropped") {
             self.put(line.as_str());
             self.dropped = 0;
         }
@@ -109,21 +110,25 @@ impl<E: Write> Stream<'_, E> {
 pub(crate) struct Notes<'r, 'e, R, E> {
     rt: &'r R,
     alloc: Global,
+    /// Whether each has the machine's time.
+    are_timed: bool,
     stream: Mutex<Stream<'e, E>>,
 }
 
 impl<'r, 'e, R: Net + AllocGlobal, E> Notes<'r, 'e, R, E> {
-    /// Notes that are written to a device, which has this descriptor.
+    /// Notes that are written to a device, which has this descriptor; each with the machine's time before it, where they are timed.
     pub(crate) fn over(
         rt: &'r R,
         device: &'e mut Device<E>,
         descriptor: RawFd,
+        are_timed: bool,
     ) -> Notes<'r, 'e, R, E> {
         let alloc = rt.alloc();
         let gate = Gate::before(rt, alloc, descriptor).ok();
         Notes {
             rt,
             alloc,
+            are_timed,
             stream: Mutex::new(Stream {
                 device,
                 gate,
@@ -133,20 +138,52 @@ impl<'r, 'e, R: Net + AllocGlobal, E> Notes<'r, 'e, R, E> {
     }
 }
 
-impl<R: Wait, E: Write> Log for Notes<'_, '_, R, E> {
+impl<R: Clock, E> Notes<'_, '_, R, E> {
+    /// What stands before a note now.
+    fn moment(&self) -> Moment {
+        Moment(if self.are_timed {
+            time_of(self.rt)
+        } else {
+            None
+        })
+    }
+}
+
+/// The machine's time; none where it can't be read.
+fn time_of(rt: &impl Clock) -> Option<Timestamp> {
+    let since = rt.since_1970().ok()?;
+    let milliseconds = i64::try_from(since.as_millis()).ok()?;
+    Timestamp::from_millisecond(milliseconds).ok()
+}
+
+/// When something is noted: a time as RFC 3339 writes it and a space, or nothing.
+#[derive(Clone, Copy)]
+struct Moment(Option<Timestamp>);
+
+impl Display for Moment {
+    fn fmt<W: fmt::Write>(&self, f: &mut Formatter<W>) -> fmt::Result {
+        match self.0 {
+            Some(time) => write!(f, "{time:.3} "),
+            None => Ok(()),
+        }
+    }
+}
+
+impl<R: Wait + Clock, E: Write> Log for Notes<'_, '_, R, E> {
     fn enabled(&self, _metadata: &Metadata<'_>) -> bool {
         true
     }
 
     fn log<D: Display, K: Source, S: Spans>(&self, record: &Record<'_, D, K, S>) {
-        let line = Line::new(record);
-        let line = format!(in self.alloc; "{line}");
-        self.stream.lock(self.rt).note(self.alloc, line);
+        let (moment, line) = (self.moment(), Line::new(record));
+        let line = format!(in self.alloc; "{moment}{line}");
+        self.stream.lock(self.rt).note(self.alloc, moment, line);
     }
 
     /// Says how many notes were dropped, so that no later one need come.
     fn flush(&self) {
-        self.stream.lock(self.rt).tell_dropped(self.alloc);
+        let moment = self.moment();
+        self.stream.lock(self.rt).tell_dropped(self.alloc, moment);
     }
 
     fn target(&self) -> &str {

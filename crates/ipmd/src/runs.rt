@@ -47,7 +47,13 @@ struct Keeping {
 #[tactic(auto, using(ipmd_offline::proofs::Lines::kept))]
 pub(crate) fn serve_runs<
     R: System,
-    N: Net<Listener = TcpListener, Stream = TcpStream> + Threads + Wait + Clock + Log + Sync,
+    N: Files
+        + Net<Listener = TcpListener, Stream = TcpStream>
+        + Threads
+        + Wait
+        + Clock
+        + Log
+        + Sync,
     O: Write,
 >(rt: &R, noting: &N, service: Service, output: &mut Device<O>) -> Result<(), ProgramFault>
     requires asked { IsAskedFor service }
@@ -64,7 +70,8 @@ pub(crate) fn serve_runs<
     let keys = secret_keys(rt)?;
     let mut run = 1;
     'runs: loop {
-        info!(noting; "run {run}");
+        let number = plan.run;
+        info!(noting; "run {number}");
         if !serve_run(rt, noting, limits, keys, &mut plan, &mut keeping, output)? {
             return Ok(());
         }
@@ -83,7 +90,13 @@ pub(crate) fn serve_runs<
 #[tactic(auto, using(ipmd_offline::proofs::Lines::kept, crate::proofs::Running::told_all))]
 fn serve_run<
     R: Files + AllocGlobal,
-    N: Net<Listener = TcpListener, Stream = TcpStream> + Threads + Wait + Clock + Log + Sync,
+    N: Files
+        + Net<Listener = TcpListener, Stream = TcpStream>
+        + Threads
+        + Wait
+        + Clock
+        + Log
+        + Sync,
     O: Write,
 >(
     rt: &R,
@@ -102,7 +115,7 @@ fn serve_run<
     let more = is_followed(&ended);
     let journal = end_run(rt, noting, keeping, ended, output)?;
     if more {
-        renew_policy(rt.alloc(), plan, &journal)?;
+        renew(rt.alloc(), plan, &journal)?;
     }
     Ok(more)
 }
@@ -150,7 +163,13 @@ fn keeping_of<R: Files + AllocGlobal>(
 /// # Errors
 /// Those of `listen`; `OutOfMemory`.
 fn make_run<
-    N: Net<Listener = TcpListener, Stream = TcpStream> + Threads + Wait + Clock + Log + Sync,
+    N: Files
+        + Net<Listener = TcpListener, Stream = TcpStream>
+        + Threads
+        + Wait
+        + Clock
+        + Log
+        + Sync,
 >(
     noting: &N,
     alloc: Global,
@@ -229,16 +248,17 @@ fn keep<R: Files + AllocGlobal>(
     Ok(())
 }
 
-/// Has a plan begin with the policy that was last in force in a run: the text of its journal's last edit.
+/// Has a plan be that of the next run, which begins with the policy that was last in force: the text of the journal's last edit.
 ///
 /// # Errors
 /// `OutOfMemory`.
-fn renew_policy(alloc: Global, plan: &mut Plan, journal: &Journal) -> Result<(), AllocError>
+fn renew(alloc: Global, plan: &mut Plan, journal: &Journal) -> Result<(), AllocError>
     ensures { OnOk result ((asked : Asked) (policy : List ℕ) → IsPlanOf asked policy plan.old → IsPlanOf asked (policy_after policy journal.now.entries) plan.new) }
 {
     if let Some(text) = journal.last_edit() {
         plan.policy = String::from_str(alloc, text)?;
     }
+    plan.run = plan.run.saturating_add(1);
     Ok(())
 }
 

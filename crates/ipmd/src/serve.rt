@@ -18,6 +18,7 @@ use mediator_server::{Collector, Plan};
 use octet_devices::Device;
 use serve_settings::{Settings, read_settings};
 use std::alloc::{AllocError, Global};
+use std::env::{self, Env};
 use std::fs;
 use std::io::Write;
 use std::net::{Net, TcpListener, TcpStream};
@@ -63,12 +64,17 @@ pub(crate) fn serve<
     ensures err { IfErr result (λ e. FailsToServe e (O.contents (device_inner output.old)) (O.contents (device_inner output.new)) errors.old errors.new) }
 {
     let service = prepare(rt, path)?;
-    let notes = Notes::over(rt, errors, descriptor);
+    let notes = Notes::over(rt, errors, descriptor, !is_journal(rt));
     let noting = Noting::new(rt, &notes);
     warn_of_few(rt, &noting, &service.plan);
     let served = serve_runs(rt, &noting, service, output);
     noting.flush();
     served
+}
+
+/// Whether the notes go to the journal of systemd, which has the time of each: it says so to what it starts.
+fn is_journal<R: Env + AllocGlobal>(rt: &R) -> bool {
+    env::var(rt, "JOURNAL_STREAM").is_ok()
 }
 
 /// Reads the settings and the policy.
@@ -109,6 +115,7 @@ fn service_of(alloc: Global, settings: Settings, policy: String) -> Result<Servi
         endless,
     } = settings;
     let plan = Plan {
+        run: 1,
         exporters,
         admin,
         policy,

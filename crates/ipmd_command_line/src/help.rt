@@ -176,14 +176,23 @@ ten seconds gives way to another that waits:
   unsubscribe SUB                                        ok
   advance T, the clock in milliseconds since 1970        ok
   status SUB                                             ok QUEUED HANDED live, or with cut
-  audit MOST, from 1 to 10000                            ok COUNT, and COUNT audit lines
+  audit MOST, from 1 to 10000                            ok COUNT, and COUNT audit lines, which have
+                                                         1 MiB at most
+  status                                                 ok COUNT, and a line a subscription:
+                                                         SUB NAME QUEUED HANDED live or cut, and
+                                                         its collector: connected, absent or none
+  run                                                    ok COUNT, and how the run stands, a name
+                                                         and a number a line, some with a limit
+  policy                                                 ok COUNT, and the policy in force
+  help                                                   ok COUNT, and a line a command
   stop                                                   ok
 A refused call is answered err and its name, as ipmd replay --help has them, and the connection
 goes on. What is no command is answered err Line, and the connection ends. It ends behind `stop`
 too, and the run is to end: no more exporters are taken, those connected end behind the message in
 hand, what is queued is sent, and no run follows.
 
-Standard error notes what happens, a line each, with its level: info for the run and for what
+Standard error notes what happens, a line each, with the time (unless it is a journal of systemd,
+as JOURNAL_STREAM says) and its level: info for the run and for what
 connects and ends, warn for a fault that ended a connection, or a subscription that was cut, and
 error for what the run itself can't do. A fault of one connection ends that connection alone. A note
 that would wait for its reader is dropped, and a later one says how many were.

@@ -87,6 +87,7 @@ pub(crate) fn set_up<R: Net<Listener = TcpListener, Stream = TcpStream> + Abort>
         octets: 1_000_000,
     };
     let plan = Plan {
+        run: 1,
         exporters: free_address(rt, alloc)?,
         admin: free_address(rt, alloc)?,
         policy: String::from_str(alloc, scene.policy)?,

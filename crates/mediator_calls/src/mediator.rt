@@ -281,6 +281,14 @@ impl Mediator {
         self.state.is_advance_held_up(t)
     }
 
+    /// How many groups of aggregates the clock hasn't closed, of all subscriptions together.
+    ///
+    /// # Errors
+    /// Want of memory.
+    pub fn open_groups(&self) -> Result<u64, AllocError> {
+        self.state.open_groups()
+    }
+
     /// How many entries of the audit wait to be handed out.
     pub fn audit_waiting(&self) -> u32 {
         self.state.audit_waiting()

@@ -12,7 +12,7 @@ use Rattle.mediator_history.proofs.HistoryLaws.{flat_map-push}
 use Rattle.mediator_state.specs.declared.fault.Fault.TheVariants as fault
 use Rattle.mediator_calls.specs.declared.fault.PullFault.TheVariants as pull
 use Rattle.admin_lines.specs.Sayings.{Saying}
-use Rattle.admin_lines.specs.Sayings.Saying.{to_edit, to_subscribe, to_unsubscribe, to_advance, to_tell_status, to_drain_audit, to_stop}
+use Rattle.admin_lines.specs.Sayings.Saying.{to_edit, to_subscribe, to_unsubscribe, to_advance, to_tell_status, to_drain_audit, to_tell, to_stop}
 use Rattle.admin_lines.specs.Grammar.{longest_line, IsSubscription}
 use Rattle.admin_lines.specs.Reading.{command_of}
 use Rattle.call_lists.specs.Answers.{refusal_text}
@@ -38,6 +38,7 @@ bad_line (Some (to_unsubscribe sub)) text old new so = absurd so.1
 bad_line (Some (to_advance t)) text old new so = absurd so.1
 bad_line (Some (to_tell_status sub)) text old new so = absurd so.1
 bad_line (Some (to_drain_audit max)) text old new so = absurd so.1
+bad_line (Some (to_tell topic)) text old new so = absurd so.1
 bad_line (Some to_stop) text old new so = absurd (other so.1)
   where
     other : answer.BadLine ≡ answer.Done → ⊥
@@ -64,6 +65,7 @@ answer_some (answer.Subscribed sub) = omega arith
 answer_some answer.Done = omega arith
 answer_some (answer.Stands status) = omega arith
 answer_some (answer.Drained entries) = omega arith
+answer_some (answer.Told page) = omega arith
 answer_some (answer.Refused why) = ended_some (refusal_text why) 10
 answer_some answer.BadLine = omega arith
 answer_some answer.BadText = omega arith
@@ -77,6 +79,7 @@ text_some (answer.Subscribed sub) text is = same_some (answer.Subscribed sub) te
 text_some answer.Done text is = same_some answer.Done text is
 text_some (answer.Stands status) text is = same_some (answer.Stands status) text is
 text_some (answer.Drained entries) text is = same_some (answer.Drained entries) text is
+text_some (answer.Told page) text is = same_some (answer.Told page) text is
 text_some (answer.Refused why) text (inl is) = same_some (answer.Refused why) text is
 text_some (answer.Refused why) text (inr is) = same_some refused_for_memory text is
 text_some answer.BadLine text is = same_some answer.BadLine text is

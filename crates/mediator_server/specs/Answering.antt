@@ -10,7 +10,7 @@ use Rattle.mediator_state.specs.declared.fault.Fault.TheVariants as fault
 use Rattle.mediator_calls.specs.declared.fault.PullFault.TheVariants as pull
 use Rattle.shared_mediator.specs.Handles.{KeepsEntry}
 use Rattle.admin_lines.specs.Sayings.{Saying}
-use Rattle.admin_lines.specs.Sayings.Saying.{to_edit, to_subscribe, to_unsubscribe, to_advance, to_tell_status, to_drain_audit, to_stop}
+use Rattle.admin_lines.specs.Sayings.Saying.{to_edit, to_subscribe, to_unsubscribe, to_advance, to_tell_status, to_drain_audit, to_tell, to_stop}
 use Rattle.admin_lines.specs.Reading.{command_of}
 use Rattle.admin_lines.specs.Answers.{IsTextOf}
 use Rattle.admin_lines.specs.declared.answer.Answer.{Answer}
@@ -54,6 +54,12 @@ DrainsAudit (answer.Drained entries) old new = new ≡ old
 DrainsAudit (answer.Refused why) old new = (why ≡ fault.OutOfMemory) × (new ≡ old)
 DrainsAudit _ old new = ⊥
 
+-- a page was told, or there was no memory for it
+abbrev pub Tells : Answer → List KeptEntry → List KeptEntry → Type 0
+Tells (answer.Told page) old new = new ≡ old
+Tells (answer.Refused why) old new = (why ≡ fault.OutOfMemory) × (new ≡ old)
+Tells _ old new = ⊥
+
 -- what is answered to what a line asks for, with the octets behind the line that belong to it, and what the handle keeps by it
 abbrev pub Answers : Option Saying → List ℕ → Answer → List KeptEntry → List KeptEntry → Type 0
 Answers (Some (to_edit octets)) text reply old new = (length text ≡ octets) × Edits text reply old new
@@ -62,6 +68,7 @@ Answers (Some (to_unsubscribe sub)) text reply old new = (text ≡ []) × Unsubs
 Answers (Some (to_advance t)) text reply old new = (text ≡ []) × Advances t reply old new
 Answers (Some (to_tell_status sub)) text reply old new = (text ≡ []) × TellsStatus reply old new
 Answers (Some (to_drain_audit max)) text reply old new = (text ≡ []) × DrainsAudit reply old new
+Answers (Some (to_tell topic)) text reply old new = (text ≡ []) × Tells reply old new
 Answers (Some to_stop) text reply old new = (text ≡ []) × (reply ≡ answer.Done) × (new ≡ old)
 Answers None text reply old new = (text ≡ []) × (reply ≡ answer.BadLine) × (new ≡ old)
 

@@ -6,14 +6,16 @@ ghost use Rattle.admin_lines.specs.Reading.{command_of};
 ghost use Rattle.admin_lines.specs.Answers.{WritesAnswer};
 ghost use Rattle.mediator_server.specs.Faults.{reader_after, writer_after};
 ghost use Rattle.mediator_server.specs.CommandInput.{EndsBehind, StopsReading};
-ghost use Rattle.mediator_server.specs.Answering.{Edits, Subscribes, Unsubscribes, Advances, TellsStatus, DrainsAudit, Exchange, ServesAdmin, StopsAdmin, Performs, Hears, StopsHearing, StopsReplying};
+ghost use Rattle.mediator_server.specs.Answering.{Edits, Subscribes, Unsubscribes, Advances, TellsStatus, DrainsAudit, Tells, Exchange, ServesAdmin, StopsAdmin, Performs, Hears, StopsHearing, StopsReplying};
 
 use crate::command_input::CommandInput;
 use crate::control::{Control, Patience};
 use crate::fault::ServeFault;
 use crate::room::wait_for_advance;
-use admin_lines::{Answer, Command, read_command, write_answer};
-use answer_writing::{AnswerBuffer, Stopped};
+use admin_lines::{Answer, Command, Topic, read_command, write_answer};
+use answer_writing::{AnswerBuffer, Stopped, drained_length};
+use disclosure_audit::AuditEntry;
+use entry_receipts::KeptEntry;
 use mediator_calls::{PullFault, SubId, UnknownSub};
 use mediator_state::Fault;
 use octet_devices::{Sink, Source};
@@ -21,6 +23,12 @@ use shared_mediator::{AdminHandle, EntryLedger, RecordLedger, SharedMediator};
 use std::alloc::{AllocError, Global};
 use std::str::from_utf8;
 use std::sync::Wait;
+
+/// The most octets of the answer to an `audit`.
+const MOST_AUDIT_OCTETS: u64 = 1 << 20;
+
+/// No entry's line has more octets: no record has more than 16,383 fields, of which each takes eleven octets of the line.
+const LONGEST_AUDIT_LINE: u64 = 200_000;
 
 /// What came of a line.
 #[derive(Drop)]
@@ -137,7 +145,9 @@ fn answer_line<E: EntryLedger, H: RecordLedger, R: Source, C: Control>(
     match read_command(alloc, line) {
         Ok(Some(command)) => {
             let stops = is_stop(&command);
+            let before = handle.kept().len();
             let answer = perform(rt, alloc, shared, handle, input, reader, command, control)?;
+            tell_accepted(control, &handle.kept()[before..]);
             Ok(Heard { answer, stops })
         }
         Ok(None) => Ok(Heard {
@@ -148,6 +158,13 @@ fn answer_line<E: EntryLedger, H: RecordLedger, R: Source, C: Control>(
             answer: Answer::Refused(Fault::OutOfMemory),
             stops: false,
         }),
+    }
+}
+
+/// Tells the server what was accepted.
+fn tell_accepted<C: Control>(control: &C, receipts: &[KeptEntry]) {
+    for receipt in receipts {
+        control.accept(receipt);
     }
 }
 
@@ -162,7 +179,8 @@ const fn is_stop(command: &Command) -> bool
         | Command::Unsubscribe { .. }
         | Command::Advance { .. }
         | Command::Status { .. }
-        | Command::Audit { .. } => false,
+        | Command::Audit { .. }
+        | Command::Tell { .. } => false,
     }
 }
 
@@ -196,7 +214,8 @@ fn perform<E: EntryLedger, H: RecordLedger, R: Source, C: Control>(
         Command::Unsubscribe { sub } => Ok(unsubscribe(rt, shared, handle, sub)),
         Command::Advance { t } => Ok(advance(rt, shared, handle, t, control)),
         Command::Status { sub } => Ok(status(rt, shared, handle, sub)),
-        Command::Audit { max } => Ok(drain_audit(rt, shared, handle, max)),
+        Command::Audit { max } => Ok(drain_audit(rt, alloc, shared, handle, max)),
+        Command::Tell { topic } => Ok(tell(handle, topic, control)),
         Command::Stop => {
             control.stop();
             Ok(Answer::Done)
@@ -312,18 +331,70 @@ fn status<E: EntryLedger, H: RecordLedger>(
     }
 }
 
-/// Hands out the oldest entries of the audit, at most so many.
+/// The lines of a page.
+fn tell<E: EntryLedger, C: Control>(handle: &AdminHandle<E>, topic: Topic, control: &C) -> Answer
+    ensures { Tells result handle.now handle.now }
+{
+    match control.tell(topic, handle.kept()) {
+        Ok(page) => Answer::Told(page),
+        Err(AllocError) => Answer::Refused(Fault::OutOfMemory),
+    }
+}
+
+/// Hands out the oldest entries of the audit, at most so many, and no more than [`MOST_AUDIT_OCTETS`] have room for.
 fn drain_audit<E: EntryLedger, H: RecordLedger>(
     rt: &impl Wait,
+    alloc: Global,
     shared: &SharedMediator<E, H>,
     handle: &AdminHandle<E>,
     most: u32,
 ) -> Answer
     ensures { DrainsAudit result handle.now handle.now }
 {
-    match handle.drain_audit(rt, shared, most) {
-        Ok(entries) => Answer::Drained(entries),
-        Err(AllocError) => Answer::Refused(Fault::OutOfMemory),
+    let Ok(mut buffer) = AnswerBuffer::new(alloc) else {
+        return Answer::Refused(Fault::OutOfMemory);
+    };
+    let (mut drained, mut octets) = (Vec::new(alloc), 0u64);
+    'entries: for _ in 0..most {
+        if octets > MOST_AUDIT_OCTETS - LONGEST_AUDIT_LINE {
+            break;
+        }
+        match drain_one(rt, shared, handle, &mut drained) {
+            Ok(true) => octets = octets.saturating_add(last_length(&mut buffer, &drained)),
+            Ok(false) => break,
+            Err(AllocError) if drained.is_empty() => {
+                return Answer::Refused(Fault::OutOfMemory);
+            }
+            Err(AllocError) => break,
+        }
+    }
+    Answer::Drained(drained)
+}
+
+/// Hands out the oldest entry of the audit, and answers whether there was one.
+///
+/// # Errors
+/// Want of memory. Then none was handed out.
+fn drain_one<E: EntryLedger, H: RecordLedger>(
+    rt: &impl Wait,
+    shared: &SharedMediator<E, H>,
+    handle: &AdminHandle<E>,
+    drained: &mut Vec<AuditEntry>,
+) -> Result<bool, AllocError> {
+    drained.reserve(1)?;
+    for entry in handle.drain_audit(rt, shared, 1)? {
+        drained.push_reserved(entry);
+        return Ok(true);
+    }
+    Ok(false)
+}
+
+/// How many octets the answer with the last of these alone has.
+fn last_length(buffer: &mut AnswerBuffer, drained: &Vec<AuditEntry>) -> u64 {
+    let last = drained.len().saturating_sub(1);
+    match drained_length(buffer, &drained[last..]) {
+        Some(octets) => octets,
+        None => u64::MAX,
     }
 }
 

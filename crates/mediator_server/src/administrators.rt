@@ -8,16 +8,23 @@ use crate::control::{Control, Patience};
 use crate::exporters::wait_a_moment;
 use crate::listeners::Caller;
 use crate::notes;
+use crate::report::{help_page, policy_page, run_page};
+use crate::roster::Reach;
 use crate::run_state::{RunState, TurnOver};
 use crate::service::Service;
 use crate::socket_options::{look_while_reading, prepare_to_write};
 use crate::stream_calls::{PatientWriter, is_late, read_on};
 use crate::time::now;
+use admin_lines::Topic;
+use entry_receipts::KeptEntry;
+use event_journal::Entry;
 use log::Log;
+use mediator_calls::SubId;
 use octet_devices::{Failed, Sink, Source};
 use shared_mediator::{AdminHandle, EntryLedger, RecordLedger, SharedMediator};
+use std::alloc::AllocError;
 use std::cell::Cell;
-use std::net::TcpStream;
+use std::net::{SocketAddr, TcpStream};
 use std::sync::Wait;
 use std::time::{Clock, Duration};
 
@@ -83,6 +90,7 @@ fn serve_connection<E: EntryLedger, H: RecordLedger, R: Wait + Clock + Log>(
     let control = RunControl {
         rt,
         service,
+        peer,
         begun: Cell::new(Duration::from_secs(0)),
     };
     let answered = serve_admin(
@@ -182,6 +190,7 @@ impl<R: Wait + Clock, E: EntryLedger, H: RecordLedger> Sink
 struct RunControl<'r, 'v, 'm, R, E: EntryLedger, H: RecordLedger> {
     rt: &'r R,
     service: &'v Service<'m, E, H>,
+    peer: SocketAddr,
     /// When the wait of the advance in hand began.
     begun: Cell<Duration>,
 }
@@ -197,8 +206,35 @@ impl<R: Wait + Clock, E: EntryLedger, H: RecordLedger> Patience
     }
 }
 
-impl<R: Wait + Clock, E: EntryLedger, H: RecordLedger> Control for RunControl<'_, '_, '_, R, E, H> {
+impl<R: Wait + Clock + Log, E: EntryLedger, H: RecordLedger> Control
+    for RunControl<'_, '_, '_, R, E, H> {
     fn stop(&self) {
         self.service.state.stop(self.rt);
+    }
+
+    fn accept(&self, receipt: &KeptEntry) {
+        let Service { state, roster, .. } = self.service;
+        match &receipt.entry {
+            Entry::Edit { text: _ } => {
+                let edit = state.add_edit(self.rt);
+                notes::edited(self.rt, self.peer, edit, receipt.position);
+            }
+            Entry::Subscribe { sub, name } => {
+                roster.begin(self.rt, SubId(*sub), name.as_str(), Reach::Nowhere)
+            }
+            Entry::Unsubscribe { sub } => roster.end(self.rt, SubId(*sub)),
+            Entry::Advance { t } => state.set_clock(self.rt, *t),
+            _ => {}
+        }
+    }
+
+    fn tell(&self, topic: Topic, receipts: &[KeptEntry]) -> Result<Vec<u8>, AllocError> {
+        let Service { alloc, plan, .. } = self.service;
+        match topic {
+            Topic::Subscriptions => self.service.roster.page(self.rt, self.service.shared),
+            Topic::Run => run_page(self.rt, self.service),
+            Topic::Policy => policy_page(*alloc, plan.policy.as_str(), receipts),
+            Topic::Help => help_page(*alloc),
+        }
     }
 }

@@ -7,17 +7,28 @@ use crate::listeners::OwnAddresses;
 use crate::machine_clock::MachineClock;
 use crate::notes;
 use crate::plan::Collector;
+use crate::roster::Reach;
+use crate::send_queue::is_sent;
 use crate::service::Service;
-use crate::socket_options::{look_while_reading, prepare_to_write};
+use crate::socket_options::{look_while_reading, prepare_to_write, reset};
 use crate::stream_calls::{PatientWriter, say_farewell};
+use crate::time::{has_passed, now};
 use log::Log;
 use mediator_calls::Handed;
 use mediator_state::Fault;
 use shared_mediator::{AdminHandle, DeliveryHandle, EntryLedger, HandleFault, RecordLedger};
+use std::alloc::Global;
 use std::io::{self, ErrorKind};
 use std::net::{Net, SocketAddr, TcpListener, TcpStream, ToSocketAddrs};
+use std::rt::Files;
 use std::sync::Wait;
 use std::time::{Clock, Duration};
+
+/// How long it is waited for the system of a collector to take the last octets, in seconds,
+const FAREWELL: u64 = 5;
+
+/// and how many milliseconds pass before it is looked again.
+const LOOK_EACH: u64 = 20;
 
 /// A collector that hasn't answered after so many seconds is one that refuses.
 const PATIENCE: u64 = 10;
@@ -86,7 +97,7 @@ fn not_own(
 pub(crate) fn serve<
     E: EntryLedger,
     H: RecordLedger,
-    R: Net<Listener = TcpListener, Stream = TcpStream> + Wait + Clock + Log,
+    R: Files + Net<Listener = TcpListener, Stream = TcpStream> + Wait + Clock + Log,
 >(
     rt: &R,
     service: &Service<'_, E, H>,
@@ -164,7 +175,7 @@ fn note_unreached<E: EntryLedger, H: RecordLedger, R: Wait + Log>(
 }
 
 /// Delivers over a new connection: by the subscription that there is, where nothing of it was ever handed out; else by a new one.
-fn deliver_anew<E: EntryLedger, H: RecordLedger, R: Wait + Clock + Log>(
+fn deliver_anew<E: EntryLedger, H: RecordLedger, R: Files + Wait + Clock + Log>(
     rt: &R,
     service: &Service<'_, E, H>,
     collector: &Collector,
@@ -210,7 +221,9 @@ fn subscribe_anew<E: EntryLedger, H: RecordLedger, R: Wait + Log>(
                 gap.accepted = service.state.records(rt, true);
             }
             gap.dropped = gap.dropped.saturating_add(u64::from(status.queued));
-            let _ended = handles.admin.unsubscribe(rt, service.shared, sub);
+            if handles.admin.unsubscribe(rt, service.shared, sub).is_ok() {
+                service.roster.end(rt, sub);
+            }
         }
     }
     if let Err(why) = begin(rt, service, collector, handles) {
@@ -245,13 +258,14 @@ fn begin<E: EntryLedger, H: RecordLedger, R: Wait>(
         Ok(sub) => sub,
         Err(why) => return Err(HandleFault::Core(why)),
     };
+    service.roster.begin(rt, sub, name, Reach::Absent);
     let delivery = service.shared.delivery(rt, sub)?;
     handles.deliveries.push_reserved(delivery);
     Ok(())
 }
 
 /// Delivers over a connection.
-fn deliver_over<E: EntryLedger, H: RecordLedger, R: Wait + Clock + Log>(
+fn deliver_over<E: EntryLedger, H: RecordLedger, R: Files + Wait + Clock + Log>(
     rt: &R,
     service: &Service<'_, E, H>,
     collector: &Collector,
@@ -265,9 +279,11 @@ fn deliver_over<E: EntryLedger, H: RecordLedger, R: Wait + Clock + Log>(
     let mut writer = PatientWriter::new(rt, connection.stream());
     let clock = MachineClock::of(rt);
     let target = service.plan.target;
-    let shared = service.shared;
+    let (shared, sub) = (service.shared, delivery.sub());
+    service.roster.reach(rt, sub, Reach::Connected);
     let sent = deliver(rt, shared, delivery, admin, &mut writer, target, &clock);
-    let is_cut = match admin.status(rt, shared, delivery.sub()) {
+    service.roster.reach(rt, sub, Reach::Absent);
+    let is_cut = match admin.status(rt, shared, sub) {
         Ok(status) => status.cut,
         Err(_) => false,
     };
@@ -276,13 +292,14 @@ fn deliver_over<E: EntryLedger, H: RecordLedger, R: Wait + Clock + Log>(
         Ok(_) => {
             // All was written, so it isn't one that is waited for any more.
             service.collectors.forget(rt, connection.number());
-            say_farewell(rt, connection.stream());
             if is_cut {
+                break_off(rt, service.alloc, &connection);
                 Delivered::Broken(Missed {
                     dropped: 0,
                     accepted: service.state.records(rt, true),
                 })
             } else {
+                say_farewell(rt, connection.stream());
                 Delivered::Over
             }
         }
@@ -290,6 +307,23 @@ fn deliver_over<E: EntryLedger, H: RecordLedger, R: Wait + Clock + Log>(
             dropped: waited.saturating_add(unsent(delivery.kept(), fault)),
             accepted: service.state.records(rt, false),
         }),
+    }
+}
+
+/// Ends the connection of a subscription that was cut: when the collector's system has all that was written, by a reset, so that the
+/// collector can tell this from the end of its stream. Where the system doesn't tell how much it has, by such an end.
+fn break_off<R: Files + Wait + Clock>(rt: &R, alloc: Global, connection: &Connection) {
+    let begun = now(rt);
+    for _ in rt.forever() {
+        match is_sent(rt, alloc, connection) {
+            Some(true) => return reset(connection.stream()),
+            Some(false) => {}
+            None => return say_farewell(rt, connection.stream()),
+        }
+        if has_passed(rt, begun, Duration::from_secs(FAREWELL)) {
+            return reset(connection.stream());
+        }
+        rt.sleep(Duration::from_millis(LOOK_EACH));
     }
 }
 

@@ -1,6 +1,9 @@
 //! What a connection asks of its server, beyond the mediator.
 
+use admin_lines::Topic;
+use entry_receipts::KeptEntry;
 use mediator_state::Receipt;
+use std::alloc::AllocError;
 
 /// How long a call waits for room in a queue before it cuts a subscription.
 pub trait Patience {
@@ -16,6 +19,15 @@ pub trait Control: Patience {
     /// The run is to end: no more exporters are taken, those that are connected end behind the message in hand, and what is queued
     /// is sent.
     fn stop(&self);
+
+    /// A call of the administrator was accepted, and this is its receipt.
+    fn accept(&self, receipt: &KeptEntry);
+
+    /// The lines of a page that the administrator asks for, whose calls had these receipts.
+    ///
+    /// # Errors
+    /// Want of memory.
+    fn tell(&self, topic: Topic, receipts: &[KeptEntry]) -> Result<Vec<u8>, AllocError>;
 }
 
 /// What a server is told of an exporter's stream as it is read.

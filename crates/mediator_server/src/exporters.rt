@@ -3,7 +3,8 @@ ghost use Rattle.std.specs.Prelude.{None};
 
 use crate::connections::Connection;
 use crate::control::{Patience, Reception};
-use crate::exporter::serve_exporter;
+use crate::exporter::{Served, serve_exporter};
+use crate::fault::ServeFault;
 use crate::listeners::Caller;
 use crate::notes;
 use crate::run_state::RunState;
@@ -11,9 +12,11 @@ use crate::service::Service;
 use crate::socket_options::keep_alive;
 use crate::stream_calls::{is_late, read_on};
 use crate::time::{has_passed, now};
+use ipfix_session::Gap;
 use log::Log;
 use mediator_calls::SessionId;
 use mediator_state::Receipt;
+use message_intake::FramingFault;
 use octet_devices::{Failed, Source};
 use shared_mediator::{EntryLedger, ExporterHandle, RecordLedger};
 use std::alloc::{AllocError, Global};
@@ -178,7 +181,7 @@ fn serve_stream<E: EntryLedger, H: RecordLedger, R: Threads + Wait + Clock + Log
     handle: &mut ExporterHandle<E>,
 ) {
     let (stream, peer, plan) = (connection.stream(), connection.peer, service.plan);
-    notes::exporter_begins(rt, peer);
+    notes::exporter_begins(rt, peer, handle.session(), handle.opened_at());
     keep_alive(stream);
     if let Some(seconds) = plan.idle {
         let _patient = stream.set_read_timeout(Some(Duration::from_secs(seconds)));
@@ -197,6 +200,7 @@ fn serve_stream<E: EntryLedger, H: RecordLedger, R: Threads + Wait + Clock + Log
         service,
         peer,
         begun: Cell::new(Duration::from_secs(0)),
+        told: Cell::new(None),
     };
     let ended = serve_exporter(
         rt,
@@ -208,7 +212,19 @@ fn serve_stream<E: EntryLedger, H: RecordLedger, R: Threads + Wait + Clock + Log
         plan.workers,
         &reception,
     );
+    if is_refusal(&ended) {
+        state.add_refusal(rt);
+    }
     notes::exporter_ends(rt, peer, ended, why.get());
+}
+
+/// Whether a stream ended with a message that wasn't accepted.
+fn is_refusal(ended: &Result<Served, (ServeFault, Served)>) -> bool {
+    match ended {
+        Ok(_) | Err((ServeFault::Read | ServeFault::Write { .. } | ServeFault::Turns, _)) => false,
+        Err((ServeFault::Framing(why), _)) => *why != FramingFault::CutOff,
+        Err((ServeFault::Core(_) | ServeFault::TooWide | ServeFault::TooManyCounts, _)) => true,
+    }
 }
 
 /// Why an exporter's stream is read no further.
@@ -268,6 +284,21 @@ struct PeerReception<'r, 'v, 'm, R, E: EntryLedger, H: RecordLedger> {
     peer: SocketAddr,
     /// When the wait of the message in hand began.
     begun: Cell<Duration>,
+    /// When a gap was told last.
+    told: Cell<Option<Duration>>,
+}
+
+impl<R: Clock + Log, E: EntryLedger, H: RecordLedger> PeerReception<'_, '_, '_, R, E, H> {
+    /// Tells a gap, unless one was told within the last second.
+    fn tell_gap(&self, gap: Gap, position: u64) {
+        if let Some(told) = self.told.get() {
+            if !has_passed(self.rt, told, Duration::from_secs(1)) {
+                return;
+            }
+        }
+        self.told.set(Some(now(self.rt)));
+        notes::exporter_gap(self.rt, self.peer, gap, position);
+    }
 }
 
 impl<R: Wait + Clock, E: EntryLedger, H: RecordLedger> Patience
@@ -284,12 +315,12 @@ impl<R: Wait + Clock, E: EntryLedger, H: RecordLedger> Patience
 impl<R: Wait + Clock + Log, E: EntryLedger, H: RecordLedger> Reception
     for PeerReception<'_, '_, '_, R, E, H> {
     fn accept(&self, receipt: &Receipt, _octets: usize) {
-        let cuts = receipt.cut > 0;
-        self.service
-            .state
-            .add_records(self.rt, receipt.records, cuts);
-        if cuts {
+        self.service.state.add_message(self.rt, receipt);
+        if receipt.cut > 0 {
             notes::exporter_cuts(self.rt, self.peer, receipt);
+        }
+        if let Some(gap) = receipt.gap {
+            self.tell_gap(gap, receipt.position);
         }
         if receipt.position % LOOK_EACH_ENTRIES == 0 {
             self.service.warn_of_the_journal(self.rt);

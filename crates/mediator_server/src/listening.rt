@@ -16,6 +16,7 @@ use std::fmt::{self, Display, Formatter, Write};
 use std::io::{self, ErrorKind};
 use std::marker::Brand;
 use std::net::{Net, TcpListener, TcpStream};
+use std::rt::Files;
 use std::sync::Wait;
 use std::sync::ledger::Blank;
 use std::thread::Threads;
@@ -128,7 +129,13 @@ fn handles_for(plan: &Plan) -> u64
 /// can't be connected to; a thread was refused; memory ran out; or the mediator isn't given back. What runs is ended first: all who
 /// came in are hung up, and what is queued is sent.
 pub fn listen<
-    R: Net<Listener = TcpListener, Stream = TcpStream> + Threads + Wait + Clock + Log + Sync,
+    R: Files
+        + Net<Listener = TcpListener, Stream = TcpStream>
+        + Threads
+        + Wait
+        + Clock
+        + Log
+        + Sync,
 >(rt: &R, alloc: Global, plan: &Plan, mediator: Mediator) -> Result<Ended, ListenFault>
     requires fresh { handed_live mediator ≡ 0 }
     ensures served { IfOk result (λ ended. IsServed plan.now mediator.history ended.closed.mediator.history ended.closed.accepted ended.closed.handed) }
@@ -142,7 +149,13 @@ pub fn listen<
 fn listen_with<
     E: EntryLedger + Send + Sync,
     H: RecordLedger + Send + Sync,
-    R: Net<Listener = TcpListener, Stream = TcpStream> + Threads + Wait + Clock + Log + Sync,
+    R: Files
+        + Net<Listener = TcpListener, Stream = TcpStream>
+        + Threads
+        + Wait
+        + Clock
+        + Log
+        + Sync,
 >(
     rt: &R,
     alloc: Global,
@@ -169,9 +182,18 @@ fn listen_with<
     } = serve(rt, alloc, &shared, plan)?;
     match shared.close(exporters, deliveries, admins) {
         Ok(closed) => {
+            note_groups_left(rt, &closed.mediator);
             notes::totals(rt, &closed);
             Ok(Ended { closed, stopped })
         }
         Err(fault) => Err(ListenFault::Close(fault)),
+    }
+}
+
+/// Notes how many groups of aggregates the clock hasn't closed, where there are any.
+fn note_groups_left<R: Log>(rt: &R, mediator: &Mediator) {
+    match mediator.open_groups() {
+        Ok(0) | Err(AllocError) => {}
+        Ok(count) => notes::groups_left(rt, count),
     }
 }

@@ -5,8 +5,9 @@ use crate::exporters::WhyEnded;
 use crate::fault::ServeFault;
 use crate::plan::Collector;
 use crate::run_state::TurnOver;
+use ipfix_session::Gap;
 use log::{Log, error, info, warn};
-use mediator_calls::{Handed, Limits};
+use mediator_calls::{Handed, Limits, SessionId};
 use mediator_state::Receipt;
 use shared_mediator::{Closed, Fill, HandleFault};
 use std::fmt::{self, Display, Formatter, Write};
@@ -79,9 +80,16 @@ pub(crate) fn refused_for_threads(rt: &impl Log, peer: SocketAddr) {
     warn!(rt; "{peer} refused: no thread");
 }
 
-/// An exporter has connected, and has a session.
-pub(crate) fn exporter_begins(rt: &impl Log, peer: SocketAddr) {
-    info!(rt; "exporter {peer} connected");
+/// An exporter has connected, and has a session, which begins at this position of the journal.
+pub(crate) fn exporter_begins(rt: &impl Log, peer: SocketAddr, session: SessionId, position: u64) {
+    let session = session.0;
+    info!(rt; "exporter {peer} connected: session {session} at {position}");
+}
+
+/// A message's Sequence Number wasn't the one that was expected (RFC 7011, section 3.1).
+pub(crate) fn exporter_gap(rt: &impl Log, peer: SocketAddr, gap: Gap, position: u64) {
+    let Gap { expected, got } = gap;
+    warn!(rt; "exporter {peer} gap: sequence number {got} for {expected} in the message at {position}");
 }
 
 /// No session could be opened for an exporter.
@@ -157,6 +165,21 @@ pub(crate) fn administrator_refused(rt: &impl Log, peer: SocketAddr) {
 /// The administrator has connected.
 pub(crate) fn admin_begins(rt: &impl Log, peer: SocketAddr) {
     info!(rt; "admin {peer} connected");
+}
+
+/// An administrator has put a policy in force: which it is of the run, and the position of the journal from which it is in force.
+pub(crate) fn edited(rt: &impl Log, peer: SocketAddr, edit: u64, position: u64) {
+    info!(rt; "admin {peer} edit {edit} at {position}");
+}
+
+/// The first policy of a run is in force.
+pub(crate) fn first_policy(rt: &impl Log, position: u64) {
+    info!(rt; "edit 1 at {position}");
+}
+
+/// So many groups of aggregates were open when the run ended, and are lost.
+pub(crate) fn groups_left(rt: &impl Log, count: u64) {
+    warn!(rt; "groups not closed: {count}");
 }
 
 /// The administrator's connection has ended, after so many commands.

@@ -5,6 +5,8 @@ use mediator_calls::Limits;
 /// How a server is to run: where it is reached, what it begins with, and to whom it delivers.
 #[derive(Debug, Drop)]
 pub struct Plan {
+    /// The number of the run, as an administrator is told it.
+    pub run: u64,
     /// The address and the port at which exporters connect.
     pub exporters: String,
     /// The address and the port at which the administrator connects.

@@ -2,6 +2,7 @@
 
 use crate::connections::Connection;
 use crate::time::{has_passed, now};
+use mediator_state::Receipt;
 use mio::Waker;
 use std::alloc::Global;
 use std::sync::{Condvar, CondvarTimeouts, Mutex, Wait};
@@ -43,10 +44,27 @@ struct Standing {
     is_administered: bool,
     /// Whether what is queued is sent, and nothing more comes.
     is_draining: bool,
-    /// How many records were accepted.
-    records: u64,
-    /// How many they were before the last message that cut a subscription.
+    /// What came.
+    tally: Tally,
+    /// How many records there were before the last message that cut a subscription.
     records_before_cut: u64,
+}
+
+/// What came in a run.
+#[derive(Clone, Copy)]
+pub(crate) struct Tally {
+    /// The messages that were accepted,
+    pub(crate) messages: u64,
+    /// the records in them,
+    pub(crate) records: u64,
+    /// and the gaps in their sequence numbers.
+    pub(crate) gaps: u64,
+    /// The messages that were not accepted.
+    pub(crate) refused: u64,
+    /// The policies that took force, the first among them.
+    pub(crate) edits: u64,
+    /// Where the clock stands, in milliseconds since 1970; 0 where it was never advanced.
+    pub(crate) clock: u64,
 }
 
 /// What ends an administrator's connection.
@@ -71,7 +89,14 @@ impl RunState {
                 was_administered: false,
                 is_administered: true,
                 is_draining: false,
-                records: 0,
+                tally: Tally {
+                    messages: 0,
+                    records: 0,
+                    gaps: 0,
+                    refused: 0,
+                    edits: 1,
+                    clock: 0,
+                },
                 records_before_cut: 0,
             }),
             changed: Condvar::new(),
@@ -155,13 +180,41 @@ impl RunState {
         }
     }
 
-    /// A message was accepted with so many records, and it cut somebody or not.
-    pub(crate) fn add_records(&self, rt: &impl Wait, count: u64, cuts: bool) {
+    /// A message was accepted.
+    pub(crate) fn add_message(&self, rt: &impl Wait, receipt: &Receipt) {
         let mut standing = self.standing.lock(rt);
-        if cuts {
-            standing.records_before_cut = standing.records;
+        if receipt.cut > 0 {
+            standing.records_before_cut = standing.tally.records;
         }
-        standing.records = standing.records.saturating_add(count);
+        let tally = &mut standing.tally;
+        tally.messages = tally.messages.saturating_add(1);
+        tally.records = tally.records.saturating_add(receipt.records);
+        if receipt.gap.is_some() {
+            tally.gaps = tally.gaps.saturating_add(1);
+        }
+    }
+
+    /// A message was not accepted.
+    pub(crate) fn add_refusal(&self, rt: &impl Wait) {
+        let mut standing = self.standing.lock(rt);
+        standing.tally.refused = standing.tally.refused.saturating_add(1);
+    }
+
+    /// A policy took force; answers which it is of the run.
+    pub(crate) fn add_edit(&self, rt: &impl Wait) -> u64 {
+        let mut standing = self.standing.lock(rt);
+        standing.tally.edits = standing.tally.edits.saturating_add(1);
+        standing.tally.edits
+    }
+
+    /// The clock stands at so many milliseconds since 1970.
+    pub(crate) fn set_clock(&self, rt: &impl Wait, t: u64) {
+        self.standing.lock(rt).tally.clock = t;
+    }
+
+    /// What came.
+    pub(crate) fn tally(&self, rt: &impl Wait) -> Tally {
+        self.standing.lock(rt).tally
     }
 
     /// How many records were accepted; or how many were so before the last message that cut somebody.
@@ -170,7 +223,7 @@ impl RunState {
         if before_cut {
             standing.records_before_cut
         } else {
-            standing.records
+            standing.tally.records
         }
     }
 }

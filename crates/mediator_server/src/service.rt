@@ -8,6 +8,7 @@ use crate::exporters::{self, ExporterHandles};
 use crate::listeners::{Caller, Came, Listeners, OwnAddresses};
 use crate::listening::ListenFault;
 use crate::plan::{Collector, Plan};
+use crate::roster::{Reach, Roster};
 use crate::run_state::RunState;
 use crate::time::{has_passed, now};
 use crate::{administrators, notes};
@@ -19,6 +20,7 @@ use shared_mediator::{
 };
 use std::alloc::{AllocError, Global};
 use std::net::{Net, TcpListener, TcpStream};
+use std::rt::Files;
 use std::sync::{Mutex, Wait};
 use std::thread;
 use std::thread::{JoinHandle, Scope, Threads};
@@ -44,7 +46,10 @@ pub(crate) struct Service<'m, E: EntryLedger, H: RecordLedger> {
     pub(crate) shared: &'m SharedMediator<E, H>,
     pub(crate) plan: &'m Plan,
     pub(crate) own: OwnAddresses,
+    /// When the run began, in milliseconds since 1970; 0 where the machine's time can't be read.
+    pub(crate) started: u64,
     pub(crate) state: RunState,
+    pub(crate) roster: Roster,
     pub(crate) exporters: Connections,
     pub(crate) administrators: Connections,
     pub(crate) collectors: Connections,
@@ -59,6 +64,7 @@ impl<'m, E: EntryLedger, H: RecordLedger> Service<'m, E, H> {
         shared: &'m SharedMediator<E, H>,
         plan: &'m Plan,
         own: OwnAddresses,
+        started: u64,
         waker: Waker,
     ) -> Service<'m, E, H> {
         Service {
@@ -66,7 +72,9 @@ impl<'m, E: EntryLedger, H: RecordLedger> Service<'m, E, H> {
             shared,
             plan,
             own,
+            started,
             state: RunState::new(alloc, waker),
+            roster: Roster::new(alloc),
             exporters: Connections::new(alloc),
             administrators: Connections::new(alloc),
             collectors: Connections::new(alloc),
@@ -101,7 +109,13 @@ fn is_nearly(number: u64, most: u64) -> bool {
 pub(crate) fn serve<
     E: EntryLedger + Send + Sync,
     H: RecordLedger + Send + Sync,
-    R: Net<Listener = TcpListener, Stream = TcpStream> + Threads + Wait + Clock + Log + Sync,
+    R: Files
+        + Net<Listener = TcpListener, Stream = TcpStream>
+        + Threads
+        + Wait
+        + Clock
+        + Log
+        + Sync,
 >(
     rt: &R,
     alloc: Global,
@@ -117,7 +131,9 @@ pub(crate) fn serve<
         Ok(opened) => opened,
         Err(fault) => return Err(fault),
     };
-    let service = Service::new(alloc, shared, plan, listeners.own(), waker);
+    let own = listeners.own();
+    let service = Service::new(alloc, shared, plan, own, milliseconds(rt), waker);
+    list_first(rt, &service, &first, &subs);
     let mut handles = serve_all(rt, &service, &mut admin, listeners, subs)?;
     handles.stopped = service.state.is_stopped(rt);
     handles.exporters = service.handles.into_ended();
@@ -125,6 +141,31 @@ pub(crate) fn serve<
     handles.admins.push_reserved(admin);
     handles.admins.push_reserved(first);
     Ok(handles)
+}
+
+/// The machine's time, in milliseconds since 1970; 0 where it can't be read.
+fn milliseconds(rt: &impl Clock) -> u64 {
+    match rt.since_1970() {
+        Ok(time) => u64::try_from(time.as_millis()).unwrap_or(0),
+        Err(_) => 0,
+    }
+}
+
+/// Notes the first policy, and lists the first subscriptions, of which no collector is connected yet.
+fn list_first<E: EntryLedger, H: RecordLedger, R: Wait + Log>(
+    rt: &R,
+    service: &Service<'_, E, H>,
+    admin: &AdminHandle<E>,
+    subs: &Vec<SubId>,
+) {
+    if let Some(receipt) = admin.kept().first() {
+        notes::first_policy(rt, receipt.position);
+    }
+    for (collector, sub) in service.plan.deliver.iter().zip(subs.iter()) {
+        service
+            .roster
+            .begin(rt, *sub, collector.name.as_str(), Reach::Absent);
+    }
 }
 
 /// Listens on both addresses.
@@ -221,7 +262,13 @@ fn connect_once<
 fn serve_all<
     E: EntryLedger + Send + Sync,
     H: RecordLedger + Send + Sync,
-    R: Net<Listener = TcpListener, Stream = TcpStream> + Threads + Wait + Clock + Log + Sync,
+    R: Files
+        + Net<Listener = TcpListener, Stream = TcpStream>
+        + Threads
+        + Wait
+        + Clock
+        + Log
+        + Sync,
 >(
     rt: &R,
     service: &Service<'_, E, H>,
@@ -278,7 +325,13 @@ fn start_deliveries<
     X: 's,
     E: EntryLedger + Send + Sync,
     H: RecordLedger + Send + Sync,
-    R: Net<Listener = TcpListener, Stream = TcpStream> + Threads + Wait + Clock + Log + Sync,
+    R: Files
+        + Net<Listener = TcpListener, Stream = TcpStream>
+        + Threads
+        + Wait
+        + Clock
+        + Log
+        + Sync,
 >(
     rt: &'r R,
     service: &'v Service<'m, E, H>,

@@ -1,7 +1,8 @@
 //! Options of a connection. One that the system refuses is left as it is.
 
 use libc::net::{
-    IPPROTO_TCP, SO_KEEPALIVE, SOL_SOCKET, TCP_KEEPCNT, TCP_KEEPIDLE, TCP_KEEPINTVL, setsockopt,
+    IPPROTO_TCP, SO_KEEPALIVE, SOL_SOCKET, TCP_KEEPCNT, TCP_KEEPIDLE, TCP_KEEPINTVL, connect,
+    setsockopt,
 };
 use std::net::TcpStream;
 use std::os::fd::AsRawFd;
@@ -41,6 +42,13 @@ pub(crate) fn keep_alive(stream: &TcpStream) {
     let _silence = unsafe { setsockopt(socket, IPPROTO_TCP, TCP_KEEPIDLE, &silence, 4) };
     let _each = unsafe { setsockopt(socket, IPPROTO_TCP, TCP_KEEPINTVL, &each, 4) };
     let _times = unsafe { setsockopt(socket, IPPROTO_TCP, TCP_KEEPCNT, &times, 4) };
+}
+
+/// Ends a connection by a reset (RST): what isn't sent yet is lost.
+pub(crate) fn reset(stream: &TcpStream) {
+    // An address of no family has the system forget the peer, and reset the connection.
+    let nobody = [0u8; 128];
+    let _reset = unsafe { connect(stream.as_raw_fd(), &nobody, 16) };
 }
 
 /// A number as the value of an option.

@@ -490,6 +490,19 @@ impl<C: Chronicle + Drop> State<C> {
         self.engine.is_advance_held_up(t)
     }
 
+    /// How many groups of aggregates the clock hasn't closed, of all subscriptions together.
+    ///
+    /// # Errors
+    /// Want of memory.
+    pub fn open_groups(&self) -> Result<u64, AllocError> {
+        let groups = &self.engine.groups;
+        let mut count = 0u64;
+        for sub in groups.subs()? {
+            count = count.saturating_add(groups.len(sub) as u64);
+        }
+        Ok(count)
+    }
+
     /// How many entries of the audit wait to be handed out.
     pub fn audit_waiting(&self) -> u32 {
         let audit = &self.engine.audit;

@@ -93,7 +93,7 @@ pub(crate) fn administer<E: EntryLedger, H: RecordLedger, R: Wait + Abort>(
     };
     let mut reader = Device::new(Sparing::new(row.asked, row.most, row.reads, ConnectionReset));
     let mut writer = Device::new(Narrow::new(alloc, ROOM, row.takes, row.writes, BrokenPipe)?);
-    let told = Told::nothing(&[]);
+    let told = Told::nothing(alloc, &[]);
     let served = serve_admin(
         rt,
         alloc,
@@ -106,6 +106,7 @@ pub(crate) fn administer<E: EntryLedger, H: RecordLedger, R: Wait + Abort>(
     );
     assert!(rt; served == row.due, "{served:?}");
     assert!(rt; told.stops() == row.stops);
+    assert!(rt; told.accepted() == row.entries);
     let written = writer.into_inner().octets;
     let answered = answered(alloc, row)?;
     assert!(rt; written.as_slice() == answered.as_slice(), "{written:?}");
@@ -312,6 +313,15 @@ const CONNECTIONS: &[(&[u8], Result<u64, ServeFault>, &[u8], u64)] = &[
         b"ok\nok 2\nok 0 0 live\nerr UnknownSub\n",
         2,
     ),
+    // Pages are told behind what was accepted before, with as many lines as they have.
+    (
+        b"run\nadvance 5\nrun\npolicy\nhelp\nstatus\nstatus 1\n",
+        Ok(7),
+        b"ok 1\nrun\nok\nok 1\nrun behind a call\nok 2\npolicy 1\n\nok 0\nerr OutOfMemory\nok 1 0 live\n",
+        1,
+    ),
+    (b"run\nhelp \nrun\n", Ok(1), b"ok 1\nrun\nerr Line\n", 0),
+    (b"policy 1\n", Ok(0), b"err Line\n", 0),
 ];
 
 /// Connections with a `stop`, or nearly one; how many writes come before one that fails; what they end in, what is answered, and how

@@ -93,6 +93,12 @@ impl<E: EntryLedger, H: RecordLedger, R: Wait> Patience for Patient<'_, E, H, R>
 
 impl<E: EntryLedger, H: RecordLedger, R: Wait> Control for Patient<'_, E, H, R> {
     fn stop(&self) {}
+
+    fn accept(&self, _receipt: &KeptEntry) {}
+
+    fn tell(&self, _topic: Topic, _receipts: &[KeptEntry]) -> Result<Vec<u8>, AllocError> {
+        Err(AllocError)
+    }
 }
 
 impl<E: EntryLedger, H: RecordLedger, R: Wait> Reception for Patient<'_, E, H, R> {

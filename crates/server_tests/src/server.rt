@@ -1,11 +1,15 @@
 //! What a connection tells and asks its server, noted.
+use admin_lines::Topic;
+use entry_receipts::KeptEntry;
 use mediator_server::{Control, Patience, Reception};
 use mediator_state::Receipt;
+use std::alloc::{AllocError, Global};
 use std::cell::Cell;
 
 /// A server that waits for nothing, and notes what it's told: of the messages of a stream which, and how often to stop.
 #[derive(Drop)]
 pub(crate) struct Told<'a> {
+    alloc: Global,
     stream: &'a [u8],
     /// Where the next message of the stream begins.
     place: Cell<usize>,
@@ -13,17 +17,21 @@ pub(crate) struct Told<'a> {
     /// Whether each message had the octets that its length says.
     are_whole: Cell<bool>,
     stops: Cell<u64>,
+    /// How many calls of an administrator were accepted.
+    accepted: Cell<u64>,
 }
 
 impl<'a> Told<'a> {
     /// Nothing, of this stream.
-    pub(crate) fn nothing(stream: &'a [u8]) -> Told<'a> {
+    pub(crate) fn nothing(alloc: Global, stream: &'a [u8]) -> Told<'a> {
         Told {
+            alloc,
             stream,
             place: Cell::new(0),
             messages: Cell::new(0),
             are_whole: Cell::new(true),
             stops: Cell::new(0),
+            accepted: Cell::new(0),
         }
     }
 
@@ -34,6 +42,11 @@ impl<'a> Told<'a> {
         } else {
             None
         }
+    }
+
+    /// How many calls of an administrator were accepted.
+    pub(crate) fn accepted(&self) -> u64 {
+        self.accepted.get()
     }
 
     /// How often the run was to end.
@@ -62,6 +75,21 @@ impl Patience for Told<'_> {
 impl Control for Told<'_> {
     fn stop(&self) {
         self.stops.set(self.stops.get().saturating_add(1));
+    }
+
+    fn accept(&self, _receipt: &KeptEntry) {
+        self.accepted.set(self.accepted.get().saturating_add(1));
+    }
+
+    fn tell(&self, topic: Topic, receipts: &[KeptEntry]) -> Result<Vec<u8>, AllocError> {
+        let page: &[u8] = match (topic, receipts.len()) {
+            (Topic::Run, 2) => b"run\n",
+            (Topic::Run, 3) => b"run behind a call\n",
+            (Topic::Policy, _) => b"policy 1\n\n",
+            (Topic::Help, _) => b"",
+            _ => return Err(AllocError),
+        };
+        Vec::from_slice(self.alloc, page)
     }
 }
 

@@ -125,7 +125,7 @@ pub(crate) fn serve<E: EntryLedger, H: RecordLedger, R: Threads + Wait + Abort +
     }
     let mut reader = Device::new(Sparing::new(row.stream, row.most, row.reads, ConnectionReset));
     let (turns, workers) = (row.turns, row.workers);
-    let told = Told::nothing(row.stream);
+    let told = Told::nothing(alloc, row.stream);
     let served = serve_exporter(
         rt,
         alloc,

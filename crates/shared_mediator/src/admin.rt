@@ -171,7 +171,7 @@ impl<E: EntryLedger> AdminHandle<E> {
     ) -> Result<Vec<AuditEntry>, AllocError>
         ensures few { IfOk result (λ out. vec_len out ≤ most) }
     {
-        shared.desk.lock(rt).drain_audit(most)
+        shared.locked(rt).drain_audit(most)
     }
 
     /// How a live subscription stands.

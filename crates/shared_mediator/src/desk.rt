@@ -54,6 +54,14 @@ impl<E: EntryLedger, H: RecordLedger> Model for Desk<E, H> {
     ghost invariant = { λ d. IsKept E.all E.before H.all (locked_as d.counted d.handles d.exporters d.deliveries d.admins d.stopped d.full) (ledgered_as d.entries.total d.entries_left.parts d.entries_left.amount) (ledgered_as d.handed.total d.handed_left.parts d.handed_left.amount) };
 }
 
+/// A session that was opened: its number, the position in the journal at which it begins, and its exporter's share.
+#[derive(Drop)]
+pub(crate) struct OpenedSession<E: EntryLedger> {
+    pub(crate) session: SessionId,
+    pub(crate) position: u64,
+    pub(crate) share: Share<E>,
+}
+
 /// What was accepted: the entry's position in the journal, and the number that the call answers.
 #[derive(Clone, Copy, Debug, PartialEq, Eq)]
 pub(crate) struct Accepted {
@@ -90,22 +98,28 @@ impl<E: EntryLedger, H: RecordLedger> Desk<E, H> {
     }
 
     /// Opens a session, with a share for its exporter.
-    pub(crate) fn exporter(&mut self) -> Result<(SessionId, Share<E>), HandleFault>
-        ensures ok { IfOk result (λ given. Opens self.old.counted.core given.0.0 self.new.counted.core) }
+    pub(crate) fn exporter(&mut self) -> Result<OpenedSession<E>, HandleFault>
+        ensures ok { IfOk result (λ opened. Opens self.old.counted.core opened.session.0 self.new.counted.core) }
         ensures counts { OnOk result (Makes 0 0 0 1 0 0 self.old self.new) }
-        ensures share { IfOk result (λ given. (given.1.parts ≡ 1) × (given.1.amount ≡ 0)) }
+        ensures share { IfOk result (λ opened. (opened.share.parts ≡ 1) × (opened.share.amount ≡ 0)) }
+        ensures position { IfOk result (λ opened. opened.position ≡ length self.old.counted.core.history) }
         ensures same { IfErr result (λ e. self.new ≡ noted (is_full_handle e) self.old) }
         ensures err { IfErr result (λ e. RefusesExporter e self.old) }
     {
         if self.exporters == self.handles {
             return Err(HandleFault::NoHandle);
         }
+        let position = self.counted.mediator().journal().len();
         let session = match self.counted.open() {
             Ok(session) => session,
             Err(fault) => return Err(HandleFault::Core(self.note(fault))),
         };
         self.exporters += 1;
-        Ok((session, self.entries_left.split_off(1, 0)))
+        Ok(OpenedSession {
+            session,
+            position,
+            share: self.entries_left.split_off(1, 0),
+        })
     }
 
     /// A share for a delivery to a live subscription.

@@ -4,6 +4,7 @@ ghost use Rattle.event_journal.specs.declared.entry.Entry.TheVariants.{Message};
 ghost use Rattle.shared_mediator.specs.Locked.{exporting_as};
 ghost use Rattle.shared_mediator.specs.Handles.{AreMessages};
 
+use crate::desk::OpenedSession;
 use crate::ledgers::{EntryLedger, RecordLedger};
 use crate::shared::SharedMediator;
 use bytes::Bytes;
@@ -25,6 +26,7 @@ use std::sync::ledger::Share;
 #[derive(Drop)]
 pub struct ExporterHandle<E: EntryLedger> {
     pub(crate) session: SessionId,
+    opened_at: u64,
     pub(crate) kept: Vec<KeptEntry>,
     pub(crate) share: Share<E>,
 }
@@ -42,13 +44,19 @@ impl<E: EntryLedger> Model for ExporterHandle<E> {
 
 impl<E: EntryLedger> ExporterHandle<E> {
     /// A handle that has offered nothing.
-    pub(crate) fn new(alloc: Global, session: SessionId, share: Share<E>) -> ExporterHandle<E>
-        requires part { share.parts ≡ 1 }
-        requires none { share.amount ≡ 0 }
-        ensures { result ≡ exporting_as session.0 [] }
+    pub(crate) fn new(alloc: Global, opened: OpenedSession<E>) -> ExporterHandle<E>
+        requires part { opened.share.parts ≡ 1 }
+        requires none { opened.share.amount ≡ 0 }
+        ensures { result ≡ exporting_as opened.session.0 [] }
     {
+        let OpenedSession {
+            session,
+            position,
+            share,
+        } = opened;
         ExporterHandle {
             session,
+            opened_at: position,
             kept: Vec::new(alloc),
             share,
         }
@@ -59,6 +67,11 @@ impl<E: EntryLedger> ExporterHandle<E> {
         ensures { result.0 ≡ self.now.session }
     {
         self.session
+    }
+
+    /// The position in the journal at which its session begins.
+    pub fn opened_at(&self) -> u64 {
+        self.opened_at
     }
 
     /// The receipts of its messages, in order: the session's messages from the first on.

@@ -10,7 +10,8 @@ use crate::fault::HandleFault;
 use crate::fill::Fill;
 use crate::ledgers::{EntryLedger, RecordLedger};
 use live_subscriptions::Share;
-use mediator_calls::{Mediator, SubId};
+use mediator_calls::{Mediator, SubId, UnknownSub};
+use mediator_state::Status;
 use std::alloc::Global;
 use std::sync::ledger::Blank;
 use std::sync::{Condvar, Mutex, MutexGuard, Wait};
@@ -60,8 +61,8 @@ impl<E: EntryLedger, H: RecordLedger> SharedMediator<E, H> {
     pub fn exporter(&self, rt: &impl Wait) -> Result<ExporterHandle<E>, HandleFault>
         ensures { IfOk result (λ handle. handle.kept ≡ []) }
     {
-        let (session, share) = self.desk.lock(rt).exporter()?;
-        Ok(ExporterHandle::new(self.alloc, session, share))
+        let opened = self.desk.lock(rt).exporter()?;
+        Ok(ExporterHandle::new(self.alloc, opened))
     }
 
     /// Gives a handle for the delivery to a live subscription.
@@ -102,6 +103,14 @@ impl<E: EntryLedger, H: RecordLedger> SharedMediator<E, H> {
     /// The same of what an advance of the clock to `t` would close. Not where there is no memory to find that out.
     pub fn is_advance_held_up(&self, rt: &impl Wait, t: u64) -> bool {
         self.locked(rt).is_advance_held_up(t)
+    }
+
+    /// How a live subscription stands.
+    ///
+    /// # Errors
+    /// No subscription with this number is live.
+    pub fn status(&self, rt: &impl Wait, sub: SubId) -> Result<Status, UnknownSub> {
+        self.locked(rt).status(sub)
     }
 
     /// How full the journal and the audit are now.
