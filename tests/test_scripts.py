@@ -104,7 +104,7 @@ class Scripts(ServeTest):
         exporter = run.exporter()
         exporter.send(flow_message(0))
         os.mkdir(run.path("days"))
-        words = [SCRIPTS / "watch", "--quiet", "--folder", run.path("days")]
+        words = [SCRIPTS / "watch", "--quiet", "--days", run.path("days")]
         watch = subprocess.Popen(words, env=self.environment | {"SECONDS_BETWEEN": "3600"}, stderr=subprocess.PIPE, text=True)
         self.addCleanup(watch.communicate)
         self.addCleanup(watch.kill)
@@ -420,7 +420,7 @@ class Watch(FakeTest):
 
     def begin_watch(self, *words, **environment):
         """A `watch` that writes files by day, and says nothing else."""
-        return self.begin("watch", "--quiet", "--folder", self.days, *words, **environment)
+        return self.begin("watch", "--quiet", "--days", self.days, *words, **environment)
 
     def end(self, child, status=0):
         child.terminate()
@@ -572,6 +572,22 @@ class Watch(FakeTest):
         self.end(child, 1)
         self.assertRegex(self.said("watch"), r"watch: 30 octets of the audit are lost: .*No space left on device\n\Z")
         self.assertEqual(self.mediator.asked.count("audit 10000"), 1)
+
+    def test_no_folder(self):
+        """Without the folder it reads nothing; where that goes meanwhile, it tries again until it is back."""
+        self.open_door()
+        self.mediator.audit.append("3 0 1 cut")
+        self.expect_end(self.begin("watch", "--days", self.folder / "none"), 1)
+        self.assertRegex(self.said("watch"), r"\Awatch: .* is no folder that can be written to\n\Z")
+        self.assertEqual(self.mediator.asked, [])
+        child = self.begin_watch()
+        wait_until(lambda: self.lines() == ["3 0 1 cut"], "it is read")
+        aside = self.days.rename(self.folder / "aside")
+        self.mediator.audit.append("4 0 1 cut")
+        wait_until(lambda: "No such file or directory" in self.said("watch"), "the folder is missed")
+        aside.rename(self.days)
+        wait_until(lambda: self.lines() == ["3 0 1 cut", "4 0 1 cut"], "it is written")
+        self.end(child)
 
     def test_full_for_a_while(self):
         """What a full pipe didn't take is written when it has room, each line once and in order."""
