@@ -4,7 +4,7 @@ import unittest
 
 from messages import flow_message
 from peers import HOST, Door, free_port
-from serving import PASS, ServeTest
+from serving import PASS, ServeTest, untimed
 
 DEVICE = "ipmd: device\n"
 
@@ -15,7 +15,7 @@ class Refusals(ServeTest):
         on standard output."""
         run = self.start(rules, **asked)
         ended = run.end()
-        before, _, last = ended.notes.removesuffix("\n").rpartition("\n")
+        before, _, last = untimed(ended.notes).removesuffix("\n").rpartition("\n")
         self.assertEqual(last + "\n", fault, ended.notes)
         self.assertEqual(before.rpartition("\n")[2][: len(note)], note, ended.notes)
         self.assertEqual((ended.status, ended.output), (status, ""), ended.notes)

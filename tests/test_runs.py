@@ -9,7 +9,7 @@ from messages import FLOW, address, flow_message, records
 from peers import HOST
 from runs import failed
 from runs import run as run_program
-from serving import ServeTest
+from serving import ServeTest, untimed
 
 # What passes nothing.
 WITHHOLD = "policy 1\nrule for * in * from * to * withhold\n"
@@ -149,7 +149,8 @@ class Runs(ServeTest):
         run = self.start(journal="journal", links={"output": "/dev/full"})
         self.make_short_run(run)
         self.assertEqual(run.child.wait(20), 3)
-        self.assertTrue(run.notes().endswith("\n[INFO  ipmd] journal journal.1 written\n" + failed("standard output", errno.ENOSPC)), run.notes())
+        said = "\n[INFO  ipmd] journal journal.1 written\n" + failed("standard output", errno.ENOSPC)
+        self.assertTrue(untimed(run.notes()).endswith(said), run.notes())
         self.assertEqual(self.files(run), ["journal.1"])
 
     def test_no_folder(self):
