@@ -58,7 +58,11 @@ fn keep_journal<R: Files + AllocGlobal>(
 {
     let alloc = rt.alloc();
     let file = of_file(alloc, path, fs::create(rt, path))?;
-    let buffer = of_file(alloc, path, BufWriter::with_capacity(alloc, JOURNAL_BUFFER, file))?;
+    let buffer = of_file(
+        alloc,
+        path,
+        BufWriter::with_capacity(alloc, JOURNAL_BUFFER, file),
+    )?;
     put_journal(alloc, path, journal, &mut Device::new(buffer))
 }
 

@@ -47,13 +47,7 @@ struct Keeping {
 #[tactic(auto, using(ipmd_offline::proofs::Lines::kept))]
 pub(crate) fn serve_runs<
     R: System,
-    N: Files
-        + Net<Listener = TcpListener, Stream = TcpStream>
-        + Threads
-        + Wait
-        + Clock
-        + Log
-        + Sync,
+    N: Net<Listener = TcpListener, Stream = TcpStream> + Threads + Wait + Clock + Log + Sync,
     O: Write,
 >(rt: &R, noting: &N, service: Service, output: &mut Device<O>) -> Result<(), ProgramFault>
     requires asked { IsAskedFor service }
@@ -90,13 +84,7 @@ pub(crate) fn serve_runs<
 #[tactic(auto, using(ipmd_offline::proofs::Lines::kept, crate::proofs::Running::told_all))]
 fn serve_run<
     R: Files + AllocGlobal,
-    N: Files
-        + Net<Listener = TcpListener, Stream = TcpStream>
-        + Threads
-        + Wait
-        + Clock
-        + Log
-        + Sync,
+    N: Net<Listener = TcpListener, Stream = TcpStream> + Threads + Wait + Clock + Log + Sync,
     O: Write,
 >(
     rt: &R,
@@ -163,13 +151,7 @@ fn keeping_of<R: Files + AllocGlobal>(
 /// # Errors
 /// Those of `listen`; `OutOfMemory`.
 fn make_run<
-    N: Files
-        + Net<Listener = TcpListener, Stream = TcpStream>
-        + Threads
-        + Wait
-        + Clock
-        + Log
-        + Sync,
+    N: Net<Listener = TcpListener, Stream = TcpStream> + Threads + Wait + Clock + Log + Sync,
 >(
     noting: &N,
     alloc: Global,

@@ -9,7 +9,6 @@ use shared_mediator::Closed;
 use std::alloc::{AllocError, Global};
 use std::net::{Net, Shutdown, SocketAddr, TcpListener, TcpStream};
 use std::process::Abort;
-use std::rt::Files;
 use std::sync::Wait;
 use std::thread;
 use std::thread::Threads;
@@ -47,13 +46,7 @@ struct Met {
 
 /// Plays a scene, in which the administrator asks this and the exporter sends this, by a clock that shows this.
 pub(crate) fn play<
-    R: Files
-        + Net<Listener = TcpListener, Stream = TcpStream>
-        + Threads
-        + Wait
-        + Clock
-        + Abort
-        + Sync,
+    R: Net<Listener = TcpListener, Stream = TcpStream> + Threads + Wait + Clock + Abort + Sync,
 >(
     rt: &R,
     alloc: Global,
@@ -87,15 +80,7 @@ pub(crate) fn play<
 }
 
 /// A run, with its peers in this thread.
-fn meet<
-    R: Files
-        + Net<Listener = TcpListener, Stream = TcpStream>
-        + Threads
-        + Wait
-        + Clock
-        + Abort
-        + Sync,
->(
+fn meet<R: Net<Listener = TcpListener, Stream = TcpStream> + Threads + Wait + Clock + Abort + Sync>(
     rt: &R,
     alloc: Global,
     world: &World<'_, R>,

@@ -8,7 +8,6 @@ use shared_mediator::Closed;
 use std::alloc::{AllocError, Global};
 use std::net::{Net, TcpListener, TcpStream};
 use std::process::Abort;
-use std::rt::Files;
 use std::sync::Wait;
 use std::thread::Threads;
 use std::time::Clock;
@@ -113,13 +112,7 @@ pub(crate) fn set_up<R: Net<Listener = TcpListener, Stream = TcpStream> + Abort>
 
 /// Runs a server by a plan, on a mediator of its own.
 pub(crate) fn run<
-    R: Files
-        + Net<Listener = TcpListener, Stream = TcpStream>
-        + Threads
-        + Wait
-        + Clock
-        + Log
-        + Sync,
+    R: Net<Listener = TcpListener, Stream = TcpStream> + Threads + Wait + Clock + Log + Sync,
 >(rt: &R, alloc: Global, stage: &Stage) -> Result<Closed, ListenFault> {
     match Mediator::new(alloc, stage.limits) {
         Ok(mediator) => {

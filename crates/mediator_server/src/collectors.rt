@@ -20,7 +20,6 @@ use shared_mediator::{AdminHandle, DeliveryHandle, EntryLedger, HandleFault, Rec
 use std::alloc::Global;
 use std::io::{self, ErrorKind};
 use std::net::{Net, SocketAddr, TcpListener, TcpStream, ToSocketAddrs};
-use std::rt::Files;
 use std::sync::Wait;
 use std::time::{Clock, Duration};
 
@@ -97,7 +96,7 @@ fn not_own(
 pub(crate) fn serve<
     E: EntryLedger,
     H: RecordLedger,
-    R: Files + Net<Listener = TcpListener, Stream = TcpStream> + Wait + Clock + Log,
+    R: Net<Listener = TcpListener, Stream = TcpStream> + Wait + Clock + Log,
 >(
     rt: &R,
     service: &Service<'_, E, H>,
@@ -175,7 +174,7 @@ fn note_unreached<E: EntryLedger, H: RecordLedger, R: Wait + Log>(
 }
 
 /// Delivers over a new connection: by the subscription that there is, where nothing of it was ever handed out; else by a new one.
-fn deliver_anew<E: EntryLedger, H: RecordLedger, R: Files + Wait + Clock + Log>(
+fn deliver_anew<E: EntryLedger, H: RecordLedger, R: Wait + Clock + Log>(
     rt: &R,
     service: &Service<'_, E, H>,
     collector: &Collector,
@@ -265,7 +264,7 @@ fn begin<E: EntryLedger, H: RecordLedger, R: Wait>(
 }
 
 /// Delivers over a connection.
-fn deliver_over<E: EntryLedger, H: RecordLedger, R: Files + Wait + Clock + Log>(
+fn deliver_over<E: EntryLedger, H: RecordLedger, R: Wait + Clock + Log>(
     rt: &R,
     service: &Service<'_, E, H>,
     collector: &Collector,
@@ -312,10 +311,10 @@ fn deliver_over<E: EntryLedger, H: RecordLedger, R: Files + Wait + Clock + Log>(
 
 /// Ends the connection of a subscription that was cut: when the collector's system has all that was written, by a reset, so that the
 /// collector can tell this from the end of its stream. Where the system doesn't tell how much it has, by such an end.
-fn break_off<R: Files + Wait + Clock>(rt: &R, alloc: Global, connection: &Connection) {
+fn break_off<R: Wait + Clock>(rt: &R, alloc: Global, connection: &Connection) {
     let begun = now(rt);
     for _ in rt.forever() {
-        match is_sent(rt, alloc, connection) {
+        match is_sent(alloc, connection) {
             Some(true) => return reset(connection.stream()),
             Some(false) => {}
             None => return say_farewell(rt, connection.stream()),

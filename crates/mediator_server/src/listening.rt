@@ -16,7 +16,6 @@ use std::fmt::{self, Display, Formatter, Write};
 use std::io::{self, ErrorKind};
 use std::marker::Brand;
 use std::net::{Net, TcpListener, TcpStream};
-use std::rt::Files;
 use std::sync::Wait;
 use std::sync::ledger::Blank;
 use std::thread::Threads;
@@ -129,13 +128,7 @@ fn handles_for(plan: &Plan) -> u64
 /// can't be connected to; a thread was refused; memory ran out; or the mediator isn't given back. What runs is ended first: all who
 /// came in are hung up, and what is queued is sent.
 pub fn listen<
-    R: Files
-        + Net<Listener = TcpListener, Stream = TcpStream>
-        + Threads
-        + Wait
-        + Clock
-        + Log
-        + Sync,
+    R: Net<Listener = TcpListener, Stream = TcpStream> + Threads + Wait + Clock + Log + Sync,
 >(rt: &R, alloc: Global, plan: &Plan, mediator: Mediator) -> Result<Ended, ListenFault>
     requires fresh { handed_live mediator ≡ 0 }
     ensures served { IfOk result (λ ended. IsServed plan.now mediator.history ended.closed.mediator.history ended.closed.accepted ended.closed.handed) }
@@ -149,13 +142,7 @@ pub fn listen<
 fn listen_with<
     E: EntryLedger + Send + Sync,
     H: RecordLedger + Send + Sync,
-    R: Files
-        + Net<Listener = TcpListener, Stream = TcpStream>
-        + Threads
-        + Wait
-        + Clock
-        + Log
-        + Sync,
+    R: Net<Listener = TcpListener, Stream = TcpStream> + Threads + Wait + Clock + Log + Sync,
 >(
     rt: &R,
     alloc: Global,

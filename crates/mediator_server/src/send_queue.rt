@@ -2,23 +2,22 @@
 
 use crate::connections::Connection;
 use flow_prefix::cut_at;
+use libc::{close, read};
+use os::open_read;
 use std::alloc::Global;
-use std::fs::OpenOptions;
-use std::io::{self, Read};
 use std::net::SocketAddr;
-use std::rt::Files;
 
 /// How many octets of a list are read at once.
 const PIECE: usize = 8192;
 
 /// Whether the peer's system has acknowledged all that was written. `None` where the system doesn't tell.
-pub(crate) fn is_sent<R: Files>(rt: &R, alloc: Global, connection: &Connection) -> Option<bool> {
+pub(crate) fn is_sent(alloc: Global, connection: &Connection) -> Option<bool> {
     let local = connection.stream().local_addr().ok()?;
-    let path = match local {
-        SocketAddr::V4(_) => "/proc/net/tcp",
-        SocketAddr::V6(_) => "/proc/net/tcp6",
+    let path: &[u8] = match local {
+        SocketAddr::V4(_) => b"/proc/net/tcp",
+        SocketAddr::V6(_) => b"/proc/net/tcp6",
     };
-    let list = read_list(rt, alloc, path).ok()?;
+    let list = read_list(alloc, path)?;
     let (here, there) = (local.port(), connection.peer.port());
     let mut found = None;
     for line in list.as_slice().split(|octet| *octet == b'\n') {
@@ -29,19 +28,28 @@ pub(crate) fn is_sent<R: Files>(rt: &R, alloc: Global, connection: &Connection) 
     found
 }
 
-/// The text of a list.
-fn read_list<R: Files>(rt: &R, alloc: Global, path: &str) -> io::Result<Vec<u8>> {
-    let mut file = rt.open_file(OpenOptions::new().read(true), path)?;
-    let mut list = Vec::new(alloc);
+/// The text of a list; `None` where it can't be read, or there is no memory for it.
+fn read_list(alloc: Global, path: &[u8]) -> Option<Vec<u8>> {
+    let descriptor = open_read(path);
+    if descriptor < 0 {
+        return None;
+    }
+    let list = read_to_end(alloc, descriptor);
+    let _closed = close(descriptor);
+    list
+}
+
+fn read_to_end(alloc: Global, descriptor: i32) -> Option<Vec<u8>> {
+    let mut octets = Vec::new(alloc);
     let mut piece = [0u8; PIECE];
     for _ in 0..u64::MAX {
-        let count = file.read(&mut piece)?;
+        let count = usize::try_from(read(descriptor, &mut piece)).ok()?;
         if count == 0 {
             break;
         }
-        list.extend_from_slice(&piece[..count])?;
+        octets.extend_from_slice(piece.get(..count)?).ok()?;
     }
-    Ok(list)
+    Some(octets)
 }
 
 /// Whether a line's connection has nothing to send, where it is one between these ports: behind the place in the list stand both

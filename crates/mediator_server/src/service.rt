@@ -20,7 +20,6 @@ use shared_mediator::{
 };
 use std::alloc::{AllocError, Global};
 use std::net::{Net, TcpListener, TcpStream};
-use std::rt::Files;
 use std::sync::{Mutex, Wait};
 use std::thread;
 use std::thread::{JoinHandle, Scope, Threads};
@@ -109,13 +108,7 @@ fn is_nearly(number: u64, most: u64) -> bool {
 pub(crate) fn serve<
     E: EntryLedger + Send + Sync,
     H: RecordLedger + Send + Sync,
-    R: Files
-        + Net<Listener = TcpListener, Stream = TcpStream>
-        + Threads
-        + Wait
-        + Clock
-        + Log
-        + Sync,
+    R: Net<Listener = TcpListener, Stream = TcpStream> + Threads + Wait + Clock + Log + Sync,
 >(
     rt: &R,
     alloc: Global,
@@ -262,13 +255,7 @@ fn connect_once<
 fn serve_all<
     E: EntryLedger + Send + Sync,
     H: RecordLedger + Send + Sync,
-    R: Files
-        + Net<Listener = TcpListener, Stream = TcpStream>
-        + Threads
-        + Wait
-        + Clock
-        + Log
-        + Sync,
+    R: Net<Listener = TcpListener, Stream = TcpStream> + Threads + Wait + Clock + Log + Sync,
 >(
     rt: &R,
     service: &Service<'_, E, H>,
@@ -325,13 +312,7 @@ fn start_deliveries<
     X: 's,
     E: EntryLedger + Send + Sync,
     H: RecordLedger + Send + Sync,
-    R: Files
-        + Net<Listener = TcpListener, Stream = TcpStream>
-        + Threads
-        + Wait
-        + Clock
-        + Log
-        + Sync,
+    R: Net<Listener = TcpListener, Stream = TcpStream> + Threads + Wait + Clock + Log + Sync,
 >(
     rt: &'r R,
     service: &'v Service<'m, E, H>,
