@@ -62,6 +62,22 @@ fn refusals(rt: HostRuntime) -> Result<(), Fail> {
     Ok(())
 }
 
+/// Pages with what is written of them: first how many lines they have.
+const PAGES: &[(&[u8], &str)] = &[
+    (b"", "ok 0\n"),
+    (b"\n", "ok 1\n\n"),
+    (b"policy 1\n\nno rule\n", "ok 3\npolicy 1\n\nno rule\n"),
+];
+
+#[test]
+fn pages(rt: HostRuntime) -> Result<(), Fail> {
+    for (page, wanted) in PAGES {
+        let told = Answer::Told(Vec::from_slice(rt.alloc(), *page)?);
+        assert!(rt; is_told(rt.alloc(), &told, *wanted)?, "{wanted}");
+    }
+    Ok(())
+}
+
 const FULLEST_TEXT: &str = "ok 4294967295 18446744073709551615 live\n";
 
 #[test]

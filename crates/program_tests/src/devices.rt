@@ -331,9 +331,16 @@ fn blames(alloc: Global, calls: usize, told: &[u8]) -> Result<bool, AllocError> 
 
 #[test]
 fn fault_is_said(rt: HostRuntime) -> Result<(), Fail> {
-    assert!(rt; blames(rt.alloc(), 0, b"ipmd: device\n")?, "at the first write");
     assert!(rt;
-        blames(rt.alloc(), ROOM, b"ipmd: standard output: broken pipe\nipmd: device\n")?,
+        blames(rt.alloc(), 0, b"ipmd: device\n")?,
+        "at the first write"
+    );
+    assert!(rt;
+        blames(
+            rt.alloc(),
+            ROOM,
+            b"ipmd: standard output: broken pipe\nipmd: device\n"
+        )?,
         "at none"
     );
     Ok(())

@@ -12,10 +12,14 @@ pub fn is_at(fault: &ProgramFault, place: &Place) -> bool {
 /// Whether it is the file at a path.
 pub fn is_at_file(fault: &ProgramFault, path: &str) -> bool {
     match fault {
-        ProgramFault::Device(Some(Failure {
-            place: Place::File(name),
-            why: _,
-        })) => name.as_str() == path,
+        ProgramFault::Device(
+            Some(
+                Failure {
+                    place: Place::File(name),
+                    why: _,
+                },
+            ),
+        ) => name.as_str() == path,
         _ => false,
     }
 }
