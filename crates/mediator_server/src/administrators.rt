@@ -170,16 +170,15 @@ struct Answers<'r, 'v, 'm, 'c, 'l, R, E: EntryLedger, H: RecordLedger> {
     is_last: &'l Cell<bool>,
 }
 
-impl<R: Wait + Clock, E: EntryLedger, H: RecordLedger> Sink
+impl<R: Wait + Clock + Log, E: EntryLedger, H: RecordLedger> Sink
     for Answers<'_, '_, '_, '_, '_, R, E, H> {
     ghost contents = { λ _. None };
 
     ghost has_failed = { λ answers. answers.writer.has_failed };
 
     fn write(&mut self, octets: &[u8]) -> Result<usize, Failed> {
-        if self.service.shared.full(self.rt) {
+        if self.service.closes_full(self.rt) {
             self.is_last.set(true);
-            self.service.state.close(self.rt);
         }
         self.writer.write(octets)
     }

@@ -266,7 +266,9 @@ impl<R: Wait> Source for ExporterReader<'_, '_, '_, '_, R> {
                 Ok(count)
             }
             Err(kind) => {
-                if is_late(kind) {
+                if self.state.is_closing(self.rt) {
+                    self.why.set(WhyEnded::Closing);
+                } else if is_late(kind) {
                     self.why.set(WhyEnded::Idle);
                 }
                 self.has_failed = true;

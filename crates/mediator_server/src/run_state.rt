@@ -124,12 +124,14 @@ impl RunState {
         self.standing.lock(rt).is_stopped
     }
 
-    /// No exporter is taken any more, and those that are there end behind the message in hand.
-    pub(crate) fn close(&self, rt: &impl Wait) {
+    /// No exporter is taken any more, and those that are there end behind the message in hand. Answers whether that is so only now.
+    pub(crate) fn close(&self, rt: &impl Wait) -> bool {
         let mut standing = self.standing.lock(rt);
+        let was_closing = standing.is_closing;
         standing.is_closing = true;
         drop(standing);
         self.wake();
+        !was_closing
     }
 
     /// Whether exporters are to end behind the message in hand.

@@ -82,6 +82,15 @@ impl<'m, E: EntryLedger, H: RecordLedger> Service<'m, E, H> {
         }
     }
 
+    /// Whether the journal is full. Then the run ends, which is noted once.
+    pub(crate) fn closes_full<R: Wait + Log>(&self, rt: &R) -> bool {
+        let is_full = self.shared.full(rt);
+        if is_full && self.state.close(rt) {
+            notes::closes_full(rt);
+        }
+        is_full
+    }
+
     /// Warns once where the journal is nearly full.
     pub(crate) fn warn_of_the_journal<R: Wait + Log>(&self, rt: &R) {
         let (fill, limits) = (self.shared.fill(rt), &self.plan.limits);
@@ -457,11 +466,7 @@ fn close_in_time<E: EntryLedger, H: RecordLedger, R: Wait + Clock + Log>(
     taken: u64,
 ) {
     let (state, plan) = (&service.state, service.plan);
-    if service.shared.full(rt) && !state.is_closing(rt) {
-        notes::closes_full(rt);
-        state.close(rt);
-    }
-    if state.is_closing(rt) {
+    if service.closes_full(rt) || state.is_closing(rt) {
         listeners.close_to_exporters();
         service.exporters.end_all(rt);
     } else if !plan.endless && taken >= plan.connections {
