@@ -155,13 +155,21 @@ def read_message(octets, templates):
 
 
 def read_templates(content, templates, options):
-    """Adds the templates of a Template Set, or of an Options Template Set (RFC 7011, section 3.4.2)."""
+    """Adds the templates of a Template Set, or of an Options Template Set. None may be there already."""
+    for number, _, fields in template_records(content, options):
+        expect(number not in templates, f"template {number} a second time")
+        templates[number] = fields
+
+
+def template_records(content, options):
+    """The templates of a Template Set, or of an Options Template Set (RFC 7011, section 3.4.2): of each its ID, how many of its
+    fields are of the scope, and its fields."""
     at = 0
     while at < len(content):
         number, count = struct.unpack_from("!HH", content, at)
         expect(number >= FIRST_DATA_SET and count > 0, f"template {number} with {count} fields")
-        expect(number not in templates, f"template {number} a second time")
         at += 4
+        scopes = 0
         if options:
             scopes = struct.unpack_from("!H", content, at)[0]
             expect(0 < scopes <= count, f"template {number} with {scopes} scope fields of {count}")
@@ -174,7 +182,7 @@ def read_templates(content, templates, options):
                 element = (struct.unpack_from("!I", content, at)[0], element & ~ENTERPRISE)
                 at += 4
             fields.append((element, length))
-        templates[number] = fields
+        yield number, scopes, fields
 
 
 def read_records(content, fields):
