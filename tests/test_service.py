@@ -1,9 +1,12 @@
 """A service that goes on: nothing that a peer does ends a run, admins come one after another, and a run ends when it is told to."""
+import contextlib
 import os
 import pathlib
 import resource
+import threading
 import time
 import unittest
+from concurrent.futures import ThreadPoolExecutor
 
 from messages import Template, flow_message, message, records
 from peers import HOST, free_port
@@ -249,6 +252,33 @@ class Ends(ServeTest):
         notes = self.expect_served(run, 1, 1).notes
         self.assertIn(" closed, the run ends: messages 1 records 1 gaps 0\n", notes)
         self.assertEqual(notes.count("[INFO  ipmd] run "), 1)
+
+    def test_stop_while_sending(self):
+        """Twelve exporters send as fast as they can when the run is stopped: each is noted as closed by the run, and none as failed."""
+        run = self.start(subscribers=(), connections=12)
+        stopped = threading.Event()
+
+        def send(exporter):
+            with contextlib.suppress(OSError):
+                for n in range(1_000_000):
+                    exporter.send(flow_message(n))
+                    if stopped.is_set():
+                        return
+
+        exporters = [run.exporter() for _ in range(12)]
+        admin = run.admin()
+        run.wait_for_note(" connected", 13)
+        with ThreadPoolExecutor(12) as pool:
+            sending = [pool.submit(send, exporter) for exporter in exporters]
+            time.sleep(0.3)
+            self.assertEqual(admin.ask("stop"), "ok")
+            ended = run.end()
+            stopped.set()
+            for one in sending:
+                one.result()
+        self.assertEqual(ended.status, 0)
+        self.assertEqual(ended.notes.count(" closed, the run ends: messages "), 12, ended.notes)
+        self.assertNotIn(" failed, ", ended.notes)
 
     def test_endless(self):
         """Any number of exporters may come, but so many at a time; the run goes on until it is stopped."""

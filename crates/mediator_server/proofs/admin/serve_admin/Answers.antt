@@ -73,6 +73,19 @@ commands-preserved-else-heard g c = (
   c.in_ok-sent.ensures.sound,
 )
 
+pub commands-preserved-else-heard-2 : goal.commands-preserved-else-heard-2
+commands-preserved-else-heard-2 g c = (
+  tt,
+  tt,
+  serving_on c.args.turns c.commands.input c.hear.new.input c.commands.count c.commands.sent c.in_ok-sent.sent (g.R.Source.remaining c.args.reader.now) (g.R.Source.remaining c.commands.reader) (g.R.Source.remaining c.hear.new.reader) (g.W.Sink.contents c.args.writer.now) (g.W.Sink.contents c.commands.writer) (g.W.Sink.contents c.reply.new.writer) c.args.handle.now c.commands.handle c.hear.new.handle c.in-Some-heard.heard.answer c.in-Some-heard.heard.stops c.commands.invariant.2
+      (subst (λ o. MatchOption o (EndsBehind c.commands.input (g.R.Source.remaining c.commands.reader) (g.R.Source.remaining c.hear.new.reader) [] × (c.hear.new.handle ≡ c.commands.handle)) (λ heard. Hears heard.answer heard.stops c.commands.input (g.R.Source.remaining c.commands.reader) (g.R.Source.remaining c.hear.new.reader) c.hear.new.input c.commands.handle c.hear.new.handle)) c.in-Some-heard.is c.in_ok-heard.ensures.ok)
+      c.in_ok-sent.ensures.ok
+      (λ bad. elim c.match-matches.branch [ in-BadLine w ↦ absurd cc | in_default-matches w ↦ w.in_default-matches.not-BadLine bad ])
+      c.if-heard.false,
+  c.in_ok-heard.ensures.sound,
+  c.in_ok-sent.ensures.sound,
+)
+
 pub commands-preserved : goal.commands-preserved
 commands-preserved g c = (
   tt,
