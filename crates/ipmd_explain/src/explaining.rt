@@ -36,12 +36,20 @@ pub fn explain<R: Files + AllocGlobal, O: Write, P: Progress>(
     let question = question_of(options);
     let (alloc, path) = (rt.alloc(), options.journal);
     let file = of_file(alloc, path, fs::open(rt, path))?;
-    let input = of_file(alloc, path, BufReader::with_capacity(alloc, FILE_BUFFER, file))?;
+    let input = of_file(
+        alloc,
+        path,
+        BufReader::with_capacity(alloc, FILE_BUFFER, file),
+    )?;
     let mut unsaid = Device::new(sink());
     explain_input(alloc, question, path, input, &mut unsaid, progress)?;
     progress.silence();
     let file = of_file(alloc, path, fs::open(rt, path))?;
-    let input = of_file(alloc, path, BufReader::with_capacity(alloc, FILE_BUFFER, file))?;
+    let input = of_file(
+        alloc,
+        path,
+        BufReader::with_capacity(alloc, FILE_BUFFER, file),
+    )?;
     explain_input(alloc, question, path, input, output, progress)
 }
 

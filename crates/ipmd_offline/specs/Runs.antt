@@ -222,7 +222,7 @@ abbrev pub RefusesToFilter : OfflineOptions → ProgramFault → Option (List �
 RefusesToFilter options e given held holds =
     ((IsSourceFault options.policy e ⊎ IsAuditFault options.audit e) × Keeps held holds)
     ⊎ ((asked : Asked options) × (audit_held audit_holds : Option (List ℕ)) × (fault : ProgramFault) × IsOfAudit options.audit fault e
-        × RefusesInput fault options.hex asked.job given held holds audit_held audit_holds)
+    × RefusesInput fault options.hex asked.job given held holds audit_held audit_holds)
 
 -- what is said of a stream that was filtered
 abbrev pub line_of_report : OfflineReport → List ℕ

@@ -32,7 +32,11 @@ pub fn verify<R: Files + AllocGlobal, O: Write, P: Progress>(
 {
     let (alloc, path) = (rt.alloc(), options.journal);
     let file = of_file(alloc, path, fs::open(rt, path))?;
-    let input = of_file(alloc, path, BufReader::with_capacity(alloc, FILE_BUFFER, file))?;
+    let input = of_file(
+        alloc,
+        path,
+        BufReader::with_capacity(alloc, FILE_BUFFER, file),
+    )?;
     verify_input(alloc, options.quiet, path, input, output, progress)
 }
 
