@@ -1,9 +1,8 @@
 -- What is said of what failed.
-use Rattle.std.specs.Prelude.{◌≡◌, ◌⊎◌, ℕ, Bool, List, [], ◌∷◌, ◌++◌, map, codes, string_bytes, Option, Some, None, if◌then◌else◌}
+use Rattle.std.specs.Prelude.{◌≡◌, ◌⊎◌, ℕ, List, [], ◌∷◌, ◌++◌, map, codes, String, string_bytes, Some, None, if◌then◌else◌}
 use Rattle.std.specs.Char.{is_control}
 use Rattle.std.specs.Str.{chars, encode_utf8_all}
 use Rattle.std.specs.declared.alloc.Global.{Global}
-use Rattle.std.specs.String.{String}
 use Rattle.std.specs.declared.io.Error.{Error}
 use Rattle.ipmd_offline.specs.declared.failure.Place.{Place}
 use Rattle.ipmd_offline.specs.declared.failure.Place.TheVariants.{CommandLine, Input, Output, File, RandomNumbers, Threads}

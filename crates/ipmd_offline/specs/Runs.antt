@@ -4,7 +4,6 @@ use Rattle.std.specs.Borrow.{Bor}
 use Rattle.std.specs.declared.io.Error.{Error}
 use Rattle.std.specs.Fmt.{decimal}
 use Rattle.std.specs.Io.KnownBytes.{Appends, Keeps}
-use Rattle.clap.specs.Words.{kind_of}
 use Rattle.clap.specs.declared.error.kind.ErrorKind.{ErrorKind}
 use Rattle.clap.specs.declared.error.kind.ErrorKind.TheVariants.{DisplayVersion}
 use Rattle.policy_text.specs.Policies.{Meaning as PolicyMeaning}
@@ -143,27 +142,35 @@ abbrev pub FinishesInput : Bool → OfflineJob → OfflineReport → Option (Lis
 FinishesInput false job report given held holds audit_held audit_holds = FinishesOn job report given held holds audit_held audit_holds
 FinishesInput true job report given held holds audit_held audit_holds = IfSome given (λ text. FinishesText job report text held holds audit_held audit_holds)
 
--- the whole input was filtered for a subscriber by a policy; what a file holds isn't told here, and so not what the audit does
+-- the same with some audit; what a file holds isn't told here, and so not what the audit does
+abbrev pub FinishesWithAudit : Bool → OfflineJob → OfflineReport → Option (List ℕ) → Option (List ℕ) → Option (List ℕ) → Type 0
+FinishesWithAudit hex job report given held holds =
+    (audit_held audit_holds : Option (List ℕ)) × FinishesInput hex job report given held holds audit_held audit_holds
+
+-- the whole input was filtered for a subscriber by a policy
 abbrev pub Filters : OfflineOptions → OfflineReport → Option (List ℕ) → Option (List ℕ) → Option (List ℕ) → Type 0
-Filters options report given held holds =
-    (asked : Asked options) × (audit_held audit_holds : Option (List ℕ)) × FinishesInput options.hex asked.job report given held holds audit_held audit_holds
+Filters options report given held holds = (asked : Asked options) × FinishesWithAudit options.hex asked.job report given held holds
 
 -- the mediator stopped so, and what was written by then was flushed
-pub record StopsOn (e : ProgramFault) (job : OfflineJob) (given held holds audit_held audit_holds : Option (List ℕ)) : Type 0 where
-  pub fault : OfflineFault
-  pub input : Error
-  pub output : Error
-  pub is : e ≡ offline_fault_of input output fault
+pub record StopsBy (fault : OfflineFault) (job : OfflineJob) (given held holds audit_held audit_holds : Option (List ℕ)) : Type 0 where
   pub after : Ports
   pub fails : FailsToFilter fault job (unfailed given held audit_held) after
   pub flushed : Keeps after.written holds
   pub audit_flushed : Keeps after.audited audit_holds
 
+-- the same, and this is what the program makes of it
+pub record StopsOn (e : ProgramFault) (job : OfflineJob) (given held holds audit_held audit_holds : Option (List ℕ)) : Type 0 where
+  pub fault : OfflineFault
+  pub input : Error
+  pub output : Error
+  pub is : e ≡ offline_fault_of input output fault
+  pub stops : StopsBy fault job given held holds audit_held audit_holds
+
 -- a run over octets ended, by its report or by a fault, and then the output and the audit were flushed, or one of them failed
 abbrev pub EndsOn : OfflineJob → Option (List ℕ) → Option (List ℕ) → Option (List ℕ) → Option (List ℕ) → Option (List ℕ) → Type 0
 EndsOn job given held holds audit_held audit_holds =
     ((report : OfflineReport) × FinishesOn job report given held holds audit_held audit_holds)
-    ⊎ ((e : ProgramFault) × StopsOn e job given held holds audit_held audit_holds)
+    ⊎ ((fault : OfflineFault) × StopsBy fault job given held holds audit_held audit_holds)
 
 -- the output failed, or the audit, whose file isn't known here
 abbrev pub IsWriteFault : ProgramFault → Type 0
@@ -207,22 +214,22 @@ RefusesInput e true job given held holds audit_held audit_holds =
     ((((e ≡ Hex) × IfSome given SpellsNothing) ⊎ ((e ≡ OutOfMemory) ⊎ FailedAt placed.Input e)) × Keeps held holds × Keeps audit_held audit_holds)
     ⊎ IfSome given (λ text. (octets : List ℕ) × SpelledBy text octets × FailsLines e job octets held holds audit_held audit_holds)
 
--- the audit's file can't be made
-abbrev pub IsAuditFault : Option (Bor (List ℕ)) → ProgramFault → Type 0
-IsAuditFault None e = ⊥
-IsAuditFault (Some path) e = IsFileFault path.now e
+-- the same with an audit in the file of this path: that can't be made, or where it failed it is named
+abbrev pub RefusesWithAudit : List ℕ → ProgramFault → Bool → OfflineJob → Option (List ℕ) → Option (List ℕ) → Option (List ℕ) → Type 0
+RefusesWithAudit path e hex job given held holds =
+    (IsFileFault path e × Keeps held holds)
+    ⊎ ((fault : ProgramFault) × IsNamed path fault e × (audit_held audit_holds : Option (List ℕ)) × RefusesInput fault hex job given held holds audit_held audit_holds)
 
--- an audit that failed is called its file
-abbrev pub IsOfAudit : Option (Bor (List ℕ)) → ProgramFault → ProgramFault → Type 0
-IsOfAudit None fault e = e ≡ fault
-IsOfAudit (Some path) fault e = IsNamed path.now fault e
+-- or with none
+abbrev pub RefusesByAudit : Option (Bor (List ℕ)) → ProgramFault → Bool → OfflineJob → Option (List ℕ) → Option (List ℕ) → Option (List ℕ) → Type 0
+RefusesByAudit None e hex job given held holds = (audit_held audit_holds : Option (List ℕ)) × RefusesInput e hex job given held holds audit_held audit_holds
+RefusesByAudit (Some path) e hex job given held holds = RefusesWithAudit path.now e hex job given held holds
 
--- the same for a subscriber by a policy, and which device it was; the policy's source, or the audit file, may fail before
+-- the same for a subscriber by a policy; the policy's source may fail before
 abbrev pub RefusesToFilter : OfflineOptions → ProgramFault → Option (List ℕ) → Option (List ℕ) → Option (List ℕ) → Type 0
 RefusesToFilter options e given held holds =
-    ((IsSourceFault options.policy e ⊎ IsAuditFault options.audit e) × Keeps held holds)
-    ⊎ ((asked : Asked options) × (audit_held audit_holds : Option (List ℕ)) × (fault : ProgramFault) × IsOfAudit options.audit fault e
-    × RefusesInput fault options.hex asked.job given held holds audit_held audit_holds)
+    (IsSourceFault options.policy e × Keeps held holds)
+    ⊎ ((asked : Asked options) × RefusesByAudit options.audit e options.hex asked.job given held holds)
 
 -- what is said of a stream that was filtered
 abbrev pub line_of_report : OfflineReport → List ℕ

@@ -1,6 +1,6 @@
 //! What failed of a run's files and streams, and why.
 ghost use Rattle.std.specs.Prelude.{◌≡◌, IfOk, string_bytes};
-ghost use Rattle.ipmd_offline.specs.Failures.{IsLineOf, plain};
+ghost use Rattle.ipmd_offline.specs.Failures.{IsLineOf, line_of, plain};
 
 use std::alloc::{AllocError, Global};
 use std::fmt::{self, Display, Formatter};

@@ -2,7 +2,7 @@
 
 ghost use Rattle.std.specs.Prelude.{◌≡◌, IfErr, IfOk};
 ghost use Rattle.octet_devices.specs.Device.{device_inner};
-ghost use Rattle.ipmd_offline.specs.Runs.{FailsLines, FailsOn, Filters, FinishesInput, FinishesLines, FinishesOn, IsWriteFault, RefusesInput, RefusesToFilter};
+ghost use Rattle.ipmd_offline.specs.Runs.{FailsLines, FailsOn, Filters, FinishesInput, FinishesLines, FinishesOn, FinishesWithAudit, IsWriteFault, RefusesInput, RefusesToFilter, RefusesWithAudit};
 ghost use Rattle.ipmd_offline.specs.Status.{offline_fault_of};
 
 use crate::failure::Place;
@@ -51,20 +51,38 @@ pub fn filter<R: Files + AllocGlobal, I: Read + Drop, O: Write>(
         audit: options.audit.is_some(),
     };
     match options.audit {
-        Some(path) => {
-            let alloc = rt.alloc();
-            let file = of_file(alloc, path, fs::create(rt, path))?;
-            let audit = BufWriter::with_capacity(alloc, AUDIT_BUFFER, file);
-            let mut audit = Device::new(of_file(alloc, path, audit)?);
-            match filter_input(alloc, &job, options.hex, input, output, &mut audit) {
-                Ok(report) => Ok(report),
-                Err(fault) => Err(fault.named(alloc, path, audit.why())),
-            }
-        }
+        Some(path) => filter_to_file(rt, &job, options.hex, input, output, path),
         None => {
             let mut audit = Device::new(io::sink());
             filter_input(rt.alloc(), &job, options.hex, input, output, &mut audit)
         }
+    }
+}
+
+/// Filters `input` with an audit in the file at a path.
+#[tactic(auto, using(crate::proofs::Lines::kept))]
+fn filter_to_file<R: Files + AllocGlobal, I: Read + Drop, O: Write>(
+    rt: &R,
+    job: &OfflineJob<'_>,
+    hex: bool,
+    input: I,
+    output: &mut Device<O>,
+    path: &str,
+) -> Result<OfflineReport, ProgramFault>
+    ensures ok { IfOk result (λ report. FinishesWithAudit hex job.entry.now report (I.remaining input) (O.contents (device_inner output.old)) (O.contents (device_inner output.new))) }
+    ensures err { IfErr result (λ e. RefusesWithAudit path.now e hex job.entry.now (I.remaining input) (O.contents (device_inner output.old)) (O.contents (device_inner output.new))) }
+{
+    let alloc = rt.alloc();
+    let file = of_file(alloc, path, fs::create(rt, path))?;
+    let buffer = of_file(
+        alloc,
+        path,
+        BufWriter::with_capacity(alloc, AUDIT_BUFFER, file),
+    )?;
+    let mut audit = Device::new(buffer);
+    match filter_input(alloc, job, hex, input, output, &mut audit) {
+        Ok(report) => Ok(report),
+        Err(fault) => Err(fault.named(alloc, path, audit.why())),
     }
 }
 

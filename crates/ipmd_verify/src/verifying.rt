@@ -21,6 +21,7 @@ const FILE_BUFFER: usize = 65_536;
 ///
 /// # Errors
 /// `Device`, of the file, where it can't be opened, and what `verify_input` refuses.
+#[tactic(auto, using(crate::proofs::Refusing::unopened, ipmd_offline::proofs::Lines::kept))]
 pub fn verify<R: Files + AllocGlobal, O: Write, P: Progress>(
     rt: &R,
     options: &VerifyOptions<'_>,
@@ -47,6 +48,7 @@ pub fn verify<R: Files + AllocGlobal, O: Write, P: Progress>(
 /// In this order: `Device`, of the file, where the stream fails, and `Journal`, the file's first fault; `History`, the first entry
 /// that may not stand where it does; then `Device`, of the output, where that fails, and a front of what was due may have been
 /// written; and `OutOfMemory`. At each of the others nothing was written.
+#[tactic(auto, using(crate::proofs::Refusing::refused, crate::proofs::Refusing::no_room, ipmd_offline::proofs::Lines::kept))]
 pub fn verify_input<I: Read + Drop, O: Write, P: Progress>(
     alloc: Global,
     quiet: bool,
