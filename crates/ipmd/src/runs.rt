@@ -103,7 +103,7 @@ fn serve_run<
     let more = is_followed(&ended);
     let journal = end_run(rt, noting, keeping, ended, output)?;
     if more {
-        renew(rt.alloc(), plan, &journal)?;
+        renew_policy(rt.alloc(), plan, &journal)?;
     }
     Ok(more)
 }
@@ -236,7 +236,7 @@ fn keep<R: Files + AllocGlobal>(
 ///
 /// # Errors
 /// `OutOfMemory`.
-fn renew(alloc: Global, plan: &mut Plan, journal: &Journal) -> Result<(), AllocError>
+fn renew_policy(alloc: Global, plan: &mut Plan, journal: &Journal) -> Result<(), AllocError>
     ensures { OnOk result ((asked : Asked) (policy : List ℕ) → IsPlanOf asked policy plan.old → IsPlanOf asked (policy_after policy journal.now.entries) plan.new) }
 {
     if let Some(text) = journal.last_edit() {
