@@ -2,4 +2,3 @@ mod Statuses
 mod Replaying
 mod Endings
 mod Running
-mod Preparing

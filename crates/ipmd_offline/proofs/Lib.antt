@@ -1,4 +1,3 @@
 pub mod Inputs
 pub mod Lines
 pub mod Telling
-pub mod Naming

@@ -1,5 +1,4 @@
 pub mod Absent
-pub mod Failures
 pub mod Status
 pub mod HexText
 pub mod Runs

@@ -1,2 +1,1 @@
 pub mod ReadingLaws
-mod Refusing

@@ -1,13 +1,13 @@
 ghost use Rattle.std.specs.Prelude.{◌≡◌, Bool, true, false, OnOk, IfSome};
 ghost use Rattle.std.specs.Io.KnownBytes.{Appends, Keeps};
-ghost use Rattle.octet_devices.specs.Device.{device_inner, device_failed, device_fault};
+ghost use Rattle.octet_devices.specs.Device.{device_inner, device_failed};
 ghost use Rattle.octet_devices.specs.Failing.{FailsOnErr};
 
 use crate::failed::Failed;
 use crate::sink::Sink;
 use crate::source::Source;
 use std::fmt::Display;
-use std::io::{self, ErrorKind, Read, Write};
+use std::io::{Read, Write};
 
 /// A reader or a writer of std as a source or a sink. It tells the octets that its reader or writer tells.
 ///
@@ -16,8 +16,7 @@ use std::io::{self, ErrorKind, Read, Write};
 #[derive(Drop)]
 pub struct Device<T> {
     inner: T,
-    /// Why it failed first, where it has failed.
-    fault: Option<io::Error>,
+    failed: bool,
 }
 
 impl<T> Device<T> {
@@ -26,34 +25,25 @@ impl<T> Device<T> {
         ensures inner { device_inner result ≡ inner }
         ensures failed { device_failed result ≡ false }
     {
-        Device { inner, fault: None }
+        Device {
+            inner,
+            failed: false,
+        }
     }
 
     /// Whether a read or a write has failed.
     pub fn has_failed(&self) -> bool
         ensures { result ≡ device_failed self.now }
     {
-        self.fault.is_some()
+        self.failed
     }
 
-    /// Why it failed first; `Other` where it has not failed.
-    pub fn why(&self) -> io::Error
-        ensures { IfSome (device_fault self.now) (λ fault. result ≡ fault) }
-    {
-        match self.fault {
-            Some(why) => why,
-            None => io::Error::from(ErrorKind::Other),
-        }
-    }
-
-    /// Keeps that the device has failed, and why, unless it had failed before.
-    fn fail(&mut self, why: io::Error) -> Failed
+    /// Keeps that the device has failed.
+    fn fail(&mut self) -> Failed
         ensures failed { device_failed self.new ≡ true }
         ensures inner { device_inner self.new ≡ device_inner self.old }
     {
-        if self.fault.is_none() {
-            self.fault = Some(why);
-        }
+        self.failed = true;
         Failed
     }
 
@@ -61,7 +51,7 @@ impl<T> Device<T> {
     pub fn into_inner(self) -> T
         ensures { result ≡ device_inner self }
     {
-        let Device { inner, fault: _ } = self;
+        let Device { inner, failed: _ } = self;
         inner
     }
 }
@@ -75,10 +65,10 @@ impl<T: Write> Device<T> {
         ensures octets { OnOk result (IfSome (D.output text) (Appends (T.contents (device_inner self.old)) (T.contents (device_inner self.new)))) }
         ensures failed { FailsOnErr (device_failed self.old) (device_failed self.new) result }
     {
-        match self.inner.write_fmt(text) {
-            Ok(()) => Ok(()),
-            Err(why) => Err(self.fail(why)),
+        if self.inner.write_fmt(text).is_err() {
+            return Err(self.fail());
         }
+        Ok(())
     }
 
     /// Sees that what was written has left.
@@ -89,10 +79,10 @@ impl<T: Write> Device<T> {
         ensures octets { Keeps (T.contents (device_inner self.old)) (T.contents (device_inner self.new)) }
         ensures failed { FailsOnErr (device_failed self.old) (device_failed self.new) result }
     {
-        match self.inner.flush() {
-            Ok(()) => Ok(()),
-            Err(why) => Err(self.fail(why)),
+        if self.inner.flush().is_err() {
+            return Err(self.fail());
         }
+        Ok(())
     }
 }
 
@@ -104,7 +94,7 @@ impl<T: Read> Source for Device<T> {
     fn read(&mut self, buffer: &mut [u8]) -> Result<usize, Failed> {
         match self.inner.read(buffer) {
             Ok(count) => Ok(count),
-            Err(error) => Err(self.fail(error)),
+            Err(_) => Err(self.fail()),
         }
     }
 }
@@ -117,8 +107,7 @@ impl<T: Write> Sink for Device<T> {
     fn write(&mut self, octets: &[u8]) -> Result<usize, Failed> {
         match self.inner.write(octets) {
             Ok(count) if count > 0 || octets.is_empty() => Ok(count),
-            Ok(_) => Err(self.fail(io::Error::from(ErrorKind::WriteZero))),
-            Err(why) => Err(self.fail(why)),
+            Err(_) | Ok(_) => Err(self.fail()),
         }
     }
 }
