@@ -1,7 +1,6 @@
 """Runs of `ipmd serve`, on free ports, with settings and a policy in a folder of their own."""
 import json
 import os
-import re
 import subprocess
 import tempfile
 import threading
@@ -32,11 +31,6 @@ LONGEST = 60
 
 # The operator's scripts.
 SCRIPTS = program.TOP / "examples" / "serve"
-
-
-def untimed(notes):
-    """Notes without the time before each."""
-    return re.sub(r"(?m)^\S+Z (?=\[)", "", notes)
 
 
 class Ended(NamedTuple):

@@ -169,13 +169,15 @@ class Runs(ServeTest):
         self.assertEqual(ended.notes.count(" refused: JournalFull\n"), 1)
 
     def test_full_by_the_administrator(self):
-        """A command that finds the journal full is answered, and its connection ends behind that."""
+        """A command that finds the journal full is answered, and its connection ends behind that; that the run ends is noted once."""
         run = self.start(journal_entries=2)
         collector, admin = run.collector(), run.admin()
         self.assertEqual(admin.ask("advance 1000"), "err JournalFull")
         self.assertEqual(admin.take_end(), b"")
         self.assertEqual(collector.take_all(), b"")
-        self.assertEqual(run.end().output, "accepted 0 handed 0\n")
+        ended = run.end()
+        self.assertEqual(ended.output, "accepted 0 handed 0\n")
+        self.assertEqual(ended.notes.count("the journal is full: the run ends\n"), 1, ended.notes)
 
     def test_any_folder(self):
         """The journals' folder may have any number of files, with names of any length."""
