@@ -16,11 +16,12 @@ use Rattle.mediator_state.specs.declared.fault.Fault.TheVariants as fault
 use Rattle.mediator_server.specs.declared.listening.ListenFault.TheVariants as listen
 use Rattle.ipmd_offline.specs.declared.fault.ProgramFault.{ProgramFault}
 use Rattle.ipmd_offline.specs.declared.fault.ProgramFault.TheVariants.{OutOfMemory}
-use Rattle.ipmd_offline.specs.declared.failure.Place.TheVariants.{Output}
+use Rattle.ipmd_offline.specs.declared.failure.Place.TheVariants.{Output, RandomNumbers}
 use Rattle.ipmd_offline.specs.Failures.{FailedAt}
 use Rattle.ipmd_offline.specs.HexText.{WritesSome}
 use Rattle.ipmd_offline.specs.Status.{run_fault_of}
-use Rattle.run_journals.specs.Keeping.{IsSomeFileFault}
+use Rattle.run_journals.specs.Keeping.{IsKeepingFault, IsSomeFileFault, part_name}
+use Rattle.run_journals.specs.Numbering.{file_name}
 use Rattle.ipmd.specs.declared.serve.Service.{Service}
 use Rattle.ipmd.specs.Serving.{IsAskedFor, Run, IsRun, AreFull, policy_after, served, MakesRun, Serves, StopsBehind, StopsRun, StopsServing, IsBeginFault, IsListenFault, RefusesToTell, IsToRun}
 
@@ -143,6 +144,16 @@ stops_first service held e asked fault = stops service.plan service.runs 1 held 
 -- a folder that can't be read
 pub folder_begins : (e : ProgramFault) → IsSomeFileFault e → IsBeginFault e
 folder_begins e is = inr (inr is)
+
+-- no random numbers
+pub no_numbers : (e : ProgramFault) → (e ≡ OutOfMemory) ⊎ FailedAt RandomNumbers e → IsBeginFault e
+no_numbers e (inl is) = inr (inr ([], inl is))
+no_numbers e (inr failed) = inr (inl failed)
+
+-- a journal's file
+pub kept_somewhere : (path : List ℕ) (number : ℕ) (e : ProgramFault) → IsKeepingFault path number e → IsSomeFileFault e
+kept_somewhere path number e (inl fault) = (part_name (file_name path number), fault)
+kept_somewhere path number e (inr fault) = (file_name path number, fault)
 
 -- a mediator with limits that it may have is refused for memory alone
 pub new_refused : (why : RunFault) (limits : Limits) → RefusesLimits why limits → AreAllowed limits → IsListenFault (run_fault_of why)

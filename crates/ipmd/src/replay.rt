@@ -27,7 +27,7 @@ const JOURNAL_BUFFER: usize = 65_536;
 /// `Device`, of the list's file where that can't be read or isn't UTF-8, of the journal's where that can't be written, or of the
 /// output; `Calls` where the text is no list of calls; `BadLimits`; `OutOfMemory`. Only where the output fails a front of the
 /// answers may have been written.
-#[tactic(auto, using(ipmd_offline::proofs::Lines::kept))]
+#[tactic(auto, using(ipmd_offline::proofs::Lines::kept, crate::proofs::Replaying::no_calls, crate::proofs::Replaying::no_journal, crate::proofs::Replaying::no_answer))]
 pub fn replay<R: Files + AllocGlobal, O: Write>(
     rt: &R,
     options: &ReplayOptions<'_>,

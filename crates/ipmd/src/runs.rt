@@ -118,6 +118,7 @@ fn is_followed(ended: &Ended) -> bool
 ///
 /// # Errors
 /// `Device` where the system has no random numbers.
+#[tactic(auto, using(crate::proofs::Running::no_numbers))]
 fn secret_keys<R: RandomSource>(rt: &R) -> Result<HashKeys, ProgramFault>
     ensures err { IfErr result IsBeginFault }
 {
@@ -215,6 +216,7 @@ fn end_run<R: Files + AllocGlobal, O: Write>(
 ///
 /// # Errors
 /// `Device`, `OutOfMemory`.
+#[tactic(auto, using(crate::proofs::Running::kept_somewhere))]
 fn keep<R: Files + AllocGlobal>(
     rt: &R,
     noting: &impl Log,

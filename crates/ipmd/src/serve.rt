@@ -74,6 +74,7 @@ pub(crate) fn serve<
 ///
 /// # Errors
 /// `Device`, of the file that can't be read or isn't UTF-8; `Settings`; `OutOfMemory`.
+#[tactic(auto, using(crate::proofs::Preparing::no_settings, crate::proofs::Preparing::no_policy))]
 fn prepare<R: Files + AllocGlobal>(rt: &R, path: &str) -> Result<Service, ProgramFault>
     ensures asked { IfOk result (λ service. IsAskedFor service) }
     ensures err { IfErr result (RefusesToPrepare path.now) }
