@@ -1,4 +1,5 @@
 """Runs of the program on words and octets, and what they must leave."""
+import os
 import pathlib
 import subprocess
 import tempfile
@@ -28,8 +29,15 @@ FLOW_PASSED = "000a0032 6553f13c 00000000 00000000  00020014 01000003 00080004 0
 # The report on it.
 FLOW_REPORT = "messages 1 records 1 disclosed 1\n"
 
-# Where a file or a stream fails.
+# What is said last where a file or a stream fails.
 DEVICE = "ipmd: device\n"
+
+
+def failed(name, why):
+    """All that is said where what has this name fails: for an error by its number the system's words for it, or these."""
+    said = f"{os.strerror(why)} (os error {why})" if isinstance(why, int) else why
+    return f"ipmd: {name}: {said}\n{DEVICE}"
+
 
 # How long a run may last, in seconds.
 LONGEST = 60

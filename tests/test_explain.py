@@ -1,4 +1,5 @@
 """`ipmd explain`: what a subscription saw of each record of a journal, and by which rules, worked out by hand."""
+import errno
 import pathlib
 import socket
 import subprocess
@@ -8,7 +9,7 @@ import program
 from journals import PASS, WITHHOLD, advance, closed, cut, edit, file_of, message, opened, subscribe, unsubscribe
 from messages import FLOW, Template, address, flow_message
 from messages import message as flows
-from runs import DEVICE, LONGEST, ProgramTest, run
+from runs import LONGEST, ProgramTest, failed, run
 
 EXAMPLES = pathlib.Path(__file__).resolve().parent.parent / "examples"
 
@@ -216,11 +217,12 @@ class Explain(ProgramTest):
         self.expect_refused(file_of(*CHANGES, closed(1)), 1, f"BadHistory {len(CHANGES)}")
         self.expect_refused(file_of(*CHANGES[:10]), 1, "BadHistory 9")
         self.expect_refused(file_of(opened(2)), 1, "BadHistory 0")
-        self.expect_ran(run(["explain", "--journal", self.file("missing"), "--sub", "1"]), 3, "", DEVICE)
+        missing = self.file("missing")
+        self.expect_ran(run(["explain", "--journal", missing, "--sub", "1"]), 3, "", failed(missing, errno.ENOENT))
         words = [program.path(), "explain", "--journal", self.file("run.journal", whole), "--sub", "1"]
         with open("/dev/full", "wb") as full:
             ran = subprocess.run(words, stdout=full, stderr=subprocess.PIPE, timeout=LONGEST)
-        self.assertEqual((ran.returncode, ran.stderr), (3, DEVICE.encode()))
+        self.assertEqual((ran.returncode, ran.stderr.decode()), (3, failed("standard output", errno.ENOSPC)))
 
 
 if __name__ == "__main__":

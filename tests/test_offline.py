@@ -1,9 +1,10 @@
 """`ipmd offline`: what one subscriber gets of a stream, worked out by hand; streams that are none; and a subscription's cut."""
+import errno
 import struct
 import unittest
 from typing import NamedTuple
 
-from runs import FLOW, FLOW_PASSED, FLOW_REPORT, NOW, OFFLINE, OFFLINE_HEX, PASS, WITHHOLD, Case, ProgramTest, run
+from runs import FLOW, FLOW_PASSED, FLOW_REPORT, NOW, OFFLINE, OFFLINE_HEX, PASS, WITHHOLD, Case, ProgramTest, failed, run
 
 KEEP = "rule for * in * from * to * element * keep"
 
@@ -326,7 +327,7 @@ MISUSE = [
 # What comes first of two faults, and what is left in an audit file that held a text before. The policy's file comes before the
 # audit file, which is made empty; then the input is read, and then the policy.
 ORDER = [
-    ("no policy's file", ["--policy", "/nowhere/policy"], "0g", "ipmd: device\n", "before\n"),
+    ("no policy's file", ["--policy", "/nowhere/policy"], "0g", failed("/nowhere/policy", errno.ENOENT), "before\n"),
     ("no digits", ["--policy-text", "no policy"], "0g", "ipmd: hex\n", ""),
     ("half an octet", ["--policy-text", "no policy"], "000", "ipmd: hex\n", ""),
     ("no policy", ["--policy-text", "no policy"], "00", "ipmd: policy line 1: NoHeader\n", ""),

@@ -1,7 +1,7 @@
 """`ipmd check-policy`: whether a text is a policy. Each kind of fault is shown by a file of `examples/faults`."""
 import unittest
 
-from runs import DEVICE, PASS, Case, ProgramTest
+from runs import PASS, Case, ProgramTest
 
 RULE = "rule for * in * from * to * pass\n"
 
@@ -74,7 +74,6 @@ FILES = [
         "rules 2 aggregates 0\n",
         "",
     ),
-    ("not UTF-8", b"policy 1\n# \xff\n", 3, "", DEVICE),
     ("a semicolon is no line end in a file", PASS, 1, "", "ipmd: policy line 1: NoHeader\n"),
     ("as many rules as there may be", "policy 1\n" + 4096 * RULE, 0, "rules 4096 aggregates 0\n", ""),
     ("a rule too many", "policy 1\n" + 4097 * RULE, 1, "", "ipmd: policy line 4098: TooMany\n"),

@@ -11,11 +11,13 @@ DEVICE = "ipmd: device\n"
 
 class Refusals(ServeTest):
     def expect_refused(self, status, fault, note="", rules=PASS, **asked):
-        """That a run ends at once with this status and this last line, and that nothing is said on standard output."""
+        """That a run ends at once with this status and this last line, behind one that begins with this note, and that nothing is said
+        on standard output."""
         run = self.start(rules, **asked)
         ended = run.end()
-        self.assertTrue(ended.notes.endswith(fault), ended.notes)
-        self.assertIn(note, ended.notes)
+        before, _, last = ended.notes.removesuffix("\n").rpartition("\n")
+        self.assertEqual(last + "\n", fault, ended.notes)
+        self.assertEqual(before.rpartition("\n")[2][: len(note)], note, ended.notes)
         self.assertEqual((ended.status, ended.output), (status, ""), ended.notes)
 
     def test_address_in_use(self):
@@ -24,7 +26,7 @@ class Refusals(ServeTest):
             address = f"{HOST}:{taken.getsockname()[1]}"
             for key in ("exporters", "admin"):
                 with self.subTest(key=key):
-                    note = f"[ERROR ipmd] cannot listen on {address}: "
+                    note = f"[ERROR ipmd] cannot listen on {address}: Address already in use (os error 98)"
                     self.expect_refused(3, DEVICE, note, subscribers=(), **{key: address})
 
     def test_no_address(self):
@@ -37,7 +39,7 @@ class Refusals(ServeTest):
     def test_no_collector(self):
         """The second of two collectors doesn't listen: the first is left again, and sent nothing."""
         nobody = f"{HOST}:{free_port()}"
-        note = f"[ERROR ipmd] cannot connect to collector beta {nobody}: "
+        note = f"[ERROR ipmd] cannot connect to collector beta {nobody}: Connection refused (os error 111)"
         with Door() as door:
             deliver = {"acme": f"{HOST}:{door.port}", "beta": nobody}
             self.expect_refused(3, DEVICE, note, subscribers=(), deliver=deliver)

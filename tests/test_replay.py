@@ -1,11 +1,12 @@
 """`ipmd replay --journal`: the journal of what was accepted is kept in a file."""
+import errno
 import pathlib
 import unittest
 
 from journals import advance, closed, cut, edit, file_of, message, opened, subscribe, unsubscribe
 from messages import FLOW, address, flow_message
 from messages import message as flows
-from runs import DEVICE, ProgramTest, run
+from runs import ProgramTest, failed, run
 
 # A policy that passes each record whole, as a call's line has it and as the journal keeps it.
 PASS = "policy 1;rule for * in * from * to * pass;rule for * in * from * to * element * keep;"
@@ -64,9 +65,9 @@ class Keep(ProgramTest):
         journal = str(pathlib.Path(self.file("calls", "")).parent / "none")
         self.expect_ran(self.replay("nothing that there is\n", journal), 1, "", "ipmd: calls line 1\n")
         self.assertFalse(pathlib.Path(journal).exists())
-        for name, path in (("no folder", "/nowhere/journal"), ("a folder", "/tmp"), ("a file that is full", "/dev/full")):
-            with self.subTest(name):
-                self.expect_ran(self.replay(CALLS, path), 3, "", DEVICE)
+        for path, why in (("/nowhere/journal", errno.ENOENT), ("/tmp", errno.EISDIR), ("/dev/full", errno.ENOSPC)):
+            with self.subTest(path):
+                self.expect_ran(self.replay(CALLS, path), 3, "", failed(path, why))
 
 
 if __name__ == "__main__":

@@ -1,11 +1,13 @@
 """Runs of `ipmd serve` that follow each other: a run whose journal is full ends, the next one begins with the policy in force,
 and the journal of each is kept in a file of its own."""
+import errno
 import os
 import socket
 import unittest
 
 from messages import FLOW, address, flow_message, records
 from peers import HOST
+from runs import failed
 from runs import run as run_program
 from serving import ServeTest
 
@@ -130,15 +132,33 @@ class Runs(ServeTest):
         collector.take_all()
         ended = run.end()
         self.assertEqual((ended.status, ended.output), (3, "accepted 2 handed 2\n"))
-        self.assertTrue(ended.notes.endswith("ipmd: device\n"), ended.notes)
+        self.assertTrue(ended.notes.endswith("\n" + failed("journal.1.part", errno.ENOSPC)), ended.notes)
         self.assertEqual(self.files(run), ["journal.1.part"])
 
+    def test_no_name(self):
+        """The file is written, and can't get its name: a folder has it."""
+        run = self.start(journal="journal")
+        os.mkdir(run.path("journal.1"))
+        self.make_short_run(run)
+        ended = run.end()
+        self.assertEqual((ended.status, ended.output), (3, "accepted 1 handed 1\n"))
+        self.assertTrue(ended.notes.endswith("\n" + failed("journal.1", errno.EISDIR)), ended.notes)
+
+    def test_full_output(self):
+        """The run's line isn't taken, behind the journal that was kept."""
+        run = self.start(journal="journal", links={"output": "/dev/full"})
+        self.make_short_run(run)
+        self.assertEqual(run.child.wait(20), 3)
+        self.assertTrue(run.notes().endswith("\n[INFO  ipmd] journal journal.1 written\n" + failed("standard output", errno.ENOSPC)), run.notes())
+        self.assertEqual(self.files(run), ["journal.1"])
+
     def test_no_folder(self):
-        """A folder that isn't there is seen before anything is served."""
+        """A folder that isn't there, or is a file, is seen before anything is served."""
         for runs in (1, 2):
-            with self.subTest(runs=runs):
-                ended = self.start(runs=runs, journal="nowhere/journal").end()
-                self.assertEqual((ended.status, ended.output, ended.notes), (3, "", "ipmd: device\n"))
+            for folder, why in (("nowhere/", errno.ENOENT), ("policy.txt/", errno.ENOTDIR)):
+                with self.subTest(runs=runs, folder=folder):
+                    ended = self.start(runs=runs, journal=f"{folder}journal").end()
+                    self.assertEqual((ended.status, ended.output, ended.notes), (3, "", failed(folder, why)))
 
     def test_who_comes_when_full(self):
         """When the journal is full the administrator has one answer more, and nobody is taken any more."""

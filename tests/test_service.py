@@ -29,6 +29,12 @@ def limit(run, kind, most):
     return before[0]
 
 
+def processor_time(run):
+    """How many seconds of a processor a run has taken so far."""
+    words = pathlib.Path(f"/proc/{run.child.pid}/stat").read_text(encoding="ascii").rpartition(")")[2].split()
+    return (int(words[11]) + int(words[12])) / os.sysconf("SC_CLK_TCK")
+
+
 def timer_of(local, remote):
     """The kind of timer of the connection between two ports of this machine."""
     for line in pathlib.Path("/proc/net/tcp").read_text(encoding="ascii").splitlines()[1:]:
@@ -72,13 +78,16 @@ class GoesOn(ServeTest):
         self.expect_served(run, 2, 2)
 
     def test_no_descriptor(self):
-        """A connection for which no descriptor is left is closed with a note, and all others go on."""
+        """A connection for which no descriptor is left is closed with a note, and all others go on; meanwhile nothing is in haste."""
         run, collector, admin = self.begin()
         descriptors = [int(name) for name in os.listdir(f"/proc/{run.child.pid}/fd")]
         before = limit(run, resource.RLIMIT_NOFILE, max(descriptors) + 1)
         strangers = [run.exporter() for _ in range(3)]
         for stranger in strangers[-2:]:
             self.assertEqual(stranger.take_end(), b"")
+        used = processor_time(run)
+        time.sleep(1)
+        self.assertLess(processor_time(run) - used, 0.3)
         self.expect_on(run, collector, admin, strangers, resource.RLIMIT_NOFILE, before)
         self.assertIn(" refused: Too many open files (os error 24)\n", run.notes())
 

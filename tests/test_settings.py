@@ -1,17 +1,19 @@
 """The settings of `ipmd serve`: at each key what is missing, of another type or at the ends of its range; texts that are no TOML
 or too long; and what is said where nothing can be served."""
+import errno
 import unittest
 
-from runs import DEVICE, ProgramTest, run
+from runs import DEVICE, ProgramTest, failed, run
 
-# A path at which there is nothing: a run whose settings are right ends there.
-NOWHERE = '"/nowhere/policy"'
+# A path at which there is nothing: a run whose settings are right ends there, and says so.
+NOWHERE = "/nowhere/policy"
+NO_POLICY = failed(NOWHERE, errno.ENOENT)
 
 # Settings of which each key that must be there has a value that it may have, in the order in which keys are judged.
 USUAL = {
     "exporters": '"127.0.0.1:0"',
     "admin": '"127.0.0.1:0"',
-    "policy": NOWHERE,
+    "policy": f'"{NOWHERE}"',
     "connections": "1",
     "target": "1400",
     "workers": "2",
@@ -138,8 +140,8 @@ LONGEST_TEXT = 65536
 
 # Texts that a comment makes as long as they may be, and how a run ends then: at the policy's file, at a key, as no TOML.
 LONG = [
-    (settings({}), 3, DEVICE),
-    (settings({}) + "# a letter of two octets: \u00e9\n", 3, DEVICE),
+    (settings({}), 3, NO_POLICY),
+    (settings({}) + "# a letter of two octets: \u00e9\n", 3, NO_POLICY),
     (settings({"turns": "0"}), 1, "ipmd: settings: turns\n"),
     ("exporters\n", 1, "ipmd: settings: toml\n"),
 ]
@@ -172,7 +174,7 @@ class Settings(ProgramTest):
         """The run comes as far as the policy's file."""
         for key, values in TAKEN.items():
             for value in values:
-                self.expect(settings({key: value}), 3, DEVICE)
+                self.expect(settings({key: value}), 3, failed("", errno.ENOENT) if key == "policy" else NO_POLICY)
 
     def test_no_toml(self):
         for text in NO_TOML:
@@ -189,8 +191,13 @@ class Settings(ProgramTest):
         for text, key in FIRST + [(settings(values), key) for values, key in FIRST_BEHIND_TURNS]:
             self.expect(text, 1, f"ipmd: settings: {key}\n")
 
-    def test_no_text(self):
-        self.expect(b"# \xff\n", 3, DEVICE)
+    def test_policy(self):
+        """The policy's file, by its path as the settings have it: a folder, and one that isn't UTF-8."""
+        self.expect(settings({"policy": '"/tmp"'}), 3, failed("/tmp", errno.EISDIR))
+        path = self.file("policy.txt", b"policy 1\n\xff")
+        self.expect(settings({"policy": f'"{path}"'}), 3, failed(path, "not UTF-8, octet 9"))
+        # A line feed in the path.
+        self.expect(settings({"policy": '"/nowhere/a\\nb"'}), 3, failed("/nowhere/a?b", errno.ENOENT))
 
     def test_unserved(self):
         for name, policy, values, status, fault in UNSERVED:

@@ -1,5 +1,6 @@
-"""Files and streams that fail: each is `ipmd: device` and status 3, unless a fault came before. Reads and writes that fail in
-mid-stream are shown by the tests of `crates/ipmd`."""
+"""Files and streams that fail: each is named on a line with the system's words for why, and then comes `ipmd: device`, with
+status 3, unless a fault came before. Reads and writes that fail in mid-stream are shown by the tests of `crates/program_tests`."""
+import errno
 import os
 import pathlib
 import resource
@@ -7,34 +8,63 @@ import subprocess
 import unittest
 
 import program
-from runs import DEVICE, FLOW, LONGEST, OFFLINE, OFFLINE_HEX, PASS, WITHHOLD, Case, ProgramTest, octets, run
+from runs import FLOW, LONGEST, OFFLINE, OFFLINE_HEX, PASS, WITHHOLD, Case, ProgramTest, failed, octets, run
 
 CHECK = ["check-policy", "--policy-text", PASS]
 
 WITHHOLD_HEX = ["offline", "--policy-text", WITHHOLD, "--subscriber", "acme", "--hex"]
 
-# Files that can't be opened, read or written.
-FILES = [
-    ("no policy's file", ["check-policy", "--policy", "/nowhere/policy"]),
-    ("a folder as policy: check-policy", ["check-policy", "--policy", "/tmp"]),
-    ("a folder as policy: offline", ["offline", "--policy", "/tmp", "--subscriber", "acme"]),
-    ("no folder for the audit", [*OFFLINE_HEX, "--audit", "/nowhere/audit"]),
-    ("a folder that takes no file for the audit", [*OFFLINE_HEX, "--audit", "/proc/audit"]),
-    ("a folder as audit", [*OFFLINE_HEX, "--audit", "/tmp"]),
-    ("an audit that is full", [*WITHHOLD_HEX, "--audit", "/dev/full"]),
-    ("no list of calls", ["replay", "--calls", "/nowhere/calls"]),
-    ("a folder as list of calls", ["replay", "--calls", "/tmp"]),
-    ("no settings", ["serve", "--settings", "/nowhere/settings"]),
-    ("a folder as settings", ["serve", "--settings", "/tmp"]),
+# Commands that read a file, by its path.
+READERS = [
+    ("a policy to check", lambda path: ["check-policy", "--policy", path]),
+    ("a policy to filter by", lambda path: ["offline", "--policy", path, "--subscriber", "acme"]),
+    ("a list of calls", lambda path: ["replay", "--calls", path]),
+    ("settings", lambda path: ["serve", "--settings", path]),
+]
+JOURNAL_READERS = [
+    ("a journal to verify", lambda path: ["verify", "--journal", path]),
+    ("a journal to explain", lambda path: ["explain", "--journal", path, "--sub", "1"]),
 ]
 
-# Commands that write, and what is said where the output takes nothing. A fault that comes before is said.
+# Files that can't be read: what they are, the path, the name that is said, and why.
+UNREADABLE = [
+    ("isn't there", "/nowhere/file", "/nowhere/file", errno.ENOENT),
+    ("a folder", "/tmp", "/tmp", errno.EISDIR),
+    ("below a file", "/dev/null/file", "/dev/null/file", errno.ENOTDIR),
+    ("a name that is too long", "x" * 256, "x" * 256, errno.ENAMETOOLONG),
+    ("no name", "", "", errno.ENOENT),
+    # A name of two lines, that goes back over the first, and one with characters that are none of ASCII's.
+    ("a name with control characters", "/nowhere/a\nb\rc\x1b\x7f\x85d", "/nowhere/a?b?c???d", errno.ENOENT),
+    ("a name of other letters", "/nowhere/\u00fc \u65e5", "/nowhere/\u00fc \u65e5", errno.ENOENT),
+]
+
+# A file that not even root may read, and one that it may not write, where the system has them.
+WRITE_ONLY = "/proc/sys/net/ipv4/route/flush"
+READ_ONLY = "/proc/sys/kernel/ostype"
+
+# Texts that aren't UTF-8, and how many octets stand before the first that isn't.
+NO_TEXTS = [
+    ("in the second line", b"policy 1\n# \xff\n", 11),
+    ("at once", b"\x80", 0),
+    ("a letter that is cut off", "open\n# \u00e9".encode()[:-1], 7),
+    ("half a pair", b"# \xed\xa0\x80", 2),
+]
+
+# Files that can't be written: what they are, the path, and why.
+UNWRITABLE = [
+    ("in no folder", "/nowhere/file", errno.ENOENT),
+    ("in a folder that takes no file", "/proc/file", errno.ENOENT),
+    ("a folder", "/tmp", errno.EISDIR),
+    ("full", "/dev/full", errno.ENOSPC),
+]
+
+# Commands that write, what is said where the output takes nothing, and the status. A fault that comes before is said.
 OUTPUTS = [
-    ("offline", OFFLINE_HEX, FLOW, 3, DEVICE),
-    ("offline, of octets", OFFLINE, bytes.fromhex(FLOW), 3, DEVICE),
-    ("check-policy", CHECK, "", 3, DEVICE),
-    ("--help", ["--help"], "", 3, DEVICE),
-    ("--version", ["--version"], "", 3, DEVICE),
+    ("offline", OFFLINE_HEX, FLOW, 3, None),
+    ("offline, of octets", OFFLINE, bytes.fromhex(FLOW), 3, None),
+    ("check-policy", CHECK, "", 3, None),
+    ("--help", ["--help"], "", 3, None),
+    ("--version", ["--version"], "", 3, None),
     ("a policy that is none", ["check-policy", "--policy-text", ""], "", 1, "ipmd: policy line 1: NoHeader\n"),
 ]
 
@@ -53,38 +83,95 @@ def run_to(words, given, **streams):
 
 
 class Streams(ProgramTest):
-    def test_files(self):
-        self.expect_all(Case(name, words, FLOW, 3, "", DEVICE) for name, words in FILES)
+    def writers(self):
+        """Commands that write a file, by its path, each with what it is given."""
+        calls = self.file("calls", "open\n")
+        return [
+            ("an audit", lambda path: [*WITHHOLD_HEX, "--audit", path], FLOW),
+            ("a journal", lambda path: ["replay", "--calls", calls, "--journal", path], ""),
+        ]
+
+    def expect_failed(self, name, words, given, which, why):
+        """A run fails at what has this name, and nothing is written."""
+        self.expect(Case(name, words, given, 3, "", failed(which, why)))
+
+    def test_unreadable(self):
+        for role, words in READERS + JOURNAL_READERS:
+            for kind, path, which, why in UNREADABLE:
+                self.expect_failed(f"{role}: {kind}", words(path), FLOW, which, why)
+
+    def test_forbidden(self):
+        """A file that may not be read, or not written."""
+        for role, words in READERS + JOURNAL_READERS:
+            if os.path.exists(WRITE_ONLY):
+                self.expect_failed(role, words(WRITE_ONLY), FLOW, WRITE_ONLY, errno.EACCES)
+        for role, words, given in self.writers():
+            if os.path.exists(READ_ONLY):
+                self.expect_failed(role, words(READ_ONLY), given, READ_ONLY, errno.EACCES)
+
+    def test_no_text(self):
+        for role, words in READERS:
+            for kind, content, place in NO_TEXTS:
+                path = self.file("text", content)
+                self.expect_failed(f"{role}: {kind}", words(path), FLOW, path, f"not UTF-8, octet {place}")
+
+    def test_unwritable(self):
+        for role, words, given in self.writers():
+            for kind, path, why in UNWRITABLE:
+                self.expect_failed(f"{role}: {kind}", words(path), given, path, why)
+
+    def test_first_device(self):
+        """Of two devices that fail, the one that fails first is named."""
+        nothing = ["offline", "--policy", "/nowhere/policy", "--subscriber", "acme", "--audit", "/nowhere/audit"]
+        self.expect_failed("a policy, then an audit", nothing, "", "/nowhere/policy", errno.ENOENT)
+        self.expect_failed("an audit, then no digits", [*OFFLINE_HEX, "--audit", "/nowhere/audit"], "0g", "/nowhere/audit", errno.ENOENT)
+        with open("/dev/full", "wb") as full:
+            ran = run_to([program.path(), *OFFLINE_HEX, "--audit", "/dev/full"], FLOW, stdout=full)
+        self.expect_said("an output, and an audit with nothing in it", ran, 3, failed("standard output", errno.ENOSPC))
+
+    def test_words(self):
+        """Words of a command line that aren't UTF-8."""
+        ran = subprocess.run([program.path(), b"check-policy", b"--policy", b"\xff"], capture_output=True, timeout=LONGEST)
+        self.expect_said("a path", ran, 3, failed("command line", "not UTF-8"))
 
     def expect_said(self, name, ran, status, errors):
         with self.subTest(name):
             self.assertEqual((ran.stderr.decode(), ran.returncode), (errors, status))
 
+    def expect_unsaid(self, name, ran, status, fault, why):
+        """The output took nothing, for this reason: that is said, or a fault that came before."""
+        self.expect_said(name, ran, status, failed("standard output", why) if fault is None else fault)
+
     def test_full_output(self):
-        for name, words, given, status, errors in OUTPUTS:
+        for name, words, given, status, fault in OUTPUTS:
             with open("/dev/full", "wb") as full:
-                self.expect_said(name, run_to([program.path(), *words], given, stdout=full), status, errors)
+                ran = run_to([program.path(), *words], given, stdout=full)
+            self.expect_unsaid(name, ran, status, fault, errno.ENOSPC)
 
     def test_closed_pipe(self):
         """A pipe whose reader has gone."""
-        for name, words, given, status, errors in OUTPUTS:
+        for name, words, given, status, fault in OUTPUTS:
             reader, writer = os.pipe()
             os.close(reader)
             with open(writer, "wb") as pipe:
-                self.expect_said(name, run_to([program.path(), *words], given, stdout=pipe), status, errors)
+                ran = run_to([program.path(), *words], given, stdout=pipe)
+            self.expect_unsaid(name, ran, status, fault, errno.EPIPE)
 
     def test_closed_output(self):
-        for name, words, given, status, errors in OUTPUTS:
-            self.expect_said(name, run_to(["sh", "-c", 'exec "$0" "$@" >&-', program.path(), *words], given), status, errors)
+        for name, words, given, status, fault in OUTPUTS:
+            ran = run_to(["sh", "-c", 'exec "$0" "$@" >&-', program.path(), *words], given)
+            self.expect_unsaid(name, ran, status, fault, errno.EBADF)
 
     def test_failed_input(self):
-        """A folder as standard input: it can be opened, and not read."""
+        """A folder as standard input, which can be opened, and not read; and one that is closed."""
         for name, words in [("octets", OFFLINE), ("digits", OFFLINE_HEX)]:
-            with self.subTest(name):
-                folder = os.open("/tmp", os.O_RDONLY)
-                ran = subprocess.run([program.path(), *words], stdin=folder, capture_output=True, timeout=LONGEST)
-                os.close(folder)
-                self.assertEqual((ran.stderr.decode(), ran.stdout, ran.returncode), (DEVICE, b"", 3))
+            folder = os.open("/tmp", os.O_RDONLY)
+            ran = subprocess.run([program.path(), *words], stdin=folder, capture_output=True, timeout=LONGEST)
+            os.close(folder)
+            self.expect_said(name, ran, 3, failed("standard input", errno.EISDIR))
+            ran = subprocess.run(["sh", "-c", 'exec "$0" "$@" <&-', program.path(), *words], capture_output=True, timeout=LONGEST)
+            self.expect_said(f"{name}, closed", ran, 3, failed("standard input", errno.EBADF))
+            self.assertEqual(ran.stdout, b"")
 
     def test_full_errors(self):
         for name, words, given, status in UNTOLD:
@@ -109,7 +196,8 @@ class Streams(ProgramTest):
                 is_whole = room == len(whole)
                 self.assertEqual(pathlib.Path(path).read_bytes(), whole[:room])
                 self.assertEqual(ran.returncode, 0 if is_whole else 3, ran.stderr)
-                self.assertEqual(ran.stderr.decode().endswith(DEVICE), not is_whole)
+                if not is_whole:
+                    self.assertEqual(ran.stderr.decode(), failed(path, errno.EFBIG))
 
     def test_short_audit(self):
         """What an audit's file has is a front of the lines that are due: two records are withheld."""

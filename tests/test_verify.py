@@ -8,7 +8,7 @@ import program
 from journals import PASS, WITHHOLD, advance, closed, cut, edit, file_of, message, opened, subscribe, unsubscribe
 from messages import FLOW, address, flow_message
 from messages import message as flows
-from runs import DEVICE, LONGEST, ProgramTest, run
+from runs import LONGEST, ProgramTest, failed, run
 
 # A policy, a subscription, a session and its first message, of one record.
 FIRST = (edit(PASS), subscribe(1, "acme"), opened(1), message(1, 0, flow_message(0)))
@@ -121,12 +121,14 @@ class Verify(ProgramTest):
 
     def test_device(self):
         """The file can't be opened or read, or the output can't be written."""
-        self.expect_ran(run(["verify", "--journal", self.file("missing")]), 3, "", DEVICE)
-        self.expect_ran(run(["verify", "--journal", str(self.folder)]), 3, "", DEVICE)
+        missing = self.file("missing")
+        self.expect_ran(run(["verify", "--journal", missing]), 3, "", failed(missing, errno.ENOENT))
+        folder = str(self.folder)
+        self.expect_ran(run(["verify", "--journal", folder]), 3, "", failed(folder, errno.EISDIR))
         words = [program.path(), "verify", "--journal", self.file("run.journal", file_of(*FIRST))]
         with open("/dev/full", "wb") as full:
             ran = subprocess.run(words, stdout=full, stderr=subprocess.PIPE, timeout=LONGEST)
-        self.assertEqual((ran.returncode, ran.stderr), (3, DEVICE.encode()))
+        self.assertEqual((ran.returncode, ran.stderr.decode()), (3, failed("standard output", errno.ENOSPC)))
 
     def on_terminal(self, *words):
         """What a run writes to a terminal as its standard error, beside its output and its status."""

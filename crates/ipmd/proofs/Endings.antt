@@ -8,15 +8,15 @@ use Rattle.ipmd_command_line.specs.declared.task.ExplainOptions.{ExplainOptions}
 use Rattle.ipmd_command_line.specs.declared.task.Task.TheVariants.{Offline, Serve, Verify, Explain}
 use Rattle.ipmd_offline.specs.declared.fault.ProgramFault.{ProgramFault}
 use Rattle.ipmd_offline.specs.Runs.{RefusesToFilter}
-use Rattle.ipmd_offline.specs.Status.{line_of_fault, Tells}
+use Rattle.ipmd_offline.specs.Status.{Blames}
 use Rattle.ipmd_verify.specs.Verifying.{RefusesToVerifyFile}
-use Rattle.ipmd_explain.specs.Answers.{RefusesToExplainFile, question_of}
+use Rattle.ipmd_explain.specs.Answers.{RefusesToExplainFile}
 use Rattle.ipmd.specs.Program.{FailsFor, IsFault}
 use Rattle.ipmd.specs.Serving.{FailsToServe}
 
 -- nothing was served, or a server failed
 pub unserved : {D : Type 0} (words : List (List ℕ)) (path : Bor (List ℕ)) (e : ProgramFault) (given held holds : Option (List ℕ)) (before after : D)
-    → AsksFor words (Serve path) → FailsToServe e held holds before after → FailsFor words e given held holds before after
+    → AsksFor words (Serve path) → FailsToServe path.now e held holds before after → FailsFor words e given held holds before after
 unserved words path e given held holds before after asks (inl (same, refuses, keeps)) = inl (same, inr (inr (inr (inr (inl (path, asks, refuses, keeps))))))
 unserved words path e given held holds before after asks (inr refuses) = inr (path, asks, refuses)
 
@@ -27,18 +27,18 @@ unfiltered words options e given held holds before after same asks refuses = inl
 
 -- a journal was not verified
 pub unverified : {D : Type 0} (words : List (List ℕ)) (options : VerifyOptions) (e : ProgramFault) (given held holds : Option (List ℕ)) (before after : D)
-    → after ≡ before → AsksFor words (Verify options) → RefusesToVerifyFile options.quiet e held holds → FailsFor words e given held holds before after
+    → after ≡ before → AsksFor words (Verify options) → RefusesToVerifyFile options e held holds → FailsFor words e given held holds before after
 unverified words options e given held holds before after same asks refuses = inl (same, inr (inr (inr (inr (inr (inl (options, asks, refuses)))))))
 
 -- or not explained
 pub unexplained : {D : Type 0} (words : List (List ℕ)) (options : ExplainOptions) (e : ProgramFault) (given held holds : Option (List ℕ)) (before after : D)
-    → after ≡ before → AsksFor words (Explain options) → RefusesToExplainFile (question_of options) e held holds → FailsFor words e given held holds before after
+    → after ≡ before → AsksFor words (Explain options) → RefusesToExplainFile options e held holds → FailsFor words e given held holds before after
 unexplained words options e given held holds before after same asks refuses = inl (same, inr (inr (inr (inr (inr (inr (inl (options, asks, refuses))))))))
 
 -- it was a fault, and then that was said
 pub blamed : {D : Type 0} (holds_of : D → Option (List ℕ)) (words : List (List ℕ)) (e : ProgramFault) (given held holds : Option (List ℕ)) (before after : D) (has_failed : Bool) (tells : Option (List ℕ))
-    → FailsFor words e given held holds before after → Tells (line_of_fault e) has_failed (holds_of after) tells
+    → FailsFor words e given held holds before after → Blames e has_failed (holds_of after) tells
     → IsFault words e given held holds has_failed (holds_of before) tells
 blamed holds_of words e given held holds before after has_failed tells (inl (same, fails)) told =
-    inl (fails, subst (λ o. Tells (line_of_fault e) has_failed o tells) (ap holds_of same) told)
+    inl (fails, subst (λ o. Blames e has_failed o tells) (ap holds_of same) told)
 blamed holds_of words e given held holds before after has_failed tells (inr fails) told = inr (fails, (holds_of after, told))

@@ -2,3 +2,4 @@ mod Statuses
 mod Replaying
 mod Endings
 mod Running
+mod Preparing

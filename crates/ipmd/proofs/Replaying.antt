@@ -1,14 +1,36 @@
--- A list of calls that no mediator is made for.
-use Rattle.std.proofs.Common.{◌≡◌, ℕ, List, Ok}
+-- A list of calls that no mediator is made for, or that isn't answered.
+use Rattle.std.proofs.Common.{◌≡◌, ℕ, List, [], Option, Some, Ok, inl, inr, refl, subst, sym}
+use Rattle.std.specs.Prelude.{IfSome}
+use Rattle.std.specs.Borrow.{Bor}
+use Rattle.std.proofs.KnownBytes.{Keeps-refl}
+use Rattle.ipmd_command_line.specs.declared.task.ReplayOptions.{ReplayOptions}
+use Rattle.ipmd_offline.specs.declared.fault.ProgramFault.{ProgramFault}
+use Rattle.ipmd_offline.specs.declared.failure.Place.TheVariants.{Output}
+use Rattle.ipmd_offline.specs.Failures.{FailedAt, FailedAtFile, IsFileFault}
 use Rattle.mediator_calls.specs.declared.fault.RunFault.{RunFault}
 use Rattle.mediator_calls.specs.declared.fault.RunFault.TheVariants.{BadLimits, OutOfMemory}
 use Rattle.mediator_calls.specs.Limited.{RefusesLimits}
 use Rattle.call_lists.specs.declared.call_list.CallList.{CallList}
 use Rattle.call_lists.specs.Lists.{asked, list_of}
 use Rattle.ipmd_offline.specs.Status.{run_fault_of}
-use Rattle.ipmd.specs.Replays.{RefusesText}
+use Rattle.ipmd.specs.Replays.{BeginsToAnswer, RefusesText, RefusesToReplay}
 
 -- its limits are at fault, or memory ran out
 pub no_run : (text : List ℕ) (list : CallList) (why : RunFault) → list_of text ≡ Ok (asked list) → RefusesLimits why list.limits → RefusesText (run_fault_of why) text
 no_run text list BadLimits read refused = record { list = list; read = read; bad = refused }
 no_run text list OutOfMemory read refused = tt
+
+-- the file of the calls can't be read
+pub no_calls : (options : ReplayOptions) (e : ProgramFault) (held : Option (List ℕ)) → IsFileFault options.calls.now e → RefusesToReplay options e held held
+no_calls options e held (inl is) = subst (λ x. RefusesToReplay options x held held) (sym is) (([], tt), Keeps-refl held)
+no_calls options e held (inr (text, same, why, is)) = subst (λ x. RefusesToReplay options x held held) (sym is) (inl (inl (text, same, why, refl), Keeps-refl held))
+
+-- that of the journal can't be kept
+pub no_journal : (options : ReplayOptions) (path : Bor (List ℕ)) (e : ProgramFault) (held : Option (List ℕ)) → options.journal ≡ Some path → IsFileFault path.now e → RefusesToReplay options e held held
+no_journal options path e held asked (inl is) = subst (λ x. RefusesToReplay options x held held) (sym is) (([], tt), Keeps-refl held)
+no_journal options path e held asked (inr (text, same, why, is)) = subst (λ x. RefusesToReplay options x held held) (sym is)
+    (inl (inr (subst (λ journal. IfSome journal (λ p. FailedAtFile p.now _)) (sym asked) (text, same, why, refl)), Keeps-refl held))
+
+-- the output failed
+pub no_answer : (options : ReplayOptions) (e : ProgramFault) (held holds : Option (List ℕ)) → FailedAt Output e → BeginsToAnswer held holds → RefusesToReplay options e held holds
+no_answer options e held holds (why, is) begins = subst (λ x. RefusesToReplay options x held holds) (sym is) (inr ((why, refl), begins))

@@ -3,7 +3,7 @@ use Rattle.std.proofs.Common.{Bool, ◌≡◌, ◌⊎◌, inl, inr, ℕ, ◌+◌
 use Rattle.std.specs.Io.KnownBytes.{Appends}
 use Rattle.std.specs.List.{flat_map}
 use Rattle.std.proofs.KnownBytes.{Appends-trans, Appends-nil, Keeps-refl}
-use Rattle.std.proofs.lemmas.List.{length-append, take_all}
+use Rattle.std.proofs.lemmas.List.{length-append}
 use Rattle.std.proofs.lemmas.List.Concat.{flat_map-append}
 use Rattle.serve_settings.specs.Asked.{Asked}
 use Rattle.mediator_server.specs.declared.plan.Plan.{Plan}
@@ -15,12 +15,15 @@ use Rattle.mediator_calls.specs.Limited.{AreAllowed, RefusesLimits}
 use Rattle.mediator_state.specs.declared.fault.Fault.TheVariants as fault
 use Rattle.mediator_server.specs.declared.listening.ListenFault.TheVariants as listen
 use Rattle.ipmd_offline.specs.declared.fault.ProgramFault.{ProgramFault}
-use Rattle.ipmd_offline.specs.declared.fault.ProgramFault.TheVariants.{CommandLine, Settings, Policy, Hex, Framing, Core, Cut, Calls, BadLimits, Journal, History, Absent, Close, OutOfMemory, Device}
+use Rattle.ipmd_offline.specs.declared.fault.ProgramFault.TheVariants.{OutOfMemory}
+use Rattle.ipmd_offline.specs.declared.failure.Place.TheVariants.{Output, RandomNumbers}
+use Rattle.ipmd_offline.specs.Failures.{FailedAt}
 use Rattle.ipmd_offline.specs.HexText.{WritesSome}
 use Rattle.ipmd_offline.specs.Status.{run_fault_of}
-use Rattle.run_journals.specs.Keeping.{IsKeepingFault}
+use Rattle.run_journals.specs.Keeping.{IsKeepingFault, IsSomeFileFault, part_name}
+use Rattle.run_journals.specs.Numbering.{file_name}
 use Rattle.ipmd.specs.declared.serve.Service.{Service}
-use Rattle.ipmd.specs.Serving.{IsAskedFor, Run, IsRun, AreFull, policy_after, served, MakesRun, Serves, StopsBehind, StopsRun, StopsServing, IsListenFault, RefusesToTell, IsToRun}
+use Rattle.ipmd.specs.Serving.{IsAskedFor, Run, IsRun, AreFull, policy_after, served, MakesRun, Serves, StopsBehind, StopsRun, StopsServing, IsBeginFault, IsListenFault, RefusesToTell, IsToRun}
 
 -- the first run is to be made
 pub begins : (service : Service) (held : Option (List ℕ)) → IsAskedFor service → IsToRun service.plan service.runs 1 held held
@@ -133,28 +136,24 @@ stops plan runs run held holds writes e so stopped = record {
   behind (inr (made, is_served, refuses)) = inr (made, is_run plan runs run held holds made so is_served, refuses)
 
 -- no run is made
-pub stops_first : (service : Service) (held : Option (List ℕ)) (e : ProgramFault) → IsAskedFor service → IsListenFault e → StopsServing e held held
+pub stops_first : (service : Service) (held : Option (List ℕ)) (e : ProgramFault) → IsAskedFor service → IsBeginFault e → StopsServing e held held
 stops_first service held e asked fault = stops service.plan service.runs 1 held held held e (begins service held asked) (inl (fault, Keeps-refl held))
 
 -- ---- faults
 
--- a file that isn't kept, before any run
-pub keeping_is_listen : (e : ProgramFault) → IsKeepingFault e → IsListenFault e
-keeping_is_listen Device is = (listen.Bind, refl)
-keeping_is_listen OutOfMemory is = (listen.Core fault.OutOfMemory, refl)
-keeping_is_listen (CommandLine error) is = absurd is
-keeping_is_listen (Settings why) is = absurd is
-keeping_is_listen (Policy why) is = absurd is
-keeping_is_listen Hex is = absurd is
-keeping_is_listen (Framing why) is = absurd is
-keeping_is_listen (Core why) is = absurd is
-keeping_is_listen Cut is = absurd is
-keeping_is_listen (Calls n) is = absurd is
-keeping_is_listen BadLimits is = absurd is
-keeping_is_listen (Journal why) is = absurd is
-keeping_is_listen (History position) is = absurd is
-keeping_is_listen (Absent what) is = absurd is
-keeping_is_listen Close is = absurd is
+-- a folder that can't be read
+pub folder_begins : (e : ProgramFault) → IsSomeFileFault e → IsBeginFault e
+folder_begins e is = inr (inr is)
+
+-- no random numbers
+pub no_numbers : (e : ProgramFault) → (e ≡ OutOfMemory) ⊎ FailedAt RandomNumbers e → IsBeginFault e
+no_numbers e (inl is) = inr (inr ([], inl is))
+no_numbers e (inr failed) = inr (inl failed)
+
+-- a journal's file
+pub kept_somewhere : (path : List ℕ) (number : ℕ) (e : ProgramFault) → IsKeepingFault path number e → IsSomeFileFault e
+kept_somewhere path number e (inl fault) = (part_name (file_name path number), fault)
+kept_somewhere path number e (inr fault) = (file_name path number, fault)
 
 -- a mediator with limits that it may have is refused for memory alone
 pub new_refused : (why : RunFault) (limits : Limits) → RefusesLimits why limits → AreAllowed limits → IsListenFault (run_fault_of why)
@@ -163,24 +162,10 @@ new_refused run.OutOfMemory limits refused allowed = (listen.Core fault.OutOfMem
 
 -- nothing was written of a run's line, some of it, or all of it
 pub told_nothing : (made : Run) (held : Option (List ℕ)) → RefusesToTell OutOfMemory made held held
-told_nothing made held = inl (refl, inl (Keeps-refl held))
+told_nothing made held = inl (refl, Keeps-refl held)
 
-pub told_some : (e : ProgramFault) (made : Run) (held holds : Option (List ℕ)) → e ≡ Device → WritesSome (served made) held holds → RefusesToTell e made held holds
-told_some e made held holds failed some = inr (failed, some)
+pub told_some : (e : ProgramFault) (made : Run) (held holds : Option (List ℕ)) → FailedAt Output e → WritesSome (served made) held holds → RefusesToTell e made held holds
+told_some e made held holds failed some = inr (inl (failed, some))
 
-pub told_all : (e : ProgramFault) (made : Run) (held holds : Option (List ℕ)) → IsKeepingFault e → Appends held holds (served made) → RefusesToTell e made held holds
-told_all Device made held holds is told = inr (refl, (length (served made), subst (Appends held holds) (sym (take_all (length (served made)) (served made) (omega arith))) told))
-told_all OutOfMemory made held holds is told = inl (refl, inr told)
-told_all (CommandLine error) made held holds is told = absurd is
-told_all (Settings why) made held holds is told = absurd is
-told_all (Policy why) made held holds is told = absurd is
-told_all Hex made held holds is told = absurd is
-told_all (Framing why) made held holds is told = absurd is
-told_all (Core why) made held holds is told = absurd is
-told_all Cut made held holds is told = absurd is
-told_all (Calls n) made held holds is told = absurd is
-told_all BadLimits made held holds is told = absurd is
-told_all (Journal why) made held holds is told = absurd is
-told_all (History position) made held holds is told = absurd is
-told_all (Absent what) made held holds is told = absurd is
-told_all Close made held holds is told = absurd is
+pub told_all : (e : ProgramFault) (made : Run) (held holds : Option (List ℕ)) → IsSomeFileFault e → Appends held holds (served made) → RefusesToTell e made held holds
+told_all e made held holds is told = inr (inr (is, told))

@@ -15,7 +15,7 @@ use Rattle.ipmd_command_line.specs.declared.task.Task.TheVariants.{Offline, Chec
 use Rattle.ipmd_command_line.specs.declared.task.PolicySource.{PolicySource}
 use Rattle.ipmd_offline.specs.declared.fault.ProgramFault.{ProgramFault}
 use Rattle.ipmd_offline.specs.Runs.{CountsPolicy, Filters, RefusesToCount, RefusesToFilter, RefusesToShow, Shows, line_of_report}
-use Rattle.ipmd_offline.specs.Status.{command_line_fault_of, line_of_fault, Tells}
+use Rattle.ipmd_offline.specs.Status.{command_line_fault_of, Blames, Tells}
 use Rattle.ipmd_verify.specs.Verifying.{VerifiesFile, RefusesToVerifyFile}
 use Rattle.ipmd_explain.specs.Answers.{ExplainsFile, RefusesToExplainFile, question_of}
 use Rattle.ipmd.specs.Replays.{Replays, RefusesToReplay}
@@ -43,10 +43,10 @@ FailsAlone words e given held holds =
     (RefusesCommandLine words e × Keeps held holds)
     ⊎ (((source : PolicySource) × AsksFor words (CheckPolicy source) × RefusesToCount source e held holds)
     ⊎ (((options : OfflineOptions) × AsksFor words (Offline options) × RefusesToFilter options e given held holds)
-    ⊎ (((options : ReplayOptions) × AsksFor words (Replay options) × RefusesToReplay e held holds)
-    ⊎ (((path : Bor (List ℕ)) × AsksFor words (Serve path) × RefusesToPrepare e × Keeps held holds)
-    ⊎ (((options : VerifyOptions) × AsksFor words (Verify options) × RefusesToVerifyFile options.quiet e held holds)
-    ⊎ (((options : ExplainOptions) × AsksFor words (Explain options) × RefusesToExplainFile (question_of options) e held holds)
+    ⊎ (((options : ReplayOptions) × AsksFor words (Replay options) × RefusesToReplay options e held holds)
+    ⊎ (((path : Bor (List ℕ)) × AsksFor words (Serve path) × RefusesToPrepare path.now e × Keeps held holds)
+    ⊎ (((options : VerifyOptions) × AsksFor words (Verify options) × RefusesToVerifyFile options e held holds)
+    ⊎ (((options : ExplainOptions) × AsksFor words (Explain options) × RefusesToExplainFile options e held holds)
     ⊎ ((shown : Error) × AsksFor words (Show shown) × RefusesToShow (kind_of shown) e held holds)))))))
 
 -- ---- what is done
@@ -79,8 +79,8 @@ abbrev pub IsDone : List (List ℕ) → Option (List ℕ) → Option (List ℕ) 
 IsDone words given held holds has_failed told tells =
     ((report : Option OfflineReport) × DoesAlone words report given held holds × Reports report has_failed told tells) ⊎ DoesServe words held holds
 
--- a fault has a cause and is told; where a server was run, behind its notes
+-- a fault has a cause and is told, behind a line that names what failed where a device did; where a server was run, behind its notes
 abbrev pub IsFault : List (List ℕ) → ProgramFault → Option (List ℕ) → Option (List ℕ) → Option (List ℕ) → Bool → Option (List ℕ) → Option (List ℕ) → Type 0
 IsFault words e given held holds has_failed told tells =
-    (FailsAlone words e given held holds × Tells (line_of_fault e) has_failed told tells)
-    ⊎ (FailsServing words e held holds × ((notes : Option (List ℕ)) × Tells (line_of_fault e) has_failed notes tells))
+    (FailsAlone words e given held holds × Blames e has_failed told tells)
+    ⊎ (FailsServing words e held holds × ((notes : Option (List ℕ)) × Blames e has_failed notes tells))

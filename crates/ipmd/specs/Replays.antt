@@ -1,5 +1,5 @@
 -- What `ipmd replay` does: the calls that a text lists are made on a new mediator, and the answer to each is written.
-use Rattle.std.specs.Prelude.{◌≡◌, ◌⊎◌, ℕ, List, Option, Ok, Err}
+use Rattle.std.specs.Prelude.{◌≡◌, ◌⊎◌, ℕ, List, Option, Some, IfSome, Ok, Err}
 use Rattle.std.specs.Io.KnownBytes.{Appends, Keeps}
 use Rattle.mediator_calls.specs.declared.call.Reply.{Reply}
 use Rattle.mediator_calls.specs.Limited.{AreAllowed}
@@ -11,6 +11,9 @@ use Rattle.mediator_core.specs.Runs.{Runs}
 use Rattle.mediator_core.specs.Headline.{HistoryIsTheCalls, HandedIsDisclosed, HandedIsFront, DrainedIsAudited, IsBuiltFromDisclosed}
 use Rattle.ipmd_offline.specs.declared.fault.ProgramFault.{ProgramFault}
 use Rattle.ipmd_offline.specs.declared.fault.ProgramFault.TheVariants.{CommandLine, Settings, Policy, Hex, Framing, Core, Cut, Calls, BadLimits, Journal, History, Absent, Close, OutOfMemory, Device}
+use Rattle.ipmd_command_line.specs.declared.task.ReplayOptions.{ReplayOptions}
+use Rattle.ipmd_offline.specs.declared.failure.Place.TheVariants.{Output}
+use Rattle.ipmd_offline.specs.Failures.{FailedAt, FailedAtFile}
 use Rattle.ipmd_offline.specs.HexText.{WritesSome}
 
 -- These are the replies to the calls that the text lists, made one after another on a new mediator; and all that is promised of a
@@ -48,7 +51,7 @@ RefusesText (Journal why) text = ⊥
 RefusesText (History position) text = ⊥
 RefusesText (Absent what) text = ⊥
 RefusesText Close text = ⊥
-RefusesText Device text = ⊥
+RefusesText (Device which) text = ⊥
 
 -- the calls of a text were made, and the answers were written; what a file holds isn't told here
 pub record Replays (held holds : Option (List ℕ)) : Type 0 where
@@ -64,8 +67,12 @@ pub record BeginsToAnswer (held holds : Option (List ℕ)) : Type 0 where
   pub runs : RunsText text replies
   pub written : WritesSome (answers_text replies) held holds
 
+-- the file of the calls can't be read, or that of the journal can't be kept
+abbrev pub IsFileOf : ReplayOptions → ProgramFault → Type 0
+IsFileOf options e = FailedAtFile options.calls.now e ⊎ IfSome options.journal (λ path. FailedAtFile path.now e)
+
 -- why the calls of a file aren't answered: the file can't be read, its text is refused, its journal can't be kept, or memory ran out, and nothing was written;
 -- or the output failed
-abbrev pub RefusesToReplay : ProgramFault → Option (List ℕ) → Option (List ℕ) → Type 0
-RefusesToReplay Device held holds = Keeps held holds ⊎ BeginsToAnswer held holds
-RefusesToReplay e held holds = ((text : List ℕ) × RefusesText e text) × Keeps held holds
+abbrev pub RefusesToReplay : ReplayOptions → ProgramFault → Option (List ℕ) → Option (List ℕ) → Type 0
+RefusesToReplay options (Device which) held holds = (IsFileOf options (Device which) × Keeps held holds) ⊎ (FailedAt Output (Device which) × BeginsToAnswer held holds)
+RefusesToReplay options e held holds = ((text : List ℕ) × RefusesText e text) × Keeps held holds

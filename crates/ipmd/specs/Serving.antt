@@ -1,5 +1,5 @@
 -- What `ipmd serve` does, as far as it can be told: what comes from other threads, from sockets and from files isn't told here.
-use Rattle.std.specs.Prelude.{◌≡◌, ◌⊎◌, ℕ, ◌+◌, ◌≤◌, ◌<◌, Bool, true, false, not, ◌&&◌, List, ◌∷◌, [], ◌++◌, length, map, codes, string_bytes, Vec, Option, Ok, unwrap_or}
+use Rattle.std.specs.Prelude.{◌≡◌, ◌⊎◌, ℕ, ◌+◌, ◌≤◌, ◌<◌, Bool, true, false, not, ◌&&◌, List, ◌∷◌, [], ◌++◌, length, map, codes, string_bytes, Vec, Option, None, Ok, unwrap_or}
 use Rattle.std.specs.List.{flat_map}
 use Rattle.std.specs.declared.alloc.Global.{Global}
 use Rattle.std.specs.Fmt.{decimal}
@@ -18,8 +18,11 @@ use Rattle.mediator_server.specs.declared.listening.ListenFault.{ListenFault}
 use Rattle.mediator_server.specs.declared.listening.ListenFault.TheVariants as listen
 use Rattle.ipmd_offline.specs.declared.fault.ProgramFault.{ProgramFault}
 use Rattle.ipmd_offline.specs.declared.fault.ProgramFault.TheVariants.{CommandLine, Settings, Policy, Hex, Framing, Core, Cut, Calls, BadLimits, Journal, History, Absent, Close, OutOfMemory, Device}
+use Rattle.ipmd_offline.specs.declared.failure.Place.TheVariants as placed
+use Rattle.ipmd_offline.specs.Failures.{FailedAt, FailedAtFile, IsFileFault}
 use Rattle.ipmd_offline.specs.HexText.{WritesSome}
 use Rattle.ipmd_offline.specs.Status.{core_fault_of}
+use Rattle.run_journals.specs.Keeping.{IsSomeFileFault}
 use Rattle.ipmd.specs.declared.serve.Service.{Service}
 
 -- ---- before anything is served
@@ -64,23 +67,27 @@ pub record IsAskedFor (service : Service) : Type 0 where
   pub allowed : AreAllowed service.limits
   pub some_run : 1 ≤ service.runs
 
--- why nothing is served: the text of the settings has this fault, a file can't be read or is no text, or memory ran out
-abbrev pub RefusesToPrepare : ProgramFault → Type 0
-RefusesToPrepare (Settings why) = (text : List ℕ) × IsFaultOf why text
-RefusesToPrepare OutOfMemory = Unit {0}
-RefusesToPrepare Device = Unit {0}
-RefusesToPrepare (CommandLine e) = ⊥
-RefusesToPrepare (Policy why) = ⊥
-RefusesToPrepare Hex = ⊥
-RefusesToPrepare (Framing why) = ⊥
-RefusesToPrepare (Core why) = ⊥
-RefusesToPrepare Cut = ⊥
-RefusesToPrepare (Calls n) = ⊥
-RefusesToPrepare BadLimits = ⊥
-RefusesToPrepare (Journal why) = ⊥
-RefusesToPrepare (History position) = ⊥
-RefusesToPrepare (Absent what) = ⊥
-RefusesToPrepare Close = ⊥
+-- the policy's file, as some settings have it, can't be read, or isn't text; or memory ran out
+abbrev pub IsPolicyFault : ProgramFault → Type 0
+IsPolicyFault e = (text : List ℕ) × (asked : Asked) × (settings_of text ≡ Ok asked) × IsFileFault asked.policy e
+
+-- why nothing is served by the settings of this path: their text has this fault, a file can't be read or is no text, or memory ran out
+abbrev pub RefusesToPrepare : List ℕ → ProgramFault → Type 0
+RefusesToPrepare path (Settings why) = (text : List ℕ) × IsFaultOf why text
+RefusesToPrepare path OutOfMemory = Unit {0}
+RefusesToPrepare path (Device which) = FailedAtFile path (Device which) ⊎ IsPolicyFault (Device which)
+RefusesToPrepare path (CommandLine e) = ⊥
+RefusesToPrepare path (Policy why) = ⊥
+RefusesToPrepare path Hex = ⊥
+RefusesToPrepare path (Framing why) = ⊥
+RefusesToPrepare path (Core why) = ⊥
+RefusesToPrepare path Cut = ⊥
+RefusesToPrepare path (Calls n) = ⊥
+RefusesToPrepare path BadLimits = ⊥
+RefusesToPrepare path (Journal why) = ⊥
+RefusesToPrepare path (History position) = ⊥
+RefusesToPrepare path (Absent what) = ⊥
+RefusesToPrepare path Close = ⊥
 
 -- ---- a run
 
@@ -143,26 +150,32 @@ pub record Serves (held holds : Option (List ℕ)) : Type 0 where
 
 -- ---- where it stops
 
--- what the program makes of the server's faults
-abbrev pub listen_fault_of : ListenFault → ProgramFault
-listen_fault_of listen.Bind = Device
-listen_fault_of (listen.Connect place) = Device
-listen_fault_of listen.NoThread = Device
-listen_fault_of (listen.Core why) = core_fault_of why
-listen_fault_of (listen.Close why) = Close
+-- what the program makes of the server's faults; of an address a note says which it is
+abbrev pub IsMadeOf : ListenFault → ProgramFault → Type 0
+IsMadeOf listen.Bind e = e ≡ Device None
+IsMadeOf (listen.Connect place) e = e ≡ Device None
+IsMadeOf listen.NoThread e = FailedAt placed.Threads e
+IsMadeOf (listen.Core why) e = e ≡ core_fault_of why
+IsMadeOf (listen.Close why) e = e ≡ Close
 
 abbrev pub IsListenFault : ProgramFault → Type 0
-IsListenFault e = (fault : ListenFault) × (e ≡ listen_fault_of fault)
+IsListenFault e = (fault : ListenFault) × IsMadeOf fault e
 
--- a run was made that isn't told whole, or whose journal isn't kept: memory ran out before its line was written, or behind it; or a device
--- failed, and a front of its line was written, or all of it
+-- no run is made: the server has a fault, there are no random numbers, the journals' folder can't be read, or memory ran out
+abbrev pub IsBeginFault : ProgramFault → Type 0
+IsBeginFault e = IsListenFault e ⊎ (FailedAt placed.RandomNumbers e ⊎ IsSomeFileFault e)
+
+-- a run was made that isn't told whole, or whose journal isn't kept: memory ran out before its line was written, or behind it; or the
+-- output failed, and a front of its line was written, or all of it; or the journal's file failed, and the line was written
 abbrev pub RefusesToTell : ProgramFault → Run → Option (List ℕ) → Option (List ℕ) → Type 0
-RefusesToTell e run held holds = ((e ≡ OutOfMemory) × (Keeps held holds ⊎ Appends held holds (served run))) ⊎ ((e ≡ Device) × WritesSome (served run) held holds)
+RefusesToTell e run held holds =
+    ((e ≡ OutOfMemory) × Keeps held holds)
+    ⊎ ((FailedAt placed.Output e × WritesSome (served run) held holds) ⊎ (IsSomeFileFault e × Appends held holds (served run)))
 
--- behind these runs the server ended by a fault, and nothing more was written; or a run more was made, and isn't told whole or kept
+-- behind these runs no other one can be made, and nothing more was written; or a run more was made, and isn't told whole or kept
 abbrev pub StopsBehind : ProgramFault → Asked → List ℕ → Option (List ℕ) → Option (List ℕ) → Type 0
 StopsBehind e asked policy held holds =
-    (IsListenFault e × Keeps held holds) ⊎ ((run : Run) × IsRun asked policy run × RefusesToTell e run held holds)
+    (IsBeginFault e × Keeps held holds) ⊎ ((run : Run) × IsRun asked policy run × RefusesToTell e run held holds)
 
 -- runs were made and told, and behind them it stops
 pub record StopsServing (e : ProgramFault) (held holds : Option (List ℕ)) : Type 0 where
@@ -178,8 +191,8 @@ pub record StopsServing (e : ProgramFault) (held holds : Option (List ℕ)) : Ty
   pub stops : StopsBehind e asked policy between holds
 
 -- nothing was served, and the stream for errors is as it was; or a server was run
-abbrev pub FailsToServe : {D : Type 0} → ProgramFault → Option (List ℕ) → Option (List ℕ) → D → D → Type 0
-FailsToServe e held holds before after = ((after ≡ before) × RefusesToPrepare e × Keeps held holds) ⊎ StopsServing e held holds
+abbrev pub FailsToServe : {D : Type 0} → List ℕ → ProgramFault → Option (List ℕ) → Option (List ℕ) → D → D → Type 0
+FailsToServe path e held holds before after = ((after ≡ before) × RefusesToPrepare path e × Keeps held holds) ⊎ StopsServing e held holds
 
 -- ---- what no public clause cites
 
@@ -195,10 +208,10 @@ pub record MakesRun (more : Bool) (old new : Plan) (held holds : Option (List �
   pub more_is : more ≡ is_followed made
   pub renewed : more ≡ true → (asked : Asked) (policy : List ℕ) → IsPlanOf asked policy old → IsPlanOf asked (policy_after policy made.history) new
 
--- the server ended by a fault, and nothing was written; or a run was made, and isn't told whole or kept
+-- no run was made, and nothing was written; or a run was made, and isn't told whole or kept
 abbrev pub StopsRun : ProgramFault → Plan → Option (List ℕ) → Option (List ℕ) → Type 0
 StopsRun e plan held holds =
-    (IsListenFault e × Keeps held holds) ⊎ ((made : Run) × IsServed plan [] made.history made.accepted made.handed × RefusesToTell e made held holds)
+    (IsBeginFault e × Keeps held holds) ⊎ ((made : Run) × IsServed plan [] made.history made.accepted made.handed × RefusesToTell e made held holds)
 
 -- runs were made and told, and another one of this number is to follow by this plan
 pub record IsToRun (plan : Plan) (runs run : ℕ) (held holds : Option (List ℕ)) : Type 0 where

@@ -19,8 +19,9 @@
 //! journal in which each entry has its receipt; or the text of a legal history was written, or what explains it; or help or the version was written. Every other status is that of a fault with
 //! its cause (`fails`): the words ask for nothing that there is, the text has this fault, the mediator or the server stopped so,
 //! or a device failed or memory ran out. What was written by then is said with it. The stream for errors grew by exactly the
-//! line of the report or of the fault, unless it failed itself (`Tells`); a policy's counts, answers, the help and the version
-//! leave it alone (`Reports`). Of a server that was run the line of its fault stands behind notes of which nothing is told.
+//! line of the report (`Tells`), or of the fault, behind at most one line that names the file or the stream that failed
+//! (`Blames`), unless it failed itself; a policy's counts, answers, the help and the version leave it alone (`Reports`). Of a
+//! server that was run these lines stand behind notes of which nothing is told.
 //!
 //! Shown by tests alone: a server's notes, the order of faults, and how far a journal's file was read, which `progress` is told.
 #![tactic(auto)]
@@ -44,13 +45,13 @@ use crate::serve::serve;
 use crate::system::System;
 use ipmd_command_line::{Task, read_command_line};
 use ipmd_explain::explain;
-use ipmd_offline::{ProgramFault, check_policy, filter, show, tell};
+use ipmd_offline::{Place, ProgramFault, check_policy, filter, show, tell};
 use ipmd_verify::{OnTerminal, Progress, verify};
 use octet_devices::Device;
 use offline_filter::OfflineReport;
 use std::convert::AsStr;
 use std::env;
-use std::io::{IsTerminal, Read, Write};
+use std::io::{self, ErrorKind, IsTerminal, Read, Write};
 use std::net::{Net, TcpListener, TcpStream};
 use std::os::fd::{AsRawFd, RawFd};
 use std::process::ExitCode;
@@ -70,15 +71,24 @@ fn main(rt: HostRuntime) -> ExitCode {
             rt.stderr().as_raw_fd(),
             &mut OnTerminal::new(Device::new(rt.stderr()), rt.stderr().is_terminal()),
         ),
-        Err(fault) => fault.report(&mut Device::new(rt.stderr())),
+        Err(fault) => fault.report(rt.alloc(), &mut Device::new(rt.stderr())),
     };
     ExitCode::from(status)
 }
 
 /// The words of the command line after the program's name.
+///
+/// # Errors
+/// `Device`, of the command line, where it isn't UTF-8; `OutOfMemory`.
 fn words_after_name<R: Env + AllocGlobal>(rt: &R) -> Result<Vec<String>, ProgramFault> {
-    let words = env::args(rt)?;
-    Ok(words.skip(1).collect(rt.alloc())?)
+    match env::args(rt) {
+        Ok(words) => Ok(words.skip(1).collect(rt.alloc())?),
+        Err(why) if why.kind() == ErrorKind::OutOfMemory => Err(ProgramFault::OutOfMemory),
+        Err(_) => {
+            let why = io::Error::new(ErrorKind::InvalidData, "not UTF-8");
+            Err(ProgramFault::failed(Place::CommandLine, why))
+        }
+    }
 }
 
 /// Does what the words ask for, and answers the exit status: 0 where it is done, 1 where the input is
@@ -112,7 +122,7 @@ pub fn program<
             DONE
         }
         Ok(None) => DONE,
-        Err(fault) => fault.report(errors),
+        Err(fault) => fault.report(rt.alloc(), errors),
     }
 }
 

@@ -6,14 +6,14 @@ ghost use Rattle.mediator_calls.specs.Limited.{AreAllowed};
 ghost use Rattle.mediator_server.specs.Listening.{IsServed};
 ghost use Rattle.octet_devices.specs.Device.{device_inner};
 ghost use Rattle.serve_settings.specs.Asked.{Asked};
-ghost use Rattle.run_journals.specs.Keeping.{IsKeepingFault};
-ghost use Rattle.ipmd.specs.Serving.{IsAskedFor, IsListenFault, IsPlanOf, MakesRun, RefusesToTell, Serves, StopsRun, StopsServing, is_followed, listen_fault_of, policy_after, run_of, served};
+ghost use Rattle.run_journals.specs.Keeping.{IsSomeFileFault};
+ghost use Rattle.ipmd.specs.Serving.{IsAskedFor, IsBeginFault, IsListenFault, IsMadeOf, IsPlanOf, MakesRun, RefusesToTell, Serves, StopsRun, StopsServing, is_followed, policy_after, run_of, served};
 
 use crate::serve::Service;
 use crate::system::System;
 use event_journal::Journal;
 use hash_keys::HashKeys;
-use ipmd_offline::{ProgramFault, write_text};
+use ipmd_offline::{Place, ProgramFault, write_text};
 use log::{Log, info};
 use mediator_calls::{Limits, Mediator};
 use mediator_server::{Ended, ListenFault, Plan, listen};
@@ -21,7 +21,7 @@ use octet_devices::Device;
 use run_journals::{first_free, keep_run};
 use std::alloc::{AllocError, Global};
 use std::hash::RandomState;
-use std::io::Write;
+use std::io::{self, Write};
 use std::net::{Net, TcpListener, TcpStream};
 use std::random::RandomSource;
 use std::rt::Files;
@@ -119,24 +119,25 @@ fn is_followed(ended: &Ended) -> bool
 ///
 /// # Errors
 /// `Device` where the system has no random numbers.
+#[tactic(auto, using(crate::proofs::Running::no_numbers))]
 fn secret_keys<R: RandomSource>(rt: &R) -> Result<HashKeys, ProgramFault>
-    ensures err { IfErr result IsListenFault }
+    ensures err { IfErr result IsBeginFault }
 {
     match RandomState::new(rt) {
         Ok(state) => Ok(HashKeys::secret(&state)),
-        Err(_) => Err(ProgramFault::Device),
+        Err(why) => Err(ProgramFault::at(Place::RandomNumbers, why)),
     }
 }
 
 /// Where the journals of so many runs are kept. Where several may follow each other, their numbers go on behind those of the
 /// folder's files.
-#[tactic(auto, using(crate::proofs::Running::keeping_is_listen))]
+#[tactic(auto, using(crate::proofs::Running::folder_begins))]
 fn keeping_of<R: Files + AllocGlobal>(
     rt: &R,
     path: Option<String>,
     runs: u64,
 ) -> Result<Keeping, ProgramFault>
-    ensures err { IfErr result IsListenFault }
+    ensures err { IfErr result IsBeginFault }
 {
     let free = match &path {
         Some(path) => first_free(rt, path.as_str())?,
@@ -173,12 +174,14 @@ fn make_run<
 
 /// What the program makes of a server's fault.
 fn fault_of(fault: ListenFault) -> ProgramFault
-    ensures { result ≡ listen_fault_of fault }
+    ensures { IsMadeOf fault result }
 {
     match fault {
-        ListenFault::Bind => ProgramFault::Device,
-        ListenFault::Connect { .. } => ProgramFault::Device,
-        ListenFault::NoThread => ProgramFault::Device,
+        ListenFault::Bind => ProgramFault::Device(None),
+        ListenFault::Connect { .. } => ProgramFault::Device(None),
+        ListenFault::NoThread => {
+            ProgramFault::failed(Place::Threads, io::Error::other("the system refuses one"))
+        }
         ListenFault::Core(why) => ProgramFault::from(why),
         ListenFault::Close(_) => ProgramFault::Close,
     }
@@ -214,13 +217,14 @@ fn end_run<R: Files + AllocGlobal, O: Write>(
 ///
 /// # Errors
 /// `Device`, `OutOfMemory`.
+#[tactic(auto, using(crate::proofs::Running::kept_somewhere))]
 fn keep<R: Files + AllocGlobal>(
     rt: &R,
     noting: &impl Log,
     keeping: &mut Keeping,
     journal: &Journal,
 ) -> Result<(), ProgramFault>
-    ensures err { IfErr result IsKeepingFault }
+    ensures err { IfErr result IsSomeFileFault }
 {
     if let Some(path) = &keeping.path {
         let name = keep_run(rt, path.as_str(), keeping.next, journal)?;

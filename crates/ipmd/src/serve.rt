@@ -11,7 +11,7 @@ use crate::notes::Notes;
 use crate::noting::Noting;
 use crate::runs::serve_runs;
 use crate::system::System;
-use ipmd_offline::ProgramFault;
+use ipmd_offline::{ProgramFault, read_text};
 use log::Log;
 use mediator_calls::Limits;
 use mediator_server::{Collector, Plan};
@@ -19,7 +19,6 @@ use octet_devices::Device;
 use serve_settings::{Settings, read_settings};
 use std::alloc::{AllocError, Global};
 use std::env::{self, Env};
-use std::fs;
 use std::io::Write;
 use std::net::{Net, TcpListener, TcpStream};
 use std::os::fd::RawFd;
@@ -45,7 +44,7 @@ pub(crate) struct Service {
 ///
 /// # Errors
 /// In this order: `Device` where the settings' file can't be read or isn't UTF-8, `Settings`, and `Device` for the policy's file
-/// and the journals' folder; then of a run the refusals of `listen`: `Policy` or `Core` where the mediator refuses the policy or
+/// and the journals' folder, each with its path; then of a run the refusals of `listen`: `Policy` or `Core` where the mediator refuses the policy or
 /// a subscriber, `Device` where an address can't be listened on or connected to or a thread is refused, `Close`; `Device` where
 /// the output fails, and, behind the run's line, where its journal can't be kept; `OutOfMemory`.
 #[tactic(auto, using(ipmd_offline::proofs::Lines::kept))]
@@ -61,7 +60,7 @@ pub(crate) fn serve<
     descriptor: RawFd,
 ) -> Result<(), ProgramFault>
     ensures ok { OnOk result (Serves (O.contents (device_inner output.old)) (O.contents (device_inner output.new))) }
-    ensures err { IfErr result (λ e. FailsToServe e (O.contents (device_inner output.old)) (O.contents (device_inner output.new)) errors.old errors.new) }
+    ensures err { IfErr result (λ e. FailsToServe path.now e (O.contents (device_inner output.old)) (O.contents (device_inner output.new)) errors.old errors.new) }
 {
     let service = prepare(rt, path)?;
     let notes = Notes::over(rt, errors, descriptor, !is_journal(rt));
@@ -80,14 +79,15 @@ fn is_journal<R: Env + AllocGlobal>(rt: &R) -> bool {
 /// Reads the settings and the policy.
 ///
 /// # Errors
-/// `Device` where a file can't be read or isn't UTF-8, `Settings`, `OutOfMemory`.
+/// `Device`, of the file that can't be read or isn't UTF-8; `Settings`; `OutOfMemory`.
+#[tactic(auto, using(crate::proofs::Preparing::no_settings, crate::proofs::Preparing::no_policy))]
 fn prepare<R: Files + AllocGlobal>(rt: &R, path: &str) -> Result<Service, ProgramFault>
     ensures asked { IfOk result (λ service. IsAskedFor service) }
-    ensures err { IfErr result RefusesToPrepare }
+    ensures err { IfErr result (RefusesToPrepare path.now) }
 {
-    let text = fs::read_to_string(rt, path)?;
+    let text = read_text(rt, path)?;
     let settings = read_settings(rt.alloc(), text.as_str())?;
-    let policy = fs::read_to_string(rt, settings.policy.as_str())?;
+    let policy = read_text(rt, settings.policy.as_str())?;
     service_of(rt.alloc(), settings, policy)
 }
 

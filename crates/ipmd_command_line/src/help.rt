@@ -43,7 +43,9 @@ What standard error says, and what to do:
   ipmd: Cut                  the records for the subscriber have more than 65,280 layouts, so that
                              no template ID is left
   ipmd: device               a file or a stream can't be opened, read or written (a folder, a
-                             full disk, a closed pipe), or the policy is not UTF-8
+                             full disk, a closed pipe), or the policy is not UTF-8; the line
+                             before it says which, and why (octets are counted from 0), as
+                             ipmd: policy.txt: No such file or directory (os error 2)
   ipmd: JournalFull          more than 100,000,000 messages, or a terabyte of them
   ipmd: OutOfMemory          no memory is left
 The messages before the one at fault are filtered and written all the same.
@@ -68,6 +70,7 @@ fault and what is wrong with the first faulty word in it:
   DoubleAggregate   a line above defines this aggregate
   BadKey            this element can't be a key, or is named twice, or is the seventeenth
   TooMany           more than 4,096 rules or 256 aggregates
+Or it answers `ipmd: device`, behind a line that says which file or stream failed, and why.
 
 A rule's line is, in this order of words, with * for any:
   rule for NAME in DOMAIN from PREFIX to PREFIX ACTION
@@ -127,7 +130,8 @@ What standard error says where no call is answered:
   ipmd: calls line N   line N asks for nothing that there is
   ipmd: BadLimits      a limit is 0, or QUEUE is above 1000000, SHAPES above 65280, AUDIT above
                        10000000, ENTRIES above 100000000 or OCTETS above 1099511627776
-  ipmd: device         a file can't be read or written or isn't UTF-8, or the output fails
+  ipmd: device         a file can't be read or written or isn't UTF-8, or the output fails: the
+                       line before it says which, and why
   ipmd: OutOfMemory    no memory is left
 
 Exit status: 0 each call was answered, 1 refused or out of memory, 2 wrong command line, 3 device.";
@@ -205,7 +209,8 @@ What standard error says last where the run fails, and what to do:
   ipmd: JournalFull          the journal's limits leave no room for the policy and the subscribers
   ipmd: device               a file can't be read or isn't UTF-8; an address can't be listened on;
                              a collector can't be connected to; a thread is refused; or the file
-                             of a run's journal can't be written, and then the run's line came
+                             of a run's journal can't be written, and then the run's line came;
+                             a line before it says which file or address it was, and why
   ipmd: OutOfMemory          no memory is left
   ipmd: close                what was received isn't what the journal has; this is never expected
 
@@ -231,7 +236,8 @@ What standard error says, and what it means:
   ipmd: journal BadEntry       an entry is none, or octets stand behind the last one
   ipmd: journal BadHistory P   the file is a journal, and no mediator accepts entry P (the first is
                                0) after the entries before it
-  ipmd: device                 the file can't be opened or read, or the output fails
+  ipmd: device                 the file can't be opened or read, or the output fails: the line
+                               before it says which, and why
   ipmd: OutOfMemory            no memory is left
 A fault of the file goes before one of the history. On a terminal standard error shows meanwhile
 how many entries were read.

@@ -1,5 +1,5 @@
 -- How a journal's file is explained, one entry after another.
-use Rattle.std.proofs.Common.{◌≡◌, ℕ, ◌+◌, ◌≤◌, ◌<◌, Bool, true, false, List, [], ◌∷◌, ◌++◌, length, take, map, Option, Some, None, Result, Ok, Err, refl, sym, ap, ◌∙◌, subst, arith, inl, inr, append_assoc, append-nil}
+use Rattle.std.proofs.Common.{◌≡◌, ℕ, ◌+◌, ◌≤◌, ◌<◌, Bool, true, false, List, [], ◌∷◌, ◌++◌, length, take, map, Option, Some, None, Result, Ok, Err, refl, sym, ap, ◌∙◌, subst, subst₂, arith, inl, inr, append_assoc, append-nil}
 use Rattle.std.specs.Prelude.{◌⊎◌, OnOk}
 use Rattle.std.specs.Result.{IsErr, IsErrAnd, IfErr}
 use Rattle.std.specs.Io.KnownBytes.{Appends, Keeps}
@@ -8,7 +8,6 @@ use Rattle.std.proofs.lemmas.List.{take_all}
 use Rattle.std.proofs.Math.Seq.{take-append-add}
 use Rattle.sequences.specs.Before.{last_of}
 use Rattle.sequences.proofs.BeforeLaws.{last_of-append, last_of-push, each_with_before-push}
-use Rattle.octet_devices.specs.Written.{WritesFront}
 use Rattle.event_journal.specs.declared.entry.Entry.{Entry}
 use Rattle.event_journal.specs.declared.entry.Entry.TheVariants.{Cut}
 use Rattle.journal_files.specs.Reading.{entries_behind}
@@ -20,15 +19,18 @@ use Rattle.history_verify.specs.Legal.{AreLegal, IsAccepted, IsLegalAt, is_cut}
 use Rattle.history_verify.specs.Standing.{IsFed}
 use Rattle.history_verify.proofs.FeedLaws.{laid}
 use Rattle.history_verify.proofs.LegalLaws.{accepted_legal}
+use Rattle.ipmd_command_line.specs.declared.task.ExplainOptions.{ExplainOptions}
 use Rattle.ipmd_offline.specs.declared.fault.ProgramFault.{ProgramFault}
-use Rattle.ipmd_offline.specs.declared.fault.ProgramFault.TheVariants.{Absent, Device, OutOfMemory}
+use Rattle.ipmd_offline.specs.declared.fault.ProgramFault.TheVariants.{Absent, Device}
+use Rattle.ipmd_offline.specs.declared.failure.Place.TheVariants.{Output}
+use Rattle.ipmd_offline.specs.Failures.{FailedAt, IsFileFault, IsNamed}
 use Rattle.ipmd_offline.specs.HexText.{WritesSome}
 use Rattle.ipmd_verify.specs.Found.{Says, RefusesFile}
 use Rattle.ipmd_verify.specs.Reading.{IsReadTo}
 use Rattle.ipmd_verify.proofs.ReadingLaws.{end_refuses}
 use Rattle.ipmd_explain.specs.declared.question.Question.{Question}
 use Rattle.ipmd_explain.specs.Explaining.{explained, explained_at}
-use Rattle.ipmd_explain.specs.Answers.{BeginsToExplain, Explains, Refuses, RefusesToExplain, RefusesToExplainFile}
+use Rattle.ipmd_explain.specs.Answers.{BeginsToExplain, Explains, Refuses, RefusesToExplain, RefusesToExplainFile, question_of}
 use Rattle.ipmd_explain.specs.Reading.{NamesEnd}
 
 -- ---- what a verifier was fed is accepted
@@ -79,14 +81,14 @@ written_all q given held holds now place h to written = record {
 }
 
 -- and a front of what is said of the next entry
-pub written_front : (q : Question) (given held now after rest : Option (List ℕ)) (place : Place) (h : List Entry) (e : Entry) (text : List ℕ) (sent : ℕ) (failed : Bool) → IsReadTo given rest place (h ++ e ∷ []) → text ≡ explained_at q h e
-    → Appends held now (explained q h) → WritesFront now after text sent failed → BeginsToExplain q given held after
-written_front q given held now after rest place h e text sent failed to is before front = record {
+pub written_front : (q : Question) (given held now after rest : Option (List ℕ)) (place : Place) (h : List Entry) (e : Entry) (text : List ℕ) → IsReadTo given rest place (h ++ e ∷ []) → text ≡ explained_at q h e
+    → Appends held now (explained q h) → WritesSome text now after → BeginsToExplain q given held after
+written_front q given held now after rest place h e text to is before (sent, front) = record {
   history = h ++ e ∷ [];
   now = rest;
   left = place.left;
   rest = to.rest;
-  written = (length (explained q h) + sent, subst (Appends held after) (sym begins) (Appends-trans held now after (explained q h) (take sent text) before front.written));
+  written = (length (explained q h) + sent, subst (Appends held after) (sym begins) (Appends-trans held now after (explained q h) (take sent text) before front));
 } where
   begins : take (length (explained q h) + sent) (explained q (h ++ e ∷ [])) ≡ explained q h ++ take sent text
   begins = ap (take (length (explained q h) + sent)) (explained_more q h e text is) ∙ take-append-add (explained q h) text sent
@@ -95,7 +97,7 @@ written_front q given held now after rest place h e text sent failed to is befor
 
 pub end_explains : (q : Question) (e : ProgramFault) (given : Option (List ℕ)) (h : List Entry) → Says given h → NamesEnd q e h → Refuses q e given
 end_explains q e given h said (inl bad) = inl (subst (λ (x : ProgramFault). RefusesFile x given) (sym bad.is) (end_refuses bad.fault given h said bad.names))
-end_explains q e given h said (inr lacks) = inr (lacks.1.what, lacks.1.is, record { history = h; said = said; legal = lacks.0; lacks = lacks.1.lacks })
+end_explains q e given h said (inr lacks) = inr (inl (lacks.1.what, lacks.1.is, record { history = h; said = said; legal = lacks.0; lacks = lacks.1.lacks }))
 
 -- the output was flushed, or that failed
 pub flushed : (q : Question) (given held holds after : Option (List ℕ)) → Keeps holds after → BeginsToExplain q given held holds → BeginsToExplain q given held after
@@ -143,21 +145,24 @@ explains_flushed q given held holds after same does = record {
   written = Appends-kept held holds after (explained q does.history) does.written same;
 }
 
--- or it wasn't
-pub refuses_flush : (q : Question) (e : ProgramFault) (given held holds after : Option (List ℕ)) → e ≡ Device → Keeps holds after → Explains q given held holds → RefusesToExplain q e given held after
-refuses_flush q e given held holds after is same does = (
-  inl (subst (λ (x : ProgramFault). RefusesFile x given) (sym is) tt),
-  inr (flushed q given held holds after same (says_begins q given held holds does.history does.said does.written)),
+-- or it wasn't: then the output failed, and keeps its name
+pub refuses_flush : (q : Question) (path : List ℕ) (e : ProgramFault) (given held holds after : Option (List ℕ)) → FailedAt Output e → Keeps holds after → Explains q given held holds → RefusesToExplain q path e given held after
+refuses_flush q path e given held holds after (why, is) same does = (
+  e,
+  subst (λ (x : ProgramFault). IsNamed path x x) (sym is) refl,
+  (inr (inr (why, is)), inr (flushed q given held holds after same (says_begins q given held holds does.history does.said does.written))),
 )
 
 -- the file is refused as it is verified
-pub refuses_first : (q p : Question) (e f : ProgramFault) (given held sunk sinks : Option (List ℕ)) → q ≡ p → e ≡ f → RefusesToExplain q f given sunk sinks → RefusesToExplainFile p e held held
-refuses_first q p e f given held sunk sinks same is refuses = (
+pub refuses_first : (q : Question) (options : ExplainOptions) (path : List ℕ) (e f : ProgramFault) (given held sunk sinks : Option (List ℕ)) → q ≡ question_of options → path ≡ options.journal.now → e ≡ f
+    → RefusesToExplain q path f given sunk sinks → RefusesToExplainFile options e held held
+refuses_first q options path e f given held sunk sinks same there is (fault, named, refuses, written) = (
   given,
-  (subst (λ (x : ProgramFault). Refuses p x given) (sym is) (subst (λ (r : Question). Refuses r f given) same refuses.0), inl (Keeps-refl held)),
+  fault,
+  subst₂ (λ p x. IsNamed p fault x) there (sym is) named,
+  (subst (λ (r : Question). Refuses r fault given) same refuses, inl (Keeps-refl held)),
 )
 
 -- it can't be opened, or there is no memory
-pub refuses_open : (q : Question) (e : ProgramFault) (held holds : Option (List ℕ)) → (e ≡ Device) ⊎ (e ≡ OutOfMemory) → Keeps held holds → RefusesToExplainFile q e held holds
-refuses_open q e held holds (inl is) same = (None, (inl (subst (λ (x : ProgramFault). RefusesFile x None) (sym is) tt), inl same))
-refuses_open q e held holds (inr is) same = (None, (inl (subst (λ (x : ProgramFault). RefusesFile x None) (sym is) tt), inl same))
+pub refuses_open : (options : ExplainOptions) (e : ProgramFault) (held holds : Option (List ℕ)) → IsFileFault options.journal.now e → Keeps held holds → RefusesToExplainFile options e held holds
+refuses_open options e held holds is same = (None, Device None, is, (inl tt, inl same))

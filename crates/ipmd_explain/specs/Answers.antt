@@ -7,6 +7,8 @@ use Rattle.ipmd_command_line.specs.declared.task.ExplainOptions.{ExplainOptions}
 use Rattle.ipmd_offline.specs.declared.fault.Absent.{Absent as NotThere}
 use Rattle.ipmd_offline.specs.declared.fault.ProgramFault.{ProgramFault}
 use Rattle.ipmd_offline.specs.declared.fault.ProgramFault.TheVariants.{Absent}
+use Rattle.ipmd_offline.specs.declared.failure.Place.TheVariants.{Output}
+use Rattle.ipmd_offline.specs.Failures.{FailedAt, IsNamed}
 use Rattle.ipmd_offline.specs.HexText.{WritesSome}
 use Rattle.ipmd_verify.specs.Found.{Says, RefusesFile}
 use Rattle.ipmd_verify.specs.Reading.{IsRest}
@@ -32,9 +34,9 @@ pub record LacksAsked (q : Question) (what : NotThere) (given : Option (List ℕ
   pub legal : IsLegal history
   pub lacks : absent_of q history ≡ Some what
 
--- why no explanation is given: the file is refused, or it doesn't have what is asked for
+-- why no explanation is given: the file is refused, or it doesn't have what is asked for, or the output failed
 abbrev pub Refuses : Question → ProgramFault → Option (List ℕ) → Type 0
-Refuses q e given = RefusesFile e given ⊎ ((what : NotThere) × (e ≡ Absent what) × LacksAsked q what given)
+Refuses q e given = RefusesFile e given ⊎ (((what : NotThere) × (e ≡ Absent what) × LacksAsked q what given) ⊎ FailedAt Output e)
 
 -- of entries with which the file begins a front of what explains them was written, or all of it
 pub record BeginsToExplain (q : Question) (given held holds : Option (List ℕ)) : Type 0 where
@@ -44,13 +46,17 @@ pub record BeginsToExplain (q : Question) (given held holds : Option (List ℕ))
   pub rest : IsRest given now history left
   pub written : WritesSome (explained q history) held holds
 
-abbrev pub RefusesToExplain : Question → ProgramFault → Option (List ℕ) → Option (List ℕ) → Option (List ℕ) → Type 0
-RefusesToExplain q e given held holds = Refuses q e given × (Keeps held holds ⊎ BeginsToExplain q given held holds)
+abbrev pub StopsExplaining : Question → ProgramFault → Option (List ℕ) → Option (List ℕ) → Option (List ℕ) → Type 0
+StopsExplaining q e given held holds = Refuses q e given × (Keeps held holds ⊎ BeginsToExplain q given held holds)
+
+-- the same of the file of this path
+abbrev pub RefusesToExplain : Question → List ℕ → ProgramFault → Option (List ℕ) → Option (List ℕ) → Option (List ℕ) → Type 0
+RefusesToExplain q path e given held holds = (fault : ProgramFault) × IsNamed path fault e × StopsExplaining q fault given held holds
 
 -- what a file holds isn't told here
 abbrev pub ExplainsFile : Question → Option (List ℕ) → Option (List ℕ) → Type 0
 ExplainsFile q held holds = (given : Option (List ℕ)) × Explains q given held holds
 
 -- as the file is verified nothing is written
-abbrev pub RefusesToExplainFile : Question → ProgramFault → Option (List ℕ) → Option (List ℕ) → Type 0
-RefusesToExplainFile q e held holds = (given : Option (List ℕ)) × RefusesToExplain q e given held holds
+abbrev pub RefusesToExplainFile : ExplainOptions → ProgramFault → Option (List ℕ) → Option (List ℕ) → Type 0
+RefusesToExplainFile options e held holds = (given : Option (List ℕ)) × RefusesToExplain (question_of options) options.journal.now e given held holds

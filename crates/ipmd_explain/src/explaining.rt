@@ -6,7 +6,7 @@ ghost use Rattle.ipmd_explain.specs.Answers.{Explains, ExplainsFile, RefusesToEx
 use crate::question::Question;
 use crate::reading::explain_source;
 use ipmd_command_line::ExplainOptions;
-use ipmd_offline::ProgramFault;
+use ipmd_offline::{ProgramFault, flush, of_file};
 use ipmd_verify::Progress;
 use octet_devices::Device;
 use std::alloc::Global;
@@ -21,7 +21,7 @@ const FILE_BUFFER: usize = 65_536;
 /// anything is written, and then again as it is explained, so that no more is kept in memory than what the entries mean.
 ///
 /// # Errors
-/// `Device` where the file can't be opened, and what `explain_input` refuses. Only where the output fails, memory runs out or
+/// `Device`, of the file, where it can't be opened, and what `explain_input` refuses. Only where the output fails, memory runs out or
 /// the file is another one when it is read again, a front of what was due may have been written.
 #[tactic(auto, using(crate::proofs::ReadingLaws::refuses_open, ipmd_offline::proofs::Lines::kept))]
 pub fn explain<R: Files + AllocGlobal, O: Write, P: Progress>(
@@ -31,48 +31,54 @@ pub fn explain<R: Files + AllocGlobal, O: Write, P: Progress>(
     progress: &mut P,
 ) -> Result<(), ProgramFault>
     ensures ok { OnOk result (ExplainsFile (question_of options.entry.now) (O.contents (device_inner output.old)) (O.contents (device_inner output.new))) }
-    ensures err { IfErr result (λ e. RefusesToExplainFile (question_of options.entry.now) e (O.contents (device_inner output.old)) (O.contents (device_inner output.new))) }
+    ensures err { IfErr result (λ e. RefusesToExplainFile options.entry.now e (O.contents (device_inner output.old)) (O.contents (device_inner output.new))) }
 {
     let question = question_of(options);
-    let file = fs::open(rt, options.journal)?;
-    let input = BufReader::with_capacity(rt.alloc(), FILE_BUFFER, file)?;
-    explain_input(
-        rt.alloc(),
-        question,
-        input,
-        &mut Device::new(sink()),
-        progress,
+    let (alloc, path) = (rt.alloc(), options.journal);
+    let file = of_file(alloc, path, fs::open(rt, path))?;
+    let input = of_file(
+        alloc,
+        path,
+        BufReader::with_capacity(alloc, FILE_BUFFER, file),
     )?;
+    let mut unsaid = Device::new(sink());
+    explain_input(alloc, question, path, input, &mut unsaid, progress)?;
     progress.silence();
-    let file = fs::open(rt, options.journal)?;
-    let input = BufReader::with_capacity(rt.alloc(), FILE_BUFFER, file)?;
-    explain_input(rt.alloc(), question, input, output, progress)
+    let file = of_file(alloc, path, fs::open(rt, path))?;
+    let input = of_file(
+        alloc,
+        path,
+        BufReader::with_capacity(alloc, FILE_BUFFER, file),
+    )?;
+    explain_input(alloc, question, path, input, output, progress)
 }
 
-/// Says of the records of the journal whose file a stream is what a subscription saw of them, as they come. `progress` is told
-/// how far it was read.
+/// Says of the records of the journal whose file a stream is, the one at this path, what a subscription saw of them, as they come.
+/// `progress` is told how far it was read.
 ///
 /// # Errors
-/// In this order: `Device` where the stream fails, and `Journal`, the file's first fault; `History`, the first entry that may
-/// not stand where it does; `Absent`, what was asked for and isn't there. Beside these `Device` where the output fails, and
-/// `OutOfMemory`. A front of what was due may have been written at each.
+/// In this order: `Device`, of the file, where the stream fails, and `Journal`, the file's first fault; `History`, the first entry
+/// that may not stand where it does; `Absent`, what was asked for and isn't there. Beside these `Device`, of the output, where that
+/// fails, and `OutOfMemory`. A front of what was due may have been written at each.
 #[tactic(auto, using(crate::proofs::ReadingLaws::explains_flushed, crate::proofs::ReadingLaws::refuses_flush))]
 pub fn explain_input<I: Read + Drop, O: Write, P: Progress>(
     alloc: Global,
     question: Question,
+    path: &str,
     input: I,
     output: &mut Device<O>,
     progress: &mut P,
 ) -> Result<(), ProgramFault>
     ensures ok { OnOk result (Explains question (I.remaining input) (O.contents (device_inner output.old)) (O.contents (device_inner output.new))) }
-    ensures err { IfErr result (λ e. RefusesToExplain question e (I.remaining input) (O.contents (device_inner output.old)) (O.contents (device_inner output.new))) }
+    ensures err { IfErr result (λ e. RefusesToExplain question path.now e (I.remaining input) (O.contents (device_inner output.old)) (O.contents (device_inner output.new))) }
 {
     let mut source = Device::new(input);
     let explained = explain_source(alloc, question, &mut source, output, progress);
     progress.end();
-    explained?;
-    output.flush()?;
-    Ok(())
+    match explained {
+        Ok(()) => flush(output),
+        Err(fault) => Err(fault.named(alloc, path, source.why())),
+    }
 }
 
 /// What the options ask.

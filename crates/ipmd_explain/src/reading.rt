@@ -7,7 +7,7 @@ ghost use Rattle.history_verify.specs.Answers.{NamesFirstOfAny};
 ghost use Rattle.history_verify.specs.Legal.{IsLegal};
 ghost use Rattle.history_verify.specs.Standing.{IsFed, IsFedShort};
 ghost use Rattle.ipmd_explain.specs.Standing.{Stands};
-ghost use Rattle.ipmd_explain.specs.Answers.{Explains, RefusesToExplain};
+ghost use Rattle.ipmd_explain.specs.Answers.{Explains, StopsExplaining};
 ghost use Rattle.ipmd_explain.specs.Reading.{IsLacking, IsTakenBy, NamesEnd};
 ghost use Rattle.ipmd_explain.specs.Explaining.{absent_of};
 ghost use Rattle.std.specs.Prelude.{None, ◌++◌, ◌∷◌, []};
@@ -16,19 +16,19 @@ use crate::explainer::Explainer;
 use crate::question::Question;
 use event_journal::Entry;
 use history_verify::{Verifier, VerifyFault};
-use ipmd_offline::ProgramFault;
+use ipmd_offline::{ProgramFault, put_text};
 use ipmd_verify::{Progress, fault_of, refusal};
 use journal_files::JournalReader;
-use octet_devices::{Device, Source, write_all};
+use octet_devices::{Device, Source};
 use std::alloc::Global;
 use std::io::Write;
 
 /// Reads a journal's file, verifies its history as it comes, and writes what explains it.
 ///
 /// # Errors
-/// In this order: `Device` where the source fails, and `Journal`, the file's first fault; `History`, the first entry that may
-/// not stand where it does; `Absent`, what was asked for and isn't there. Beside these `Device` where the output fails, and
-/// `OutOfMemory`. A front of what was due may have been written at each.
+/// In this order: `Device`, which isn't known, where the source fails, and `Journal`, the file's first fault; `History`, the first
+/// entry that may not stand where it does; `Absent`, what was asked for and isn't there. Beside these `Device`, of the output,
+/// where that fails, and `OutOfMemory`. A front of what was due may have been written at each.
 pub(crate) fn explain_source<S: Source, O: Write, P: Progress>(
     alloc: Global,
     question: Question,
@@ -37,7 +37,7 @@ pub(crate) fn explain_source<S: Source, O: Write, P: Progress>(
     progress: &mut P,
 ) -> Result<(), ProgramFault>
     ensures ok { OnOk result (Explains question (S.remaining source.old) (O.contents (device_inner output.old)) (O.contents (device_inner output.new))) }
-    ensures err { IfErr result (λ e. RefusesToExplain question e (S.remaining source.old) (O.contents (device_inner output.old)) (O.contents (device_inner output.new))) }
+    ensures err { IfErr result (λ e. StopsExplaining question e (S.remaining source.old) (O.contents (device_inner output.old)) (O.contents (device_inner output.new))) }
 {
     let mut reader = JournalReader::start(alloc, source)?;
     let all = reader.left();
@@ -46,7 +46,7 @@ pub(crate) fn explain_source<S: Source, O: Write, P: Progress>(
     'entries: loop {
         match reader.next(source)? {
             Some(entry) => match take(&mut verifier, &mut explainer, entry) {
-                Ok(text) => write_all(output, text.as_bytes())?,
+                Ok(text) => put_text(output, text.as_str())?,
                 Err(fault) => return Err(refusal(&mut reader, source, fault)),
             },
             None => break,

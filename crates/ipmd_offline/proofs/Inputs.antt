@@ -14,7 +14,6 @@ use Rattle.std.specs.Borrow.{Bor}
 use Rattle.ipmd_command_line.specs.declared.task.OfflineOptions.{OfflineOptions}
 use Rattle.ipmd_offline.specs.declared.fault.ProgramFault.{ProgramFault}
 use Rattle.ipmd_offline.specs.HexText.{SpelledBy, lines_of, WritesLines, WritesSomeLines}
-use Rattle.ipmd_offline.specs.Status.{offline_fault_of}
 use Rattle.ipmd_offline.proofs.Lines.{all_written, kept}
 use Rattle.ipmd_offline.specs.Runs.{Asked, FinishesInput, FinishesLines, FinishesOn, IsTextOf, EndsOn, EndsOver, FailsLines, FailsOn, RefusesInput, StopsLines, StopsOn}
 
@@ -64,7 +63,7 @@ pub ran : (job : OfflineJob) (r : Result OfflineReport OfflineFault) (given held
 ran job (Ok report) given held holds audit_held audit_holds after filters fails flushed audit_flushed =
     inl (report, record { after = after; filters = filters; flushed = flushed; audit_flushed = audit_flushed })
 ran job (Err fault) given held holds audit_held audit_holds after filters fails flushed audit_flushed =
-    inr (offline_fault_of fault, record { fault = fault; is = refl; after = after; fails = fails; flushed = flushed; audit_flushed = audit_flushed })
+    inr (fault, record { after = after; fails = fails; flushed = flushed; audit_flushed = audit_flushed })
 
 -- over memory that was empty
 pub ends_over : (job : OfflineJob) (octets stream : List ℕ) (r : Result OfflineReport ProgramFault) (before after audit_held audit_holds : Option (List ℕ)) → before ≡ Some [] → after ≡ Some stream

@@ -1,6 +1,6 @@
 -- Messages written as lines, one after another.
-use Rattle.std.proofs.Common.{◌≡◌, ℕ, ◌+◌, ◌<◌, List, [], ◌∷◌, ◌++◌, length, get_or, take, drop, Bool, Option, None, refl, sym, ap, subst, ◌∙◌, append-nil, append_assoc, arith, inl, inr}
-use Rattle.std.proofs.lemmas.List.{take_more, take_all, take-append-drop, take-append-le}
+use Rattle.std.proofs.Common.{◌≡◌, ℕ, ◌+◌, ◌<◌, List, [], ◌∷◌, ◌++◌, length, get_or, min, take, drop, Bool, Option, None, refl, sym, ap, subst, ◌∙◌, append-nil, append_assoc, arith, inl, inr}
+use Rattle.std.proofs.lemmas.List.{take_more, take_all, take_min, take-append-drop, take-append-le}
 use Rattle.std.proofs.Math.Seq.{take-append_seam, take-append-add}
 use Rattle.std.proofs.lemmas.List.Concat.{flat_map-append}
 use Rattle.std.proofs.KnownBytes.{Appends-trans, Appends-kept, Keeps-refl}
@@ -55,13 +55,14 @@ some_lines held holds messages i written =
     (length front, subst (Appends held holds) (sym (ap (take (length front)) (lines_of-take messages i) ∙ take-append_seam front rest)) written)
 
 -- whole lines, and a front of the next one
-pub line_begun : (held now after : Option (List ℕ)) (messages : List (List ℕ)) (i : ℕ) (message line : List ℕ) (sent : ℕ) (failed : Bool) → i < length messages → message ≡ get_or messages i message
-    → line ≡ line_of message → Appends held now (lines_of (take i messages)) → WritesFront now after line sent failed → WritesSome (lines_of messages) held after
-line_begun held now after messages i message line sent failed low is same before begun =
+pub line_begun : (held now after : Option (List ℕ)) (messages : List (List ℕ)) (i : ℕ) (message line : List ℕ) → i < length messages → message ≡ get_or messages i message
+    → line ≡ line_of message → Appends held now (lines_of (take i messages)) → WritesSome line now after → WritesSome (lines_of messages) held after
+line_begun held now after messages i message line low is same before (n, begun) =
+    let sent = min n (length line) in
     let front = lines_of (take i messages) in
     let rest = lines_of (drop (i + 1) messages) in
     let whole : lines_of messages ≡ front ++ (line ++ rest) =
     lines_of-take messages (i + 1) ∙ ap (λ t. t ++ rest) (lines_turn messages i message low is ∙ ap (λ l. front ++ l) (sym same)) ∙ append_assoc front line rest in
-    let begins : take (length front + sent) (lines_of messages) ≡ front ++ take sent line =
-    ap (take (length front + sent)) whole ∙ take-append-add front (line ++ rest) sent ∙ ap (λ t. front ++ t) (take-append-le sent line rest (omega (arith, begun.short))) in
-    (length front + sent, subst (Appends held after) (sym begins) (Appends-trans held now after front (take sent line) before begun.written))
+    let begins : take (length front + sent) (lines_of messages) ≡ front ++ take n line =
+    ap (take (length front + sent)) whole ∙ take-append-add front (line ++ rest) sent ∙ ap (λ t. front ++ t) (take-append-le sent line rest (omega arith)) ∙ ap (λ t. front ++ t) (take_min n line) in
+    (length front + sent, subst (Appends held after) (sym begins) (Appends-trans held now after front (take n line) before begun))

@@ -1,4 +1,5 @@
 pub mod Absent
+pub mod Failures
 pub mod Status
 pub mod HexText
 pub mod Runs

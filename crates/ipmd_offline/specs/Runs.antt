@@ -1,9 +1,9 @@
 -- What is done for one stream or one policy, and what its faults mean.
 use Rattle.std.specs.Prelude.{◌≡◌, ◌⊎◌, ◌^◌, ◌-◌, ℕ, Bool, true, false, List, [], ◌∷◌, ◌++◌, length, codes, Option, Some, None, is_some, IfSome, Ok, Err}
 use Rattle.std.specs.Borrow.{Bor}
+use Rattle.std.specs.declared.io.Error.{Error}
 use Rattle.std.specs.Fmt.{decimal}
 use Rattle.std.specs.Io.KnownBytes.{Appends, Keeps}
-use Rattle.clap.specs.Words.{kind_of}
 use Rattle.clap.specs.declared.error.kind.ErrorKind.{ErrorKind}
 use Rattle.clap.specs.declared.error.kind.ErrorKind.TheVariants.{DisplayVersion}
 use Rattle.policy_text.specs.Policies.{Meaning as PolicyMeaning}
@@ -18,6 +18,8 @@ use Rattle.ipmd_command_line.specs.declared.task.PolicySource.{PolicySource}
 use Rattle.ipmd_command_line.specs.declared.task.PolicySource.TheVariants.{File, Text}
 use Rattle.ipmd_offline.specs.declared.fault.ProgramFault.{ProgramFault}
 use Rattle.ipmd_offline.specs.declared.fault.ProgramFault.TheVariants.{CommandLine, Settings, Policy, Hex, Framing, Core, Cut, Calls, BadLimits, Journal, History, Absent, Close, OutOfMemory, Device}
+use Rattle.ipmd_offline.specs.declared.failure.Place.TheVariants as placed
+use Rattle.ipmd_offline.specs.Failures.{FailedAt, IsFileFault, IsNamed}
 use Rattle.ipmd_offline.specs.HexText.{SpelledBy, SpellsNothing, lines_of, WritesLines, WritesSome, WritesSomeLines}
 use Rattle.call_lists.specs.LineEnds.{with_line_ends}
 use Rattle.ipmd_offline.specs.Status.{offline_fault_of}
@@ -28,6 +30,11 @@ use Rattle.ipmd_offline.specs.Status.{offline_fault_of}
 abbrev pub IsTextOf : PolicySource → List ℕ → Type 0
 IsTextOf (File path) text = Unit {0}
 IsTextOf (Text words) text = text ≡ with_line_ends words.now
+
+-- why there is no such text
+abbrev pub IsSourceFault : PolicySource → ProgramFault → Type 0
+IsSourceFault (File path) e = IsFileFault path.now e
+IsSourceFault (Text words) e = e ≡ OutOfMemory
 
 -- ---- check-policy
 
@@ -51,11 +58,12 @@ pub record BeginsToCount (source : PolicySource) (held holds : Option (List ℕ)
   pub spelled : policy_of text ≡ Ok policy
   pub written : WritesSome (counted policy) held holds
 
--- why a policy isn't counted, and what was written: its text has this fault, a device failed, or memory ran out
+-- why a policy isn't counted, and what was written: its text has this fault, its file or the output failed, or memory ran out
 abbrev pub RefusesToCount : PolicySource → ProgramFault → Option (List ℕ) → Option (List ℕ) → Type 0
 RefusesToCount source (Policy why) held holds = (text : List ℕ) × IsTextOf source text × (policy_of text ≡ Err why) × Keeps held holds
 RefusesToCount source OutOfMemory held holds = Keeps held holds
-RefusesToCount source Device held holds = Keeps held holds ⊎ BeginsToCount source held holds
+RefusesToCount source (Device which) held holds =
+    (IsSourceFault source (Device which) × Keeps held holds) ⊎ (FailedAt placed.Output (Device which) × BeginsToCount source held holds)
 RefusesToCount source (CommandLine e) held holds = ⊥
 RefusesToCount source (Settings why) held holds = ⊥
 RefusesToCount source Hex held holds = ⊥
@@ -90,7 +98,7 @@ pub record BeginsToShow (kind : ErrorKind) (held holds : Option (List ℕ)) : Ty
 
 -- why it isn't shown: memory ran out before, or the output failed
 abbrev pub RefusesToShow : ErrorKind → ProgramFault → Option (List ℕ) → Option (List ℕ) → Type 0
-RefusesToShow kind e held holds = ((e ≡ OutOfMemory) × Keeps held holds) ⊎ ((e ≡ Device) × BeginsToShow kind held holds)
+RefusesToShow kind e held holds = ((e ≡ OutOfMemory) × Keeps held holds) ⊎ (FailedAt placed.Output e × BeginsToShow kind held holds)
 
 -- ---- offline
 
@@ -134,32 +142,46 @@ abbrev pub FinishesInput : Bool → OfflineJob → OfflineReport → Option (Lis
 FinishesInput false job report given held holds audit_held audit_holds = FinishesOn job report given held holds audit_held audit_holds
 FinishesInput true job report given held holds audit_held audit_holds = IfSome given (λ text. FinishesText job report text held holds audit_held audit_holds)
 
--- the whole input was filtered for a subscriber by a policy; what a file holds isn't told here, and so not what the audit does
+-- the same with some audit; what a file holds isn't told here, and so not what the audit does
+abbrev pub FinishesWithAudit : Bool → OfflineJob → OfflineReport → Option (List ℕ) → Option (List ℕ) → Option (List ℕ) → Type 0
+FinishesWithAudit hex job report given held holds =
+    (audit_held audit_holds : Option (List ℕ)) × FinishesInput hex job report given held holds audit_held audit_holds
+
+-- the whole input was filtered for a subscriber by a policy
 abbrev pub Filters : OfflineOptions → OfflineReport → Option (List ℕ) → Option (List ℕ) → Option (List ℕ) → Type 0
-Filters options report given held holds =
-    (asked : Asked options) × (audit_held audit_holds : Option (List ℕ)) × FinishesInput options.hex asked.job report given held holds audit_held audit_holds
+Filters options report given held holds = (asked : Asked options) × FinishesWithAudit options.hex asked.job report given held holds
 
 -- the mediator stopped so, and what was written by then was flushed
-pub record StopsOn (e : ProgramFault) (job : OfflineJob) (given held holds audit_held audit_holds : Option (List ℕ)) : Type 0 where
-  pub fault : OfflineFault
-  pub is : e ≡ offline_fault_of fault
+pub record StopsBy (fault : OfflineFault) (job : OfflineJob) (given held holds audit_held audit_holds : Option (List ℕ)) : Type 0 where
   pub after : Ports
   pub fails : FailsToFilter fault job (unfailed given held audit_held) after
   pub flushed : Keeps after.written holds
   pub audit_flushed : Keeps after.audited audit_holds
 
+-- the same, and this is what the program makes of it
+pub record StopsOn (e : ProgramFault) (job : OfflineJob) (given held holds audit_held audit_holds : Option (List ℕ)) : Type 0 where
+  pub fault : OfflineFault
+  pub input : Error
+  pub output : Error
+  pub is : e ≡ offline_fault_of input output fault
+  pub stops : StopsBy fault job given held holds audit_held audit_holds
+
 -- a run over octets ended, by its report or by a fault, and then the output and the audit were flushed, or one of them failed
 abbrev pub EndsOn : OfflineJob → Option (List ℕ) → Option (List ℕ) → Option (List ℕ) → Option (List ℕ) → Option (List ℕ) → Type 0
 EndsOn job given held holds audit_held audit_holds =
     ((report : OfflineReport) × FinishesOn job report given held holds audit_held audit_holds)
-    ⊎ ((e : ProgramFault) × StopsOn e job given held holds audit_held audit_holds)
+    ⊎ ((fault : OfflineFault) × StopsBy fault job given held holds audit_held audit_holds)
 
--- why octets aren't filtered to their end: the mediator stopped so; or a device failed, one that had failed before, so that nothing
+-- the output failed, or the audit, whose file isn't known here
+abbrev pub IsWriteFault : ProgramFault → Type 0
+IsWriteFault e = FailedAt placed.Output e ⊎ (e ≡ Device None)
+
+-- why octets aren't filtered to their end: the mediator stopped so; or one of these failed, one that had failed before, so that nothing
 -- was written, or one that was flushed when the run had ended
 abbrev pub FailsOn : ProgramFault → OfflineJob → Option (List ℕ) → Option (List ℕ) → Option (List ℕ) → Option (List ℕ) → Option (List ℕ) → Type 0
 FailsOn e job given held holds audit_held audit_holds =
     StopsOn e job given held holds audit_held audit_holds
-    ⊎ ((e ≡ Device) × ((Keeps held holds × Keeps audit_held audit_holds) ⊎ EndsOn job given held holds audit_held audit_holds))
+    ⊎ (IsWriteFault e × ((Keeps held holds × Keeps audit_held audit_holds) ⊎ EndsOn job given held holds audit_held audit_holds))
 
 -- the mediator stopped so, and each message that was written by then was written as a line
 pub record StopsLines (e : ProgramFault) (job : OfflineJob) (octets : List ℕ) (held holds audit_held audit_holds : Option (List ℕ)) : Type 0 where
@@ -182,21 +204,32 @@ pub record EndsLines (job : OfflineJob) (octets : List ℕ) (held holds audit_he
 abbrev pub FailsLines : ProgramFault → OfflineJob → List ℕ → Option (List ℕ) → Option (List ℕ) → Option (List ℕ) → Option (List ℕ) → Type 0
 FailsLines e job octets held holds audit_held audit_holds =
     StopsLines e job octets held holds audit_held audit_holds
-    ⊎ (((e ≡ OutOfMemory) ⊎ (e ≡ Device)) × EndsLines job octets held holds audit_held audit_holds)
+    ⊎ (((e ≡ OutOfMemory) ⊎ IsWriteFault e) × EndsLines job octets held holds audit_held audit_holds)
 
 -- why an input isn't filtered to its end, as octets or as what its text spells; a text that can't be read, or spells nothing, has
 -- nothing written
 abbrev pub RefusesInput : ProgramFault → Bool → OfflineJob → Option (List ℕ) → Option (List ℕ) → Option (List ℕ) → Option (List ℕ) → Option (List ℕ) → Type 0
 RefusesInput e false job given held holds audit_held audit_holds = FailsOn e job given held holds audit_held audit_holds
 RefusesInput e true job given held holds audit_held audit_holds =
-    ((((e ≡ Hex) × IfSome given SpellsNothing) ⊎ ((e ≡ OutOfMemory) ⊎ (e ≡ Device))) × Keeps held holds × Keeps audit_held audit_holds)
+    ((((e ≡ Hex) × IfSome given SpellsNothing) ⊎ ((e ≡ OutOfMemory) ⊎ FailedAt placed.Input e)) × Keeps held holds × Keeps audit_held audit_holds)
     ⊎ IfSome given (λ text. (octets : List ℕ) × SpelledBy text octets × FailsLines e job octets held holds audit_held audit_holds)
 
--- the same for a subscriber by a policy; the policy's source, or the audit file, may fail before
+-- the same with an audit in the file of this path: that can't be made, or where it failed it is named
+abbrev pub RefusesWithAudit : List ℕ → ProgramFault → Bool → OfflineJob → Option (List ℕ) → Option (List ℕ) → Option (List ℕ) → Type 0
+RefusesWithAudit path e hex job given held holds =
+    (IsFileFault path e × Keeps held holds)
+    ⊎ ((fault : ProgramFault) × IsNamed path fault e × (audit_held audit_holds : Option (List ℕ)) × RefusesInput fault hex job given held holds audit_held audit_holds)
+
+-- or with none
+abbrev pub RefusesByAudit : Option (Bor (List ℕ)) → ProgramFault → Bool → OfflineJob → Option (List ℕ) → Option (List ℕ) → Option (List ℕ) → Type 0
+RefusesByAudit None e hex job given held holds = (audit_held audit_holds : Option (List ℕ)) × RefusesInput e hex job given held holds audit_held audit_holds
+RefusesByAudit (Some path) e hex job given held holds = RefusesWithAudit path.now e hex job given held holds
+
+-- the same for a subscriber by a policy; the policy's source may fail before
 abbrev pub RefusesToFilter : OfflineOptions → ProgramFault → Option (List ℕ) → Option (List ℕ) → Option (List ℕ) → Type 0
 RefusesToFilter options e given held holds =
-    (((e ≡ OutOfMemory) ⊎ (e ≡ Device)) × Keeps held holds)
-    ⊎ ((asked : Asked options) × (audit_held audit_holds : Option (List ℕ)) × RefusesInput e options.hex asked.job given held holds audit_held audit_holds)
+    (IsSourceFault options.policy e × Keeps held holds)
+    ⊎ ((asked : Asked options) × RefusesByAudit options.audit e options.hex asked.job given held holds)
 
 -- what is said of a stream that was filtered
 abbrev pub line_of_report : OfflineReport → List ℕ

@@ -1,5 +1,6 @@
 -- What the program says of a fault, and its exit statuses.
-use Rattle.std.specs.Prelude.{◌≡◌, ℕ, Bool, false, List, ◌++◌, codes, Option, Some, None, IfSome}
+use Rattle.std.specs.Prelude.{◌≡◌, ◌⊎◌, ℕ, Bool, false, List, [], ◌++◌, codes, Option, Some, None, IfSome}
+use Rattle.std.specs.declared.io.Error.{Error}
 use Rattle.std.specs.Fmt.{decimal, with_newline}
 use Rattle.std.specs.Io.KnownBytes.{Appends}
 use Rattle.ipmd_command_line.specs.declared.fault.CommandLineFault.{CommandLineFault}
@@ -26,6 +27,9 @@ use Rattle.journal_files.specs.declared.read_fault.ReadFault.TheVariants as read
 use Rattle.mediator_calls.specs.declared.fault.RunFault.{RunFault}
 use Rattle.mediator_calls.specs.declared.fault.RunFault.TheVariants as run
 use Rattle.ipmd_offline.specs.Absent.{text_of_absent}
+use Rattle.ipmd_offline.specs.Failures.{IsLineOf, failed_at}
+use Rattle.ipmd_offline.specs.declared.failure.Failure.{Failure}
+use Rattle.ipmd_offline.specs.declared.failure.Place.TheVariants as placed
 use Rattle.ipmd_offline.specs.declared.fault.ProgramFault.{ProgramFault}
 use Rattle.ipmd_offline.specs.declared.fault.ProgramFault.TheVariants.{CommandLine, Settings, Policy, Hex, Framing, Core, Cut, Calls, BadLimits, Journal, History, Absent, Close, OutOfMemory, Device}
 
@@ -45,7 +49,7 @@ status_of (History _) = 1
 status_of (Absent _) = 1
 status_of Close = 1
 status_of OutOfMemory = 1
-status_of Device = 3
+status_of (Device _) = 3
 
 -- what is said of a fault; of a command line that is the parser's text, which isn't told here
 abbrev pub text_of : ProgramFault → Option (List ℕ)
@@ -63,15 +67,31 @@ text_of (History position) = Some (codes "ipmd: journal BadHistory " ++ decimal 
 text_of (Absent what) = Some (codes "ipmd: journal " ++ text_of_absent what)
 text_of Close = Some (codes "ipmd: close")
 text_of OutOfMemory = Some (codes "ipmd: OutOfMemory")
-text_of Device = Some (codes "ipmd: device")
+text_of (Device _) = Some (codes "ipmd: device")
 
 -- on a line of its own
 abbrev pub line_of_fault : ProgramFault → Option (List ℕ)
 line_of_fault e = with_newline (text_of e)
 
--- this was written, unless the device failed
+-- this was written, unless the stream for errors failed
 abbrev pub Tells : Option (List ℕ) → Bool → Option (List ℕ) → Option (List ℕ) → Type 0
 Tells line has_failed held holds = has_failed ≡ false → IfSome line (Appends held holds)
+
+-- what failed was named on a line, or there was no memory for that
+abbrev pub NamesFailure : Failure → Bool → Option (List ℕ) → Option (List ℕ) → Type 0
+NamesFailure failure has_failed held holds = has_failed ≡ false → (note : List ℕ) × ((note ≡ []) ⊎ IsLineOf failure note) × Appends held holds note
+
+-- what is said before a fault: of a device that failed a line that names it, or nothing; of any other fault nothing
+abbrev pub IsNoteOf : ProgramFault → List ℕ → Type 0
+IsNoteOf (Device (Some failure)) note = (note ≡ []) ⊎ IsLineOf failure note
+IsNoteOf _ note = note ≡ []
+
+abbrev pub NamesDevice : ProgramFault → Bool → Option (List ℕ) → Option (List ℕ) → Type 0
+NamesDevice e has_failed held holds = has_failed ≡ false → (note : List ℕ) × IsNoteOf e note × Appends held holds note
+
+-- that was said, and then the fault
+abbrev pub Blames : ProgramFault → Bool → Option (List ℕ) → Option (List ℕ) → Type 0
+Blames e has_failed held holds = has_failed ≡ false → (note : List ℕ) × IsNoteOf e note × IfSome (line_of_fault e) (λ line. Appends held holds (note ++ line))
 
 -- a command line that is refused for want of memory isn't at fault
 abbrev pub command_line_fault_of : CommandLineFault → ProgramFault
@@ -106,15 +126,15 @@ core_fault_of (core.Policy why) = policy_fault_of why why.kind
 core_fault_of core.OutOfMemory = OutOfMemory
 core_fault_of why = Core why
 
--- why a stream was not filtered to its end
-abbrev pub offline_fault_of : OfflineFault → ProgramFault
-offline_fault_of offline.Read = Device
-offline_fault_of (offline.Write sent) = Device
-offline_fault_of offline.Turns = Device
-offline_fault_of offline.AuditWrite = Device
-offline_fault_of (offline.Framing why) = Framing why
-offline_fault_of (offline.Core why) = core_fault_of why
-offline_fault_of offline.Cut = Cut
+-- why a stream was not filtered to its end, where its ends failed so; which file has the audit isn't known here
+abbrev pub offline_fault_of : Error → Error → OfflineFault → ProgramFault
+offline_fault_of input output offline.Read = failed_at placed.Input input
+offline_fault_of input output (offline.Write sent) = failed_at placed.Output output
+offline_fault_of input output offline.Turns = failed_at placed.Input input
+offline_fault_of input output offline.AuditWrite = Device None
+offline_fault_of input output (offline.Framing why) = Framing why
+offline_fault_of input output (offline.Core why) = core_fault_of why
+offline_fault_of input output offline.Cut = Cut
 
 -- a list of calls that is refused for want of memory isn't at fault
 abbrev pub calls_fault_of : CallsFault → ProgramFault
@@ -126,9 +146,9 @@ abbrev pub run_fault_of : RunFault → ProgramFault
 run_fault_of run.BadLimits = BadLimits
 run_fault_of run.OutOfMemory = OutOfMemory
 
--- why no more was read of a journal's file; want of memory is no fault of the file
+-- why no more was read of a journal's file, whose path isn't known here; want of memory is no fault of the file
 abbrev pub read_fault_of : ReadFault → ProgramFault
-read_fault_of reading.Read = Device
+read_fault_of reading.Read = Device None
 read_fault_of (reading.File journal.OutOfMemory) = OutOfMemory
 read_fault_of (reading.File journal.BadMagic) = Journal journal.BadMagic
 read_fault_of (reading.File journal.BadVersion) = Journal journal.BadVersion

@@ -1,15 +1,19 @@
 //! Why a run ends without having done what was asked.
 ghost use Rattle.std.specs.Prelude.{◌≡◌};
+ghost use Rattle.octet_devices.specs.Device.{device_failed, device_inner};
+ghost use Rattle.ipmd_offline.specs.declared.failure.Place.TheVariants as placed;
+ghost use Rattle.ipmd_offline.specs.Status.{NamesFailure};
 
+use crate::failure::{Failure, Place};
 use call_lists::CallsFault;
 use ipmd_command_line::CommandLineFault;
 use journal_files::{JournalFault, ReadFault};
 use mediator_calls::RunFault;
-use octet_devices::{Device, Failed, WriteStopped};
-use offline_filter::{Fault, FramingFault, OfflineFault};
+use octet_devices::{Device, write_all};
+use offline_filter::{Fault, FramingFault};
 use policy_text::{FaultKind, PolicyFault};
 use serve_settings::SettingsFault;
-use std::alloc::{AllocError, AllocFailed};
+use std::alloc::{AllocError, AllocFailed, Global};
 use std::error::Error;
 use std::fmt::{self, Display, Formatter};
 use std::io::{self, ErrorKind, Write};
@@ -83,8 +87,8 @@ pub enum ProgramFault {
     /// Want of memory.
     OutOfMemory,
     /// A file can't be opened, read or written, is not text where text is read, or a stream failed; an address can't be
-    /// listened on or connected to, or a thread was refused.
-    Device,
+    /// listened on or connected to, or a thread was refused. None: which it was isn't known here, or a note has said it.
+    Device(Option<Failure>),
 }
 
 impl Error for ProgramFault {}
@@ -112,25 +116,51 @@ impl Display for ProgramFault {
             ProgramFault::Absent(what) => write!(f, "ipmd: journal {what}"),
             ProgramFault::Close => f.write_str("ipmd: close"),
             ProgramFault::OutOfMemory => f.write_str("ipmd: OutOfMemory"),
-            ProgramFault::Device => f.write_str("ipmd: device"),
+            ProgramFault::Device(_) => f.write_str("ipmd: device"),
         }
     }
 }
 
 impl ProgramFault {
     ghost use Rattle.octet_devices.specs.Device.{device_failed, device_inner};
-    ghost use Rattle.ipmd_offline.specs.Status.{line_of_fault, status_of, Tells};
+    ghost use Rattle.ipmd_offline.specs.Status.{Blames, status_of};
 
-    /// Says the fault on `errors`, and answers its exit status. What can't be written is dropped.
-    pub fn report<E: Write>(self, errors: &mut Device<E>) -> u8
+    #[tactic(auto, using(crate::proofs::Telling::blames))]
+    /// Says the fault on `errors`, behind a line that names what failed where that is known and memory is left for it; and
+    /// answers the exit status. What can't be written is dropped.
+    pub fn report<E: Write>(self, alloc: Global, errors: &mut Device<E>) -> u8
         ensures status { result ≡ status_of self }
-        ensures told { Tells (line_of_fault self) (device_failed errors.new) (E.contents (device_inner errors.old)) (E.contents (device_inner errors.new)) }
+        ensures told { Blames self (device_failed errors.new) (E.contents (device_inner errors.old)) (E.contents (device_inner errors.new)) }
+    {
+        self.name_device(alloc, errors);
+        self.say(errors);
+        self.status()
+    }
+
+    ghost use Rattle.std.specs.Prelude.{false};
+    ghost use Rattle.ipmd_offline.specs.Status.{line_of_fault, Tells};
+
+    /// Says the fault.
+    fn say<E: Write>(&self, errors: &mut Device<E>)
+        ensures told { Tells (line_of_fault self.now) (device_failed errors.new) (E.contents (device_inner errors.old)) (E.contents (device_inner errors.new)) }
+        ensures stays { device_failed errors.new ≡ false → device_failed errors.old ≡ false }
     {
         let _ = match self {
             ProgramFault::CommandLine(_) => write!(errors, "{self}"),
             _ => writeln!(errors, "{self}"),
         };
-        self.status()
+    }
+
+    ghost use Rattle.ipmd_offline.specs.Status.{NamesDevice};
+
+    /// Says what failed, where that is known and memory is left for it.
+    fn name_device<E: Write>(&self, alloc: Global, errors: &mut Device<E>)
+        ensures { NamesDevice self.now (device_failed errors.new) (E.contents (device_inner errors.old)) (E.contents (device_inner errors.new)) }
+    {
+        match self {
+            ProgramFault::Device(Some(failure)) => tell_failure(failure, alloc, errors),
+            _ => {}
+        }
     }
 
     /// The exit status of a run that ends so.
@@ -152,8 +182,68 @@ impl ProgramFault {
             | ProgramFault::Absent(_)
             | ProgramFault::Close
             | ProgramFault::OutOfMemory => REFUSED,
-            ProgramFault::Device => DEVICE_FAILED,
+            ProgramFault::Device(_) => DEVICE_FAILED,
         }
+    }
+
+    ghost use Rattle.std.specs.Prelude.{◌≢◌, ◌⊎◌};
+    ghost use Rattle.std.specs.IoError.{error_kind};
+    ghost use Rattle.std.specs.declared.io.ErrorKind.TheVariants as io_error;
+    ghost use Rattle.ipmd_offline.specs.declared.fault.ProgramFault.TheVariants.{OutOfMemory};
+    ghost use Rattle.ipmd_offline.specs.Failures.{FailedAt, IsFileFault, IsNamed, failed_at};
+
+    /// A place that has failed so.
+    pub fn failed(place: Place, why: io::Error) -> ProgramFault
+        ensures { result ≡ failed_at place why }
+    {
+        ProgramFault::Device(Some(Failure { place, why }))
+    }
+
+    /// What the program makes of an error at a place.
+    pub fn at(place: Place, why: io::Error) -> ProgramFault
+        ensures kind { ((error_kind why ≡ io_error.OutOfMemory) × (result ≡ OutOfMemory)) ⊎ ((error_kind why ≢ io_error.OutOfMemory) × (result ≡ failed_at place why)) }
+        ensures either { (result ≡ OutOfMemory) ⊎ FailedAt place result }
+    {
+        match why.kind() {
+            ErrorKind::OutOfMemory => ProgramFault::OutOfMemory,
+            _ => ProgramFault::failed(place, why),
+        }
+    }
+
+    /// What it makes of an error at the file of this path.
+    pub fn at_file(alloc: Global, path: &str, why: io::Error) -> ProgramFault
+        ensures { IsFileFault path.now result }
+    {
+        match String::from_str(alloc, path) {
+            Ok(path) => ProgramFault::at(Place::File(path), why),
+            Err(AllocError) => ProgramFault::OutOfMemory,
+        }
+    }
+
+    /// What it makes of standard output that has failed.
+    pub fn at_output<O>(output: &Device<O>) -> ProgramFault
+        ensures { FailedAt placed.Output result }
+    {
+        ProgramFault::failed(Place::Output, output.why())
+    }
+
+    /// The same fault; a device that isn't known is the file at this path, which failed so.
+    pub fn named(self, alloc: Global, path: &str, why: io::Error) -> ProgramFault
+        ensures { IsNamed path.now self result }
+    {
+        match self {
+            ProgramFault::Device(None) => ProgramFault::at_file(alloc, path, why),
+            fault => fault,
+        }
+    }
+}
+
+/// Says what failed, unless no memory is left for it.
+fn tell_failure<E: Write>(failure: &Failure, alloc: Global, errors: &mut Device<E>)
+    ensures { NamesFailure failure.now (device_failed errors.new) (E.contents (device_inner errors.old)) (E.contents (device_inner errors.new)) }
+{
+    if let Ok(line) = failure.line(alloc) {
+        let _ = write_all(errors, line.as_bytes());
     }
 }
 
@@ -176,45 +266,6 @@ impl<T: Drop> From<AllocFailed<T>> for ProgramFault {
 
     fn from(_e: AllocFailed<T>) -> ProgramFault {
         ProgramFault::OutOfMemory
-    }
-}
-
-impl From<io::Error> for ProgramFault {
-    ghost use Rattle.std.specs.Prelude.{◌≡◌, ◌≢◌, ◌⊎◌};
-    ghost use Rattle.std.specs.IoError.{error_kind};
-    ghost use Rattle.std.specs.declared.io.ErrorKind.TheVariants as io_error;
-    ghost use Rattle.ipmd_offline.specs.declared.fault.ProgramFault.TheVariants.{OutOfMemory, Device};
-
-    ghost from_gives = { λ x e. ((error_kind x ≡ io_error.OutOfMemory) × (e ≡ OutOfMemory))
-        ⊎ ((error_kind x ≢ io_error.OutOfMemory) × (e ≡ Device)) };
-
-    fn from(error: io::Error) -> ProgramFault {
-        match error.kind() {
-            ErrorKind::OutOfMemory => ProgramFault::OutOfMemory,
-            _ => ProgramFault::Device,
-        }
-    }
-}
-
-impl From<Failed> for ProgramFault {
-    ghost use Rattle.std.specs.Prelude.{◌≡◌};
-    ghost use Rattle.ipmd_offline.specs.declared.fault.ProgramFault.TheVariants.{Device};
-
-    ghost from_gives = { λ _ e. e ≡ Device };
-
-    fn from(_e: Failed) -> ProgramFault {
-        ProgramFault::Device
-    }
-}
-
-impl From<WriteStopped> for ProgramFault {
-    ghost use Rattle.std.specs.Prelude.{◌≡◌};
-    ghost use Rattle.ipmd_offline.specs.declared.fault.ProgramFault.TheVariants.{Device};
-
-    ghost from_gives = { λ _ e. e ≡ Device };
-
-    fn from(_e: WriteStopped) -> ProgramFault {
-        ProgramFault::Device
     }
 }
 
@@ -277,25 +328,6 @@ impl From<Fault> for ProgramFault {
     }
 }
 
-impl From<OfflineFault> for ProgramFault {
-    ghost use Rattle.std.specs.Prelude.{◌≡◌};
-    ghost use Rattle.ipmd_offline.specs.Status.{offline_fault_of};
-
-    ghost from_gives = { λ f e. e ≡ offline_fault_of f };
-
-    fn from(fault: OfflineFault) -> ProgramFault {
-        match fault {
-            OfflineFault::Read
-            | OfflineFault::Write { .. }
-            | OfflineFault::Turns
-            | OfflineFault::AuditWrite => ProgramFault::Device,
-            OfflineFault::Framing(why) => ProgramFault::Framing(why),
-            OfflineFault::Core(why) => ProgramFault::from(why),
-            OfflineFault::Cut => ProgramFault::Cut,
-        }
-    }
-}
-
 impl From<CallsFault> for ProgramFault {
     ghost use Rattle.std.specs.Prelude.{◌≡◌};
     ghost use Rattle.ipmd_offline.specs.Status.{calls_fault_of};
@@ -332,7 +364,7 @@ impl From<ReadFault> for ProgramFault {
 
     fn from(fault: ReadFault) -> ProgramFault {
         match fault {
-            ReadFault::Read => ProgramFault::Device,
+            ReadFault::Read => ProgramFault::Device(None),
             ReadFault::File(JournalFault::OutOfMemory) => ProgramFault::OutOfMemory,
             ReadFault::File(why) => ProgramFault::Journal(why),
         }

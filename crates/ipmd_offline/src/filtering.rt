@@ -1,16 +1,19 @@
 //! `ipmd offline`.
 
-ghost use Rattle.std.specs.Prelude.{IfErr, IfOk};
+ghost use Rattle.std.specs.Prelude.{◌≡◌, IfErr, IfOk};
 ghost use Rattle.octet_devices.specs.Device.{device_inner};
-ghost use Rattle.ipmd_offline.specs.Runs.{FailsLines, FailsOn, Filters, FinishesInput, FinishesLines, FinishesOn, RefusesInput, RefusesToFilter};
+ghost use Rattle.ipmd_offline.specs.Runs.{FailsLines, FailsOn, Filters, FinishesInput, FinishesLines, FinishesOn, FinishesWithAudit, IsWriteFault, RefusesInput, RefusesToFilter, RefusesWithAudit};
+ghost use Rattle.ipmd_offline.specs.Status.{offline_fault_of};
 
+use crate::failure::Place;
 use crate::fault::ProgramFault;
+use crate::files::of_file;
 use crate::hex_input::read_hex;
 use crate::output::write_lines;
 use crate::policy_source::policy_text_of;
 use ipmd_command_line::OfflineOptions;
 use octet_devices::Device;
-use offline_filter::{OfflineJob, OfflineReport, offline};
+use offline_filter::{OfflineFault, OfflineJob, OfflineReport, offline};
 use std::alloc::Global;
 use std::io::{BufWriter, Read, Write};
 use std::rt::Files;
@@ -48,16 +51,38 @@ pub fn filter<R: Files + AllocGlobal, I: Read + Drop, O: Write>(
         audit: options.audit.is_some(),
     };
     match options.audit {
-        Some(path) => {
-            let file = fs::create(rt, path)?;
-            let audit = BufWriter::with_capacity(rt.alloc(), AUDIT_BUFFER, file)?;
-            let mut audit = Device::new(audit);
-            filter_input(rt.alloc(), &job, options.hex, input, output, &mut audit)
-        }
+        Some(path) => filter_to_file(rt, &job, options.hex, input, output, path),
         None => {
             let mut audit = Device::new(io::sink());
             filter_input(rt.alloc(), &job, options.hex, input, output, &mut audit)
         }
+    }
+}
+
+/// Filters `input` with an audit in the file at a path.
+#[tactic(auto, using(crate::proofs::Lines::kept))]
+fn filter_to_file<R: Files + AllocGlobal, I: Read + Drop, O: Write>(
+    rt: &R,
+    job: &OfflineJob<'_>,
+    hex: bool,
+    input: I,
+    output: &mut Device<O>,
+    path: &str,
+) -> Result<OfflineReport, ProgramFault>
+    ensures ok { IfOk result (λ report. FinishesWithAudit hex job.entry.now report (I.remaining input) (O.contents (device_inner output.old)) (O.contents (device_inner output.new))) }
+    ensures err { IfErr result (λ e. RefusesWithAudit path.now e hex job.entry.now (I.remaining input) (O.contents (device_inner output.old)) (O.contents (device_inner output.new))) }
+{
+    let alloc = rt.alloc();
+    let file = of_file(alloc, path, fs::create(rt, path))?;
+    let buffer = of_file(
+        alloc,
+        path,
+        BufWriter::with_capacity(alloc, AUDIT_BUFFER, file),
+    )?;
+    let mut audit = Device::new(buffer);
+    match filter_input(alloc, job, hex, input, output, &mut audit) {
+        Ok(report) => Ok(report),
+        Err(fault) => Err(fault.named(alloc, path, audit.why())),
     }
 }
 
@@ -115,10 +140,40 @@ fn filter_octets<I: Read + Drop, O: Write, A: Write>(
     ensures err { IfErr result (λ e. FailsOn e job.entry.now (I.remaining input) (O.contents (device_inner output.old)) (O.contents (device_inner output.new)) (A.contents (device_inner audit.old)) (A.contents (device_inner audit.new))) }
 {
     if output.has_failed() || audit.has_failed() {
-        return Err(ProgramFault::Device);
+        return Err(failed_one(output));
     }
     let mut reader = Device::new(input);
     let report = offline(alloc, job, &mut reader, output, audit);
-    output.flush().and(audit.flush())?;
-    Ok(report?)
+    if output.flush().and(audit.flush()).is_err() {
+        return Err(failed_one(output));
+    }
+    match report {
+        Ok(report) => Ok(report),
+        Err(fault) => Err(fault_of(fault, reader.why(), output.why())),
+    }
+}
+
+/// What the program makes of an output or an audit of which one has failed.
+fn failed_one<O>(output: &Device<O>) -> ProgramFault
+    ensures { IsWriteFault result }
+{
+    if output.has_failed() {
+        ProgramFault::at_output(output)
+    } else {
+        ProgramFault::Device(None)
+    }
+}
+
+/// What it makes of a stream that wasn't filtered to its end, where its input and its output failed so.
+fn fault_of(fault: OfflineFault, input: io::Error, output: io::Error) -> ProgramFault
+    ensures { result ≡ offline_fault_of input output fault }
+{
+    match fault {
+        OfflineFault::Read | OfflineFault::Turns => ProgramFault::failed(Place::Input, input),
+        OfflineFault::Write { .. } => ProgramFault::failed(Place::Output, output),
+        OfflineFault::AuditWrite => ProgramFault::Device(None),
+        OfflineFault::Framing(why) => ProgramFault::Framing(why),
+        OfflineFault::Core(why) => ProgramFault::from(why),
+        OfflineFault::Cut => ProgramFault::Cut,
+    }
 }

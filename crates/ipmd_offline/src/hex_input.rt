@@ -1,8 +1,11 @@
 ghost use Rattle.std.specs.Prelude.{◌≡◌, ◌⊎◌, IfOk, IfErr, IfSome};
 ghost use Rattle.std.specs.List.{filter};
 ghost use Rattle.ipmd_offline.specs.HexText.{is_no_white_space, SpelledBy, SpellsNothing};
-ghost use Rattle.ipmd_offline.specs.declared.fault.ProgramFault.TheVariants.{Hex, OutOfMemory, Device};
+ghost use Rattle.ipmd_offline.specs.declared.failure.Place.TheVariants.{Input};
+ghost use Rattle.ipmd_offline.specs.declared.fault.ProgramFault.TheVariants.{Hex, OutOfMemory};
+ghost use Rattle.ipmd_offline.specs.Failures.{FailedAt};
 
+use crate::failure::Place;
 use crate::fault::ProgramFault;
 use hex::FromHexError;
 use std::alloc::Global;
@@ -15,10 +18,13 @@ use std::io::Read;
 pub fn read_hex<I: Read + Drop>(alloc: Global, mut input: I) -> Result<Vec<u8>, ProgramFault>
     ensures ok { IfOk result (λ octets. IfSome (I.remaining input) (λ text. SpelledBy text octets.items)) }
     ensures hex { IfErr result (λ e. e ≡ Hex → IfSome (I.remaining input) SpellsNothing) }
-    ensures kinds { IfErr result (λ e. (e ≡ Hex) ⊎ ((e ≡ OutOfMemory) ⊎ (e ≡ Device))) }
+    ensures kinds { IfErr result (λ e. (e ≡ Hex) ⊎ ((e ≡ OutOfMemory) ⊎ FailedAt Input e)) }
 {
     let mut text = Vec::new(alloc);
-    input.read_to_end(&mut text)?;
+    match input.read_to_end(&mut text) {
+        Ok(_) => {}
+        Err(why) => return Err(ProgramFault::at(Place::Input, why)),
+    }
     skip_white_space(&mut text);
     match hex::decode(alloc, text.as_slice()) {
         Ok(octets) => Ok(octets),

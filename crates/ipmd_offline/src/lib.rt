@@ -6,7 +6,8 @@
 //! - `showing`: [`show`], the help and the version.
 //! - `report`: [`tell`], what is said of a stream that was filtered.
 //! - `output`: [`write_text`]; and messages as lines of hexadecimal digits.
-//! - `fault`: [`ProgramFault`], with [`Absent`].
+//! - `fault`: [`ProgramFault`], with [`Absent`]; `failure`: [`Failure`], what failed and why, with [`Place`].
+//! - `files`: [`read_text`], and [`of_file`], what the system answers of a file.
 //! - `policy_source`: the text of a policy, from where it comes.
 //! - `hex_input`: a stream as hexadecimal text.
 //!
@@ -16,11 +17,13 @@
 //! them. `check_policy` is done only where the text is a policy, and its counts were written. A fault stands only where its
 //! cause does, and what was written by then is said with it (`err` of each).
 //!
-//! A policy given as words has a line feed for each semicolon (`text` of `policy_text_of`); what a fault of the engine, of a
-//! device, of settings, of the command line or of memory becomes is exact (`from_gives` of each), and so are a fault's text
-//! (`output` of its `Display`), and what is said of it and its status (`report`); octets read from hexadecimal text are what
-//! the whole text spells, white space skipped, and a text that is refused as no hexadecimal spells nothing (`ok`, `hex` of
-//! `read_hex`); what the audit's writer gets (`filter_input`, `filter_octets`).
+//! A policy given as words has a line feed for each semicolon (`text` of `policy_text_of`); what a fault of the engine, of
+//! settings, of the command line or of memory becomes is exact (`from_gives` of each), and so are a fault's text (`output` of
+//! its `Display`), its status and what is said of it (`report`); before a device's fault stands at most one line, of which the
+//! name is told, and the system's text of why is some text without a line feed (`IsLineOf`). A device's fault names no file
+//! or stream but one that is used there, and the output only where a front of its text was written (`err` of each). Octets read
+//! from hexadecimal text are what the whole text spells, white space skipped, and a text that is refused as no hexadecimal spells
+//! nothing (`ok`, `hex` of `read_hex`); what the audit's writer gets (`filter_input`, `filter_octets`).
 //!
 //! Shown by tests alone, those of the process and `program_tests`: that the audit's writer is the file of `--audit`, that all is
 //! flushed, the order of faults, and the texts that the parser makes, of the help (the output grew by some text) and of a refused
@@ -28,7 +31,9 @@
 #![tactic(auto)]
 
 mod check;
+mod failure;
 mod fault;
+mod files;
 mod filtering;
 mod hex_input;
 mod output;
@@ -37,8 +42,10 @@ mod report;
 mod showing;
 
 pub use check::check_policy;
+pub use failure::{Failure, Place};
 pub use fault::{Absent, ProgramFault};
+pub use files::{of_file, read_text};
 pub use filtering::filter;
-pub use output::write_text;
+pub use output::{flush, put_text, write_text};
 pub use report::tell;
 pub use showing::show;

@@ -1,10 +1,12 @@
 //! What the program writes: a text, or messages as lines of hexadecimal digits.
 
 ghost use Rattle.std.specs.Prelude.{◌≡◌, ◌⊎◌, OnOk, IfOk, IfErr, string_bytes};
-ghost use Rattle.std.specs.Io.KnownBytes.{Appends};
+ghost use Rattle.std.specs.Io.KnownBytes.{Appends, Keeps};
 ghost use Rattle.octet_devices.specs.Device.{device_inner};
 ghost use Rattle.ipmd_offline.specs.HexText.{AreMessagesOf, line_of, lines_of, WritesLines, WritesSome, WritesSomeLines};
-ghost use Rattle.ipmd_offline.specs.declared.fault.ProgramFault.TheVariants.{OutOfMemory, Device as DeviceFailed};
+ghost use Rattle.ipmd_offline.specs.declared.failure.Place.TheVariants.{Output};
+ghost use Rattle.ipmd_offline.specs.declared.fault.ProgramFault.TheVariants.{OutOfMemory};
+ghost use Rattle.ipmd_offline.specs.Failures.{FailedAt};
 
 use crate::fault::ProgramFault;
 use bytes::Bytes;
@@ -20,11 +22,38 @@ use std::io::Write;
 #[tactic(auto, using(crate::proofs::Lines::all_written, crate::proofs::Lines::front_written))]
 pub fn write_text<O: Write>(output: &mut Device<O>, text: &str) -> Result<(), ProgramFault>
     ensures ok { OnOk result (Appends (O.contents (device_inner output.old)) (O.contents (device_inner output.new)) text.now) }
-    ensures err { IfErr result (λ e. (e ≡ DeviceFailed) × WritesSome text.now (O.contents (device_inner output.old)) (O.contents (device_inner output.new))) }
+    ensures err { IfErr result (λ e. FailedAt Output e × WritesSome text.now (O.contents (device_inner output.old)) (O.contents (device_inner output.new))) }
 {
-    write_all(output, text.as_bytes())?;
-    output.flush()?;
-    Ok(())
+    put_text(output, text)?;
+    flush(output)
+}
+
+/// Writes a text.
+///
+/// # Errors
+/// `Device` where the output fails; a front of the text was written.
+pub fn put_text<O: Write>(output: &mut Device<O>, text: &str) -> Result<(), ProgramFault>
+    ensures ok { OnOk result (Appends (O.contents (device_inner output.old)) (O.contents (device_inner output.new)) text.now) }
+    ensures err { IfErr result (λ e. FailedAt Output e × WritesSome text.now (O.contents (device_inner output.old)) (O.contents (device_inner output.new))) }
+{
+    match write_all(output, text.as_bytes()) {
+        Ok(()) => Ok(()),
+        Err(_) => Err(ProgramFault::at_output(output)),
+    }
+}
+
+/// Sees that all that was written has left.
+///
+/// # Errors
+/// `Device` where the output fails.
+pub fn flush<O: Write>(output: &mut Device<O>) -> Result<(), ProgramFault>
+    ensures kept { Keeps (O.contents (device_inner output.old)) (O.contents (device_inner output.new)) }
+    ensures err { IfErr result (FailedAt Output) }
+{
+    match output.flush() {
+        Ok(()) => Ok(()),
+        Err(_) => Err(ProgramFault::at_output(output)),
+    }
 }
 
 /// Writes each message of a stream as a line, and sees that all have left. Where a message ends its header
@@ -38,12 +67,11 @@ pub fn write_lines<O: Write>(
     output: &mut Device<O>,
 ) -> Result<(), ProgramFault>
     ensures ok { OnOk result (WritesLines stream.now (O.contents (device_inner output.old)) (O.contents (device_inner output.new))) }
-    ensures err { IfErr result (λ e. ((e ≡ OutOfMemory) ⊎ (e ≡ DeviceFailed)) × WritesSomeLines stream.now (O.contents (device_inner output.old)) (O.contents (device_inner output.new))) }
+    ensures err { IfErr result (λ e. ((e ≡ OutOfMemory) ⊎ FailedAt Output e) × WritesSomeLines stream.now (O.contents (device_inner output.old)) (O.contents (device_inner output.new))) }
 {
     let messages = messages_of(alloc, stream)?;
     write_each(alloc, &messages, output)?;
-    output.flush()?;
-    Ok(())
+    flush(output)
 }
 
 /// The whole messages of a stream, as far as it is one.
@@ -65,11 +93,11 @@ fn write_each<O: Write>(
     output: &mut Device<O>,
 ) -> Result<(), ProgramFault>
     ensures ok { OnOk result (Appends (O.contents (device_inner output.old)) (O.contents (device_inner output.new)) (lines_of messages.now)) }
-    ensures err { IfErr result (λ e. ((e ≡ OutOfMemory) ⊎ (e ≡ DeviceFailed)) × WritesSome (lines_of messages.now) (O.contents (device_inner output.old)) (O.contents (device_inner output.new))) }
+    ensures err { IfErr result (λ e. ((e ≡ OutOfMemory) ⊎ FailedAt Output e) × WritesSome (lines_of messages.now) (O.contents (device_inner output.old)) (O.contents (device_inner output.new))) }
 {
     'messages: for message in messages {
         let line = hex_line(alloc, message.as_slice())?;
-        write_all(output, line.as_bytes())?;
+        put_text(output, line.as_str())?;
     }
     Ok(())
 }

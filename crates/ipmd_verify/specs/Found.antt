@@ -1,5 +1,5 @@
 -- What is found of a journal's file: its history, which is legal, or why it is refused.
-use Rattle.std.specs.Prelude.{◌≡◌, ℕ, Bool, List, ◌++◌, Option, IfSome, Ok, Err}
+use Rattle.std.specs.Prelude.{◌≡◌, ℕ, Bool, List, ◌++◌, Option, Some, None, IfSome, Ok, Err}
 use Rattle.event_journal.specs.declared.entry.Entry.{Entry}
 use Rattle.journal_files.specs.declared.fault.JournalFault.{JournalFault}
 use Rattle.journal_files.specs.Reading.{file_of}
@@ -34,13 +34,14 @@ pub record IsBadAt (given : Option (List ℕ)) (position : ℕ) : Type 0 where
   pub said : Says given history
   pub bad : IsFirstBad history position
 
--- why a file is refused; of a device that failed, and of want of memory, nothing is said
+-- why a file is refused; of a file that failed, whose path isn't known here, and of want of memory, nothing is said
 abbrev pub RefusesFile : ProgramFault → Option (List ℕ) → Type 0
 RefusesFile (Journal why) given = IsNoFile given why
 RefusesFile (History position) given = IsBadAt given position
 RefusesFile (Absent what) given = ⊥
 RefusesFile OutOfMemory given = Unit {0}
-RefusesFile Device given = Unit {0}
+RefusesFile (Device None) given = Unit {0}
+RefusesFile (Device (Some failure)) given = ⊥
 RefusesFile (CommandLine e) given = ⊥
 RefusesFile (Settings why) given = ⊥
 RefusesFile (Policy why) given = ⊥

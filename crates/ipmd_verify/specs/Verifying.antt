@@ -10,8 +10,10 @@ use Rattle.mediator_history.specs.Auditing.{audit_list}
 use Rattle.history_verify.specs.declared.count.Count.{Count}
 use Rattle.history_verify.specs.Counts.{counts_of}
 use Rattle.history_verify.specs.Legal.{IsLegal}
+use Rattle.ipmd_command_line.specs.declared.task.VerifyOptions.{VerifyOptions}
 use Rattle.ipmd_offline.specs.declared.fault.ProgramFault.{ProgramFault}
-use Rattle.ipmd_offline.specs.declared.fault.ProgramFault.TheVariants.{Device}
+use Rattle.ipmd_offline.specs.declared.failure.Place.TheVariants.{Output}
+use Rattle.ipmd_offline.specs.Failures.{FailedAt, IsNamed}
 use Rattle.ipmd_offline.specs.HexText.{WritesSome}
 use Rattle.ipmd_verify.specs.Found.{Says, RefusesFile}
 
@@ -51,13 +53,14 @@ pub record BeginsToTell (quiet : Bool) (given held holds : Option (List ℕ)) : 
   pub legal : IsLegal history
   pub written : WritesSome (told_of quiet history) held holds
 
--- the file is refused, and nothing was written; or the output failed
-abbrev pub RefusesToVerify : Bool → ProgramFault → Option (List ℕ) → Option (List ℕ) → Option (List ℕ) → Type 0
-RefusesToVerify quiet e given held holds = (RefusesFile e given × Keeps held holds) ⊎ ((e ≡ Device) × BeginsToTell quiet given held holds)
+-- the file of this path is refused, and nothing was written; or the output failed
+abbrev pub RefusesToVerify : Bool → List ℕ → ProgramFault → Option (List ℕ) → Option (List ℕ) → Option (List ℕ) → Type 0
+RefusesToVerify quiet path e given held holds =
+    (((fault : ProgramFault) × RefusesFile fault given × IsNamed path fault e) × Keeps held holds) ⊎ (FailedAt Output e × BeginsToTell quiet given held holds)
 
 -- what a file holds isn't told here
 abbrev pub VerifiesFile : Bool → Option (List ℕ) → Option (List ℕ) → Type 0
 VerifiesFile quiet held holds = (given : Option (List ℕ)) × Verifies quiet given held holds
 
-abbrev pub RefusesToVerifyFile : Bool → ProgramFault → Option (List ℕ) → Option (List ℕ) → Type 0
-RefusesToVerifyFile quiet e held holds = (given : Option (List ℕ)) × RefusesToVerify quiet e given held holds
+abbrev pub RefusesToVerifyFile : VerifyOptions → ProgramFault → Option (List ℕ) → Option (List ℕ) → Type 0
+RefusesToVerifyFile options e held holds = (given : Option (List ℕ)) × RefusesToVerify options.quiet options.journal.now e given held holds

@@ -7,7 +7,7 @@ use crate::progress::Progress;
 use crate::reading::read_history;
 use crate::telling::text_of;
 use ipmd_command_line::VerifyOptions;
-use ipmd_offline::{ProgramFault, write_text};
+use ipmd_offline::{ProgramFault, of_file, write_text};
 use octet_devices::Device;
 use std::alloc::Global;
 use std::fs;
@@ -20,7 +20,8 @@ const FILE_BUFFER: usize = 65_536;
 /// Verifies the journal in a file, and writes what it disclosed and, unless this is to be quiet, what its audit names.
 ///
 /// # Errors
-/// `Device` where the file can't be opened, and what `verify_input` refuses.
+/// `Device`, of the file, where it can't be opened, and what `verify_input` refuses.
+#[tactic(auto, using(crate::proofs::Refusing::unopened, ipmd_offline::proofs::Lines::kept))]
 pub fn verify<R: Files + AllocGlobal, O: Write, P: Progress>(
     rt: &R,
     options: &VerifyOptions<'_>,
@@ -28,29 +29,36 @@ pub fn verify<R: Files + AllocGlobal, O: Write, P: Progress>(
     progress: &mut P,
 ) -> Result<(), ProgramFault>
     ensures ok { OnOk result (VerifiesFile options.entry.now.quiet (O.contents (device_inner output.old)) (O.contents (device_inner output.new))) }
-    ensures err { IfErr result (λ e. RefusesToVerifyFile options.entry.now.quiet e (O.contents (device_inner output.old)) (O.contents (device_inner output.new))) }
+    ensures err { IfErr result (λ e. RefusesToVerifyFile options.entry.now e (O.contents (device_inner output.old)) (O.contents (device_inner output.new))) }
 {
-    let file = fs::open(rt, options.journal)?;
-    let input = BufReader::with_capacity(rt.alloc(), FILE_BUFFER, file)?;
-    verify_input(rt.alloc(), options.quiet, input, output, progress)
+    let (alloc, path) = (rt.alloc(), options.journal);
+    let file = of_file(alloc, path, fs::open(rt, path))?;
+    let input = of_file(
+        alloc,
+        path,
+        BufReader::with_capacity(alloc, FILE_BUFFER, file),
+    )?;
+    verify_input(alloc, options.quiet, path, input, output, progress)
 }
 
-/// Verifies the journal whose file a stream is, and writes what it disclosed and, unless this is to be quiet, what its
-/// audit names. `progress` is told how far it was read, unless this is to be quiet.
+/// Verifies the journal whose file a stream is, the one at this path, and writes what it disclosed and, unless this is to be
+/// quiet, what its audit names. `progress` is told how far it was read, unless this is to be quiet.
 ///
 /// # Errors
-/// In this order: `Device` where the stream fails, and `Journal`, the file's first fault; `History`, the first entry that may
-/// not stand where it does; then `Device` where the output fails, and a front of what was due may have been written; and
-/// `OutOfMemory`. At each of the others nothing was written.
+/// In this order: `Device`, of the file, where the stream fails, and `Journal`, the file's first fault; `History`, the first entry
+/// that may not stand where it does; then `Device`, of the output, where that fails, and a front of what was due may have been
+/// written; and `OutOfMemory`. At each of the others nothing was written.
+#[tactic(auto, using(crate::proofs::Refusing::refused, crate::proofs::Refusing::no_room, ipmd_offline::proofs::Lines::kept))]
 pub fn verify_input<I: Read + Drop, O: Write, P: Progress>(
     alloc: Global,
     quiet: bool,
+    path: &str,
     input: I,
     output: &mut Device<O>,
     progress: &mut P,
 ) -> Result<(), ProgramFault>
     ensures ok { OnOk result (Verifies quiet (I.remaining input) (O.contents (device_inner output.old)) (O.contents (device_inner output.new))) }
-    ensures err { IfErr result (λ e. RefusesToVerify quiet e (I.remaining input) (O.contents (device_inner output.old)) (O.contents (device_inner output.new))) }
+    ensures err { IfErr result (λ e. RefusesToVerify quiet path.now e (I.remaining input) (O.contents (device_inner output.old)) (O.contents (device_inner output.new))) }
 {
     if quiet {
         progress.silence();
@@ -58,7 +66,11 @@ pub fn verify_input<I: Read + Drop, O: Write, P: Progress>(
     let mut source = Device::new(input);
     let read = read_history(alloc, !quiet, &mut source, progress);
     progress.end();
-    let verified = read?;
-    let text = text_of(alloc, quiet, &verified)?;
-    write_text(output, text.as_str())
+    match read {
+        Ok(verified) => {
+            let text = text_of(alloc, quiet, &verified)?;
+            write_text(output, text.as_str())
+        }
+        Err(fault) => Err(fault.named(alloc, path, source.why())),
+    }
 }

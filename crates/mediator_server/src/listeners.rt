@@ -80,27 +80,48 @@ impl Listener {
                 Ok((stream, peer)) => return Ok(Some(Caller { stream, peer })),
                 Err(fault) if fault.kind() == ErrorKind::WouldBlock => return Ok(None),
                 Err(fault) if is_of_the_peer(&fault) => {}
-                Err(fault) if is_want(&fault) => self.refuse(rt, &fault),
+                Err(fault) if is_want(&fault) => match self.accept_by_spare(rt, &fault) {
+                    BySpare::Taken(caller) => return Ok(Some(caller)),
+                    BySpare::Closed => {}
+                    BySpare::Nobody => return Ok(None),
+                },
                 Err(fault) => return Err(fault),
             }
         }
         unreachable!()
     }
 
-    /// Takes a connection by the spare descriptor, and closes it.
-    fn refuse(&mut self, rt: &(impl Clock + Log), why: &io::Error) {
-        let had_spare = self.spare.is_some();
+    /// Lets the spare descriptor go, and takes a connection by it: the system says that there is no descriptor left also where nobody
+    /// waits. The connection is closed, but where a spare descriptor can be had again.
+    fn accept_by_spare(&mut self, rt: &(impl Clock + Log), why: &io::Error) -> BySpare {
         self.spare = None;
-        match self.listener.accept() {
-            Ok((_closed, peer)) => notes::refused_for_want(rt, peer, why),
-            Err(_) => {
-                if !had_spare {
+        let taken = match self.listener.accept() {
+            Ok((stream, peer)) => {
+                self.spare = self.listener.try_clone().ok();
+                if self.spare.is_some() {
+                    return BySpare::Taken(Caller { stream, peer });
+                }
+                notes::refused_for_want(rt, peer, why);
+                BySpare::Closed
+            }
+            Err(fault) => {
+                if fault.kind() != ErrorKind::WouldBlock {
                     rt.sleep(Duration::from_millis(PAUSE));
                 }
+                BySpare::Nobody
             }
-        }
+        };
         self.spare = self.listener.try_clone().ok();
+        taken
     }
+}
+
+/// What came of a connection for which there was no descriptor but the spare one.
+#[derive(Drop)]
+enum BySpare {
+    Taken(Caller),
+    Closed,
+    Nobody,
 }
 
 /// Whether a connection couldn't be accepted since its peer, or the way to it, has gone.

@@ -1,13 +1,13 @@
 ghost use Rattle.std.specs.Prelude.{◌≡◌, Bool, true, false, OnOk, IfSome};
 ghost use Rattle.std.specs.Io.KnownBytes.{Appends, Keeps};
-ghost use Rattle.octet_devices.specs.Device.{device_inner, device_failed};
+ghost use Rattle.octet_devices.specs.Device.{device_inner, device_failed, device_fault};
 ghost use Rattle.octet_devices.specs.Failing.{FailsOnErr};
 
 use crate::failed::Failed;
 use crate::sink::Sink;
 use crate::source::Source;
 use std::fmt::Display;
-use std::io::{Read, Write};
+use std::io::{self, ErrorKind, Read, Write};
 
 /// A reader or a writer of std as a source or a sink. It tells the octets that its reader or writer tells.
 ///
@@ -16,7 +16,8 @@ use std::io::{Read, Write};
 #[derive(Drop)]
 pub struct Device<T> {
     inner: T,
-    failed: bool,
+    /// Why it failed first, where it has failed.
+    fault: Option<io::Error>,
 }
 
 impl<T> Device<T> {
@@ -25,25 +26,34 @@ impl<T> Device<T> {
         ensures inner { device_inner result ≡ inner }
         ensures failed { device_failed result ≡ false }
     {
-        Device {
-            inner,
-            failed: false,
-        }
+        Device { inner, fault: None }
     }
 
     /// Whether a read or a write has failed.
     pub fn has_failed(&self) -> bool
         ensures { result ≡ device_failed self.now }
     {
-        self.failed
+        self.fault.is_some()
     }
 
-    /// Keeps that the device has failed.
-    fn fail(&mut self) -> Failed
+    /// Why it failed first; `Other` where it has not failed.
+    pub fn why(&self) -> io::Error
+        ensures { IfSome (device_fault self.now) (λ fault. result ≡ fault) }
+    {
+        match self.fault {
+            Some(why) => why,
+            None => io::Error::from(ErrorKind::Other),
+        }
+    }
+
+    /// Keeps that the device has failed, and why, unless it had failed before.
+    fn fail(&mut self, why: io::Error) -> Failed
         ensures failed { device_failed self.new ≡ true }
         ensures inner { device_inner self.new ≡ device_inner self.old }
     {
-        self.failed = true;
+        if self.fault.is_none() {
+            self.fault = Some(why);
+        }
         Failed
     }
 
@@ -51,7 +61,7 @@ impl<T> Device<T> {
     pub fn into_inner(self) -> T
         ensures { result ≡ device_inner self }
     {
-        let Device { inner, failed: _ } = self;
+        let Device { inner, fault: _ } = self;
         inner
     }
 }
@@ -65,10 +75,10 @@ impl<T: Write> Device<T> {
         ensures octets { OnOk result (IfSome (D.output text) (Appends (T.contents (device_inner self.old)) (T.contents (device_inner self.new)))) }
         ensures failed { FailsOnErr (device_failed self.old) (device_failed self.new) result }
     {
-        if self.inner.write_fmt(text).is_err() {
-            return Err(self.fail());
+        match self.inner.write_fmt(text) {
+            Ok(()) => Ok(()),
+            Err(why) => Err(self.fail(why)),
         }
-        Ok(())
     }
 
     /// Sees that what was written has left.
@@ -79,10 +89,10 @@ impl<T: Write> Device<T> {
         ensures octets { Keeps (T.contents (device_inner self.old)) (T.contents (device_inner self.new)) }
         ensures failed { FailsOnErr (device_failed self.old) (device_failed self.new) result }
     {
-        if self.inner.flush().is_err() {
-            return Err(self.fail());
+        match self.inner.flush() {
+            Ok(()) => Ok(()),
+            Err(why) => Err(self.fail(why)),
         }
-        Ok(())
     }
 }
 
@@ -94,7 +104,7 @@ impl<T: Read> Source for Device<T> {
     fn read(&mut self, buffer: &mut [u8]) -> Result<usize, Failed> {
         match self.inner.read(buffer) {
             Ok(count) => Ok(count),
-            Err(_) => Err(self.fail()),
+            Err(error) => Err(self.fail(error)),
         }
     }
 }
@@ -107,7 +117,8 @@ impl<T: Write> Sink for Device<T> {
     fn write(&mut self, octets: &[u8]) -> Result<usize, Failed> {
         match self.inner.write(octets) {
             Ok(count) if count > 0 || octets.is_empty() => Ok(count),
-            Err(_) | Ok(_) => Err(self.fail()),
+            Ok(_) => Err(self.fail(io::Error::from(ErrorKind::WriteZero))),
+            Err(why) => Err(self.fail(why)),
         }
     }
 }

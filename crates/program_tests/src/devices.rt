@@ -1,13 +1,14 @@
 //! `ipmd`'s commands for one stream, one policy and the version, on devices that fail in the middle or take little at a time. What
 //! a closed pipe or a full device does to the process is tested from outside.
+use crate::places::is_at;
 use faulty_devices::{Narrow, Sparing};
 use ipmd_command_line::{OfflineOptions, PolicySource, Task, read_command_line};
-use ipmd_offline::{ProgramFault, check_policy, filter, show, tell};
+use ipmd_offline::{Place, ProgramFault, check_policy, filter, show, tell};
 use octet_devices::{Device, write_all};
 use offline_filter::OfflineReport;
 use std::alloc::{AllocError, Global};
 use std::io::ErrorKind::{BrokenPipe, ConnectionReset};
-use std::io::{BufWriter, Read, Write};
+use std::io::{self, BufWriter, Read, Write};
 use std::process::Abort;
 use std::rt::Files;
 use std::test::Fail;
@@ -84,13 +85,12 @@ struct Ran {
     written: Vec<u8>,
 }
 
-/// Whether a run is done, or ended because a device failed, and wrote so much of what is due.
-fn is_left(ran: &Ran, flows: &TwoFlows, sent: usize, done: bool) -> bool {
+/// Whether a run is done, or ended because this stream failed, and wrote so much of what is due.
+fn is_left(ran: &Ran, flows: &TwoFlows, sent: usize, done: bool, stream: &Place) -> bool {
     let written = ran.written.as_slice();
     let answered = match &ran.answer {
         Ok(report) => done && *report == REPORT,
-        Err(ProgramFault::Device) => !done,
-        Err(_) => false,
+        Err(fault) => !done && is_at(fault, stream),
     };
     answered && written.len() == sent && flows.whole.starts_with(written)
 }
@@ -119,7 +119,7 @@ fn sends<R: Files + AllocGlobal>(
     sent: usize,
 ) -> Result<bool, AllocError> {
     let ran = run_into(rt, flows, most, calls)?;
-    Ok(is_left(&ran, flows, sent, sent == flows.whole.len()))
+    Ok(is_left(&ran, flows, sent, sent == flows.whole.len(), &Place::Output))
 }
 
 /// Whether a write that fails is the end of what is written.
@@ -159,9 +159,12 @@ fn buffer(alloc: Global) -> Result<Device<BufWriter<Narrow>>, Fail> {
     Ok(Device::new(BufWriter::with_capacity(alloc, ROOM, narrow(alloc, ROOM, 0)?)?))
 }
 
-/// Whether a device failed.
+/// Whether the output failed.
 fn has_failed<T>(answer: &Result<T, ProgramFault>) -> bool {
-    matches!(answer, Err(ProgramFault::Device))
+    match answer {
+        Ok(_) => false,
+        Err(fault) => is_at(fault, &Place::Output),
+    }
 }
 
 /// Whether it is seen at the flush that the reader of the messages has gone.
@@ -213,7 +216,7 @@ fn run_behind_a_failure<R: Files + AllocGlobal>(rt: &R) -> Result<Ran, AllocErro
 #[test]
 fn failed_before(rt: HostRuntime) -> Result<(), Fail> {
     let ran = run_behind_a_failure(&rt)?;
-    assert!(rt; is_left(&ran, AS_OCTETS, 0, false));
+    assert!(rt; is_left(&ran, AS_OCTETS, 0, false, &Place::Output));
     Ok(())
 }
 
@@ -275,7 +278,7 @@ fn reads<R: Files + AllocGlobal>(rt: &R, case: &Reader) -> bool {
         answer,
         written: output.into_inner(),
     };
-    is_left(&ran, flows, case.sent, case.done)
+    is_left(&ran, flows, case.sent, case.done, &Place::Input)
 }
 
 /// That the run leaves what it must by each reader.
@@ -315,6 +318,32 @@ fn tells(alloc: Global, calls: usize, told: &[u8]) -> Result<bool, AllocError> {
     let mut errors = Device::new(narrow(alloc, 2, calls)?);
     tell(REPORT, &mut errors);
     Ok(errors.into_inner().octets.as_slice() == told)
+}
+
+/// Whether these octets of a fault of the output are taken, two a call, where the call behind so many fails: the line that names the
+/// output ends there, and the fault's own line comes.
+fn blames(alloc: Global, calls: usize, told: &[u8]) -> Result<bool, AllocError> {
+    let mut errors = Device::new(narrow(alloc, 2, calls)?);
+    let fault = ProgramFault::failed(Place::Output, io::Error::from(BrokenPipe));
+    let status = fault.report(alloc, &mut errors);
+    Ok(status == 3 && errors.into_inner().octets.as_slice() == told)
+}
+
+#[test]
+fn fault_is_said(rt: HostRuntime) -> Result<(), Fail> {
+    assert!(rt;
+        blames(rt.alloc(), 0, b"ipmd: device\n")?,
+        "at the first write"
+    );
+    assert!(rt;
+        blames(
+            rt.alloc(),
+            ROOM,
+            b"ipmd: standard output: broken pipe\nipmd: device\n"
+        )?,
+        "at none"
+    );
+    Ok(())
 }
 
 #[test]

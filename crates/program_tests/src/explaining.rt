@@ -45,7 +45,14 @@ fn run_of(alloc: Global, file: &[u8], sub: u64) -> Result<Ran, AllocError> {
     };
     let mut output = Device::new(Vec::with_capacity(alloc, ROOM)?);
     let mut progress = OnTerminal::new(Device::new(io::sink()), false);
-    let answer = explain_input(alloc, question, file, &mut output, &mut progress);
+    let answer = explain_input(
+        alloc,
+        question,
+        "run.journal",
+        file,
+        &mut output,
+        &mut progress,
+    );
     Ok(Ran {
         answer,
         written: output.into_inner(),

@@ -4,7 +4,8 @@
 //! - `settings`: of `serve_settings`.
 //! - `answers`: of `admin_lines`, with answers that no server is brought to give.
 //! - `offline`: of `offline_filter`, with reads that are counted, and the names of faults.
-//! - `devices`: of `ipmd_offline`, on devices that fail; `memory`: where memory is refused.
+//! - `devices`: of `ipmd_offline`, on devices that fail, with `places`, which of them a fault names; `memory`: where memory is
+//!   refused.
 //! - `verifying`: of `ipmd_verify`, on both; `explaining`: of `ipmd_explain`, where memory is refused.
 //! - `journals`: of `event_journal` and `journal_files`, and `histories`: of `history_verify` and `legal_runs`, both where memory is
 //!   refused; `octets`: files of journals.
@@ -29,6 +30,8 @@ mod memory;
 mod octets;
 #[cfg(test)]
 mod offline;
+#[cfg(test)]
+mod places;
 #[cfg(test)]
 mod settings;
 #[cfg(test)]

@@ -1,8 +1,9 @@
 //! `ipmd verify` on devices that fail in the middle or give little at a time, and where one allocation is refused: the run is made
 //! again then, and answers as if nothing had happened.
 use crate::octets::{RULED, RULED_TEXT, RUN};
+use crate::places::{is_at, is_at_file};
 use faulty_devices::{Narrow, Sparing};
-use ipmd_offline::ProgramFault;
+use ipmd_offline::{Place, ProgramFault};
 use ipmd_verify::{OnTerminal, verify_input};
 use octet_devices::Device;
 use std::alloc::{AllocError, Global};
@@ -19,6 +20,9 @@ const COUNTS: usize = 46;
 
 /// Room for what a run writes.
 const ROOM: usize = 4096;
+
+/// The path of the file.
+const PATH: &str = "run.journal";
 
 /// What a run did, and the octets that it wrote.
 #[derive(Drop)]
@@ -48,7 +52,7 @@ fn run_once(
     let input = Sparing::new(octets, most, reads, ConnectionReset);
     let mut output = Device::new(Vec::with_capacity(alloc, ROOM)?);
     let mut progress = OnTerminal::new(Device::new(io::sink()), true);
-    let answer = verify_input(alloc, quiet, input, &mut output, &mut progress);
+    let answer = verify_input(alloc, quiet, PATH, input, &mut output, &mut progress);
     Ok(Ran {
         answer,
         written: output.into_inner(),
@@ -115,7 +119,10 @@ fn reads_sparingly(alloc: Global) -> Result<bool, AllocError> {
 /// Whether a reader that fails in the middle is told.
 fn tells_of_reader(alloc: Global) -> Result<bool, AllocError> {
     let ran = run_of(alloc, false, RUN, 1, 100)?;
-    Ok(matches!(ran.answer, Err(ProgramFault::Device)) && ran.written.is_empty())
+    Ok(match &ran.answer {
+        Err(fault) => is_at_file(fault, PATH) && ran.written.is_empty(),
+        Ok(()) => false,
+    })
 }
 
 #[test]
@@ -129,7 +136,7 @@ fn readers(rt: HostRuntime) -> Result<(), Fail> {
 fn run_into(alloc: Global, sent: usize) -> Result<Ran, AllocError> {
     let mut output = Device::new(Narrow::new(alloc, ROOM, 1, sent, BrokenPipe)?);
     let mut progress = OnTerminal::new(Device::new(io::sink()), false);
-    let answer = verify_input(alloc, false, RUN, &mut output, &mut progress);
+    let answer = verify_input(alloc, false, PATH, RUN, &mut output, &mut progress);
     Ok(Ran {
         answer,
         written: output.into_inner().octets,
@@ -139,9 +146,11 @@ fn run_into(alloc: Global, sent: usize) -> Result<Ran, AllocError> {
 /// Whether a run ended because its writer failed, which has so many octets of what is due.
 fn has_front(ran: &Ran, sent: usize) -> bool {
     let written = ran.written.as_slice();
-    matches!(ran.answer, Err(ProgramFault::Device))
-        && written.len() == sent
-        && FOUND.starts_with(written)
+    let failed = match &ran.answer {
+        Err(fault) => is_at(fault, &Place::Output),
+        Ok(()) => false,
+    };
+    failed && written.len() == sent && FOUND.starts_with(written)
 }
 
 /// Whether such a writer has a front of what is due, by a second run where the first was refused memory.

@@ -1,9 +1,17 @@
 -- Why a journal's file isn't kept.
+use Rattle.std.specs.Prelude.{◌⊎◌, ℕ, List, ◌++◌, codes}
 use Rattle.ipmd_offline.specs.declared.fault.ProgramFault.{ProgramFault}
-use Rattle.ipmd_offline.specs.declared.fault.ProgramFault.TheVariants.{OutOfMemory, Device}
+use Rattle.ipmd_offline.specs.Failures.{IsFileFault}
+use Rattle.run_journals.specs.Numbering.{file_name}
 
--- a device failed, or memory ran out
-abbrev pub IsKeepingFault : ProgramFault → Type 0
-IsKeepingFault Device = Unit {0}
-IsKeepingFault OutOfMemory = Unit {0}
-IsKeepingFault _ = ⊥
+-- the name that a file has until it is whole
+abbrev pub part_name : List ℕ → List ℕ
+part_name name = name ++ codes ".part"
+
+-- the file of this run can't be written, or can't get its name; or memory ran out
+abbrev pub IsKeepingFault : List ℕ → ℕ → ProgramFault → Type 0
+IsKeepingFault path number e = IsFileFault (part_name (file_name path number)) e ⊎ IsFileFault (file_name path number) e
+
+-- the same of some file or folder
+abbrev pub IsSomeFileFault : ProgramFault → Type 0
+IsSomeFileFault e = (path : List ℕ) × IsFileFault path e

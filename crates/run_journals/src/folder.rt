@@ -1,11 +1,11 @@
 //! The names in a folder.
 ghost use Rattle.std.specs.Prelude.{IfErr};
-ghost use Rattle.run_journals.specs.Keeping.{IsKeepingFault};
+ghost use Rattle.run_journals.specs.Keeping.{IsSomeFileFault};
 
 use crate::numbering::next_number;
-use ipmd_offline::ProgramFault;
+use ipmd_offline::{ProgramFault, of_file};
 use std::alloc::{AllocError, Global};
-use std::io::Read;
+use std::io::{self, Read};
 use std::rt::Files;
 
 /// How many octets of a folder are read at once.
@@ -14,20 +14,20 @@ const PIECE: usize = 8192;
 /// The number with which the files of runs go on under a path: one more than the greatest that its folder has, or 1.
 ///
 /// # Errors
-/// `Device` where the folder can't be read; `OutOfMemory`.
+/// `Device`, of the folder, where it can't be read; `OutOfMemory`.
 pub fn first_free<R: Files + AllocGlobal>(rt: &R, path: &str) -> Result<u64, ProgramFault>
-    ensures err { IfErr result IsKeepingFault }
+    ensures err { IfErr result IsSomeFileFault }
 {
     let (folder, base) = parts_of(path);
-    let octets = read_all(rt.alloc(), &mut rt.open_dir(folder)?)?;
-    let names = split_names(rt.alloc(), octets.as_slice())?;
+    let alloc = rt.alloc();
+    let mut opened = of_file(alloc, folder, rt.open_dir(folder))?;
+    let octets = of_file(alloc, folder, read_all(alloc, &mut opened))?;
+    let names = split_names(alloc, octets.as_slice())?;
     Ok(next_number(names.as_slice(), base.as_bytes()))
 }
 
 /// All that is read of a folder. The system gives whole names, so each read is lent room for the longest of them.
-fn read_all<F: Read>(alloc: Global, folder: &mut F) -> Result<Vec<u8>, ProgramFault>
-    ensures err { IfErr result IsKeepingFault }
-{
+fn read_all<F: Read>(alloc: Global, folder: &mut F) -> io::Result<Vec<u8>> {
     let mut octets = Vec::new(alloc);
     let mut piece = [0u8; PIECE];
     for _ in 0..u64::MAX {

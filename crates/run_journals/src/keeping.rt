@@ -1,16 +1,18 @@
 //! Writing a run's journal to its file.
-ghost use Rattle.std.specs.Prelude.{IfErr};
-ghost use Rattle.run_journals.specs.Keeping.{IsKeepingFault};
+ghost use Rattle.std.specs.Prelude.{◌≡◌, IfErr, IfOk, string_bytes};
+ghost use Rattle.ipmd_offline.specs.Failures.{IsFileFault};
+ghost use Rattle.run_journals.specs.Keeping.{IsKeepingFault, part_name};
+ghost use Rattle.run_journals.specs.Numbering.{file_name};
 
 use crate::folder::parts_of;
 use event_journal::Journal;
-use ipmd_offline::ProgramFault;
+use ipmd_offline::{ProgramFault, of_file};
 use journal_files::{WriteFault, write_journal};
 use octet_devices::Device;
 use std::alloc::{AllocError, Global};
 use std::fs;
 use std::fs::OpenFile;
-use std::io::BufWriter;
+use std::io::{BufWriter, Write};
 use std::rt::Files;
 
 /// How many octets of a journal's file are written at once.
@@ -20,31 +22,38 @@ const BUFFER: usize = 65_536;
 /// then gets its name: so under its name it is whole. A file that had the name before is replaced.
 ///
 /// # Errors
-/// `Device` where a file can't be written or named: then `PATH.K.part` may be there; `OutOfMemory`.
+/// `Device`, of `PATH.K.part` where that can't be written, or of `PATH.K` where it can't get this name: then `PATH.K.part` may be
+/// there; `OutOfMemory`.
 pub fn keep_run<R: Files + AllocGlobal>(
     rt: &R,
     path: &str,
     number: u64,
     journal: &Journal,
 ) -> Result<String, ProgramFault>
-    ensures err { IfErr result IsKeepingFault }
+    ensures err { IfErr result (IsKeepingFault path.now number) }
 {
-    let name = file_path(rt.alloc(), path, number)?;
-    let part = part_path(rt.alloc(), name.as_str())?;
+    let alloc = rt.alloc();
+    let name = file_path(alloc, path, number)?;
+    let part = part_path(alloc, name.as_str())?;
     write_file(rt, part.as_str(), journal)?;
-    fs::rename(rt, part.as_str(), name.as_str())?;
+    let named = fs::rename(rt, part.as_str(), name.as_str());
+    of_file(alloc, name.as_str(), named)?;
     let (folder, _) = parts_of(path);
     sync_folder(rt, folder);
     Ok(name)
 }
 
 /// The path of a run's file.
-fn file_path(alloc: Global, path: &str, number: u64) -> Result<String, AllocError> {
+fn file_path(alloc: Global, path: &str, number: u64) -> Result<String, AllocError>
+    ensures { IfOk result (λ name. string_bytes name ≡ file_name path.now number) }
+{
     format!(in alloc; "{path}.{number}")
 }
 
 /// The path that it has until it is whole.
-fn part_path(alloc: Global, name: &str) -> Result<String, AllocError> {
+fn part_path(alloc: Global, name: &str) -> Result<String, AllocError>
+    ensures { IfOk result (λ part. string_bytes part ≡ part_name name.now) }
+{
     format!(in alloc; "{name}.part")
 }
 
@@ -54,19 +63,39 @@ fn write_file<R: Files + AllocGlobal>(
     path: &str,
     journal: &Journal,
 ) -> Result<(), ProgramFault>
-    ensures err { IfErr result IsKeepingFault }
+    ensures err { IfErr result (IsFileFault path.now) }
 {
-    let file = fs::create(rt, path)?;
-    let buffer = BufWriter::with_capacity(rt.alloc(), BUFFER, file)?;
+    let alloc = rt.alloc();
+    let file = of_file(alloc, path, fs::create(rt, path))?;
+    let buffer = of_file(alloc, path, BufWriter::with_capacity(alloc, BUFFER, file))?;
     let mut sink = Device::new(buffer);
-    match write_journal(rt.alloc(), journal, &mut sink) {
+    put_journal(alloc, path, journal, &mut sink)?;
+    of_file(alloc, path, sink.into_inner().get_ref().sync_all())
+}
+
+/// Writes a journal to the file at a path, which a sink is, and sees that it has left.
+///
+/// # Errors
+/// `Device`, of the file, where it can't be written; `OutOfMemory`.
+pub fn put_journal<W: Write>(
+    alloc: Global,
+    path: &str,
+    journal: &Journal,
+    sink: &mut Device<W>,
+) -> Result<(), ProgramFault>
+    ensures err { IfErr result (IsFileFault path.now) }
+{
+    match write_journal(alloc, journal, sink) {
         Ok(()) => {}
-        Err(WriteFault::Write { .. }) => return Err(ProgramFault::Device),
+        Err(WriteFault::Write { .. }) => {
+            return Err(ProgramFault::at_file(alloc, path, sink.why()));
+        }
         Err(WriteFault::OutOfMemory) => return Err(ProgramFault::OutOfMemory),
     }
-    sink.flush()?;
-    sink.into_inner().get_ref().sync_all()?;
-    Ok(())
+    match sink.flush() {
+        Ok(()) => Ok(()),
+        Err(_) => Err(ProgramFault::at_file(alloc, path, sink.why())),
+    }
 }
 
 /// Has a folder's names reach the disk. Not every file system can be asked for that, so a refusal is none here.

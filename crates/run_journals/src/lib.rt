@@ -3,10 +3,10 @@
 //!
 //! - `numbering`: [`next_number`], with which number the files of a folder go on.
 //! - `folder`: [`first_free`], the same for a path.
-//! - `keeping`: [`keep_run`], which writes a run's journal to its file.
+//! - `keeping`: [`keep_run`], which writes a run's journal to its file; [`put_journal`] writes one to any file.
 //!
 //! Proved of `next_number`: what it answers is above the number of each name that is the name of a run's file (`above`), so
-//! that none of these is written again. What happens in files, no contract can say: that a file has the whole journal under
+//! that none of these is written again. A fault names the file that failed (`err` of each). What happens in files, no contract can say: that a file has the whole journal under
 //! its name, or isn't there, is shown by tests alone.
 #![tactic(auto)]
 
@@ -15,5 +15,5 @@ mod keeping;
 mod numbering;
 
 pub use folder::first_free;
-pub use keeping::keep_run;
+pub use keeping::{keep_run, put_journal};
 pub use numbering::next_number;

@@ -4,7 +4,7 @@ use Rattle.offline_filter.proofs.Receiving.{err_gives}
 use Rattle.ipmd.specs.Serving.{FailsToServe}
 use Rattle.ipmd_offline.specs.Runs.{RefusesToFilter}
 use Rattle.ipmd_verify.specs.Verifying.{RefusesToVerifyFile}
-use Rattle.ipmd_explain.specs.Answers.{RefusesToExplainFile, question_of}
+use Rattle.ipmd_explain.specs.Answers.{RefusesToExplainFile}
 use Rattle.ipmd.proofs.Endings.{unexplained, unfiltered, unserved, unverified}
 use Rattle.ipmd.proofs.run.Goals as goal
 
@@ -15,7 +15,7 @@ returns-in_err-serve-in-Serve-clause-err g c =
     err_gives c.from_residual-in_err-serve-in-Serve.result c.from_residual-in_err-serve-in-Serve.ensures
     (λ e is. unserved (map g.S.AsStr.text c.args.words.now) c.in-Serve.path e (g.I.Read.remaining c.args.input) held holds c.args.errors.now c.serve.new.errors
     (rw c.in-Serve.is at c.in_ok-options.ensures.asked)
-    (subst (λ x. FailsToServe x held holds c.args.errors.now c.serve.new.errors) (sym is) c.in_err-serve-in-Serve.ensures.err))
+    (subst (λ x. FailsToServe c.in-Serve.path.now x held holds c.args.errors.now c.serve.new.errors) (sym is) c.in_err-serve-in-Serve.ensures.err))
 
 pub returns-in_err-filter-in-Offline-clause-err : goal.returns-in_err-filter-in-Offline-clause-err
 returns-in_err-filter-in-Offline-clause-err g c =
@@ -35,7 +35,7 @@ returns-in_err-verify-in-Verify-clause-err g c =
     err_gives c.from_residual-in_err-verify-in-Verify.result c.from_residual-in_err-verify-in-Verify.ensures
     (λ e is. unverified (map g.S.AsStr.text c.args.words.now) c.in-Verify.options e given held holds c.args.errors.now c.args.errors.now refl
     (rw c.in-Verify.is at c.in_ok-options.ensures.asked)
-    (subst (λ x. RefusesToVerifyFile c.in-Verify.options.quiet x held holds) (sym is) c.in_err-verify-in-Verify.ensures.err))
+    (subst (λ x. RefusesToVerifyFile c.in-Verify.options x held holds) (sym is) c.in_err-verify-in-Verify.ensures.err))
 
 pub returns-in_err-explain-in-Explain-clause-err : goal.returns-in_err-explain-in-Explain-clause-err
 returns-in_err-explain-in-Explain-clause-err g c =
@@ -45,4 +45,4 @@ returns-in_err-explain-in-Explain-clause-err g c =
     err_gives c.from_residual-in_err-explain-in-Explain.result c.from_residual-in_err-explain-in-Explain.ensures
     (λ e is. unexplained (map g.S.AsStr.text c.args.words.now) c.in-Explain.options e given held holds c.args.errors.now c.args.errors.now refl
     (rw c.in-Explain.is at c.in_ok-options.ensures.asked)
-    (subst (λ x. RefusesToExplainFile (question_of c.in-Explain.options) x held holds) (sym is) c.in_err-explain-in-Explain.ensures.err))
+    (subst (λ x. RefusesToExplainFile c.in-Explain.options x held holds) (sym is) c.in_err-explain-in-Explain.ensures.err))

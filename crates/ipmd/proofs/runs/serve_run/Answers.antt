@@ -1,4 +1,4 @@
-use Rattle.std.proofs.Common.{◌∙◌, inr, subst, sym, true≢false}
+use Rattle.std.proofs.Common.{[], ◌∙◌, inl, inr, refl, subst, sym, true≢false}
 use Rattle.octet_devices.specs.Device.{device_inner}
 use Rattle.ipmd_offline.specs.declared.fault.ProgramFault.TheVariants.{OutOfMemory}
 use Rattle.offline_filter.proofs.Receiving.{err_gives}
@@ -20,7 +20,7 @@ returns-in_err-renew_policy-clause-err g c =
     let holds = g.O.Write.contents (device_inner c.end_run.new.output) in
     let made = run_of c.in_ok-ended.ended in
     err_gives c.from_residual-in_err-renew_policy.result c.from_residual-in_err-renew_policy.ensures
-    (λ e is. subst (λ x. StopsRun x c.args.plan.now held holds) (sym is) (inr (made, c.in_ok-ended.ensures.served, told_all OutOfMemory made held holds tt c.in_ok-journal.ensures.told)))
+    (λ e is. subst (λ x. StopsRun x c.args.plan.now held holds) (sym is) (inr (made, c.in_ok-ended.ensures.served, told_all OutOfMemory made held holds ([], inl refl) c.in_ok-journal.ensures.told)))
 
 pub returns-clause-made : goal.returns-clause-made
 returns-clause-made g c = record {

@@ -2,8 +2,10 @@ use Rattle.std.proofs.Common.{[], ◌∷◌, ◌++◌, ◌≡◌, None, subst, s
 use Rattle.std.proofs.KnownBytes.{Appends-nil, Keeps-refl}
 use Rattle.std.specs.Prelude.{string_bytes}
 use Rattle.std.specs.Io.KnownBytes.{Appends}
-use Rattle.octet_devices.specs.Device.{device_failed, device_inner}
-use Rattle.octet_devices.specs.Written.{WritesFront}
+use Rattle.octet_devices.specs.Device.{device_inner}
+use Rattle.ipmd_offline.specs.declared.failure.Place.TheVariants.{Output}
+use Rattle.ipmd_offline.specs.Failures.{FailedAt}
+use Rattle.ipmd_offline.specs.HexText.{WritesSome}
 use Rattle.history_verify.proofs.FeedLaws.{err_map}
 use Rattle.ipmd_verify.proofs.ReadingLaws.{all_said, begun, head_refuses, read_on, step_refuses}
 use Rattle.ipmd_verify.specs.Found.{RefusesFile}
@@ -95,21 +97,21 @@ entries-preserved g c =
       stands = taken.taken.stands;
       written = written_more c.args.question inv.history c.in-Some.entry (string_bytes c.in-Ok.text) _ _ _
           (subst (λ (q : Question). string_bytes c.in-Ok.text ≡ explained_at q inv.history c.in-Some.entry) inv.question taken.taken.said) inv.written
-          (subst (λ (t : List ℕ). Appends (g.O.Write.contents (device_inner c.entries.output)) (g.O.Write.contents (device_inner c.write_all.new.sink)) t) c.as_bytes.ensures.value c.in_ok-write_all-in-Ok.ensures.ok);
+          (subst (λ (t : List ℕ). Appends (g.O.Write.contents (device_inner c.entries.output)) (g.O.Write.contents (device_inner c.put_text.new.output)) t) c.as_str.ensures.value c.in_ok-put_text-in-Ok.ensures.ok);
     }
 
-pub returns-in_err-write_all-in-Ok-clause-err : goal.returns-in_err-write_all-in-Ok-clause-err
-returns-in_err-write_all-in-Ok-clause-err g c =
+pub returns-in_err-put_text-in-Ok-clause-err : goal.returns-in_err-put_text-in-Ok-clause-err
+returns-in_err-put_text-in-Ok-clause-err g c =
     let given = g.S.Source.remaining c.args.source.now in
     let inv = c.entries.invariant in
     let taken = c.in-Ok.ensures.ok inv.history inv.fed inv.stands inv.reads.few in
-    err_gives c.from_residual-in_err-write_all-in-Ok.result c.from_residual-in_err-write_all-in-Ok.ensures
+    err_gives c.from_residual-in_err-put_text-in-Ok.result c.from_residual-in_err-put_text-in-Ok.ensures
     (λ e is. (
-      inl (subst (λ x. RefusesFile x given) (sym is) tt),
-      inr (written_front c.args.question given _ _ _ (g.S.Source.remaining c.next.new.source) c.next.new.self inv.history c.in-Some.entry (string_bytes c.in-Ok.text) _ _
+      inr (inr (subst (FailedAt Output) (sym is) c.in_err-put_text-in-Ok.ensures.err.0)),
+      inr (written_front c.args.question given _ _ _ (g.S.Source.remaining c.next.new.source) c.next.new.self inv.history c.in-Some.entry (string_bytes c.in-Ok.text)
           (read_on given (g.S.Source.remaining c.entries.source) (g.S.Source.remaining c.next.new.source) c.entries.reader c.next.new.self inv.history c.in-Some.entry inv.reads (rw c.in-Some.is at c.in_ok-entry.ensures.ok))
           (subst (λ (q : Question). string_bytes c.in-Ok.text ≡ explained_at q inv.history c.in-Some.entry) inv.question taken.taken.said) inv.written
-          (subst (λ (t : List ℕ). WritesFront (g.O.Write.contents (device_inner c.entries.output)) (g.O.Write.contents (device_inner c.write_all.new.sink)) t c.in_err-write_all-in-Ok.field-0.0.sent (device_failed c.write_all.new.sink)) c.as_bytes.ensures.value c.in_err-write_all-in-Ok.ensures.err)),
+          (subst (λ (t : List ℕ). WritesSome t (g.O.Write.contents (device_inner c.entries.output)) (g.O.Write.contents (device_inner c.put_text.new.output))) c.as_str.ensures.value c.in_err-put_text-in-Ok.ensures.err.1)),
     ))
 
 pub returns-in_err-explainer-clause-err : goal.returns-in_err-explainer-clause-err

@@ -3,7 +3,9 @@ use Rattle.std.proofs.lemmas.Result.{IfErr-weaker, IfOk-weaker}
 use Rattle.octet_devices.specs.Device.{device_inner}
 use Rattle.offline_filter.proofs.Receiving.{err_gives}
 use Rattle.ipmd_offline.specs.declared.fault.ProgramFault.{ProgramFault}
-use Rattle.ipmd_offline.specs.declared.fault.ProgramFault.TheVariants as fault
+use Rattle.ipmd_offline.specs.declared.fault.ProgramFault.TheVariants.{OutOfMemory}
+use Rattle.ipmd_offline.specs.Runs.{IsWriteFault}
+use Rattle.ipmd_offline.proofs.Naming.{not_written}
 use Rattle.ipmd_offline.proofs.Inputs.{ends_over, fails_lines, finishes_lines, whole_lines}
 use Rattle.ipmd_offline.proofs.filtering.filter_to_lines.Goals as goal
 
@@ -22,7 +24,7 @@ pub returns-in_err-write_lines-clause-err : goal.returns-in_err-write_lines-clau
 returns-in_err-write_lines-clause-err g c =
     err_gives c.from_residual.result c.from_residual.ensures
     (λ e is. inr (
-      subst (λ (x : ProgramFault). (x ≡ fault.OutOfMemory) ⊎ (x ≡ fault.Device)) (sym is) c.in_err-write_lines.ensures.err.0,
+      subst (λ (x : ProgramFault). (x ≡ OutOfMemory) ⊎ IsWriteFault x) (sym is) (not_written c.in_err-write_lines.field-0.0 c.in_err-write_lines.ensures.err.0),
       record {
         stream = c.as_slice.result.now;
         ends = ends_over c.args.job.now c.args.octets.now c.as_slice.result.now c.filter_octets-report.result _ _ _ _ (search rules) (search rules) c.filter_octets-report.ensures.ok c.filter_octets-report.ensures.err;

@@ -1,4 +1,6 @@
-use Rattle.std.proofs.Common.{rules, inl, inr}
+use Rattle.std.proofs.Common.{rules, inl, inr, subst, sym}
+use Rattle.ipmd_offline.specs.declared.failure.Place.TheVariants.{Output}
+use Rattle.ipmd_offline.specs.Failures.{FailedAt}
 use Rattle.octet_devices.specs.Device.{device_inner}
 use Rattle.offline_filter.proofs.Receiving.{err_gives}
 use Rattle.ipmd_offline.proofs.Lines.{some_lines, line_begun}
@@ -10,14 +12,14 @@ returns-in_err-line-clause-err g c =
     let now = g.O.Write.contents (device_inner c.messages.output) in
     err_gives c.from_residual.result c.from_residual.ensures (λ e is. (inl is, some_lines held now c.args.messages.now c.messages.message-index c.messages.invariant))
 
-pub returns-in_err-write_all-clause-err : goal.returns-in_err-write_all-clause-err
-returns-in_err-write_all-clause-err g c =
+pub returns-in_err-put_text-clause-err : goal.returns-in_err-put_text-clause-err
+returns-in_err-put_text-clause-err g c =
     let held = g.O.Write.contents (device_inner c.args.output.now) in
     let now = g.O.Write.contents (device_inner c.messages.output) in
-    let after = g.O.Write.contents (device_inner c.write_all.new.sink) in
-    err_gives c.from_residual-in_err-write_all.result c.from_residual-in_err-write_all.ensures
+    let after = g.O.Write.contents (device_inner c.put_text.new.output) in
+    err_gives c.from_residual-in_err-put_text.result c.from_residual-in_err-put_text.ensures
     (λ e is. (
-      inr is,
-      line_begun held now after c.args.messages.now c.messages.message-index c.message-item.result c.as_bytes.result.now _ _
-          (search rules) c.message-item.is (search rules) c.messages.invariant c.in_err-write_all.ensures.err,
+      inr (subst (FailedAt Output) (sym is) c.in_err-put_text.ensures.err.0),
+      line_begun held now after c.args.messages.now c.messages.message-index c.message-item.result c.as_str.result.now
+          (search rules) c.message-item.is (search rules) c.messages.invariant c.in_err-put_text.ensures.err.1,
     ))

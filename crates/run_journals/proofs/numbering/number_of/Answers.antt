@@ -1,4 +1,4 @@
-use Rattle.std.proofs.Common.{true, false, sym, ◌∙◌, true≢false, arith}
+use Rattle.std.proofs.Common.{sym, ◌∙◌, true≢false, arith}
 use Rattle.run_journals.proofs.Names.{longer, begins, dotted}
 use Rattle.run_journals.proofs.numbering.number_of.Goals as goal
 use Rattle.run_journals.proofs.numbering.number_of.Goals.{else-dot-name-via-then-dot-name+then-is_word+else-name-dot-eq46, else-dot-name-via-then-dot-name+else-is_word, else-dot-name-via-else-dot-name}

@@ -1,0 +1,41 @@
+//! The files that a command line names.
+ghost use Rattle.std.specs.Prelude.{IfErr};
+ghost use Rattle.ipmd_offline.specs.Failures.{IsFileFault};
+
+use crate::fault::ProgramFault;
+use std::alloc::Global;
+use std::io::{self, ErrorKind};
+use std::rt::Files;
+use std::{fs, str};
+
+/// The answer of the system to a call on the file at a path.
+///
+/// # Errors
+/// `Device`, of that file, or `OutOfMemory`.
+pub fn of_file<T>(alloc: Global, path: &str, answer: io::Result<T>) -> Result<T, ProgramFault>
+    ensures err { IfErr result (IsFileFault path.now) }
+{
+    match answer {
+        Ok(value) => Ok(value),
+        Err(why) => Err(ProgramFault::at_file(alloc, path, why)),
+    }
+}
+
+/// The text of the file at a path.
+///
+/// # Errors
+/// `Device`, of that file, where it can't be opened or read, or isn't UTF-8; `OutOfMemory`.
+pub fn read_text<R: Files + AllocGlobal>(rt: &R, path: &str) -> Result<String, ProgramFault>
+    ensures err { IfErr result (IsFileFault path.now) }
+{
+    let octets = of_file(rt.alloc(), path, fs::read(rt, path))?;
+    match String::from_utf8(octets) {
+        Ok(text) => Ok(text),
+        Err(error) => {
+            let place = error.utf8_error().valid_up_to();
+            let why = format!(in rt.alloc(); "not UTF-8, octet {place}")?;
+            let why = io::Error::new(ErrorKind::InvalidData, why.as_str());
+            Err(ProgramFault::at_file(rt.alloc(), path, why))
+        }
+    }
+}
