@@ -1,7 +1,15 @@
 """What the words of a command line ask for."""
+import pathlib
+import re
 import unittest
 
 from runs import FLOW, FLOW_REPORT, OFFLINE, OFFLINE_HEX, PASS, Case, ProgramTest, run
+
+TOP = pathlib.Path(__file__).resolve().parent.parent
+
+# The newest version of which CHANGELOG.md tells, and the kit that README.md names.
+VERSION = re.search(r"(?m)^## (\d+\.\d+\.\d+)$", (TOP / "CHANGELOG.md").read_text(encoding="utf-8"))[1]
+KIT = re.search(r"rattle-kit-\w+ logic \w+", (TOP / "README.md").read_text(encoding="utf-8"))[0]
 
 # The greatest numbers that there are, and those that hold where none is given: 0 seconds and 1400 octets, of which
 # `default_target` in test_offline.py shows the second.
@@ -82,7 +90,7 @@ SHOWN = [
         ["serve", "--help"],
         "info for the run and for what\nconnects and ends",
     ),
-    ("--version", ["--version"], "ipmd 0.1.0\n"),
+    ("--version", ["--version"], f"ipmd {VERSION}, proved with {KIT}\n"),
 ]
 
 

@@ -19,8 +19,11 @@ use clap::{Arg, ArgAction, ArgMatches, Command, value_parser};
 use std::alloc::{AllocError, Global};
 use std::convert::AsStr;
 
-/// The version of this program.
-pub const VERSION: &str = "0.1.0";
+/// The version of this program, the newest of CHANGELOG.md.
+pub const VERSION: &str = "0.2.0";
+
+/// The kit with which this version was proved, as `rt version` names it.
+pub const KIT: &str = "rattle-kit-13f logic dac8208d650f15bf";
 
 const OFFLINE: &str = "offline";
 

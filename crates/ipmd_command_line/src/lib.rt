@@ -3,7 +3,7 @@
 //!
 //! - `task`: [`Task`], what is asked for, with [`OfflineOptions`], [`VerifyOptions`],
 //!   [`ExplainOptions`] and [`PolicySource`].
-//! - `command_line`: [`read_command_line`] and [`VERSION`].
+//! - `command_line`: [`read_command_line`], [`VERSION`] and [`KIT`].
 //! - `help`: what the help says below the options.
 //! - `fault`: [`CommandLineFault`].
 //!
@@ -20,6 +20,6 @@ mod fault;
 mod help;
 mod task;
 
-pub use command_line::{VERSION, read_command_line};
+pub use command_line::{KIT, VERSION, read_command_line};
 pub use fault::CommandLineFault;
 pub use task::{ExplainOptions, OfflineOptions, PolicySource, ReplayOptions, Task, VerifyOptions};

@@ -12,7 +12,7 @@ use Rattle.offline_filter.specs.declared.job.OfflineJob.{OfflineJob}
 use Rattle.offline_filter.specs.declared.job.OfflineReport.{OfflineReport}
 use Rattle.offline_filter.specs.declared.job.OfflineFault.{OfflineFault}
 use Rattle.offline_filter.specs.Filtering.{Ports, unfailed, FiltersAll, FailsToFilter}
-use Rattle.ipmd_command_line.specs.declared.command_line.TheConstants.{VERSION}
+use Rattle.ipmd_command_line.specs.declared.command_line.TheConstants.{KIT, VERSION}
 use Rattle.ipmd_command_line.specs.declared.task.OfflineOptions.{OfflineOptions}
 use Rattle.ipmd_command_line.specs.declared.task.PolicySource.{PolicySource}
 use Rattle.ipmd_command_line.specs.declared.task.PolicySource.TheVariants.{File, Text}
@@ -81,7 +81,7 @@ RefusesToCount source Close held holds = ⊥
 
 -- the version's line; the help's text is the parser's, and isn't told here
 abbrev pub IsTextShown : ErrorKind → List ℕ → Type 0
-IsTextShown DisplayVersion text = text ≡ codes "ipmd " ++ VERSION.now ++ 10 ∷ []
+IsTextShown DisplayVersion text = text ≡ codes "ipmd " ++ VERSION.now ++ codes ", proved with " ++ KIT.now ++ 10 ∷ []
 IsTextShown _ text = Unit {0}
 
 -- the help, or the version, was written

@@ -8,7 +8,7 @@ ghost use Rattle.ipmd_offline.specs.Runs.{RefusesToShow, Shows};
 use crate::fault::ProgramFault;
 use crate::output::write_text;
 use clap::error::ErrorKind;
-use ipmd_command_line::VERSION;
+use ipmd_command_line::{KIT, VERSION};
 use octet_devices::Device;
 use std::alloc::Global;
 use std::io::Write;
@@ -27,7 +27,7 @@ pub fn show<O: Write>(
     ensures err { IfErr result (λ e. RefusesToShow (kind_of shown.now) e (O.contents (device_inner output.old)) (O.contents (device_inner output.new))) }
 {
     let text = match shown.kind() {
-        ErrorKind::DisplayVersion => format!(in alloc; "ipmd {VERSION}\n")?,
+        ErrorKind::DisplayVersion => format!(in alloc; "ipmd {VERSION}, proved with {KIT}\n")?,
         _ => format!(in alloc; "{shown}")?,
     };
     write_text(output, text.as_str())
