@@ -112,6 +112,8 @@ class CheckStyle(unittest.TestCase):
                 counts = [f"{one}: 1 ({where} 1)" if one == kind else f"{one}: 0" for one in KINDS]
                 self.assertEqual(self.check(), ([f"{path}:{wanted}", *counts], 1))
                 self.assertEqual(self.check("--count"), (counts, 1))
+                of_kind = [one for one in counts if one.startswith(f"{kind}:")]
+                self.assertEqual(self.check("--count", kind), (of_kind, 1))
 
 
 if __name__ == "__main__":

@@ -24,4 +24,4 @@ pub mod workers;
 
 pub use fault::WorkersFault;
 pub use gate::{Gate, NoGate};
-pub use workers::{Workers, prepare_all};
+pub use workers::{MOST_WORKERS, Workers, prepare_all};

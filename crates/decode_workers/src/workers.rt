@@ -16,7 +16,8 @@ use std::sync::Wait;
 use std::thread;
 use std::thread::{PromisedHandle, Scope, Threads};
 
-const MOST_WORKERS: u64 = 64;
+/// The most workers that there may be.
+pub const MOST_WORKERS: u64 = 64;
 
 /// A thread that prepares a run.
 type Worker = PromisedHandle<Result<Ran, AllocError>, Owed>;

@@ -6,9 +6,9 @@ ghost use Rattle.flow_aggregate.specs.Closed.{key_values, number_values, closed_
 
 use crate::group::{Group, width_of};
 use crate::sums::Sums;
-use crate::values::MILLISECONDS;
 use bytes::Bytes;
 use ipfix_element::ElementId;
+use ipfix_octets::message_format::MILLISECONDS;
 use ipfix_template::{Record, Values};
 use std::alloc::{AllocError, Global};
 

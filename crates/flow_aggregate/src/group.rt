@@ -7,8 +7,9 @@ ghost use Rattle.flow_aggregate.specs.Running.{IsPlaced, is_due};
 
 use crate::definition::Definition;
 use crate::timing::{interval_start, start_of};
-use crate::values::{MILLISECONDS, first_value};
+use crate::values::first_value;
 use ipfix_element::{ElementId, full_width, kind_of};
+use ipfix_octets::message_format::MILLISECONDS;
 use ipfix_template::Record;
 use smallvec::SmallVec;
 use std::alloc::{AllocError, Global};

@@ -2,10 +2,9 @@
 ghost use Rattle.std.specs.Prelude.{◌≡◌, ◌≤◌, ◌*◌, ◌/◌};
 ghost use Rattle.flow_aggregate.specs.Placing.{start_of, has_key, timing_of};
 
-use crate::values::{
-    FLOW_START_MILLISECONDS, FLOW_START_SECONDS, MILLISECONDS, first_number, first_value,
-};
+use crate::values::{FLOW_START_MILLISECONDS, FLOW_START_SECONDS, first_number, first_value};
 use ipfix_element::ElementId;
+use ipfix_octets::message_format::MILLISECONDS;
 use ipfix_template::Record;
 use policy_text::AggregateDef;
 

@@ -20,9 +20,6 @@ pub(crate) const FLOW_START_MILLISECONDS: u16 = 152;
 
 pub(crate) const FLOW_END_MILLISECONDS: u16 = 153;
 
-/// The milliseconds of a second.
-pub(crate) const MILLISECONDS: u64 = 1000;
-
 /// The value of the record's first field of the element.
 pub(crate) fn first_value(flow_record: &Record, element: ElementId) -> Option<&[u8]>
     ensures exact { option_map (λ v. v.now) result ≡ first_value element flow_record.now }

@@ -5,6 +5,7 @@ ghost use Rattle.flow_anonymize.specs.Times.{step_of_time, lowered, degraded_oct
 ghost use Rattle.flow_anonymize.specs.Changes.{changed};
 
 use flow_prefix::keep_bits;
+use ipfix_octets::message_format::MILLISECONDS;
 use ipfix_octets::{be_number, write_be};
 use std::alloc::AllocError;
 
@@ -13,9 +14,6 @@ const SECONDS_OCTETS: usize = 4;
 
 /// The octets of a time in milliseconds (RFC 7011, section 6.1.8).
 const MILLIS_OCTETS: usize = 8;
-
-/// The milliseconds of a second.
-const MILLIS: u64 = 1000;
 
 /// A change of a value, which keeps its length.
 #[derive(Clone, Copy)]
@@ -97,7 +95,7 @@ fn step_of_time(octets: usize, seconds: u32) -> Option<u64>
     let seconds = u64::from(seconds);
     match octets {
         SECONDS_OCTETS => Some(seconds),
-        MILLIS_OCTETS => Some(seconds * MILLIS),
+        MILLIS_OCTETS => Some(seconds * MILLISECONDS),
         _ => None,
     }
 }

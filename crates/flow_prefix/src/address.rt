@@ -3,13 +3,11 @@ ghost use Rattle.flow_prefix.specs.Family.{width};
 ghost use Rattle.flow_prefix.specs.Reading.{address_of, whole_number_of};
 ghost use Rattle.flow_prefix.specs.Parts.{IsCounted};
 
-use crate::family::Family;
+use crate::family::{Family, GROUP_VALUES};
 use crate::parts::{Parts, read_groups, read_parts};
 use crate::scan::cut_at_double;
 
 const GROUPS: usize = 8;
-
-const GROUP_VALUES: u128 = 0x1_0000;
 
 /// The number of an address text of this family.
 pub(crate) fn read_address(family: Family, text: &[u8]) -> Option<u128>

@@ -6,6 +6,9 @@ pub const IPV4_OCTETS: usize = 4;
 /// The octets of an address of IPv6.
 pub const IPV6_OCTETS: usize = 16;
 
+/// How many values a group of an address of IPv6 has, of which its text has eight.
+pub const GROUP_VALUES: u128 = 0x1_0000;
+
 /// The bits of an address of IPv4.
 pub const IPV4_BITS: u32 = 32;
 

@@ -28,7 +28,7 @@ mod prefix;
 mod scan;
 
 pub use bits::{keep_bits, number};
-pub use family::{Family, IPV4_BITS, IPV4_OCTETS, IPV6_BITS, IPV6_OCTETS};
+pub use family::{Family, GROUP_VALUES, IPV4_BITS, IPV4_OCTETS, IPV6_BITS, IPV6_OCTETS};
 pub use fault::PrefixFault;
 pub use laws::{kept_bits_are_truncated, print_then_parse};
 pub use net::{Prefix4, Prefix6};

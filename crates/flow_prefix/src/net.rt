@@ -4,11 +4,9 @@ ghost use Rattle.flow_prefix.specs.Net.{is_inside, IsNet};
 ghost use Rattle.flow_prefix.specs.Printing.{net_text};
 
 use crate::bits::{first_bits, number};
-use crate::family::{Family, IPV4_OCTETS, IPV6_OCTETS};
+use crate::family::{Family, GROUP_VALUES, IPV4_OCTETS, IPV6_OCTETS};
 use std::alloc::{AllocError, Global};
 use std::marker::Model;
-
-const GROUP_VALUES: u128 = 0x1_0000;
 
 /// A prefix of IPv4: an address whose bits past the length, of at most 32, are 0.
 #[derive(Clone, Copy, Debug, PartialEq, Eq)]

@@ -2,6 +2,7 @@
 //! how long these may be, and by what names a policy calls them (RFC 7011, RFC 7012, IANA's registry of
 //! information elements). It reads no octets, and only a name takes memory.
 //!
+//! - [`addresses`]: the numbers of the elements that hold a flow's addresses.
 //! - `element_id`: [`ElementId`], an element's number and enterprise.
 //! - `kind`: [`Kind`], what an element's values are.
 //! - `length`: [`allowed_length`] and [`full_width`], by kind.
@@ -15,6 +16,7 @@
 //! digits and `/`).
 #![tactic(auto)]
 
+pub mod addresses;
 mod element_id;
 mod kind;
 mod length;

@@ -10,7 +10,7 @@ use crate::item::Item;
 use crate::octets::{u16_at, u32_at};
 use ipfix_element::ElementId;
 use ipfix_octets::message_format::{
-    LEAST_TEMPLATE_ID, OPTIONS_TEMPLATE_SET, RECORD_HEADER_OCTETS, TEMPLATE_SET,
+    ENTERPRISE_BIT, LEAST_TEMPLATE_ID, OPTIONS_TEMPLATE_SET, RECORD_HEADER_OCTETS, TEMPLATE_SET,
 };
 use ipfix_template::{FieldSpec, Fields, Refused, Template};
 use std::alloc::Global;
@@ -19,9 +19,6 @@ use std::alloc::Global;
 const SPECIFIER: usize = 4;
 
 const ENTERPRISE_SPECIFIER: usize = 8;
-
-/// The bit of an element number that says: an enterprise number follows (RFC 7011, section 3.2).
-const ENTERPRISE_BIT: u16 = 0x8000;
 
 /// The Field Specifier at the front, and the octets after it.
 #[tactic(auto, unfolding(crate::specs::Reading::field_at))]

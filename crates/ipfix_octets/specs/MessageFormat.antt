@@ -28,10 +28,6 @@ template_set_id = 2
 abbrev pub options_template_set_id : ℕ
 options_template_set_id = 3
 
--- the Field Length that marks values of variable length (section 7)
-abbrev pub variable_length : ℕ
-variable_length = 65535
-
 -- the least ID of a template, and so of a Data Set (sections 3.3.2 and 3.4.1)
 abbrev pub least_template_id : ℕ
 least_template_id = 256

@@ -7,7 +7,8 @@
 //!
 //! - [`number`]: `be_number`, `write_be`, and the width `WIDEST`.
 //! - [`variable`]: `read_varlen`, `write_varlen`, `LONGEST_VALUE`, and the law `one_value`.
-//! - [`message_format`]: version, the longest message, octets of headers, Set IDs and the least template ID; it is constants alone.
+//! - [`message_format`]: version, the longest message, octets of headers, Set IDs, the least template ID and the
+//!   other numbers of the format; it is constants alone.
 //!
 //! Proved: `be_number` and `write_be` are exact (`value`, `ok`). `read_varlen` answers `None` exactly where no length
 //! and value stand at the front; else it finds the one value whose text stands there, in either form of a length

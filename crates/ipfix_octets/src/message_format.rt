@@ -27,3 +27,12 @@ pub const OPTIONS_TEMPLATE_SET: u16 = 3;
 
 /// The least ID of a template, and so of a Data Set (RFC 7011, sections 3.3.2 and 3.4.1).
 pub const LEAST_TEMPLATE_ID: u16 = 256;
+
+/// The bit of an element number that says that an enterprise number follows (RFC 7011, section 3.2).
+pub const ENTERPRISE_BIT: u16 = 0x8000;
+
+/// The length octet that says that the length follows in two octets (RFC 7011, section 7).
+pub const LONG_FORM: u8 = 255;
+
+/// How many milliseconds a second has, which the times of some elements count (RFC 7011, section 6.1.8).
+pub const MILLISECONDS: u64 = 1000;

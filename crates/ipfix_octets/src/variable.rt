@@ -1,14 +1,12 @@
 ghost use Rattle.std.specs.Prelude.{◌≡◌, ◌+◌, ◌-◌, ◌<◌, ◌≤◌, ◌++◌, List, ℕ, length, take, drop, Some, IfSome, OnOk, OnErr, vec_len, vec_capacity};
 ghost use Rattle.ipfix_octets.specs.Variable.{IsVarText, longest_value, shortest_text, varlen_at};
 
+use crate::message_format::LONG_FORM;
 use crate::number::be_number;
 use std::alloc::AllocError;
 
 /// The longest value that a length of two octets can announce.
 pub const LONGEST_VALUE: usize = 65535;
-
-/// The length octet that says: the length follows in two octets.
-const LONG_FORM: u8 = 255;
 
 /// Finds the value of variable length at the front of `octets`: where it starts, and its length
 /// (RFC 7011, section 7). Both forms of a length are read, also where the short one would do.

@@ -3,12 +3,16 @@
 use Rattle.std.specs.Prelude.{◌≡◌, ◌<◌, ◌^◌, ℕ, ◌+◌, Bool, true, false, List, ◌++◌, length, Option, Some, None, IfSome, nat_lt, ◌==◌, ◌||◌, if◌then◌else◌}
 use Rattle.std.specs.List.{sum_by, list_all, flat_map, AllByRecursion}
 use Rattle.ipfix_octets.specs.Octets.{be_octets}
-use Rattle.ipfix_octets.specs.MessageFormat.{variable_length, least_template_id}
+use Rattle.ipfix_octets.specs.MessageFormat.{least_template_id}
 use Rattle.ipfix_element.specs.Kinds.{kind_of, is_allowed_length}
 use Rattle.ipfix_template.specs.declared.field.FieldSpec.{FieldSpec}
 use Rattle.ipfix_template.specs.declared.template.Template.{Template}
 use Rattle.ipfix_template.specs.declared.template.Refused.{Refused}
 use Rattle.ipfix_template.specs.declared.template.Refused.TheVariants.{BadId, BadLength, BadScope, EmptyRecord}
+
+-- the Field Length that marks values of variable length (RFC 7011, section 7)
+abbrev pub variable_length : ℕ
+variable_length = 65535
 
 -- the values bring their own lengths
 abbrev pub is_variable : FieldSpec → Bool

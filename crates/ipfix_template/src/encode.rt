@@ -11,11 +11,9 @@ use crate::data_record::Record;
 use crate::field::FieldSpec;
 use crate::template::Template;
 use bytes::Bytes;
+use ipfix_octets::message_format::ENTERPRISE_BIT;
 pub use parts::{encode_value, encode_values};
 use std::alloc::AllocError;
-
-/// The enterprise bit of a Field Specifier's element number (RFC 7011, section 3.2).
-const ENTERPRISE_BIT: u16 = 0x8000;
 
 /// Appends the template as a record of a Template Set or, where it has scope fields, of an Options
 /// Template Set: ID, Field Count, Scope Field Count for an options template, and the Field Specifiers

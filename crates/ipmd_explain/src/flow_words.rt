@@ -5,32 +5,21 @@ ghost use Rattle.flow_prefix.specs.declared.family.Family.TheVariants.{Ipv4, Ipv
 ghost use Rattle.flow_prefix.specs.Printing.{address_text};
 ghost use Rattle.ipmd_explain.specs.FlowWords.{address_words, end_words, first_value, flow_words, is_address, is_end, is_one_of, is_port};
 
-use flow_prefix::number;
+use flow_prefix::{GROUP_VALUES, IPV4_OCTETS, IPV6_OCTETS, number};
 use ipfix_element::ElementId;
+use ipfix_element::addresses::{
+    DESTINATION_IPV4_ADDRESS, DESTINATION_IPV6_ADDRESS, SOURCE_IPV4_ADDRESS, SOURCE_IPV6_ADDRESS,
+};
 use ipfix_template::{FieldSpec, Record};
 use std::alloc::{AllocError, Global};
 
 // Elements of IANA's registry, by their numbers.
-const SOURCE_IPV4_ADDRESS: u16 = 8;
-
-const SOURCE_IPV6_ADDRESS: u16 = 27;
-
-const DESTINATION_IPV4_ADDRESS: u16 = 12;
-
-const DESTINATION_IPV6_ADDRESS: u16 = 28;
-
 const SOURCE_TRANSPORT_PORT: u16 = 7;
 
 const DESTINATION_TRANSPORT_PORT: u16 = 11;
 
-const IPV4_OCTETS: usize = 4;
-
-const IPV6_OCTETS: usize = 16;
-
 /// The most octets of a port.
 const PORT_OCTETS: usize = 2;
-
-const GROUP_VALUES: u128 = 0x1_0000;
 
 /// Where from and to the flow of a record goes, and `; ` behind it; no text where the record doesn't say it.
 ///

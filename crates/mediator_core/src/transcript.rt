@@ -2,10 +2,12 @@
 ghost use Rattle.std.specs.Prelude.{◌≡◌, ◌++◌, ◌≤◌, ℕ, List, length, IfOk, IfErr};
 ghost use Rattle.mediator_calls.specs.Mediation.{started};
 ghost use Rattle.mediator_calls.specs.Limited.{RefusesLimits};
+ghost use Rattle.mediator_calls.specs.declared.call.Call.TheVariants as asked;
 ghost use Rattle.mediator_core.specs.Runs.{Answers, Runs};
 ghost use Rattle.mediator_core.specs.Headline.{HistoryIsTheCalls, HandedIsDisclosed, HandedIsFront, DrainedIsAudited, IsBuiltFromDisclosed};
 
-use mediator_calls::{Call, Limits, Mediator, Reply, RunFault};
+use bytes::Bytes;
+use mediator_calls::{Call, Limits, Mediator, Reply, RunFault, SessionId, SubId};
 use mediator_state::Fault;
 use std::alloc::Global;
 
@@ -33,10 +35,7 @@ fn answer(mediator: &mut Mediator, call: Call) -> Reply
             session,
             number,
             message,
-        } => match mediator.receive(session, number, message) {
-            Ok(receipt) => Reply::Received(receipt),
-            Err(fault) => Reply::Refused(fault),
-        },
+        } => answer_receive(mediator, session, number, message),
         Call::Edit { text } => match mediator.edit(text.as_str()) {
             Ok(edits) => Reply::Edited(edits),
             Err(fault) => Reply::Refused(fault),
@@ -53,10 +52,7 @@ fn answer(mediator: &mut Mediator, call: Call) -> Reply
             Ok(()) => Reply::Advanced,
             Err(fault) => Reply::Refused(fault),
         },
-        Call::Pull { sub, now, target } => match mediator.pull(sub, now, target) {
-            Ok(answer) => Reply::Pulled(answer),
-            Err(fault) => Reply::Refused(fault),
-        },
+        Call::Pull { sub, now, target } => answer_pull(mediator, sub, now, target),
         Call::Status { sub } => match mediator.status(sub) {
             Ok(status) => Reply::Stands(status),
             Err(_) => Reply::Refused(Fault::UnknownSub),
@@ -65,6 +61,26 @@ fn answer(mediator: &mut Mediator, call: Call) -> Reply
             Ok(entries) => Reply::Drained(entries),
             Err(_) => Reply::Refused(Fault::OutOfMemory),
         },
+    }
+}
+
+/// Receives the message with this `number` of a session, counted from 0.
+fn answer_receive(mediator: &mut Mediator, session: SessionId, number: u64, message: Bytes) -> Reply
+    ensures { Answers mediator.old (asked.Receive session number message) result mediator.new }
+{
+    match mediator.receive(session, number, message) {
+        Ok(receipt) => Reply::Received(receipt),
+        Err(fault) => Reply::Refused(fault),
+    }
+}
+
+/// Pulls a message of at most `target` octets, with the Export Time `now`, for a subscription.
+fn answer_pull(mediator: &mut Mediator, sub: SubId, now: u32, target: u16) -> Reply
+    ensures { Answers mediator.old (asked.Pull sub now target) result mediator.new }
+{
+    match mediator.pull(sub, now, target) {
+        Ok(answer) => Reply::Pulled(answer),
+        Err(fault) => Reply::Refused(fault),
     }
 }
 

@@ -6,16 +6,10 @@ ghost use Rattle.policy_judge.specs.Match.{are_inside};
 
 use flow_prefix::Prefix;
 use ipfix_element::ElementId;
+use ipfix_element::addresses::{
+    DESTINATION_IPV4_ADDRESS, DESTINATION_IPV6_ADDRESS, SOURCE_IPV4_ADDRESS, SOURCE_IPV6_ADDRESS,
+};
 use ipfix_template::{FieldSpec, Record};
-
-// Elements of IANA's registry, by their numbers.
-const SOURCE_IPV4_ADDRESS: u16 = 8;
-
-const DESTINATION_IPV4_ADDRESS: u16 = 12;
-
-const SOURCE_IPV6_ADDRESS: u16 = 27;
-
-const DESTINATION_IPV6_ADDRESS: u16 = 28;
 
 /// Which of a record's addresses.
 #[derive(Clone, Copy)]

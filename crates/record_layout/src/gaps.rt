@@ -3,12 +3,10 @@ ghost use Rattle.std.specs.Prelude.{◌≡◌, ◌≤◌, ◌*◌, length, IfOk,
 ghost use Rattle.ipfix_template.specs.declared.field.TheConstants.{MOST_FIELDS};
 ghost use Rattle.record_layout.specs.Gaps.{first_gap, gaps_behind, walk_at, start_of};
 
+use ipfix_octets::message_format::LONG_FORM;
 use ipfix_octets::read_varlen;
 use ipfix_template::FieldSpec;
 use std::alloc::{AllocError, Global};
-
-/// Values of so many octets and more have their length behind an octet of 255, in two octets.
-const LONG_FROM: usize = 255;
 
 /// The octets of the fields before the first field of variable length.
 pub(crate) fn first_gap(fields: &[FieldSpec]) -> usize
@@ -68,5 +66,9 @@ pub(crate) fn walk(first: usize, gaps: &[usize], octets: &[u8]) -> Option<(usize
 fn shortest_start(length: usize) -> usize
     ensures { result ≡ start_of length }
 {
-    if length < LONG_FROM { 1 } else { 3 }
+    if length < usize::from(LONG_FORM) {
+        1
+    } else {
+        3
+    }
 }

@@ -14,6 +14,7 @@ use crate::settings::Settings;
 use crate::values::{
     collectors_at, flag_or_false, number_at, number_or, number_or_none, text_at, text_or_none,
 };
+use decode_workers::MOST_WORKERS;
 use event_journal::{MOST_ENTRIES, MOST_OCTETS};
 use ipfix_octets::message_format::{HEADER_OCTETS, LONGEST_MESSAGE};
 use mediator_calls::Limits;
@@ -33,9 +34,6 @@ const LEAST_TARGET: u64 = HEADER_OCTETS as u64;
 
 /// The longest target: the longest message (RFC 7011, section 3.1).
 const MOST_TARGET: u64 = LONGEST_MESSAGE as u64;
-
-/// The most threads that read an exporter's messages.
-const MOST_WORKERS: u64 = 64;
 
 /// The most audit entries that may wait.
 const MOST_AUDIT: u64 = disclosure_audit::MOST_ENTRIES as u64;
