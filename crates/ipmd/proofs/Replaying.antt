@@ -5,8 +5,8 @@ use Rattle.std.specs.Borrow.{Bor}
 use Rattle.std.proofs.KnownBytes.{Keeps-refl}
 use Rattle.ipmd_command_line.specs.declared.task.ReplayOptions.{ReplayOptions}
 use Rattle.ipmd_offline.specs.declared.fault.ProgramFault.{ProgramFault}
-use Rattle.ipmd_offline.specs.declared.failure.Place.TheVariants.{Output}
-use Rattle.ipmd_offline.specs.Failures.{FailedAt, FailedAtFile, IsFileFault}
+use Rattle.ipmd_offline.specs.declared.failure.Place.TheVariants.{File, Output}
+use Rattle.ipmd_offline.specs.Failures.{FailedAt, FailedAtFile, IsFileFault, failed_at}
 use Rattle.mediator_calls.specs.declared.fault.RunFault.{RunFault}
 use Rattle.mediator_calls.specs.declared.fault.RunFault.TheVariants.{BadLimits, OutOfMemory}
 use Rattle.mediator_calls.specs.Limited.{RefusesLimits}
@@ -23,13 +23,13 @@ no_run text list OutOfMemory read refused = tt
 -- the file of the calls can't be read
 pub no_calls : (options : ReplayOptions) (e : ProgramFault) (held : Option (List ℕ)) → IsFileFault options.calls.now e → RefusesToReplay options e held held
 no_calls options e held (inl is) = subst (λ x. RefusesToReplay options x held held) (sym is) (([], tt), Keeps-refl held)
-no_calls options e held (inr (text, same, why, is)) = subst (λ x. RefusesToReplay options x held held) (sym is) (inl (inl (text, same, why, refl), Keeps-refl held))
+no_calls options e held (inr (text, same, (why, is))) = subst (λ x. RefusesToReplay options x held held) (sym is) (inl (inl (text, same, (why, refl)), Keeps-refl held))
 
 -- that of the journal can't be kept
 pub no_journal : (options : ReplayOptions) (path : Bor (List ℕ)) (e : ProgramFault) (held : Option (List ℕ)) → options.journal ≡ Some path → IsFileFault path.now e → RefusesToReplay options e held held
 no_journal options path e held asked (inl is) = subst (λ x. RefusesToReplay options x held held) (sym is) (([], tt), Keeps-refl held)
-no_journal options path e held asked (inr (text, same, why, is)) = subst (λ x. RefusesToReplay options x held held) (sym is)
-    (inl (inr (subst (λ journal. IfSome journal (λ p. FailedAtFile p.now _)) (sym asked) (text, same, why, refl)), Keeps-refl held))
+no_journal options path e held asked (inr (text, same, (why, is))) = subst (λ x. RefusesToReplay options x held held) (sym is)
+    (inl (inr (subst (λ journal. IfSome journal (λ p. FailedAtFile p.now (failed_at (File text) why))) (sym asked) (text, same, (why, refl))), Keeps-refl held))
 
 -- the output failed
 pub no_answer : (options : ReplayOptions) (e : ProgramFault) (held holds : Option (List ℕ)) → FailedAt Output e → BeginsToAnswer held holds → RefusesToReplay options e held holds
