@@ -28,6 +28,6 @@ pub mod Plans
 pub mod Texts
 pub mod Output
 pub mod Shelf
-pub use Rattle.record_runs.specs.Runs
-pub use Rattle.record_runs.specs.Pieces
+pub use Rattle.ipfix_records.specs.Runs
+pub use Rattle.ipfix_records.specs.Pieces
 pub mod Steps

@@ -1,6 +1,6 @@
 //! What is given to a subscription.
 
-use record_runs::Records;
+use ipfix_records::Records;
 
 /// What a subscription is given.
 #[derive(Drop)]

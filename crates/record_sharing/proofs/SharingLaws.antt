@@ -8,7 +8,7 @@ use Rattle.std.proofs.lemmas.List.Concat.{flat_map-append, flat_map-cons}
 use Rattle.std.proofs.Math.Seq.{set-append_seam, get_or-append_seam, drop-cons}
 use Rattle.mediator_history.proofs.HistoryLaws.{flat_map-push}
 use Rattle.ipfix_template.specs.DataRecord.{DataRecord, kept_record}
-use Rattle.record_runs.specs.Runs.{RunOf, records_of, records_in}
+use Rattle.ipfix_records.specs.Runs.{RunOf, records_of, records_in}
 use Rattle.flow_aggregate.specs.Counts.{count_of}
 use Rattle.flow_anonymize.specs.declared.decision.Decision.{Decision}
 use Rattle.policy_text.specs.Policies.{Aggregate}

@@ -10,9 +10,9 @@ ghost use Rattle.live_subscriptions.specs.Table.{shown};
 
 use address_classes::{AddressClasses, AddressPlaces, RecentClasses};
 use flow_anonymize::{Decision, Plans, RecordClasses};
+use ipfix_records::Run;
 use ipfix_template::{RecordView, Template};
 use live_subscriptions::{Served, Share};
-use record_runs::Run;
 use rule_table::RuleTable;
 use std::alloc::{AllocError, Global};
 use std::marker::Model;

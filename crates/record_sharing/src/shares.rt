@@ -2,7 +2,7 @@
 ghost use Rattle.std.specs.Prelude.{◌≡◌, ◌++◌, ◌∷◌, ◌≤◌, ◌<◌, ◌+◌, ◌^◌, ℕ, List, [], Some, None, length, map, IfOk, OnOk};
 ghost use Rattle.std.specs.List.{flat_map, enumerate_from};
 ghost use Rattle.ipfix_template.specs.DataRecord.{DataRecord};
-ghost use Rattle.record_runs.specs.Runs.{records_of, records_in};
+ghost use Rattle.ipfix_records.specs.Runs.{records_of, records_in};
 ghost use Rattle.flow_aggregate.specs.Counts.{Count as OneCount, count_of};
 ghost use Rattle.mediator_history.specs.Auditing.{reason_named, removed_of, told_of};
 ghost use Rattle.record_sharing.specs.InForce.{count_by, timing_by, as_list};
@@ -18,9 +18,9 @@ use crate::notes::Notes;
 use disclosure_audit::{Note, RemovedFields, What};
 use flow_aggregate::{Count, Timing};
 use flow_anonymize::Decision;
+use ipfix_records::{Records, Run};
 use ipfix_template::RecordView;
 use live_subscriptions::{Served, Share};
-use record_runs::{Records, Run};
 use running_groups::Tally;
 use std::alloc::{AllocError, Global};
 

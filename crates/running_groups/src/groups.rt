@@ -14,7 +14,7 @@ use crate::tally::{Reserved, Tally};
 use flow_aggregate::{ClosedAggregate, Running};
 use hash_keys::HashKeys;
 use indexmap::IndexMap;
-use record_runs::Records;
+use ipfix_records::Records;
 use std::alloc::{AllocError, Global};
 use std::marker::Model;
 
