@@ -8,7 +8,7 @@
 //! - `disclosures`: of `flow_anonymize`. `times`: of the same, where times are degraded, and of where such records count.
 //! - `audits`: of `disclosure_audit`.
 //! - `sharing`: of `record_sharing`.
-//! - `groups`: of `running_groups`. `second_opinion`: on what they add up to, by a plain list of records.
+//! - `groups`: of the groups of `mediator_tables`. `second_opinion`: on what they add up to, by a plain list of records.
 #![tactic(auto)]
 
 #[cfg(test)]

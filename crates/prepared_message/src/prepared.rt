@@ -17,7 +17,7 @@ use bytes::Bytes;
 use ipfix_message::Header;
 use ipfix_records::Records;
 use ipfix_session::{Contents, Read, Reading, Session};
-use live_subscriptions::Share;
+use mediator_tables::Share;
 use record_sharing::{Judgement, Workspace};
 use std::alloc::{AllocError, Global};
 use std::marker::Model;

@@ -11,7 +11,7 @@ use crate::revision::Revision;
 use flow_aggregate::{Count, Timing, judge_time};
 use ipfix_records::Run;
 use ipfix_template::Record;
-use live_subscriptions::Served;
+use mediator_tables::Served;
 use policy_text::Policy;
 use std::alloc::{AllocError, Global};
 use std::marker::Model;

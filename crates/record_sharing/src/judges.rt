@@ -6,12 +6,12 @@ ghost use Rattle.rule_table.specs.Cuts.{HaveCuts};
 ghost use Rattle.flow_anonymize.specs.Outcome.{passed, decision_of};
 ghost use Rattle.flow_anonymize.specs.Classes.{classes_of};
 ghost use Rattle.flow_anonymize.specs.Plans.{PlansFor, outcome_for};
-ghost use Rattle.live_subscriptions.specs.Table.{shown};
+ghost use Rattle.mediator_tables.specs.SubscriptionTable.{shown};
 
 use flow_anonymize::{Decision, Plans, RecordClasses};
 use ipfix_records::Run;
 use ipfix_template::{RecordView, Template};
-use live_subscriptions::{Served, Share};
+use mediator_tables::{Served, Share};
 use rule_table::{AddressClasses, AddressPlaces, RecentClasses, RuleTable};
 use std::alloc::{AllocError, Global};
 use std::marker::Model;
