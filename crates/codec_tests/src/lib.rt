@@ -5,7 +5,7 @@
 //! - `elements`: of `ipfix_element`.
 //! - `templates`: of `ipfix_template`.
 //! - `messages`: of `ipfix_message`.
-//! - `runs`: of `record_runs`.
+//! - `runs`: of `ipfix_records`.
 //! - `sessions`: of `ipfix_session`.
 //! - `streams`: of `subscriber_stream`.
 //! - `devices`: of `octet_devices`.

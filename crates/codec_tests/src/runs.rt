@@ -1,8 +1,8 @@
 //! What stands in a list of runs of records.
 use crate::records::{Layout, record_of, template_of, values_of};
+use ipfix_records::Records;
 use ipfix_session::Session;
 use ipfix_template::Record;
-use record_runs::Records;
 use std::alloc::Global;
 use std::process::Abort;
 use std::test::Fail;

@@ -1,7 +1,7 @@
 //! Worked cases: what a stream gives of the records that it is given, and what it has room for.
 use crate::records::{Layout, record_of, template_of, values_of};
+use ipfix_records::Records;
 use ipfix_session::Session;
-use record_runs::Records;
 use std::alloc::{AllocError, Global};
 use std::process::Abort;
 use std::test::Fail;

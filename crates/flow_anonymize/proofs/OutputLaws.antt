@@ -8,8 +8,8 @@ use Rattle.ipfix_template.specs.declared.template.Template.{Template}
 use Rattle.ipfix_template.specs.DataRecord.{DataRecord, IsKept, kept_record}
 use Rattle.ipfix_template.specs.Values.{record_text}
 use Rattle.ipfix_template.proofs.TextLaws.{kept_from, kept_is}
-use Rattle.record_runs.specs.Pieces.{pieces, AreEnds}
-use Rattle.record_runs.proofs.PieceLaws.{ends_push, pieces_written}
+use Rattle.ipfix_records.specs.Pieces.{pieces, AreEnds}
+use Rattle.ipfix_records.proofs.PieceLaws.{ends_push, pieces_written}
 use Rattle.flow_anonymize.specs.declared.plan.Plan.{Plan}
 use Rattle.flow_anonymize.specs.declared.plan.Plan.TheVariants.{Pass, Aggregate, Withhold}
 use Rattle.flow_anonymize.specs.Outcome.{passed, passed_text}

@@ -24,9 +24,9 @@ use Rattle.policy_judge.specs.declared.verdict.RecordVerdict.{RecordVerdict}
 use Rattle.policy_judge.specs.declared.verdict.ElementVerdict.{ElementVerdict}
 use Rattle.policy_judge.specs.Verdicts.{record_verdict_of}
 use Rattle.rule_table.specs.OfPolicy.{AreOfPolicy}
-use Rattle.address_classes.specs.Cuts.{HasCuts, HaveCuts, most_cuts}
-use Rattle.address_classes.specs.Classes.{key_of}
-use Rattle.address_classes.proofs.ClassLaws.{same_key}
+use Rattle.rule_table.specs.Cuts.{HasCuts, HaveCuts, most_cuts}
+use Rattle.rule_table.specs.Classes.{key_of}
+use Rattle.rule_table.proofs.ClassLaws.{same_key}
 use Rattle.flow_anonymize.specs.declared.record_classes.RecordClasses.{RecordClasses}
 use Rattle.flow_anonymize.specs.declared.plan.Plan.{Plan}
 use Rattle.flow_anonymize.specs.declared.slot.Slot.{Slot}

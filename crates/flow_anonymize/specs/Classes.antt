@@ -2,7 +2,7 @@
 use Rattle.std.specs.Prelude.{ℕ, List, Option, Some, None}
 use Rattle.ipfix_template.specs.DataRecord.{DataRecord}
 use Rattle.policy_judge.specs.Occurrences.{sources, destinations}
-use Rattle.address_classes.specs.Classes.{key_of}
+use Rattle.rule_table.specs.Classes.{key_of}
 use Rattle.flow_anonymize.specs.declared.record_classes.RecordClasses.{RecordClasses}
 
 abbrev pub both : Option ℕ → Option ℕ → Option RecordClasses

@@ -11,8 +11,8 @@ pub use Rattle.policy_judge.specs.Verdicts
 pub use Rattle.policy_judge.specs.Laws
 pub use Rattle.rule_table.specs.OfPolicy
 pub use Rattle.rule_table.specs.Candidates
-pub use Rattle.address_classes.specs.Cuts
-pub use Rattle.address_classes.specs.Classes as AddressClasses
+pub use Rattle.rule_table.specs.Cuts
+pub use Rattle.rule_table.specs.Classes as AddressClasses
 pub mod Outcome
 pub mod Times
 pub mod Changes
@@ -28,6 +28,6 @@ pub mod Plans
 pub mod Texts
 pub mod Output
 pub mod Shelf
-pub use Rattle.record_runs.specs.Runs
-pub use Rattle.record_runs.specs.Pieces
+pub use Rattle.ipfix_records.specs.Runs
+pub use Rattle.ipfix_records.specs.Pieces
 pub mod Steps

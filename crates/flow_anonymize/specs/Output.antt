@@ -3,7 +3,7 @@ use Rattle.std.specs.Prelude.{◌≡◌, ℕ, List, [], map, length, Option, Som
 use Rattle.std.specs.List.{AllByRecursion}
 use Rattle.ipfix_template.specs.declared.template.Template.{Template}
 use Rattle.ipfix_template.specs.DataRecord.{DataRecord, IsKept, kept_record}
-use Rattle.record_runs.specs.Pieces.{pieces, AreEnds}
+use Rattle.ipfix_records.specs.Pieces.{pieces, AreEnds}
 
 -- the records, and the template of the run that is being written, if one is
 pub record OutputOf : Type 0 where

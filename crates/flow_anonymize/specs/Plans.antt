@@ -4,7 +4,7 @@ use Rattle.std.specs.List.{All}
 use Rattle.ipfix_template.specs.declared.template.Template.{Template}
 use Rattle.ipfix_template.specs.DataRecord.{DataRecord, IsSound}
 use Rattle.policy_text.specs.declared.rule.Rule.{Rule}
-use Rattle.address_classes.specs.Cuts.{HaveCuts, most_cuts}
+use Rattle.rule_table.specs.Cuts.{HaveCuts, most_cuts}
 use Rattle.flow_anonymize.specs.declared.record_classes.RecordClasses.{RecordClasses}
 use Rattle.flow_anonymize.specs.declared.slot.Slot.{Slot}
 use Rattle.flow_anonymize.specs.Outcome.{Outcome}

@@ -7,8 +7,8 @@ ghost use Rattle.flow_anonymize.specs.Planning.{shown_template};
 
 use crate::plan::Plan;
 use bytes::Bytes;
+use ipfix_records::{Records, Run};
 use ipfix_template::{Record, RecordView, Template};
-use record_runs::{Records, Run};
 use std::alloc::{AllocError, Global};
 use std::marker::Model;
 use std::mem;
@@ -42,7 +42,7 @@ impl Model for Output {
     ghost use Rattle.std.specs.Prelude.{◌++◌};
     ghost use Rattle.std.specs.Option.{option_map};
     ghost use Rattle.std.specs.Arc.{arc_value};
-    ghost use Rattle.record_runs.specs.Pieces.{pieces};
+    ghost use Rattle.ipfix_records.specs.Pieces.{pieces};
     ghost use Rattle.flow_anonymize.specs.Output.{OutputOf, open_records, IsOutput};
 
     ghost Value = { OutputOf };

@@ -1,7 +1,7 @@
 //! Plans that are kept for records that come again.
 ghost use Rattle.std.specs.Prelude.{◌≡◌, ◌++◌, [], Some, None, true, IfOk, OnOk, OnErr};
 ghost use Rattle.std.specs.Arc.{arc_value};
-ghost use Rattle.address_classes.specs.Cuts.{HaveCuts};
+ghost use Rattle.rule_table.specs.Cuts.{HaveCuts};
 ghost use Rattle.flow_anonymize.specs.Outcome.{passed, decision_of};
 ghost use Rattle.flow_anonymize.specs.Classes.{classes_of};
 ghost use Rattle.flow_anonymize.specs.Plans.{outcome_for, IsSlot};
@@ -12,10 +12,9 @@ use crate::disclosure::Disclosure;
 use crate::record_classes::RecordClasses;
 use crate::shelf::Shelf;
 use crate::slot::Slot;
-use address_classes::AddressClasses;
+use ipfix_records::Records;
 use ipfix_template::{Record, RecordView, Template};
-use record_runs::Records;
-use rule_table::RuleTable;
+use rule_table::{AddressClasses, RuleTable};
 use std::alloc::{AllocError, Global};
 use std::marker::Model;
 use std::sync::Arc;

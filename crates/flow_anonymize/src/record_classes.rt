@@ -2,8 +2,8 @@
 ghost use Rattle.std.specs.Prelude.{◌≡◌};
 ghost use Rattle.flow_anonymize.specs.Classes.{classes_of};
 
-use address_classes::{AddressPlaces, RecentClasses};
 use ipfix_template::RecordView;
+use rule_table::{AddressPlaces, RecentClasses};
 
 /// The classes of a record's addresses, as one key for its sources and one for its destinations.
 #[derive(Clone, Copy, Debug)]

@@ -10,8 +10,8 @@ use crate::output::Output;
 use crate::plan::Plan;
 use crate::record_classes::RecordClasses;
 use crate::slot::{Slot, is_for};
+use ipfix_records::Records;
 use ipfix_template::{Record, RecordView};
-use record_runs::Records;
 use std::alloc::{AllocError, Global};
 use std::marker::Model;
 

@@ -8,8 +8,8 @@ use Rattle.std.proofs.lemmas.List.{map-append, take_more, take-map, take_all, ni
 use Rattle.std.proofs.lemmas.Option.{slice_get-map, slice_get-get_or}
 use Rattle.sequences.proofs.ListLaws.{AllByRecursion-append}
 use Rattle.ipfix_template.specs.DataRecord.{DataRecord}
-use Rattle.live_subscriptions.specs.Table.{shown}
-use Rattle.live_subscriptions.specs.declared.share.Share.{Share}
+use Rattle.mediator_tables.specs.SubscriptionTable.{shown}
+use Rattle.mediator_tables.specs.declared.share.Share.{Share}
 use Rattle.history_verify.specs.Sharing.{IsFirstEmptyShare}
 
 abbrev pub HasSome : ℕ × List DataRecord → Type 0

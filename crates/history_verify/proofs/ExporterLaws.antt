@@ -11,8 +11,8 @@ use Rattle.event_journal.specs.declared.entry.Entry.{Entry}
 use Rattle.event_journal.specs.declared.entry.Entry.TheVariants.{Open, Close, Message}
 use Rattle.mediator_history.specs.Sessions.{opens, is_open, opened_in, sessions_opened, message_in, messages_of}
 use Rattle.mediator_history.proofs.EntryLaws.{messages_same, messages-any}
-use Rattle.open_sessions.specs.declared.open_session.OpenSession.{OpenSession}
-use Rattle.open_sessions.specs.Table.{IsFresh, KeepsOn, Seen, seen}
+use Rattle.mediator_tables.specs.declared.open_session.OpenSession.{OpenSession}
+use Rattle.mediator_tables.specs.SessionTable.{IsFresh, KeepsOn, Seen, seen}
 use Rattle.history_verify.specs.declared.exporters.Exporters.{Exporters}
 use Rattle.history_verify.specs.Parts.{IsSession, IsUnopened, AreExporters, SameExporters}
 use Rattle.history_verify.proofs.Stays.{last_stays, count_stays, count_more}

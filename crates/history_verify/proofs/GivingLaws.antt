@@ -21,8 +21,8 @@ use Rattle.mediator_history.specs.Disclosed.{given_at, disclosed}
 use Rattle.mediator_history.proofs.HistoryLaws.{disclosed-push}
 use Rattle.mediator_history.proofs.EntryLaws.{served_same, given_same}
 use Rattle.mediator_history.proofs.CountingLaws.{counted_same, counted_unserved, running_unserved}
-use Rattle.live_subscriptions.specs.Table.{given_to, shown}
-use Rattle.live_subscriptions.specs.declared.share.Share.{Share}
+use Rattle.mediator_tables.specs.SubscriptionTable.{given_to, shown}
+use Rattle.mediator_tables.specs.declared.share.Share.{Share}
 use Rattle.history_verify.specs.declared.count.Count.{Count}
 use Rattle.history_verify.specs.declared.subscribers.Subscribers.{Subscribers}
 use Rattle.history_verify.specs.Counts.{count_in}

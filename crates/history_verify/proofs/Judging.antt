@@ -36,10 +36,10 @@ use Rattle.mediator_history.proofs.ListFilters.{distinct_filter}
 use Rattle.mediator_history.proofs.EntryLaws.{all_served, is_in-served}
 use Rattle.mediator_history.proofs.CutLaws.{policy-cuts, name-cuts, messages-cuts, is_served-cuts, given-served, given-unserved}
 use Rattle.mediator_history.proofs.CountingLaws.{clock-cuts, counted-served, counted_unserved}
-use Rattle.live_subscriptions.specs.declared.served.Served.{Served}
-use Rattle.live_subscriptions.specs.Table.{told, shown, given_to}
+use Rattle.mediator_tables.specs.declared.served.Served.{Served}
+use Rattle.mediator_tables.specs.SubscriptionTable.{told, shown, given_to}
 use Rattle.record_sharing.specs.InForce.{InForce, in_force_with}
-use Rattle.running_groups.specs.Adding.{tallied}
+use Rattle.mediator_tables.specs.Adding.{tallied}
 use Rattle.disclosure_audit.specs.declared.entry.Note.{Note}
 use Rattle.record_sharing.specs.Noting.{Kept, kept_of}
 use Rattle.record_sharing.specs.Sharing.{share_of, given_by, added_by, kept_by, shares_of, tallies_of, note_of, noted, noted_of_each, notes_of}
@@ -47,7 +47,7 @@ use Rattle.history_verify.specs.declared.judged.Judged.{Judged}
 use Rattle.history_verify.specs.declared.replay.Replay.{Replay}
 use Rattle.history_verify.specs.declared.subscribers.Subscribers.{Subscribers}
 use Rattle.history_verify.specs.Parts.{AreSubscribers}
-use Rattle.running_groups.specs.Adding.{AreApart, added_to}
+use Rattle.mediator_tables.specs.Adding.{AreApart, added_to}
 use Rattle.history_verify.specs.Sharing.{IsJudged, IsFirstEmptyShare}
 use Rattle.history_verify.specs.Standing.{MayCutAll, StandsOver, Stands, IsReadOf, IsFirstOr}
 use Rattle.history_verify.proofs.KeyLaws.{numbers_apart}

@@ -27,7 +27,7 @@ use Rattle.mediator_history.proofs.CountingLaws.{running-open, running-close, ru
 use Rattle.mediator_history.proofs.EntryLaws.{given_same, audit_same}
 use Rattle.record_sharing.specs.InForce.{InForce, in_force_with}
 use Rattle.flow_aggregate.specs.Running.{StandsFor as StandsForRecords}
-use Rattle.running_groups.specs.Table.{groups_at}
+use Rattle.mediator_tables.specs.GroupTable.{groups_at}
 use Rattle.history_verify.specs.declared.exporters.Exporters.{Exporters}
 use Rattle.history_verify.specs.declared.subscribers.Subscribers.{Subscribers}
 use Rattle.history_verify.specs.declared.sums.Sums.{Sums}

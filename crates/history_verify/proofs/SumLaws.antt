@@ -15,10 +15,10 @@ use Rattle.flow_aggregate.specs.Counts.{Count}
 use Rattle.flow_aggregate.specs.Additions.{AreReady}
 use Rattle.flow_aggregate.specs.Closing.{closed_by}
 use Rattle.flow_aggregate.specs.Running.{Held, Entries, nothing_held, StandsFor as StandsForRecords, staying}
-use Rattle.running_groups.specs.Table.{held_at, groups_at}
-use Rattle.running_groups.specs.Adding.{AllReady, added_to}
-use Rattle.running_groups.proofs.TableLaws.{held_none, none_closed}
-use Rattle.live_subscriptions.specs.Table.{given_to}
+use Rattle.mediator_tables.specs.GroupTable.{held_at, groups_at}
+use Rattle.mediator_tables.specs.Adding.{AllReady, added_to}
+use Rattle.mediator_tables.proofs.GroupTableLaws.{held_none, none_closed}
+use Rattle.mediator_tables.specs.SubscriptionTable.{given_to}
 use Rattle.history_verify.specs.declared.sums.Sums.{Sums}
 use Rattle.history_verify.specs.Parts.{AreSums, IsWithout}
 

@@ -8,7 +8,7 @@ use Rattle.std.proofs.lemmas.List.{length_push, length-map}
 use Rattle.ipfix_template.specs.DataRecord.{DataRecord}
 use Rattle.ipfix_session.specs.Keeping.{at_key}
 use Rattle.ipfix_session.specs.ReadAhead.{Ahead, HasRoomFor}
-use Rattle.open_sessions.specs.declared.open_session.OpenSession.{OpenSession}
+use Rattle.mediator_tables.specs.declared.open_session.OpenSession.{OpenSession}
 use Rattle.policy_text.specs.Policies.{nothing as no_policy}
 use Rattle.flow_aggregate.specs.Groups.{Counted, Group, group_of}
 use Rattle.flow_aggregate.specs.GroupOrder.{group_cmp}
@@ -16,8 +16,8 @@ use Rattle.flow_aggregate.specs.Closing.{put_by, put_group, groups_of, closed_of
 use Rattle.flow_aggregate.specs.Counts.{Count, count_of}
 use Rattle.flow_aggregate.specs.declared.addition.Addition.{Addition}
 use Rattle.flow_aggregate.specs.Running.{Held, Entries, StandsFor as StandsForRecords, is_due, staying}
-use Rattle.running_groups.specs.declared.tally.Tally.{Tally}
-use Rattle.running_groups.specs.Adding.{tallied, AllReady, AreApart, added_to}
+use Rattle.mediator_tables.specs.declared.tally.Tally.{Tally}
+use Rattle.mediator_tables.specs.Adding.{tallied, AllReady, AreApart, added_to}
 use Rattle.event_journal.specs.declared.limits.TheConstants.{MOST_ENTRIES}
 use Rattle.event_journal.specs.declared.entry.Entry.{Entry}
 use Rattle.event_journal.specs.declared.entry.Entry.TheVariants.{Message, Advance}
@@ -33,7 +33,7 @@ use Rattle.mediator_history.proofs.HistoryLaws.{disclosed-push, audit-push}
 use Rattle.mediator_history.proofs.EntryLaws.{messages_few, audit_same}
 use Rattle.mediator_history.proofs.CutLaws.{is_served-cuts}
 use Rattle.mediator_history.proofs.CountingLaws.{clock-push, counted_unserved, running_unserved, running-cuts, running-message, running-advance}
-use Rattle.live_subscriptions.specs.Table.{given_to, shown}
+use Rattle.mediator_tables.specs.SubscriptionTable.{given_to, shown}
 use Rattle.history_verify.specs.Legal.{IsAccepted}
 use Rattle.record_sharing.specs.InForce.{in_force_with}
 use Rattle.history_verify.specs.declared.judged.Judged.{Judged}

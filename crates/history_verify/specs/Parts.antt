@@ -16,10 +16,10 @@ use Rattle.mediator_history.specs.Sessions.{is_open, messages_of, sessions_opene
 use Rattle.mediator_history.specs.Subscriptions.{name_of, is_live, is_served, subscribed_in, subscriptions_begun, served}
 use Rattle.mediator_history.specs.Counting.{counted, running}
 use Rattle.mediator_history.specs.Disclosed.{disclosed}
-use Rattle.live_subscriptions.specs.Table.{given_to}
-use Rattle.open_sessions.specs.declared.open_session.OpenSession.{OpenSession}
-use Rattle.open_sessions.specs.Table.{seen}
-use Rattle.running_groups.specs.Table.{held_at, groups_at}
+use Rattle.mediator_tables.specs.SubscriptionTable.{given_to}
+use Rattle.mediator_tables.specs.declared.open_session.OpenSession.{OpenSession}
+use Rattle.mediator_tables.specs.SessionTable.{seen}
+use Rattle.mediator_tables.specs.GroupTable.{held_at, groups_at}
 use Rattle.history_verify.specs.declared.count.Count.{Count}
 use Rattle.history_verify.specs.declared.exporters.Exporters.{Exporters}
 use Rattle.history_verify.specs.declared.subscribers.Subscribers.{Subscribers}

@@ -7,8 +7,8 @@ use Rattle.event_journal.specs.declared.entry.Entry.{Entry}
 use Rattle.mediator_history.specs.Counting.{counted_at}
 use Rattle.mediator_history.specs.Disclosed.{given_at}
 use Rattle.mediator_history.specs.Auditing.{audit_at}
-use Rattle.live_subscriptions.specs.Table.{given_to, shown}
-use Rattle.running_groups.specs.Adding.{tallied, AreApart, added_to}
+use Rattle.mediator_tables.specs.SubscriptionTable.{given_to, shown}
+use Rattle.mediator_tables.specs.Adding.{tallied, AreApart, added_to}
 use Rattle.history_verify.specs.declared.judged.Judged.{Judged}
 
 -- shares give each subscription what the entry gives it behind a history

@@ -7,7 +7,7 @@ ghost use Rattle.event_journal.specs.declared.entry.Entry.TheVariants.{Open, Clo
 ghost use Rattle.mediator_history.specs.Sessions.{is_open, messages_of, sessions_opened};
 
 use ipfix_session::Reading;
-use open_sessions::{OpenSession, Sessions};
+use mediator_tables::{OpenSession, Sessions};
 use std::alloc::{AllocError, Global};
 
 /// The open sessions, and how many were opened. Contracts say by `AreExporters` of which histories.

@@ -1,13 +1,12 @@
 //! What an entry would do, found out before anything is changed.
 ghost use Rattle.std.specs.Prelude.{◌≡◌, ℕ, List, map, Option, None, IfOk, IfSome, IfNone};
 ghost use Rattle.ipfix_template.specs.DataRecord.{DataRecord};
-ghost use Rattle.live_subscriptions.specs.Table.{shown};
+ghost use Rattle.mediator_tables.specs.SubscriptionTable.{shown};
 ghost use Rattle.disclosure_audit.specs.Queue.{stamp};
 ghost use Rattle.history_verify.specs.Sharing.{IsFirstEmptyShare};
 
 use disclosure_audit::{AuditEntry, Note};
-use live_subscriptions::Share;
-use running_groups::Tally;
+use mediator_tables::{Share, Tally};
 use std::alloc::{AllocError, Global};
 
 /// What a message gives, counts and keeps back.

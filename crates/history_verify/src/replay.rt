@@ -267,8 +267,8 @@ ghost use Rattle.history_verify.specs.Answers.{IsVerified};
 impl Replay {
     ghost use Rattle.mediator_history.specs.Disclosed.{given_at};
     ghost use Rattle.ipfix_session.specs.ReadAhead.{IsReadingOf};
-    ghost use Rattle.live_subscriptions.specs.Table.{shown};
-    ghost use Rattle.running_groups.specs.Adding.{tallied};
+    ghost use Rattle.mediator_tables.specs.SubscriptionTable.{shown};
+    ghost use Rattle.mediator_tables.specs.Adding.{tallied};
     ghost use Rattle.std.specs.List.{AllByRecursion};
     ghost use Rattle.history_verify.specs.Standing.{StandsOver, IsReadOf, IsFirstOr};
     ghost use Rattle.history_verify.specs.Sharing.{IsJudged};

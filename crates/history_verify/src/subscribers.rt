@@ -3,12 +3,12 @@ ghost use Rattle.std.specs.Prelude.{◌≡◌, ◌≢◌, ◌∷◌, ◌++◌, �
 ghost use Rattle.event_journal.specs.declared.entry.Entry.{Entry};
 ghost use Rattle.event_journal.specs.declared.entry.Entry.TheVariants.{Subscribe, Unsubscribe, Cut};
 ghost use Rattle.mediator_history.specs.Subscriptions.{is_live, is_served, name_of, subscribed_in, subscriptions_begun, served};
-ghost use Rattle.live_subscriptions.specs.Table.{told, shown, given_to};
+ghost use Rattle.mediator_tables.specs.SubscriptionTable.{told, shown, given_to};
 ghost use Rattle.policy_text.specs.Naming.{is_name};
 ghost use Rattle.history_verify.specs.Counts.{counts_of};
 
 use crate::count::Count;
-use live_subscriptions::{Served, Share};
+use mediator_tables::{Served, Share};
 use policy_text::Name;
 use std::alloc::{AllocError, Global};
 use std::collections::{BTreeMap, BTreeSet};

@@ -5,14 +5,13 @@ ghost use Rattle.flow_aggregate.specs.declared.addition.Addition.{Addition};
 ghost use Rattle.flow_aggregate.specs.Counts.{Count, count_of};
 ghost use Rattle.flow_aggregate.specs.Closing.{closed_by};
 ghost use Rattle.flow_aggregate.specs.Running.{staying};
-ghost use Rattle.running_groups.specs.Adding.{tallied, reserved_for, AllReady, AreApart, AreCountable, added_to};
+ghost use Rattle.mediator_tables.specs.Adding.{tallied, reserved_for, AllReady, AreApart, AreCountable, added_to};
 ghost use Rattle.event_journal.specs.declared.entry.Entry.{Entry};
 ghost use Rattle.mediator_history.specs.Counting.{running};
 ghost use Rattle.mediator_history.specs.Numbers.{is_in};
-ghost use Rattle.live_subscriptions.specs.Table.{shown, given_to};
+ghost use Rattle.mediator_tables.specs.SubscriptionTable.{shown, given_to};
 
-use live_subscriptions::Share;
-use running_groups::{Reserved, RunningGroups, Tally};
+use mediator_tables::{Reserved, RunningGroups, Share, Tally};
 use std::alloc::{AllocError, Global};
 
 /// The running groups. Contracts say by `AreSums` of which histories.

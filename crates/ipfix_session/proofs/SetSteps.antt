@@ -13,10 +13,10 @@ use Rattle.ipfix_template.specs.declared.spans.Extent.TheVariants as extent
 use Rattle.ipfix_template.specs.Shown.{Measures, IsMeasuredBy}
 use Rattle.ipfix_template.specs.DataRecord.{DataRecord, IsSound, IsKept, kept_record}
 use Rattle.ipfix_template.proofs.TextLaws.{kept_is, kept_from}
-use Rattle.record_runs.specs.Pieces.{pieces, AreEnds}
-use Rattle.record_runs.specs.Runs.{RunOf, records_of}
-use Rattle.record_runs.proofs.PieceLaws.{length_pieces, ends_push, pieces_push, pieces_written, pieces_longer, place_within, place_shows, next_end}
-use Rattle.record_runs.proofs.RunLaws.{all_at}
+use Rattle.ipfix_records.specs.Pieces.{pieces, AreEnds}
+use Rattle.ipfix_records.specs.Runs.{RunOf, records_of}
+use Rattle.ipfix_records.proofs.PieceLaws.{length_pieces, ends_push, pieces_push, pieces_written, pieces_longer, place_within, place_shows, next_end}
+use Rattle.ipfix_records.proofs.RunLaws.{all_at}
 use Rattle.ipfix_session.specs.declared.read_error.ReadError.{ReadError}
 use Rattle.ipfix_session.specs.declared.data_set.RecordEnds.{RecordEnds}
 use Rattle.ipfix_session.specs.Contents.{record_of}

@@ -9,7 +9,7 @@ pub use Rattle.ipfix_message.specs.Template
 pub use Rattle.ipfix_message.specs.Values
 pub use Rattle.ipfix_message.specs.DataRecord
 pub use Rattle.ipfix_message.specs.Records
-pub use Rattle.record_runs.specs.Runs
+pub use Rattle.ipfix_records.specs.Runs
 pub use Rattle.ipfix_message.specs.Reading
 pub mod InForce
 pub mod LastDefinition

@@ -1,7 +1,7 @@
 //! What the Data Sets of a message hold.
 
 use crate::read::Skips;
-use record_runs::Records;
+use ipfix_records::Records;
 
 /// What a message holds, when it is read elsewhere than in its session.
 #[derive(Drop)]

@@ -2,16 +2,15 @@
 ghost use Rattle.std.specs.Prelude.{◌≡◌, true, map, IfOk};
 ghost use Rattle.std.specs.Arc.{arc_value};
 ghost use Rattle.ipfix_template.specs.DataRecord.{FitsOneMessage, kept_record};
-ghost use Rattle.record_runs.specs.Pieces.{pieces};
-ghost use Rattle.record_runs.specs.Runs.{records_of};
+ghost use Rattle.ipfix_records.specs.Pieces.{pieces};
+ghost use Rattle.ipfix_records.specs.Runs.{records_of};
 ghost use Rattle.ipfix_session.specs.Keeping.{IsKeepable};
 ghost use Rattle.ipfix_session.specs.DataSets.{AddsRecords, AreFound, FindsEnds};
 
 use crate::read_error::ReadError;
 use bytes::Bytes;
+use ipfix_records::{Layout, Records, Run};
 use ipfix_template::{Extent, Record, Template};
-use record_layout::Layout;
-use record_runs::{Records, Run};
 use std::alloc::{AllocError, Global};
 use std::sync::Arc;
 

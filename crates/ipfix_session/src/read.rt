@@ -1,7 +1,7 @@
 //! What a message of a session brings.
 
 use ipfix_message::Header;
-use record_runs::Records;
+use ipfix_records::Records;
 
 /// What a session's message means after the messages before it.
 #[derive(Drop)]

@@ -4,7 +4,7 @@ ghost use Rattle.std.specs.Prelude.{◌≡◌};
 use crate::changes::Changes;
 use crate::read::{Gap, Read, Skips};
 use ipfix_message::Header;
-use record_runs::Records;
+use ipfix_records::Records;
 use std::marker::Model;
 
 /// What a session's message means after the messages before it, and what it changes of the session. Contracts say by

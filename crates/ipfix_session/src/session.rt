@@ -26,8 +26,8 @@ use crate::templates::Templates;
 use crate::walk::walk_items;
 use bytes::Bytes;
 use ipfix_message::{Header, Item, items, read_header};
+use ipfix_records::Records;
 use ipfix_template::Template;
-use record_runs::Records;
 use std::alloc::{AllocError, Global};
 use std::marker::Model;
 

@@ -15,7 +15,7 @@ use crate::read_error::ReadError;
 use crate::table::Table;
 use bytes::Bytes;
 use ipfix_message::Item;
-use record_runs::Records;
+use ipfix_records::Records;
 use std::alloc::{AllocError, Global};
 
 /// What was read of a message so far.

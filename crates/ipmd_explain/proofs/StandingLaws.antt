@@ -26,8 +26,8 @@ use Rattle.mediator_history.specs.Subscriptions.{edited, policy_in_force, named,
 use Rattle.mediator_history.specs.Accepted.{accepted_as, accepted_at, records_at, records_meant}
 use Rattle.mediator_history.specs.Counting.{clock_in, clock_of}
 use Rattle.mediator_history.proofs.EntryLaws.{messages_few}
-use Rattle.open_sessions.specs.declared.open_session.OpenSession.{OpenSession}
-use Rattle.open_sessions.specs.Table.{Seen, seen}
+use Rattle.mediator_tables.specs.declared.open_session.OpenSession.{OpenSession}
+use Rattle.mediator_tables.specs.SessionTable.{Seen, seen}
 use Rattle.record_sharing.proofs.SharingLaws.{enumerate-append}
 use Rattle.history_verify.specs.declared.exporters.Exporters.{Exporters}
 use Rattle.history_verify.proofs.ExporterLaws.{exporters_stay}

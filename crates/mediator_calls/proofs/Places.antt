@@ -19,8 +19,8 @@ use Rattle.mediator_history.proofs.LastLaws.{all_of}
 use Rattle.mediator_history.proofs.SinceLaws.{live-found}
 use Rattle.mediator_history.proofs.EntryLaws.{all_served, served_is_live}
 use Rattle.mediator_history.proofs.ListFilters.{filter_alike, is_in-filter, is_in-append}
-use Rattle.live_subscriptions.specs.declared.subscription.Subscription.{Subscription}
-use Rattle.live_subscriptions.specs.Table.{at}
+use Rattle.mediator_tables.specs.declared.subscription.Subscription.{Subscription}
+use Rattle.mediator_tables.specs.SubscriptionTable.{at}
 use Rattle.mediator_state.specs.declared.engine.Engine.{Engine}
 use Rattle.mediator_state.specs.declared.state.State.{State}
 use Rattle.mediator_state.specs.Standing.{place, IsLiveAs, Stands}

@@ -1,7 +1,7 @@
 //! Waiting for room in the queues.
 
 use crate::control::Patience;
-use live_subscriptions::Share;
+use mediator_tables::Share;
 use shared_mediator::{EntryLedger, RecordLedger, SharedMediator};
 use std::sync::Wait;
 

@@ -30,18 +30,18 @@ use Rattle.flow_aggregate.specs.declared.addition.Addition.{Addition}
 use Rattle.flow_aggregate.specs.Counts.{Count, count_of}
 use Rattle.flow_aggregate.specs.Additions.{AreReady}
 use Rattle.flow_aggregate.specs.Running.{Held, nothing_held}
-use Rattle.running_groups.specs.Table.{held_at}
-use Rattle.live_subscriptions.specs.Table.{shown}
-use Rattle.running_groups.specs.Adding.{tallied}
-use Rattle.open_sessions.specs.declared.open_session.OpenSession.{OpenSession}
-use Rattle.live_subscriptions.specs.declared.subscription.Subscription.{Subscription}
-use Rattle.live_subscriptions.specs.Table.{at, cut_off, HasSpare, IsReady, AreReadyAmong}
+use Rattle.mediator_tables.specs.GroupTable.{held_at}
+use Rattle.mediator_tables.specs.SubscriptionTable.{shown}
+use Rattle.mediator_tables.specs.Adding.{tallied}
+use Rattle.mediator_tables.specs.declared.open_session.OpenSession.{OpenSession}
+use Rattle.mediator_tables.specs.declared.subscription.Subscription.{Subscription}
+use Rattle.mediator_tables.specs.SubscriptionTable.{at, cut_off, HasSpare, IsReady, AreReadyAmong}
 use Rattle.mediator_state.specs.declared.engine.Engine.{Engine}
 use Rattle.mediator_state.specs.declared.closing.Closing.{Closing}
 use Rattle.mediator_state.specs.declared.plan.Plan.{Plan}
 use Rattle.mediator_state.specs.Standing.{Stands, place, IsSession, IsLiveAs, AreInRange}
 use Rattle.mediator_state.specs.Steps.{CutsInARow, HasAuditRoom}
-use Rattle.running_groups.specs.Adding.{AllReady, AreApart}
+use Rattle.mediator_tables.specs.Adding.{AllReady, AreApart}
 use Rattle.record_sharing.specs.Noting.{Kept}
 use Rattle.mediator_state.specs.Planning.{share_at, AreTallied, HasRoomIn, IsJudged, IsPlan}
 use Rattle.mediator_state.specs.Accepting.{HasRoomForPlan, IsPlannedFor, IsReadyToTake, IsMessage}

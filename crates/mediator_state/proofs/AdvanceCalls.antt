@@ -10,7 +10,7 @@ use Rattle.mediator_history.specs.Auditing.{audit_list, cut_entries}
 use Rattle.mediator_history.specs.Cuts.{cuts_before, after_cuts}
 use Rattle.mediator_history.proofs.CutLaws.{audit-cuts}
 use Rattle.mediator_history.proofs.EntryLaws.{audit_same}
-use Rattle.live_subscriptions.specs.Table.{shown}
+use Rattle.mediator_tables.specs.SubscriptionTable.{shown}
 use Rattle.mediator_state.specs.declared.engine.Engine.{Engine}
 use Rattle.mediator_state.specs.declared.closing.Closing.{Closing}
 use Rattle.mediator_state.specs.declared.fault.Fault.{Fault}

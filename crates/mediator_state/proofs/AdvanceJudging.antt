@@ -19,11 +19,11 @@ use Rattle.mediator_history.specs.Cuts.{is_cut_by, after_cuts}
 use Rattle.mediator_history.proofs.ListFilters.{filter_alike}
 use Rattle.mediator_history.proofs.CutLaws.{is_served-cuts, served-cuts}
 use Rattle.mediator_history.proofs.CountingLaws.{given_at-cuts}
-use Rattle.live_subscriptions.specs.declared.served.Served.{Served}
-use Rattle.live_subscriptions.specs.declared.share.Share.{Share}
-use Rattle.live_subscriptions.specs.Table.{shown}
-use Rattle.running_groups.specs.Table.{groups_at}
-use Rattle.live_subscriptions.specs.Table.{Table, told, told_in, lacks_room_at}
+use Rattle.mediator_tables.specs.declared.served.Served.{Served}
+use Rattle.mediator_tables.specs.declared.share.Share.{Share}
+use Rattle.mediator_tables.specs.SubscriptionTable.{shown}
+use Rattle.mediator_tables.specs.GroupTable.{groups_at}
+use Rattle.mediator_tables.specs.SubscriptionTable.{Table, told, told_in, lacks_room_at}
 use Rattle.mediator_state.specs.declared.engine.Engine.{Engine}
 use Rattle.mediator_state.specs.Standing.{Stands}
 use Rattle.mediator_state.specs.Seen.{waiting_of}

@@ -23,11 +23,11 @@ use Rattle.mediator_history.specs.Auditing.{audit_list}
 use Rattle.mediator_history.proofs.HistoryLaws.{disclosed-push}
 use Rattle.mediator_history.proofs.EntryLaws.{served_same, messages_same, audit_same}
 use Rattle.mediator_history.proofs.CountingLaws.{counted_same, running_unserved, running-advance}
-use Rattle.open_sessions.specs.declared.open_session.OpenSession.{OpenSession}
-use Rattle.live_subscriptions.specs.declared.subscription.Subscription.{Subscription}
-use Rattle.live_subscriptions.specs.Table.{at, Related, TakesGiven, given_to}
+use Rattle.mediator_tables.specs.declared.open_session.OpenSession.{OpenSession}
+use Rattle.mediator_tables.specs.declared.subscription.Subscription.{Subscription}
+use Rattle.mediator_tables.specs.SubscriptionTable.{at, Related, TakesGiven, given_to}
 use Rattle.record_sharing.specs.InForce.{InForce, in_force_with}
-use Rattle.running_groups.specs.Table.{groups_at}
+use Rattle.mediator_tables.specs.GroupTable.{groups_at}
 use Rattle.mediator_state.specs.declared.engine.Engine.{Engine}
 use Rattle.mediator_state.specs.Ascending.{Ascend}
 use Rattle.mediator_state.specs.Standing.{Stands, place, IsSession, IsLiveAs, AreNumbered, AreInRange}

@@ -11,9 +11,9 @@ use Rattle.mediator_history.specs.Cuts.{after_cuts}
 use Rattle.mediator_history.proofs.ListFilters.{is_in-append}
 use Rattle.mediator_history.proofs.CutLaws.{after_cuts-push, length-cuts}
 use Rattle.flow_aggregate.specs.Running.{Held, nothing_held}
-use Rattle.running_groups.specs.Table.{held_at}
-use Rattle.live_subscriptions.specs.declared.subscription.Subscription.{Subscription}
-use Rattle.live_subscriptions.specs.Table.{at, cut_off}
+use Rattle.mediator_tables.specs.GroupTable.{held_at}
+use Rattle.mediator_tables.specs.declared.subscription.Subscription.{Subscription}
+use Rattle.mediator_tables.specs.SubscriptionTable.{at, cut_off}
 use Rattle.mediator_state.specs.declared.engine.Engine.{Engine}
 use Rattle.mediator_state.specs.Standing.{Stands}
 use Rattle.mediator_state.specs.Steps.{HasAuditRoom, KeepsRest, IsCutOnce, CutsInARow}

@@ -26,11 +26,11 @@ use Rattle.mediator_history.specs.Auditing.{audit_at, audit_list, audit_entry}
 use Rattle.mediator_history.proofs.HistoryLaws.{flat_map-push, audit-push}
 use Rattle.mediator_history.proofs.CountingLaws.{counted_same, running-cut, running_cut}
 use Rattle.mediator_history.proofs.EntryLaws.{served-cut, messages_same, given_same}
-use Rattle.open_sessions.specs.declared.open_session.OpenSession.{OpenSession}
-use Rattle.live_subscriptions.specs.declared.subscription.Subscription.{Subscription}
-use Rattle.live_subscriptions.specs.Table.{at, cut_off}
+use Rattle.mediator_tables.specs.declared.open_session.OpenSession.{OpenSession}
+use Rattle.mediator_tables.specs.declared.subscription.Subscription.{Subscription}
+use Rattle.mediator_tables.specs.SubscriptionTable.{at, cut_off}
 use Rattle.record_sharing.specs.InForce.{InForce}
-use Rattle.running_groups.specs.Table.{groups_at}
+use Rattle.mediator_tables.specs.GroupTable.{groups_at}
 use Rattle.mediator_state.specs.declared.engine.Engine.{Engine}
 use Rattle.mediator_state.specs.Ascending.{Ascend}
 use Rattle.mediator_state.specs.Standing.{Stands, place, IsSession, IsLiveAs, IsUnopened, IsUnbegun, AreNumbered, IsSmall, AreInRange}

@@ -29,13 +29,13 @@ use Rattle.mediator_history.proofs.HistoryLaws.{flat_map-push}
 use Rattle.mediator_history.proofs.ListFilters.{distinct_push}
 use Rattle.mediator_history.proofs.CountingLaws.{counted_same, running_unserved, running-open, running-close, running-edit, running-subscribe, running_begun, running-unsubscribe, running_ended}
 use Rattle.mediator_history.proofs.EntryLaws.{edits_few, opened_few, subscribed_few, served_same, served-subscribe, served-unsubscribe, messages_same, given_same, audit_same}
-use Rattle.open_sessions.specs.declared.open_session.OpenSession.{OpenSession}
-use Rattle.open_sessions.specs.Table.{IsFresh}
-use Rattle.live_subscriptions.specs.declared.subscription.Subscription.{Subscription}
-use Rattle.live_subscriptions.specs.Table.{Table, at}
+use Rattle.mediator_tables.specs.declared.open_session.OpenSession.{OpenSession}
+use Rattle.mediator_tables.specs.SessionTable.{IsFresh}
+use Rattle.mediator_tables.specs.declared.subscription.Subscription.{Subscription}
+use Rattle.mediator_tables.specs.SubscriptionTable.{Table, at}
 use Rattle.flow_aggregate.specs.Running.{Entries, StandsFor as StandsForRecords}
 use Rattle.record_sharing.specs.InForce.{InForce, in_force_with}
-use Rattle.running_groups.specs.Table.{groups_at}
+use Rattle.mediator_tables.specs.GroupTable.{groups_at}
 use Rattle.mediator_state.specs.declared.engine.Engine.{Engine}
 use Rattle.mediator_state.proofs.GroupLaws.{clock_stays, clock_kept, none_stand, groups_kept, groups_ended}
 use Rattle.mediator_state.specs.Ascending.{Ascend}

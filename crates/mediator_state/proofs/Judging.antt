@@ -48,17 +48,17 @@ use Rattle.mediator_history.proofs.EntryLaws.{all_served, is_in-served, served_i
 use Rattle.mediator_history.proofs.Counts.{few_records}
 use Rattle.mediator_history.proofs.CutLaws.{length-cuts, policy-cuts, name-cuts, messages-cuts, is_served-cuts, served-cuts, given-served, given-cuts}
 use Rattle.mediator_history.proofs.CountingLaws.{clock-cuts, counted-served}
-use Rattle.live_subscriptions.specs.declared.served.Served.{Served}
-use Rattle.live_subscriptions.specs.declared.share.Share.{Share}
-use Rattle.running_groups.specs.declared.tally.Tally.{Tally}
+use Rattle.mediator_tables.specs.declared.served.Served.{Served}
+use Rattle.mediator_tables.specs.declared.share.Share.{Share}
+use Rattle.mediator_tables.specs.declared.tally.Tally.{Tally}
 use Rattle.record_sharing.specs.InForce.{InForce, in_force_with}
-use Rattle.live_subscriptions.specs.Table.{shown}
-use Rattle.running_groups.specs.Adding.{tallied}
+use Rattle.mediator_tables.specs.SubscriptionTable.{shown}
+use Rattle.mediator_tables.specs.Adding.{tallied}
 use Rattle.record_sharing.specs.Noting.{Kept as KeptNotes, kept_of}
 use Rattle.record_sharing.specs.Sharing.{given_by, added_by, kept_by, share_of, shares_of, tallies_of, note_of, noted, noted_of_each, notes_of}
-use Rattle.open_sessions.specs.declared.open_session.OpenSession.{OpenSession}
-use Rattle.live_subscriptions.specs.declared.subscription.Subscription.{Subscription}
-use Rattle.live_subscriptions.specs.Table.{Table, at, told, told_in, lacks_room, lacks_room_at}
+use Rattle.mediator_tables.specs.declared.open_session.OpenSession.{OpenSession}
+use Rattle.mediator_tables.specs.declared.subscription.Subscription.{Subscription}
+use Rattle.mediator_tables.specs.SubscriptionTable.{Table, at, told, told_in, lacks_room, lacks_room_at}
 use Rattle.mediator_state.specs.declared.engine.Engine.{Engine}
 use Rattle.mediator_state.specs.declared.plan.Judged.{Judged}
 use Rattle.mediator_state.specs.declared.plan.Plan.{Plan}

@@ -30,20 +30,20 @@ use Rattle.mediator_history.proofs.ListFilters.{distinct_filter}
 use Rattle.mediator_history.proofs.EntryLaws.{served_same, messages-any, is_in-served}
 use Rattle.mediator_history.proofs.CutLaws.{given-unserved}
 use Rattle.mediator_history.proofs.CountingLaws.{counted_same, counted_unserved, running-message}
-use Rattle.open_sessions.specs.declared.open_session.OpenSession.{OpenSession}
-use Rattle.open_sessions.specs.Table.{KeepsOn}
-use Rattle.live_subscriptions.specs.declared.subscription.Subscription.{Subscription}
-use Rattle.live_subscriptions.specs.Table.{at, Related, TakesGiven, given_to}
+use Rattle.mediator_tables.specs.declared.open_session.OpenSession.{OpenSession}
+use Rattle.mediator_tables.specs.SessionTable.{KeepsOn}
+use Rattle.mediator_tables.specs.declared.subscription.Subscription.{Subscription}
+use Rattle.mediator_tables.specs.SubscriptionTable.{at, Related, TakesGiven, given_to}
 use Rattle.flow_aggregate.specs.Counts.{Count, count_of}
 use Rattle.flow_aggregate.specs.Groups.{Counted}
 use Rattle.flow_aggregate.specs.Running.{StandsFor as StandsForRecords}
 use Rattle.record_sharing.specs.InForce.{InForce}
-use Rattle.running_groups.specs.Table.{groups_at}
+use Rattle.mediator_tables.specs.GroupTable.{groups_at}
 use Rattle.mediator_state.specs.declared.engine.Engine.{Engine}
 use Rattle.mediator_state.specs.Ascending.{Ascend}
 use Rattle.mediator_state.specs.Standing.{Stands, place, IsSession, IsLiveAs, AreNumbered, IsSmall, AreInRange}
 use Rattle.mediator_state.specs.Seen.{place_in, place_of}
-use Rattle.running_groups.specs.Adding.{added_to}
+use Rattle.mediator_tables.specs.Adding.{added_to}
 use Rattle.mediator_state.specs.Planning.{share_at, tally_at, HasRoomIn, AreStreamed}
 use Rattle.mediator_state.proofs.GroupLaws.{clock_kept}
 use Rattle.mediator_state.specs.Accepting.{IsMessage}

@@ -8,8 +8,8 @@ use Rattle.subscriber_stream.specs.Message.{built, place_after}
 use Rattle.event_journal.specs.declared.entry.Entry.{Entry}
 use Rattle.mediator_history.specs.Subscriptions.{is_live}
 use Rattle.mediator_history.specs.Disclosed.{disclosed}
-use Rattle.live_subscriptions.specs.declared.subscription.Subscription.{Subscription}
-use Rattle.live_subscriptions.specs.Table.{Table, at, SameTable, Related, PullsOne}
+use Rattle.mediator_tables.specs.declared.subscription.Subscription.{Subscription}
+use Rattle.mediator_tables.specs.SubscriptionTable.{Table, at, SameTable, Related, PullsOne}
 use Rattle.mediator_state.specs.declared.engine.Engine.{Engine}
 use Rattle.mediator_state.specs.declared.state.State.{State}
 use Rattle.mediator_state.specs.Standing.{place, IsLiveAs, Stands}

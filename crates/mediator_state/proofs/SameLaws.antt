@@ -20,10 +20,10 @@ use Rattle.mediator_history.specs.Disclosed.{disclosed, given_at}
 use Rattle.mediator_history.specs.Auditing.{audit_list}
 use Rattle.mediator_history.specs.Cuts.{overflows, is_cut_by}
 use Rattle.mediator_history.proofs.ListFilters.{filter_ext}
-use Rattle.open_sessions.specs.declared.open_session.OpenSession.{OpenSession}
-use Rattle.open_sessions.specs.Table.{Seen as SeenSession, seen as session_seen}
-use Rattle.live_subscriptions.specs.declared.subscription.Subscription.{Subscription}
-use Rattle.live_subscriptions.specs.Table.{Seen, seen, at}
+use Rattle.mediator_tables.specs.declared.open_session.OpenSession.{OpenSession}
+use Rattle.mediator_tables.specs.SessionTable.{Seen as SeenSession, seen as session_seen}
+use Rattle.mediator_tables.specs.declared.subscription.Subscription.{Subscription}
+use Rattle.mediator_tables.specs.SubscriptionTable.{Seen, seen, at}
 use Rattle.record_sharing.specs.InForce.{InForce}
 use Rattle.flow_aggregate.specs.Running.{Entries, StandsFor as StandsForRecords}
 use Rattle.mediator_state.specs.declared.engine.Engine.{Engine}

@@ -16,16 +16,16 @@ use Rattle.mediator_history.specs.Subscriptions.{served}
 use Rattle.mediator_history.specs.Auditing.{audit_at}
 use Rattle.flow_aggregate.specs.declared.addition.Addition.{Addition}
 use Rattle.flow_aggregate.specs.Counts.{Count}
-use Rattle.live_subscriptions.specs.Table.{shown}
-use Rattle.running_groups.specs.Adding.{tallied}
-use Rattle.live_subscriptions.specs.Table.{HasSpare, AreReady}
+use Rattle.mediator_tables.specs.SubscriptionTable.{shown}
+use Rattle.mediator_tables.specs.Adding.{tallied}
+use Rattle.mediator_tables.specs.SubscriptionTable.{HasSpare, AreReady}
 use Rattle.mediator_state.specs.declared.engine.Engine.{Engine}
 use Rattle.mediator_state.specs.declared.fault.Fault.{Fault}
 use Rattle.mediator_state.specs.declared.fault.Fault.TheVariants as fault
 use Rattle.mediator_state.specs.declared.plan.Plan.{Plan}
 use Rattle.mediator_state.specs.declared.receipt.Receipt.{Receipt}
 use Rattle.mediator_state.specs.Standing.{Stands}
-use Rattle.running_groups.specs.Adding.{AllReady, AreApart, AreCountable}
+use Rattle.mediator_tables.specs.Adding.{AllReady, AreApart, AreCountable}
 use Rattle.mediator_state.specs.Planning.{share_at, AreTallied, HasRoomIn, AreStreamed, IsPlan}
 
 -- the audit has no room for so many entries, and this is its room; or it has, and memory ran out

@@ -7,8 +7,8 @@ use Rattle.event_journal.specs.declared.entry.Entry.{Entry}
 use Rattle.event_journal.specs.declared.entry.Entry.TheVariants.{Advance}
 use Rattle.mediator_history.specs.Subscriptions.{served}
 use Rattle.mediator_history.specs.Disclosed.{given_at}
-use Rattle.live_subscriptions.specs.Table.{shown}
-use Rattle.live_subscriptions.specs.Table.{Table, lacks_room_at, HasSpare, AreReady}
+use Rattle.mediator_tables.specs.SubscriptionTable.{shown}
+use Rattle.mediator_tables.specs.SubscriptionTable.{Table, lacks_room_at, HasSpare, AreReady}
 use Rattle.mediator_state.specs.declared.engine.Engine.{Engine}
 use Rattle.mediator_state.specs.declared.closing.Closing.{Closing}
 use Rattle.mediator_state.specs.Standing.{Stands}

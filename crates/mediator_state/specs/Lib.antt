@@ -1,7 +1,7 @@
 pub use Rattle.event_journal.specs.Sizes
 pub use Rattle.event_journal.specs.Room
 pub use Rattle.subscriber_stream.specs.Message
-pub use Rattle.running_groups.specs.Table as GroupTable
+pub use Rattle.mediator_tables.specs.GroupTable
 pub use Rattle.prepared_message.specs.Preparation
 pub use Rattle.mediator_history.specs.Sessions
 pub use Rattle.mediator_history.specs.Subscriptions

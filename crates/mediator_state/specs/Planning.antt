@@ -19,14 +19,14 @@ use Rattle.mediator_history.specs.Counting.{counted_at}
 use Rattle.mediator_history.specs.Disclosed.{given_at}
 use Rattle.mediator_history.specs.Auditing.{audit_at}
 use Rattle.mediator_history.specs.Cuts.{is_cut_by, after_cuts}
-use Rattle.live_subscriptions.specs.declared.served.Served.{Served}
+use Rattle.mediator_tables.specs.declared.served.Served.{Served}
 use Rattle.record_sharing.specs.InForce.{InForce}
-use Rattle.live_subscriptions.specs.Table.{shown}
-use Rattle.running_groups.specs.Adding.{tallied}
+use Rattle.mediator_tables.specs.SubscriptionTable.{shown}
+use Rattle.mediator_tables.specs.Adding.{tallied}
 use Rattle.record_sharing.specs.Sharing.{share_of}
 use Rattle.record_sharing.specs.Noting.{kept_of}
-use Rattle.open_sessions.specs.declared.open_session.OpenSession.{OpenSession}
-use Rattle.live_subscriptions.specs.Table.{Table, at, lacks_room_at}
+use Rattle.mediator_tables.specs.declared.open_session.OpenSession.{OpenSession}
+use Rattle.mediator_tables.specs.SubscriptionTable.{Table, at, lacks_room_at}
 use Rattle.prepared_message.specs.Preparation.{Preparation, AgreesWith}
 use Rattle.mediator_state.specs.declared.engine.Engine.{Engine}
 use Rattle.mediator_state.specs.declared.fault.Fault.{Fault}

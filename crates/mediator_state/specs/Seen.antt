@@ -3,10 +3,10 @@ use Rattle.std.specs.Prelude.{◌≡◌, ℕ, Option, Some, None}
 use Rattle.std.specs.Option.{option_map}
 use Rattle.ipfix_session.specs.Keeping.{at_key}
 use Rattle.subscriber_stream.specs.Standing.{queued}
-use Rattle.running_groups.specs.Table.{groups_at}
-use Rattle.open_sessions.specs.Table.{seen}
-use Rattle.live_subscriptions.specs.declared.subscription.Subscription.{Subscription}
-use Rattle.live_subscriptions.specs.Table.{at, SameTable}
+use Rattle.mediator_tables.specs.GroupTable.{groups_at}
+use Rattle.mediator_tables.specs.SessionTable.{seen}
+use Rattle.mediator_tables.specs.declared.subscription.Subscription.{Subscription}
+use Rattle.mediator_tables.specs.SubscriptionTable.{at, SameTable}
 use Rattle.mediator_state.specs.declared.engine.Engine.{Engine}
 use Rattle.mediator_state.specs.Standing.{place}
 

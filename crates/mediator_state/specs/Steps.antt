@@ -5,8 +5,8 @@ use Rattle.std.specs.Map.{keys_of}
 use Rattle.disclosure_audit.specs.Queue.{Kept}
 use Rattle.mediator_history.specs.Numbers.{is_in}
 use Rattle.flow_aggregate.specs.Running.{nothing_held}
-use Rattle.running_groups.specs.Table.{held_at}
-use Rattle.live_subscriptions.specs.Table.{at, cut_off}
+use Rattle.mediator_tables.specs.GroupTable.{held_at}
+use Rattle.mediator_tables.specs.SubscriptionTable.{at, cut_off}
 use Rattle.mediator_state.specs.declared.engine.Engine.{Engine}
 
 -- the audit has room for so many entries, in memory too

@@ -2,11 +2,11 @@
 ghost use Rattle.std.specs.Prelude.{◌≡◌, ℕ, List, [], map, IfOk};
 ghost use Rattle.event_journal.specs.declared.entry.Entry.{Entry};
 ghost use Rattle.event_journal.specs.declared.entry.Entry.TheVariants.{Advance};
-ghost use Rattle.live_subscriptions.specs.Table.{shown};
+ghost use Rattle.mediator_tables.specs.SubscriptionTable.{shown};
 
 use crate::engine::Engine;
 use crate::plan::see_shares;
-use live_subscriptions::{Served, Share};
+use mediator_tables::{Served, Share};
 use std::alloc::{AllocError, Global};
 
 /// What an advance of the clock would do.
@@ -19,7 +19,7 @@ pub(crate) struct Closing {
 }
 
 impl Engine {
-    ghost use Rattle.live_subscriptions.specs.Table.{told};
+    ghost use Rattle.mediator_tables.specs.SubscriptionTable.{told};
     ghost use Rattle.mediator_state.specs.Standing.{Stands};
     ghost use Rattle.mediator_state.specs.Planning.{IsJudged};
     ghost use Rattle.mediator_state.specs.Advancing.{closing_share, AreParted};

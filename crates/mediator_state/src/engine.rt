@@ -20,12 +20,10 @@ use crate::receipt::Receipt;
 use disclosure_audit::{Audit, AuditEntry, Note, What};
 use hash_keys::HashKeys;
 use ipfix_session::Reading;
-use live_subscriptions::{Share, Subscriptions};
-use open_sessions::Sessions;
+use mediator_tables::{Reserved, RunningGroups, Sessions, Share, Subscriptions};
 use policy_text::Policy;
 use prepared_message::Snapshot;
 use record_sharing::{InForce, Terms};
-use running_groups::{Reserved, RunningGroups};
 use std::alloc::{AllocError, Global};
 use std::sync::Arc;
 use subscriber_stream::{Limits, Stream};
@@ -76,7 +74,7 @@ impl Drop for Engine {
 }
 
 impl Engine {
-    ghost use Rattle.live_subscriptions.specs.Table.{at};
+    ghost use Rattle.mediator_tables.specs.SubscriptionTable.{at};
     ghost use Rattle.mediator_state.specs.Standing.{Stands, StandsSomewhere, HasHistory, AreInRange};
     ghost use Rattle.mediator_state.specs.Seen.{IsSameEngine, IsUntouched, place_of};
     ghost use Rattle.mediator_state.specs.Calls.{IsSnapshot, RefusesSnapshot};
@@ -270,7 +268,7 @@ impl Engine {
 impl Engine {
     ghost use Rattle.mediator_state.specs.Standing.{Stands};
     ghost use Rattle.mediator_state.specs.Seen.{place_of};
-    ghost use Rattle.live_subscriptions.specs.Table.{cut_off};
+    ghost use Rattle.mediator_tables.specs.SubscriptionTable.{cut_off};
     ghost use Rattle.std.specs.Prelude.{filter, if◌then◌else◌, ◌==◌};
     ghost use Rattle.std.specs.Option.{option_map};
     ghost use Rattle.mediator_state.specs.Steps.{IsCutOnce, HasAuditRoom, CutsInARow};
@@ -321,10 +319,10 @@ impl Engine {
     ghost use Rattle.mediator_state.specs.Seen.{IsSameEngine, IsUntouched};
     ghost use Rattle.ipfix_session.specs.Keeping.{at_key};
     ghost use Rattle.ipfix_session.specs.ReadAhead.{HasRoomFor};
-    ghost use Rattle.live_subscriptions.specs.Table.{HasSpare};
-    ghost use Rattle.live_subscriptions.specs.Table.{shown};
+    ghost use Rattle.mediator_tables.specs.SubscriptionTable.{HasSpare};
+    ghost use Rattle.mediator_tables.specs.SubscriptionTable.{shown};
     ghost use Rattle.flow_aggregate.specs.Counts.{Count};
-    ghost use Rattle.running_groups.specs.Adding.{reserved_for, AllReady, AreApart};
+    ghost use Rattle.mediator_tables.specs.Adding.{reserved_for, AllReady, AreApart};
     ghost use Rattle.mediator_state.specs.Planning.{IsPlan};
     ghost use Rattle.mediator_state.specs.Accepting.{HasRoomForPlan, HasAuditFor, IsPlannedFor, LacksAudit, IsReadyToTake, IsMessage, receipt_of};
     ghost use Rattle.std.specs.Prelude.{map, IfErr};
@@ -420,7 +418,7 @@ impl Engine {
     ghost use Rattle.std.specs.Prelude.{map, IfErr};
     ghost use Rattle.mediator_state.specs.Standing.{Stands};
     ghost use Rattle.mediator_state.specs.Seen.{IsSameEngine, IsUntouched};
-    ghost use Rattle.live_subscriptions.specs.Table.{shown};
+    ghost use Rattle.mediator_tables.specs.SubscriptionTable.{shown};
     ghost use Rattle.event_journal.specs.declared.entry.Entry.TheVariants.{Advance};
     ghost use Rattle.mediator_history.specs.Counting.{clock_of};
     ghost use Rattle.mediator_state.specs.Planning.{IsJudged};

@@ -6,8 +6,8 @@ ghost use Rattle.record_sharing.specs.InForce.{InForce as Force};
 ghost use Rattle.ipfix_template.specs.DataRecord.{DataRecord};
 ghost use Rattle.event_journal.specs.declared.limits.TheConstants.{MOST_ENTRIES};
 ghost use Rattle.event_journal.specs.declared.entry.Entry.{Entry};
-ghost use Rattle.live_subscriptions.specs.Table.{shown};
-ghost use Rattle.running_groups.specs.Adding.{tallied};
+ghost use Rattle.mediator_tables.specs.SubscriptionTable.{shown};
+ghost use Rattle.mediator_tables.specs.Adding.{tallied};
 ghost use Rattle.record_sharing.specs.Sharing.{shares_of, tallies_of, notes_of};
 ghost use Rattle.record_sharing.specs.Noting.{kept_of};
 ghost use Rattle.record_sharing.specs.Judgements.{IsJudgementOf};
@@ -17,13 +17,11 @@ ghost use Rattle.mediator_state.specs.Planning.{AreStreamed};
 use crate::engine::Engine;
 use crate::fault::Fault;
 use bytes::Bytes;
+use ipfix_records::Records;
 use ipfix_session::Reading;
-use live_subscriptions::{Served, Share, Subscriptions};
-use open_sessions::OpenSession;
+use mediator_tables::{OpenSession, Served, Share, Subscriptions, Tally};
 use prepared_message::Prepared;
-use record_runs::Records;
 use record_sharing::{InForce, Judgement, Notes, Shares};
-use running_groups::Tally;
 use std::alloc::{AllocError, Global};
 use stream_meaning::see_records;
 
@@ -177,7 +175,7 @@ struct Split<'a> {
     left: Vec<Served<'a>>,
 }
 
-ghost use Rattle.live_subscriptions.specs.Table.{told, lacks_room_at};
+ghost use Rattle.mediator_tables.specs.SubscriptionTable.{told, lacks_room_at};
 ghost use Rattle.mediator_state.specs.Planning.{lacks, has};
 
 /// What the records give to all that are served, with so many notes at most: what was judged elsewhere, where its terms still hold.

@@ -17,7 +17,7 @@ use disclosure_audit::AuditEntry;
 use event_journal::{Chronicle, Entry, PolicyText};
 use hash_keys::HashKeys;
 use ipfix_session::Reading;
-use live_subscriptions::Share;
+use mediator_tables::Share;
 use policy_text::{FaultKind, Name, Policy, PolicyFault, is_name};
 use prepared_message::{JudgedAhead, Prepared, Snapshot};
 use record_sharing::Judgement;

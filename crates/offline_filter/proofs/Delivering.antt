@@ -17,8 +17,8 @@ use Rattle.octet_devices.specs.Written.{WritesFront}
 use Rattle.subscriber_stream.specs.declared.limits.Limits.{Limits}
 use Rattle.mediator_history.specs.Subscriptions.{is_live}
 use Rattle.mediator_history.proofs.EntryLaws.{served_is_live}
-use Rattle.live_subscriptions.specs.declared.subscription.Subscription.{Subscription}
-use Rattle.live_subscriptions.specs.Table as table
+use Rattle.mediator_tables.specs.declared.subscription.Subscription.{Subscription}
+use Rattle.mediator_tables.specs.SubscriptionTable as table
 use Rattle.mediator_state.specs.Standing.{IsLiveAs}
 use Rattle.mediator_state.specs.Seen.{place_in, place_of}
 use Rattle.mediator_state.specs.Calls as calls

@@ -10,8 +10,8 @@ use Rattle.event_journal.specs.Counted.{Counted}
 use Rattle.event_journal.specs.Room.{HasRoomAfter}
 use Rattle.event_journal.specs.Spelled.{IsSpelled}
 use Rattle.mediator_history.proofs.HistoryLaws.{octets-push}
-use Rattle.live_subscriptions.specs.declared.subscription.Subscription.{Subscription}
-use Rattle.live_subscriptions.specs.Table.{at}
+use Rattle.mediator_tables.specs.declared.subscription.Subscription.{Subscription}
+use Rattle.mediator_tables.specs.SubscriptionTable.{at}
 use Rattle.mediator_state.specs.declared.state.State.{State}
 use Rattle.mediator_state.specs.declared.fault.Fault.{Fault}
 use Rattle.mediator_state.specs.declared.fault.Fault.TheVariants as fault

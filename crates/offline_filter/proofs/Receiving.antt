@@ -32,8 +32,8 @@ use Rattle.mediator_history.proofs.HistoryLaws.{flat_map-push, is_served-message
 use Rattle.mediator_history.proofs.SinceLaws.{cut_is_served_no_more}
 use Rattle.mediator_history.proofs.Counts.{few_records}
 use Rattle.mediator_history.proofs.EntryLaws.{served_is_live, messages-any}
-use Rattle.live_subscriptions.specs.declared.subscription.Subscription.{Subscription}
-use Rattle.live_subscriptions.specs.Table.{at}
+use Rattle.mediator_tables.specs.declared.subscription.Subscription.{Subscription}
+use Rattle.mediator_tables.specs.SubscriptionTable.{at}
 use Rattle.mediator_state.specs.declared.fault.Fault.{Fault}
 use Rattle.mediator_state.specs.declared.fault.Fault.TheVariants as fault
 use Rattle.mediator_state.specs.declared.receipt.Receipt.{Receipt}

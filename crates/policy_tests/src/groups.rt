@@ -1,9 +1,8 @@
 //! Many groups, which one advance of the clock closes; and many messages that are refused, which leave none.
 use ipfix_session::Session;
-use live_subscriptions::Served;
+use mediator_tables::{RunningGroups, Served, Tally};
 use policy_text::Policy;
 use record_sharing::{InForce, Shares};
-use running_groups::{RunningGroups, Tally};
 use std::alloc::{AllocError, Global};
 use std::process::Abort;
 use std::slice::from_ref;

@@ -4,11 +4,11 @@
 //! - `records`: records of fields, for the others.
 //! - `prefixes`: of `flow_prefix`.
 //! - `policies`: of `policy_text`.
-//! - `tables`: of `rule_table` and `address_classes`, by worked rows. `random`: of `rule_table`, against the walk over all rules.
+//! - `tables`: of `rule_table`, by worked rows. `random`: of its table, against the walk over all rules.
 //! - `disclosures`: of `flow_anonymize`. `times`: of the same, where times are degraded, and of where such records count.
 //! - `audits`: of `disclosure_audit`.
 //! - `sharing`: of `record_sharing`.
-//! - `groups`: of `running_groups`. `second_opinion`: on what they add up to, by a plain list of records.
+//! - `groups`: of the groups of `mediator_tables`. `second_opinion`: on what they add up to, by a plain list of records.
 #![tactic(auto)]
 
 #[cfg(test)]

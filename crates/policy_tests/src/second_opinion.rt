@@ -2,10 +2,9 @@
 use crate::groups::add_all;
 use ipfix_session::Session;
 use ipfix_template::Record;
-use live_subscriptions::Served;
+use mediator_tables::{RunningGroups, Served};
 use policy_text::Policy;
 use record_sharing::{InForce, Shares};
-use running_groups::RunningGroups;
 use std::alloc::{AllocError, Global};
 use std::process::Abort;
 use std::test::Fail;

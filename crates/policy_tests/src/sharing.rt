@@ -1,7 +1,7 @@
 //! Two subscriptions side by side, neither of which sees what the other's rules do.
 use disclosure_audit::What;
 use ipfix_session::Session;
-use live_subscriptions::Served;
+use mediator_tables::Served;
 use policy_text::Policy;
 use record_sharing::{InForce, Shares, Terms, Workspace};
 use std::alloc::Global;

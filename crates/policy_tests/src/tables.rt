@@ -1,10 +1,9 @@
 //! What a table of rules decides, and the classes of addresses, by worked rows.
 use crate::random::agreed;
 use crate::records::{DESTINATION_IPV4, Field, SOURCE_IPV4, SOURCE_IPV6, SOURCE_PORT, built};
-use address_classes::AddressClasses;
 use policy_judge::Side;
 use policy_text::Policy;
-use rule_table::RuleTable;
+use rule_table::{AddressClasses, RuleTable};
 use std::alloc::Global;
 use std::process::Abort;
 use std::test::Fail;

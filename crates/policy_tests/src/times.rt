@@ -3,9 +3,8 @@ use crate::disclosures::{Case, HTTPS, KEEP, PASS, SIX, Wanted, expect_disclosed}
 use crate::groups::add_all;
 use crate::tables::read_policy;
 use ipfix_session::Session;
-use live_subscriptions::Served;
+use mediator_tables::{RunningGroups, Served};
 use record_sharing::{InForce, Shares};
-use running_groups::RunningGroups;
 use std::alloc::Global;
 use std::process::Abort;
 use std::test::Fail;

@@ -1,7 +1,7 @@
 -- Runs that are compared, one text after another.
 use Rattle.std.proofs.Common.{◌≡◌, ℕ, ◌+◌, ◌<◌, ◌≤◌, List, [], ◌∷◌, ◌++◌, length, take, get_or, slice_index_or, refl, sym, ap, ◌∙◌, subst, arith}
 use Rattle.std.proofs.lemmas.List.{take_more, take_all}
-use Rattle.record_runs.specs.Runs.{RunOf}
+use Rattle.ipfix_records.specs.Runs.{RunOf}
 
 -- a text more
 pub more_texts : (xs ys : List (List ℕ)) (i : ℕ) (text other : List ℕ) → i < length xs → i < length ys → text ≡ slice_index_or xs i [] → other ≡ slice_index_or ys i [] → text ≡ other → take i xs ≡ take i ys

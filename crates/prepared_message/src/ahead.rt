@@ -7,9 +7,9 @@ use crate::fault::PrepareFault;
 use crate::snapshot::Snapshot;
 use bytes::Bytes;
 use ipfix_message::{items, read_header};
+use ipfix_records::{Records, Run};
 use ipfix_template::Template;
-use live_subscriptions::Share;
-use record_runs::{Records, Run};
+use mediator_tables::Share;
 use record_sharing::{Judgement, Workspace};
 use std::marker::Model;
 

@@ -10,10 +10,10 @@ use Rattle.ipfix_template.specs.DataRecord.{DataRecord}
 use Rattle.policy_text.specs.declared.rule.Rule.{Rule}
 use Rattle.flow_anonymize.specs.Plans.{PlansFor}
 use Rattle.record_sharing.specs.declared.judges.Judge.{Judge}
-use Rattle.live_subscriptions.specs.declared.served.Served.{Served}
+use Rattle.mediator_tables.specs.declared.served.Served.{Served}
 use Rattle.record_sharing.specs.InForce.{InForce}
-use Rattle.live_subscriptions.specs.declared.share.Share.{Share}
-use Rattle.live_subscriptions.specs.Table.{shown}
+use Rattle.mediator_tables.specs.declared.share.Share.{Share}
+use Rattle.mediator_tables.specs.SubscriptionTable.{shown}
 use Rattle.record_sharing.specs.Sharing.{blank}
 use Rattle.record_sharing.specs.Judges.{Judges, for_of, given_to, plans_for, of_template, JudgeFor, JudgesAny, AreReady, AreFor, whose, emptied, is_of}
 

@@ -8,7 +8,7 @@ use Rattle.std.proofs.lemmas.List.Concat.{flat_map-append, flat_map-cons}
 use Rattle.std.proofs.Math.Seq.{set-append_seam, get_or-append_seam, drop-cons}
 use Rattle.mediator_history.proofs.HistoryLaws.{flat_map-push}
 use Rattle.ipfix_template.specs.DataRecord.{DataRecord, kept_record}
-use Rattle.record_runs.specs.Runs.{RunOf, records_of, records_in}
+use Rattle.ipfix_records.specs.Runs.{RunOf, records_of, records_in}
 use Rattle.flow_aggregate.specs.Counts.{count_of}
 use Rattle.flow_anonymize.specs.declared.decision.Decision.{Decision}
 use Rattle.policy_text.specs.Policies.{Aggregate}
@@ -17,11 +17,11 @@ use Rattle.flow_anonymize.specs.Outcome.{Outcome, Passes, Aggregates, Withholds}
 use Rattle.mediator_history.specs.Counting.{counts}
 use Rattle.mediator_history.specs.Auditing.{kept_back}
 use Rattle.record_sharing.specs.InForce.{InForce}
-use Rattle.live_subscriptions.specs.declared.served.Served.{Served}
-use Rattle.running_groups.specs.declared.tally.Tally.{Tally}
+use Rattle.mediator_tables.specs.declared.served.Served.{Served}
+use Rattle.mediator_tables.specs.declared.tally.Tally.{Tally}
 use Rattle.record_sharing.specs.Noting.{Kept, kept_of, and_more}
 use Rattle.record_sharing.proofs.NotingLaws.{none_more, more_more, kept_more}
-use Rattle.running_groups.specs.Adding.{tallied}
+use Rattle.mediator_tables.specs.Adding.{tallied}
 use Rattle.record_sharing.specs.Sharing.{outcome_by, given_by, added_by, kept_by, kept_back_by, counts_by, blank, share_by, shares_of, tallies_of, note_of, noted, noted_of_each, notes_of}
 
 abbrev pub as_share : {X : Type 0} → ℕ → List X → ℕ × List X

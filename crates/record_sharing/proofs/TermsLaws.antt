@@ -10,8 +10,8 @@ use Rattle.policy_text.specs.Grammar.{IsPolicy}
 use Rattle.policy_text.specs.Printing.{policy_text}
 use Rattle.policy_text.specs.declared.fault.PolicyFault.{PolicyFault}
 use Rattle.policy_text.proofs.RoundLaws.{reads_back}
-use Rattle.live_subscriptions.specs.declared.served.Served.{Served}
-use Rattle.live_subscriptions.specs.Table.{told}
+use Rattle.mediator_tables.specs.declared.served.Served.{Served}
+use Rattle.mediator_tables.specs.SubscriptionTable.{told}
 use Rattle.flow_aggregate.specs.Counts.{Count}
 use Rattle.disclosure_audit.specs.declared.entry.Note.{Note}
 use Rattle.record_sharing.specs.declared.shares.Shares.{Shares}

@@ -3,10 +3,10 @@ use Rattle.std.proofs.Common.{◌≡◌, ℕ, ◌+◌, ◌<◌, ◌≤◌, List,
 use Rattle.std.proofs.lemmas.List.{drop_all, drop_more}
 use Rattle.std.proofs.lemmas.List.Sums.{sum_by-cons}
 use Rattle.flow_aggregate.specs.Counts.{Count}
-use Rattle.live_subscriptions.specs.declared.served.Served.{Served}
-use Rattle.live_subscriptions.specs.Table.{told}
-use Rattle.running_groups.specs.declared.tally.Tally.{Tally}
-use Rattle.running_groups.specs.Adding.{tallied}
+use Rattle.mediator_tables.specs.declared.served.Served.{Served}
+use Rattle.mediator_tables.specs.SubscriptionTable.{told}
+use Rattle.mediator_tables.specs.declared.tally.Tally.{Tally}
+use Rattle.mediator_tables.specs.Adding.{tallied}
 use Rattle.record_sharing.specs.Terms.{Terms, terms_of}
 use Rattle.std.specs.Arc.{arc_value}
 use Rattle.ipfix_template.specs.DataRecord.{DataRecord}

@@ -5,7 +5,7 @@ use Rattle.policy_text.specs.Policies.{Meaning as Policy, Aggregate}
 use Rattle.policy_text.specs.Grammar.{IsPolicy}
 use Rattle.policy_text.specs.Printing.{policy_text}
 use Rattle.policy_text.specs.declared.rule.Rule.{Rule}
-use Rattle.address_classes.specs.Cuts.{HaveCuts}
+use Rattle.rule_table.specs.Cuts.{HaveCuts}
 use Rattle.flow_aggregate.specs.declared.timing.Timing.{Timing}
 use Rattle.flow_aggregate.specs.Counts.{Count, count_of}
 use Rattle.mediator_history.specs.Counting.{timing_at, counted_in}

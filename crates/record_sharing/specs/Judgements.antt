@@ -2,9 +2,9 @@
 use Rattle.std.specs.Prelude.{◌≡◌, ℕ, List, map}
 use Rattle.std.specs.Arc.{arc_value}
 use Rattle.ipfix_template.specs.DataRecord.{DataRecord}
-use Rattle.live_subscriptions.specs.declared.served.Served.{Served}
-use Rattle.live_subscriptions.specs.Table.{shown}
-use Rattle.running_groups.specs.Adding.{tallied}
+use Rattle.mediator_tables.specs.declared.served.Served.{Served}
+use Rattle.mediator_tables.specs.SubscriptionTable.{shown}
+use Rattle.mediator_tables.specs.Adding.{tallied}
 use Rattle.record_sharing.specs.InForce.{InForce}
 use Rattle.record_sharing.specs.Sharing.{shares_of, tallies_of, notes_of}
 use Rattle.record_sharing.specs.Noting.{kept_of}

@@ -7,7 +7,7 @@ use Rattle.policy_text.specs.declared.rule.Rule.{Rule}
 use Rattle.flow_anonymize.specs.Plans.{PlansFor}
 use Rattle.record_sharing.specs.InForce.{InForce}
 use Rattle.record_sharing.specs.declared.judges.Judge.{Judge}
-use Rattle.live_subscriptions.specs.declared.served.Served.{Served}
+use Rattle.mediator_tables.specs.declared.served.Served.{Served}
 
 -- by these rules and the cuts of their prefixes, for an observation domain, and the records of a template, if one is named; for each subscription, what its plans are for, and its number with what
 -- it was given

@@ -1,11 +1,11 @@
-pub use Rattle.live_subscriptions.specs.Table
+pub use Rattle.mediator_tables.specs.SubscriptionTable
 pub use Rattle.flow_anonymize.specs.Disclosed as Disclosures
 pub use Rattle.mediator_history.specs.Disclosed
 pub use Rattle.mediator_history.specs.Auditing
 pub use Rattle.flow_aggregate.specs.Counts
-pub use Rattle.running_groups.specs.Adding
+pub use Rattle.mediator_tables.specs.Adding
 pub use Rattle.mediator_history.specs.Counting
-pub use Rattle.address_classes.specs.Cuts
+pub use Rattle.rule_table.specs.Cuts
 pub use Rattle.flow_anonymize.specs.Plans
 pub use Rattle.flow_anonymize.specs.Classes
 pub mod InForce

@@ -15,7 +15,7 @@ use Rattle.flow_aggregate.specs.Groups.{Counted}
 use Rattle.mediator_history.specs.Counting.{counts, counted_in, timing_at}
 use Rattle.mediator_history.specs.Auditing.{kept_back, removed_of, told_of, reason_named}
 use Rattle.record_sharing.specs.InForce.{InForce}
-use Rattle.live_subscriptions.specs.declared.served.Served.{Served}
+use Rattle.mediator_tables.specs.declared.served.Served.{Served}
 use Rattle.disclosure_audit.specs.declared.entry.Note.{Note}
 
 -- what becomes of a record for a subscriber of this name

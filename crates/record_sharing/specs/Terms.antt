@@ -1,7 +1,7 @@
 -- The terms on which a message's records are shared. All of this is this project's own rule.
 use Rattle.std.specs.Prelude.{ℕ, List, map, string_bytes}
-use Rattle.live_subscriptions.specs.declared.served.Served.{Served}
-use Rattle.live_subscriptions.specs.Table.{told}
+use Rattle.mediator_tables.specs.declared.served.Served.{Served}
+use Rattle.mediator_tables.specs.SubscriptionTable.{told}
 use Rattle.record_sharing.specs.InForce.{InForce}
 use Rattle.record_sharing.specs.declared.terms.Subscriber.{Subscriber}
 

@@ -4,7 +4,7 @@ use Rattle.std.specs.Prelude.{◌<◌, ℕ, List, length}
 use Rattle.std.specs.List.{sum_by}
 use Rattle.ipfix_template.specs.DataRecord.{DataRecord}
 use Rattle.flow_aggregate.specs.Counts.{Count}
-use Rattle.live_subscriptions.specs.declared.served.Served.{Served}
+use Rattle.mediator_tables.specs.declared.served.Served.{Served}
 use Rattle.record_sharing.specs.InForce.{InForce}
 use Rattle.record_sharing.specs.Sharing.{tallies_of}
 

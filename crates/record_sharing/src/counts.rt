@@ -2,15 +2,15 @@
 ghost use Rattle.std.specs.Prelude.{◌≡◌, ◌↔◌, ◌<◌, ℕ, List, map, IsTrue};
 ghost use Rattle.std.specs.Arc.{arc_value};
 ghost use Rattle.ipfix_template.specs.DataRecord.{DataRecord};
-ghost use Rattle.live_subscriptions.specs.declared.served.Served.{Served};
-ghost use Rattle.running_groups.specs.Adding.{tallied};
+ghost use Rattle.mediator_tables.specs.declared.served.Served.{Served};
+ghost use Rattle.mediator_tables.specs.Adding.{tallied};
 ghost use Rattle.record_sharing.specs.InForce.{InForce};
 ghost use Rattle.record_sharing.specs.Judgements.{IsJudgementOf};
 ghost use Rattle.record_sharing.specs.Terms.{terms_of};
 ghost use Rattle.record_sharing.specs.Totals.{total_of, counts_in_all, MayCountMoreThan};
 
 use crate::judgement::Judgement;
-use running_groups::Tally;
+use mediator_tables::Tally;
 
 impl Judgement {
     /// Whether more than so many records count in aggregates, by its terms, added up over all subscriptions. It looks at one

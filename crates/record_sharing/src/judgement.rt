@@ -8,7 +8,7 @@ ghost use Rattle.record_sharing.specs.Judgements.{AreSharesOf, IsJudgementOf};
 use crate::in_force::InForce;
 use crate::shares::Shares;
 use crate::terms::Terms;
-use live_subscriptions::{Served, Share};
+use mediator_tables::{Served, Share};
 use std::sync::Arc;
 
 /// The shares of a message's records, with the terms by which they were judged. Contracts say by `IsJudgementOf` of which records

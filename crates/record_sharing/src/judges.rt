@@ -2,18 +2,17 @@
 ghost use Rattle.std.specs.Prelude.{◌≡◌, ◌<◌, ◌++◌, ◌∷◌, [], ℕ, List, Some, None, true, map, length, slice_get, IfOk, IfSome, OnOk};
 ghost use Rattle.std.specs.Arc.{arc_value};
 ghost use Rattle.ipfix_template.specs.DataRecord.{DataRecord};
-ghost use Rattle.address_classes.specs.Cuts.{HaveCuts};
+ghost use Rattle.rule_table.specs.Cuts.{HaveCuts};
 ghost use Rattle.flow_anonymize.specs.Outcome.{passed, decision_of};
 ghost use Rattle.flow_anonymize.specs.Classes.{classes_of};
 ghost use Rattle.flow_anonymize.specs.Plans.{PlansFor, outcome_for};
-ghost use Rattle.live_subscriptions.specs.Table.{shown};
+ghost use Rattle.mediator_tables.specs.SubscriptionTable.{shown};
 
-use address_classes::{AddressClasses, AddressPlaces, RecentClasses};
 use flow_anonymize::{Decision, Plans, RecordClasses};
+use ipfix_records::Run;
 use ipfix_template::{RecordView, Template};
-use live_subscriptions::{Served, Share};
-use record_runs::Run;
-use rule_table::RuleTable;
+use mediator_tables::{Served, Share};
+use rule_table::{AddressClasses, AddressPlaces, RecentClasses, RuleTable};
 use std::alloc::{AllocError, Global};
 use std::marker::Model;
 use std::sync::Arc;
@@ -41,7 +40,7 @@ pub(crate) struct Judges {
 
 impl Model for Judges {
     ghost use Rattle.std.specs.Arc.{arc_value};
-    ghost use Rattle.address_classes.specs.Cuts.{HaveCuts};
+    ghost use Rattle.rule_table.specs.Cuts.{HaveCuts};
     ghost use Rattle.record_sharing.specs.Judges.{Judges, judges_of};
 
     ghost Value = { Judges };

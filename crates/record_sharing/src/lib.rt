@@ -5,8 +5,8 @@
 //! - `revision`: a policy, with what is worked out of it once.
 //! - `judges`: what becomes of a record, for each subscription.
 //! - `notes`: [`Notes`], what the audit notes of a message, as much of it as may be kept.
-//! - `shares`: [`Shares`], what each subscription is given (a [`Share`](live_subscriptions::Share)), what is added to its
-//!   aggregates ([`Tally`](running_groups::Tally)), and what the audit notes ([`Note`]).
+//! - `shares`: [`Shares`], what each subscription is given (a [`Share`](mediator_tables::Share)), what is added to its
+//!   aggregates ([`Tally`](mediator_tables::Tally)), and what the audit notes ([`Note`]).
 //! - `terms`: [`Terms`], what decides for all that are served, as it stood; threads judge by it elsewhere.
 //! - `workspace`: [`Workspace`], what one such thread judges with; `judgement`: [`Judgement`], what it judged; `counts`: how many
 //!   of its records count in aggregates.

@@ -5,12 +5,11 @@ ghost use Rattle.std.specs.List.{AllByRecursion};
 ghost use Rattle.std.specs.Arc.{arc_value};
 ghost use Rattle.ipfix_element.specs.Kinds.{kind_of};
 ghost use Rattle.policy_text.specs.Classes.{is_key_kind};
-ghost use Rattle.address_classes.specs.Cuts.{HaveCuts};
+ghost use Rattle.rule_table.specs.Cuts.{HaveCuts};
 
-use address_classes::AddressClasses;
 use flow_aggregate::Definition;
 use policy_text::{AggregateDef, Policy};
-use rule_table::RuleTable;
+use rule_table::{AddressClasses, RuleTable};
 use std::alloc::{AllocError, Global};
 use std::marker::Model;
 use std::sync::Arc;

@@ -2,13 +2,13 @@
 ghost use Rattle.std.specs.Prelude.{◌≡◌, ◌++◌, ◌∷◌, ◌≤◌, ◌<◌, ◌+◌, ◌^◌, ℕ, List, [], Some, None, length, map, IfOk, OnOk};
 ghost use Rattle.std.specs.List.{flat_map, enumerate_from};
 ghost use Rattle.ipfix_template.specs.DataRecord.{DataRecord};
-ghost use Rattle.record_runs.specs.Runs.{records_of, records_in};
+ghost use Rattle.ipfix_records.specs.Runs.{records_of, records_in};
 ghost use Rattle.flow_aggregate.specs.Counts.{Count as OneCount, count_of};
 ghost use Rattle.mediator_history.specs.Auditing.{reason_named, removed_of, told_of};
 ghost use Rattle.record_sharing.specs.InForce.{count_by, timing_by, as_list};
 ghost use Rattle.record_sharing.specs.Judges.{JudgeFor, JudgesAny};
-ghost use Rattle.live_subscriptions.specs.Table.{shown};
-ghost use Rattle.running_groups.specs.Adding.{tallied};
+ghost use Rattle.mediator_tables.specs.SubscriptionTable.{shown};
+ghost use Rattle.mediator_tables.specs.Adding.{tallied};
 ghost use Rattle.record_sharing.specs.Sharing.{blank, counts_by, kept_back_by, shares_of, tallies_of, notes_of, note_of, noted_of_each};
 ghost use Rattle.record_sharing.specs.Noting.{kept_of, and_more};
 
@@ -18,10 +18,9 @@ use crate::notes::Notes;
 use disclosure_audit::{Note, RemovedFields, What};
 use flow_aggregate::{Count, Timing};
 use flow_anonymize::Decision;
+use ipfix_records::{Records, Run};
 use ipfix_template::RecordView;
-use live_subscriptions::{Served, Share};
-use record_runs::{Records, Run};
-use running_groups::Tally;
+use mediator_tables::{Served, Share, Tally};
 use std::alloc::{AllocError, Global};
 
 /// What a message gives to the subscriptions that are served.

@@ -1,10 +1,10 @@
 //! What decides over a message's records for all that are served.
 ghost use Rattle.std.specs.Prelude.{◌≡◌, ◌↔◌, IsTrue, IfOk, map, length};
-ghost use Rattle.live_subscriptions.specs.Table.{told};
+ghost use Rattle.mediator_tables.specs.SubscriptionTable.{told};
 ghost use Rattle.record_sharing.specs.Terms.{terms_of, owned};
 
 use crate::in_force::InForce;
-use live_subscriptions::Served;
+use mediator_tables::Served;
 use std::alloc::{AllocError, Global};
 use std::marker::Model;
 

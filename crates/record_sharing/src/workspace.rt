@@ -7,7 +7,7 @@ use crate::in_force::InForce;
 use crate::judgement::Judgement;
 use crate::shares::Shares;
 use crate::terms::Terms;
-use record_runs::Records;
+use ipfix_records::Records;
 use std::alloc::{AllocError, Global};
 use std::sync::Arc;
 

@@ -9,3 +9,10 @@ pub mod CoveringLaws
 pub mod KeptLaws
 pub mod EarlierLaws
 pub mod VerdictLaws
+pub mod CountLaws
+pub mod CutLaws
+pub mod KeyLaws
+pub mod NarrowLaws
+pub mod PlaceLaws
+pub mod ClassLaws
+pub mod CoverLaws

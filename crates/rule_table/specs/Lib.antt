@@ -1,9 +1,12 @@
+pub use Rattle.sequences.specs.Octets
 pub use Rattle.ipfix_template.specs.DataRecord
+pub use Rattle.flow_prefix.specs.Prefixes
 pub use Rattle.policy_text.specs.Policies
+pub use Rattle.policy_text.specs.Grammar
 pub use Rattle.policy_judge.specs.Occurrences
 pub use Rattle.policy_judge.specs.Match
+pub use Rattle.policy_judge.specs.Sides
 pub use Rattle.policy_judge.specs.Verdicts
-pub use Rattle.policy_text.specs.Grammar
 pub mod OfPolicy
 pub mod Addresses
 pub mod Marks
@@ -12,3 +15,9 @@ pub mod Asked
 pub mod Candidates
 pub mod Firsts
 pub mod Covering
+pub mod Cuts
+pub mod Classes
+pub mod Narrow
+pub mod Spans
+pub mod Places
+pub mod Laws

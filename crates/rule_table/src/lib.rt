@@ -1,5 +1,8 @@
-//! The rules of a policy in a table, by which a verdict looks at few of them, however many there are. It decides as
-//! `policy_judge` does, and nothing by itself.
+//! The rules of a policy in a table, by which a verdict looks at few of them, however many there are; and the classes of
+//! addresses, by which what the rules make of a record can be worked out once for many. It decides as `policy_judge` does,
+//! and nothing by itself.
+//!
+//! The table:
 //!
 //! - `table`: [`RuleTable`], built of a policy once; `candidates` are looked up once a record.
 //! - `candidates`: [`Candidates`], a record with the first of each kind of the rules that apply to it, asked for its verdicts.
@@ -24,17 +27,48 @@
 //! Proved: `RuleTable::build` keeps the policy's rules, in their order; `record_verdict` and `element_verdict` of what
 //! `RuleTable::candidates` answers are by these rules those of `policy_judge`, clause for clause. Which rules stand under
 //! one mark, and so how fast it is, no clause says: two marks that happen to be one number cost a look at some rules more.
+//!
+//! The classes of addresses:
+//!
+//! - `classes`: [`AddressClasses`], built of rules once; `key` is asked for each record.
+//! - `places`, `place`: [`AddressPlaces`], built of a template once: where the addresses of its records stand.
+//! - `keys`: [`RecentClasses`], the keys of both sides by these places alone, for records one after another.
+//! - `cuts`, `narrow`: the bounds of prefixes, and those among the addresses of IPv4; `span`: the addresses between two of those.
+//! - `laws`: [`same_keys`] and [`key_of_three`], proved over the definitions.
+//!
+//! The class of an address is where it lies among the bounds of all prefixes that the rules of a policy name. Two addresses
+//! of one class are inside the same prefixes, so what the rules make of a record can be worked out once for its template
+//! and the classes of its addresses.
+//!
+//! Proved: `AddressClasses::of_rules` has the bounds of each prefix that the rules name (`HaveCuts`), and `key` is made of
+//! the class of each address of a side (`key_of`); `RecentClasses::keys` answers the two of a record whose template is that
+//! of the places (`sources`, `destinations`), whatever records came before. `same_keys` is what this is for: of values with
+//! one key, each of these prefixes has the same ones inside (`inside`), and two records whose sources have one key, and
+//! whose destinations too, are covered by the same rules (`covers`). Up to three values have a key, and more have none
+//! (`key_of_three`). That there are no cuts but these, and so that classes are few, no clause says.
 #![tactic(auto)]
 
 mod addresses;
 mod asked;
 mod candidates;
+mod classes;
 mod copies;
 mod covering;
+mod cuts;
 mod index;
+mod keys;
+mod laws;
 mod marks;
+mod narrow;
+mod place;
+mod places;
 mod rarest;
+mod span;
 mod table;
 
 pub use candidates::Candidates;
+pub use classes::AddressClasses;
+pub use keys::RecentClasses;
+pub use laws::{key_of_three, same_keys};
+pub use places::AddressPlaces;
 pub use table::RuleTable;

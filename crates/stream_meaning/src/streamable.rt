@@ -3,11 +3,11 @@ ghost use Rattle.std.specs.Prelude.{◌≡◌, ◌≤◌, length};
 ghost use Rattle.std.specs.List.{AllByRecursion};
 ghost use Rattle.ipfix_octets.specs.MessageFormat.{least_template_id};
 ghost use Rattle.ipfix_template.specs.Template.{is_options, IsAccepted, IsSpecifier, IsWritable};
-ghost use Rattle.record_runs.specs.Runs.{records_of};
+ghost use Rattle.ipfix_records.specs.Runs.{records_of};
 ghost use Rattle.stream_meaning.specs.Served.{IsStreamable};
 
+use ipfix_records::{Records, Run};
 use ipfix_template::{FieldSpec, Template};
-use record_runs::{Records, Run};
 
 /// Each record may be streamed: always so, by its type. A caller who has records learns it here, and the
 /// call does nothing else.

@@ -11,7 +11,7 @@ use Rattle.ipfix_template.specs.DataRecord.{IsKept as IsKeptOf, kept_record}
 use Rattle.ipfix_template.specs.Template.{IsAccepted, is_options, template_record}
 use Rattle.ipfix_template.specs.Equality.{same_template}
 use Rattle.ipfix_template.specs.SameTemplate.{same_template-is, same_template-itself}
-use Rattle.record_runs.specs.Runs.{RunOf, records_of}
+use Rattle.ipfix_records.specs.Runs.{RunOf, records_of}
 use Rattle.subscriber_stream.specs.declared.limits.Limits.{Limits}
 use Rattle.subscriber_stream.specs.declared.waiting.Waiting.{Waiting}
 use Rattle.subscriber_stream.specs.Shapes.{is_among, with_shape, id_of}

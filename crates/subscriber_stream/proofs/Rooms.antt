@@ -6,8 +6,8 @@ use Rattle.std.proofs.lemmas.List.Folds.{list_any-append}
 use Rattle.ipfix_template.specs.declared.template.Template.{Template}
 use Rattle.ipfix_template.specs.DataRecord.{DataRecord, kept_record}
 use Rattle.ipfix_template.specs.Equality.{same_template}
-use Rattle.record_runs.specs.Runs.{RunOf, records_of, records_in}
-use Rattle.record_runs.proofs.RunLaws.{records_in_append, records_in_push}
+use Rattle.ipfix_records.specs.Runs.{RunOf, records_of, records_in}
+use Rattle.ipfix_records.proofs.RunLaws.{records_in_append, records_in_push}
 use Rattle.subscriber_stream.specs.Shapes.{is_among, with_shape, is_used, shapes_after}
 use Rattle.subscriber_stream.proofs.ShapeLaws.{shapes_after-nil, shapes_after-first, shapes_after-append, is_among-after, is_among-itself, or_false}
 

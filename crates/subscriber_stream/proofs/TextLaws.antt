@@ -3,8 +3,8 @@ use Rattle.std.proofs.Common.{◌≡◌, ℕ, zero, suc, ◌+◌, ◌-◌, ◌<�
 use Rattle.std.specs.List.{concat}
 use Rattle.std.proofs.lemmas.Bool.{le-leb, lt-leb, leb-true}
 use Rattle.std.proofs.lemmas.List.{length-take-le, take_more, drop_more, drop_all}
-use Rattle.record_runs.specs.Pieces.{pieces, AreEnds}
-use Rattle.record_runs.proofs.PieceLaws.{length_pieces, take_pieces, concat_pieces, ends_ascend, ends_of_first, end_within}
+use Rattle.ipfix_records.specs.Pieces.{pieces, AreEnds}
+use Rattle.ipfix_records.proofs.PieceLaws.{length_pieces, take_pieces, concat_pieces, ends_ascend, ends_of_first, end_within}
 use Rattle.subscriber_stream.specs.Texts.{fitting_texts}
 
 -- ---- where they stand

@@ -9,8 +9,8 @@ pub use Rattle.ipfix_template.specs.Equality
 pub use Rattle.ipfix_template.specs.Values
 pub use Rattle.ipfix_template.specs.DataRecord
 pub use Rattle.sequences.specs.Before
-pub use Rattle.record_runs.specs.Pieces
-pub use Rattle.record_runs.specs.Runs
+pub use Rattle.ipfix_records.specs.Pieces
+pub use Rattle.ipfix_records.specs.Runs
 pub mod Shapes
 pub mod Parts
 pub mod Message

@@ -1,11 +1,11 @@
 //! How many templates records bring that a stream does not know.
 ghost use Rattle.std.specs.Prelude.{◌≡◌, ◌+◌, ◌≤◌, ◌<◌, ◌↔◌, ℕ, IsTrue, length, take, if◌then◌else◌};
-ghost use Rattle.record_runs.specs.Runs.{records_of, records_in};
+ghost use Rattle.ipfix_records.specs.Runs.{records_of, records_in};
 ghost use Rattle.subscriber_stream.specs.Shapes.{is_used, shapes_after};
 
 use crate::shape_table::ShapeTable;
+use ipfix_records::Run;
 use ipfix_template::Template;
-use record_runs::Run;
 
 /// Whether there are at most `most` templates in the table with those of the records.
 pub(crate) fn has_shape_room(shapes: &ShapeTable, runs: &[Run], most: u32) -> bool

@@ -20,7 +20,7 @@ use crate::writing::message_of;
 use bytes::Bytes;
 use hash_keys::HashKeys;
 use ipfix_octets::message_format::LEAST_TEMPLATE_ID;
-use record_runs::{Records, Run};
+use ipfix_records::{Records, Run};
 use std::alloc::{AllocError, Global};
 use std::collections::VecDeque;
 use std::marker::Model;
@@ -75,7 +75,7 @@ impl Stream {
     ghost use Rattle.subscriber_stream.specs.Standing.{at_start, StandsAt, HasRoom, FitsLimits, queued};
     ghost use Rattle.subscriber_stream.specs.Calls.{TakesRecords, Gives};
     ghost use Rattle.subscriber_stream.specs.Steps.{given, handed_parts};
-    ghost use Rattle.record_runs.specs.Runs.{records_of};
+    ghost use Rattle.ipfix_records.specs.Runs.{records_of};
 
     /// A stream that was given no record. What it comes to keep is taken from `alloc`.
     pub fn new(alloc: Global, limits: Limits) -> Stream

@@ -1,7 +1,7 @@
 //! Texts of records that wait.
 ghost use Rattle.std.specs.Prelude.{◌≡◌, ◌≤◌, ◌<◌, ◌+◌, ◌-◌, ◌^◌, ◌∷◌, length, take, drop, slice_index};
 ghost use Rattle.std.specs.List.{concat};
-ghost use Rattle.record_runs.specs.Pieces.{pieces, AreEnds};
+ghost use Rattle.ipfix_records.specs.Pieces.{pieces, AreEnds};
 
 #[cfg(test)]
 mod tests;
@@ -23,7 +23,7 @@ pub(crate) struct Texts {
 
 impl Model for Texts {
     ghost use Rattle.std.specs.Prelude.{◌≤◌, ℕ, List, length, drop};
-    ghost use Rattle.record_runs.specs.Pieces.{pieces, AreEnds};
+    ghost use Rattle.ipfix_records.specs.Pieces.{pieces, AreEnds};
 
     ghost Value = { List (List ℕ) };
 

@@ -1,6 +1,6 @@
 use Rattle.std.proofs.Common.{map, take}
 use Rattle.std.specs.List.{AllByRecursion}
-use Rattle.live_subscriptions.specs.Table.{shown}
+use Rattle.mediator_tables.specs.SubscriptionTable.{shown}
 use Rattle.history_verify.proofs.EmptyShares.{HasSome}
 use Rattle.history_verify.proofs.judged.first_empty.Given as goal
 

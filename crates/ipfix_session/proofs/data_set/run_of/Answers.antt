@@ -1,5 +1,5 @@
 use Rattle.std.specs.Arc.{arc_value}
-use Rattle.record_runs.specs.Pieces.{pieces}
+use Rattle.ipfix_records.specs.Pieces.{pieces}
 use Rattle.ipfix_session.proofs.SetSteps.{cut_ends, run_cut, kept_along}
 use Rattle.ipfix_session.proofs.data_set.run_of.Goals as goal
 

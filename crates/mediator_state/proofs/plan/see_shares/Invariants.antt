@@ -1,6 +1,6 @@
 use Rattle.std.proofs.Common.{map, take}
 use Rattle.std.specs.List.{AllByRecursion}
-use Rattle.live_subscriptions.specs.Table.{shown}
+use Rattle.mediator_tables.specs.SubscriptionTable.{shown}
 use Rattle.mediator_state.specs.Planning.{AreStreamed}
 use Rattle.mediator_state.proofs.plan.see_shares.Given as goal
 

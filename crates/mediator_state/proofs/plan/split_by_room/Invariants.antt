@@ -1,5 +1,5 @@
 use Rattle.std.proofs.Common.{map}
-use Rattle.live_subscriptions.specs.Table.{shown}
+use Rattle.mediator_tables.specs.SubscriptionTable.{shown}
 use Rattle.mediator_state.proofs.Judging.{IsSplit}
 use Rattle.mediator_state.proofs.plan.split_by_room.Given as goal
 

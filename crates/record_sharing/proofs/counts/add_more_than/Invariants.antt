@@ -1,5 +1,5 @@
 use Rattle.std.proofs.Common.{◌≡◌, ◌+◌, ◌≤◌, map}
-use Rattle.running_groups.specs.Adding.{tallied}
+use Rattle.mediator_tables.specs.Adding.{tallied}
 use Rattle.record_sharing.specs.Totals.{total_of}
 use Rattle.record_sharing.proofs.TotalLaws.{rest_of}
 use Rattle.record_sharing.proofs.counts.add_more_than.Given as goal

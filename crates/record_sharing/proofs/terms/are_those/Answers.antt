@@ -1,5 +1,5 @@
 use Rattle.std.proofs.Common.{refl, sym, ◌∙◌, arith}
-use Rattle.live_subscriptions.specs.Table.{told}
+use Rattle.mediator_tables.specs.SubscriptionTable.{told}
 use Rattle.record_sharing.specs.Terms.{owned}
 use Rattle.record_sharing.proofs.TermsLaws.{no_truth, alike_at}
 use Rattle.record_sharing.proofs.terms.are_those.Goals as goal

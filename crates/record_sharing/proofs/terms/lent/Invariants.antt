@@ -1,5 +1,5 @@
 use Rattle.std.proofs.Common.{◌≡◌, map, take}
-use Rattle.live_subscriptions.specs.Table.{told}
+use Rattle.mediator_tables.specs.SubscriptionTable.{told}
 use Rattle.record_sharing.specs.Terms.{owned}
 use Rattle.record_sharing.proofs.terms.lent.Given as goal
 

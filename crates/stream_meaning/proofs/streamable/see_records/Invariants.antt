@@ -1,6 +1,6 @@
 use Rattle.std.proofs.Common.{take}
 use Rattle.std.specs.List.{AllByRecursion}
-use Rattle.record_runs.specs.Runs.{records_in}
+use Rattle.ipfix_records.specs.Runs.{records_in}
 use Rattle.stream_meaning.specs.Served.{IsStreamable}
 use Rattle.stream_meaning.proofs.streamable.see_records.Given as goal
 

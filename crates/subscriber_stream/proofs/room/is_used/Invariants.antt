@@ -1,5 +1,5 @@
 use Rattle.std.proofs.Common.{◌≡◌, take, false}
-use Rattle.record_runs.specs.Runs.{records_in}
+use Rattle.ipfix_records.specs.Runs.{records_in}
 use Rattle.subscriber_stream.specs.Shapes.{is_used}
 use Rattle.subscriber_stream.proofs.room.is_used.Given as goal
 

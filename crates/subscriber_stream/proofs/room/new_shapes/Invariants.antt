@@ -1,5 +1,5 @@
 use Rattle.std.proofs.Common.{◌≡◌, ◌+◌, ◌≤◌, length, take}
-use Rattle.record_runs.specs.Runs.{records_in}
+use Rattle.ipfix_records.specs.Runs.{records_in}
 use Rattle.subscriber_stream.specs.Shapes.{shapes_after}
 use Rattle.subscriber_stream.proofs.room.new_shapes.Given as goal
 

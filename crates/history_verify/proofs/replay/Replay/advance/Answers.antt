@@ -1,7 +1,7 @@
 use Rattle.std.proofs.Common.{List, ◌++◌, ◌∷◌, [], map, refl, sym, subst}
-use Rattle.live_subscriptions.specs.Table.{shown}
+use Rattle.mediator_tables.specs.SubscriptionTable.{shown}
 use Rattle.event_journal.specs.declared.entry.Entry.TheVariants.{Advance}
-use Rattle.live_subscriptions.specs.declared.share.Share.{Share}
+use Rattle.mediator_tables.specs.declared.share.Share.{Share}
 use Rattle.mediator_history.proofs.CountingLaws.{running-advance}
 use Rattle.history_verify.specs.Parts.{served_shares, MayCount, HasCounted}
 use Rattle.history_verify.proofs.TakenLaws.{sums_after, taken_advance, advance_room}

@@ -1,11 +1,11 @@
 use Rattle.std.specs.Prelude.{if◌then◌else◌}
 use Rattle.std.proofs.Common.{Bool, List, [], ◌∷◌, ◌++◌, map, refl, sym, subst, ap, ◌∙◌}
-use Rattle.live_subscriptions.specs.Table.{shown}
+use Rattle.mediator_tables.specs.SubscriptionTable.{shown}
 use Rattle.event_journal.specs.declared.entry.Entry.TheVariants.{Message}
 use Rattle.mediator_history.specs.Counting.{counted_at}
 use Rattle.mediator_history.proofs.CountingLaws.{running-message}
-use Rattle.live_subscriptions.specs.declared.share.Share.{Share}
-use Rattle.running_groups.specs.Adding.{tallied, reserved_for}
+use Rattle.mediator_tables.specs.declared.share.Share.{Share}
+use Rattle.mediator_tables.specs.Adding.{tallied, reserved_for}
 use Rattle.history_verify.specs.Parts.{MayCount, HasCounted}
 use Rattle.history_verify.proofs.FeedLaws.{on_err}
 use Rattle.history_verify.proofs.ExporterLaws.{exporters_same}

@@ -1,5 +1,5 @@
 use Rattle.std.proofs.Common.{map, ap, ◌∙◌}
-use Rattle.live_subscriptions.specs.Table.{shown}
+use Rattle.mediator_tables.specs.SubscriptionTable.{shown}
 use Rattle.record_sharing.specs.Sharing.{shares_of}
 use Rattle.history_verify.proofs.UnborneLaws.{place_within}
 use Rattle.history_verify.proofs.Judging.{known, as_many, first_unborne}

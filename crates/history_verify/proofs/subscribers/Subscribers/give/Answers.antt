@@ -1,8 +1,8 @@
 use Rattle.std.proofs.Common.{map, subst, arith}
 use Rattle.std.specs.Prelude.{List}
 use Rattle.std.proofs.lemmas.List.{take_all}
-use Rattle.live_subscriptions.specs.Table.{shown}
-use Rattle.live_subscriptions.specs.declared.share.Share.{Share}
+use Rattle.mediator_tables.specs.SubscriptionTable.{shown}
+use Rattle.mediator_tables.specs.declared.share.Share.{Share}
 use Rattle.history_verify.specs.Parts.{HasCounted}
 use Rattle.history_verify.proofs.GivingLaws.{counted_none, counting_step, may_count_at}
 use Rattle.history_verify.proofs.subscribers.Subscribers.give.Goals as goal

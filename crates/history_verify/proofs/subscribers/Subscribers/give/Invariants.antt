@@ -1,5 +1,5 @@
 use Rattle.std.proofs.Common.{map, take}
-use Rattle.live_subscriptions.specs.Table.{shown}
+use Rattle.mediator_tables.specs.SubscriptionTable.{shown}
 use Rattle.history_verify.specs.Parts.{HasCounted}
 use Rattle.history_verify.proofs.subscribers.Subscribers.give.Given as goal
 

@@ -1,5 +1,5 @@
 use Rattle.std.proofs.Common.{map, take}
-use Rattle.live_subscriptions.specs.Table.{shown}
+use Rattle.mediator_tables.specs.SubscriptionTable.{shown}
 use Rattle.history_verify.specs.Parts.{served_shares, HasCounted}
 use Rattle.history_verify.proofs.subscribers.Subscribers.give_served.Given as goal
 

@@ -2,7 +2,7 @@ use Rattle.std.proofs.Common.{◌≡◌, ◌≤◌, List, length, map, take}
 use Rattle.std.specs.Vec.{vec_capacity}
 use Rattle.event_journal.specs.declared.entry.Entry.{Entry}
 use Rattle.mediator_history.specs.Subscriptions.{name_of}
-use Rattle.live_subscriptions.specs.Table.{told}
+use Rattle.mediator_tables.specs.SubscriptionTable.{told}
 use Rattle.history_verify.specs.Parts.{AreSubscribers}
 use Rattle.history_verify.proofs.subscribers.Subscribers.those.Given as goal
 

@@ -1,6 +1,6 @@
 use Rattle.std.proofs.Common.{sym, subst}
 use Rattle.flow_aggregate.specs.Running.{StandsFor}
-use Rattle.running_groups.specs.Table.{groups_at}
+use Rattle.mediator_tables.specs.GroupTable.{groups_at}
 use Rattle.mediator_history.specs.Counting.{running}
 use Rattle.history_verify.proofs.sums.Sums.add.Goals as goal
 

@@ -2,7 +2,7 @@ use Rattle.std.proofs.Common.{ap, arith, map, ◌∙◌}
 use Rattle.std.proofs.lemmas.List.{take_all}
 use Rattle.flow_aggregate.specs.Closing.{closed_by}
 use Rattle.mediator_history.specs.Counting.{running}
-use Rattle.live_subscriptions.specs.Table.{shown}
+use Rattle.mediator_tables.specs.SubscriptionTable.{shown}
 use Rattle.history_verify.proofs.SumLaws.{closing_shares, all_closing}
 use Rattle.history_verify.proofs.sums.Sums.closing.Goals as goal
 

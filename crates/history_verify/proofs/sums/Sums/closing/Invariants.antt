@@ -2,7 +2,7 @@ use Rattle.std.proofs.Common.{◌≡◌, List, map, take}
 use Rattle.event_journal.specs.declared.entry.Entry.{Entry}
 use Rattle.flow_aggregate.specs.Closing.{closed_by}
 use Rattle.mediator_history.specs.Counting.{running}
-use Rattle.live_subscriptions.specs.Table.{shown}
+use Rattle.mediator_tables.specs.SubscriptionTable.{shown}
 use Rattle.history_verify.specs.Parts.{AreSums}
 use Rattle.history_verify.proofs.SumLaws.{closing_shares}
 use Rattle.history_verify.proofs.sums.Sums.closing.Given as goal

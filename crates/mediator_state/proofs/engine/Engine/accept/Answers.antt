@@ -1,15 +1,15 @@
 use Rattle.std.proofs.Common.{◌≡◌, List, length, map, subst, sym}
-use Rattle.live_subscriptions.specs.Table.{shown}
+use Rattle.mediator_tables.specs.SubscriptionTable.{shown}
 use Rattle.disclosure_audit.specs.declared.entry.Note.{Note}
 use Rattle.disclosure_audit.specs.Queue.{stamp}
 use Rattle.event_journal.specs.declared.entry.Entry.{Entry}
 use Rattle.event_journal.specs.declared.entry.Entry.TheVariants.{Message}
 use Rattle.mediator_history.specs.Cuts.{after_cuts}
-use Rattle.running_groups.specs.Adding.{tallied}
+use Rattle.mediator_tables.specs.Adding.{tallied}
 use Rattle.mediator_state.specs.Standing.{Stands}
 use Rattle.mediator_state.specs.Steps.{CutsInARow}
 use Rattle.mediator_state.specs.Accepting.{IsReadyToTake, IsMessage}
-use Rattle.running_groups.specs.Adding.{reserved_for}
+use Rattle.mediator_tables.specs.Adding.{reserved_for}
 use Rattle.mediator_state.proofs.Accepts.{is_message, ready, groups_ready}
 use Rattle.mediator_state.proofs.engine.Engine.accept.Goals as goal
 

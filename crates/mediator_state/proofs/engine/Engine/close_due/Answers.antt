@@ -1,5 +1,5 @@
 use Rattle.std.proofs.Common.{refl, map}
-use Rattle.live_subscriptions.specs.Table.{shown}
+use Rattle.mediator_tables.specs.SubscriptionTable.{shown}
 use Rattle.mediator_state.proofs.AdvanceSteps.{advance_step, places_closed}
 use Rattle.mediator_state.proofs.engine.Engine.close_due.Goals as goal
 

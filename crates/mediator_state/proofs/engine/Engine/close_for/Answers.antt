@@ -1,7 +1,7 @@
 use Rattle.std.proofs.Common.{refl, arith, sym, subst, ◌∙◌, map}
 use Rattle.std.proofs.lemmas.List.{take_all}
-use Rattle.live_subscriptions.specs.Table.{shown}
-use Rattle.live_subscriptions.specs.Table.{told}
+use Rattle.mediator_tables.specs.SubscriptionTable.{shown}
+use Rattle.mediator_tables.specs.SubscriptionTable.{told}
 use Rattle.mediator_state.specs.Advancing.{closing_share, AreParted}
 use Rattle.mediator_state.proofs.AdvanceJudging.{parting_cut, parting_left}
 use Rattle.mediator_state.proofs.engine.Engine.close_for.Goals as goal

@@ -1,5 +1,5 @@
 use Rattle.std.proofs.Common.{refl, rules}
-use Rattle.live_subscriptions.specs.Table.{shown}
+use Rattle.mediator_tables.specs.SubscriptionTable.{shown}
 use Rattle.std.specs.Prelude.{map}
 use Rattle.disclosure_audit.specs.Queue.{stamp}
 use Rattle.mediator_state.proofs.MessageSteps.{message_step, places_taken}

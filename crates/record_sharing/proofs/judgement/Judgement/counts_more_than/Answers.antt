@@ -1,6 +1,6 @@
 use Rattle.std.proofs.Common.{◌↔◌, ◌<◌, map, ap, ◌∙◌, subst}
 use Rattle.std.specs.Prelude.{IsTrue}
-use Rattle.running_groups.specs.Adding.{tallied}
+use Rattle.mediator_tables.specs.Adding.{tallied}
 use Rattle.record_sharing.specs.Totals.{total_of}
 use Rattle.record_sharing.proofs.TotalLaws.{counts_by_some}
 use Rattle.record_sharing.proofs.judgement.Judgement.counts_more_than.Goals as goal

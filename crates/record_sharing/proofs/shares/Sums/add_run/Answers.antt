@@ -2,7 +2,7 @@ use Rattle.std.proofs.Common.{◌<◌, [], length, Some, map, refl, sym, ap, ◌
 use Rattle.std.proofs.lemmas.List.{get_or-map, length-map}
 use Rattle.ipfix_template.specs.declared.template.Template.{Template}
 use Rattle.ipfix_template.specs.DataRecord.{DataRecord, kept_record}
-use Rattle.record_runs.specs.Runs.{records_of}
+use Rattle.ipfix_records.specs.Runs.{records_of}
 use Rattle.record_sharing.specs.Judges.{Judges, JudgeFor, of_template}
 use Rattle.record_sharing.proofs.JudgeLaws.{judge_begun}
 use Rattle.record_sharing.proofs.SharingLaws.{IsRunning, running_start, running_step}

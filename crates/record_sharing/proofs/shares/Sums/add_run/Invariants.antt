@@ -1,5 +1,5 @@
 use Rattle.std.proofs.Common.{Some}
-use Rattle.record_runs.specs.Runs.{records_of}
+use Rattle.ipfix_records.specs.Runs.{records_of}
 use Rattle.record_sharing.specs.Judges.{JudgeFor}
 use Rattle.record_sharing.proofs.SharingLaws.{IsRunning}
 use Rattle.record_sharing.proofs.shares.Sums.add_run.Given as goal

@@ -1,5 +1,5 @@
 use Rattle.std.proofs.Common.{◌≡◌, map, take}
-use Rattle.running_groups.specs.Adding.{tallied}
+use Rattle.mediator_tables.specs.Adding.{tallied}
 use Rattle.record_sharing.specs.Sharing.{blank}
 use Rattle.record_sharing.proofs.shares.Sums.of_none.Given as goal
 

@@ -1,5 +1,5 @@
 use Rattle.std.proofs.Common.{◌∷◌, [], ap}
-use Rattle.running_groups.specs.Adding.{tallied}
+use Rattle.mediator_tables.specs.Adding.{tallied}
 use Rattle.record_sharing.proofs.SharingLaws.{as_share, share_grows}
 use Rattle.record_sharing.proofs.shares.Sums.tally.Goals as goal
 

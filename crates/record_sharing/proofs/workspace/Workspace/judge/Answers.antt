@@ -1,6 +1,6 @@
 use Rattle.std.proofs.Common.{map, sym, ap, ◌∙◌}
 use Rattle.std.specs.Arc.{arc_value}
-use Rattle.live_subscriptions.specs.Table.{told}
+use Rattle.mediator_tables.specs.SubscriptionTable.{told}
 use Rattle.record_sharing.specs.Terms.{Terms}
 use Rattle.record_sharing.proofs.TermsLaws.{judged_alike}
 use Rattle.record_sharing.proofs.workspace.Workspace.judge.Goals as goal

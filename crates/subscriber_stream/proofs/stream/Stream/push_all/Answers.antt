@@ -1,5 +1,5 @@
 use Rattle.std.proofs.Common.{ap}
-use Rattle.record_runs.specs.Runs.{records_of, records_in}
+use Rattle.ipfix_records.specs.Runs.{records_of, records_in}
 use Rattle.subscriber_stream.proofs.Standings.{IsGiving-next, IsGiving-can}
 use Rattle.subscriber_stream.proofs.stream.Stream.push_all.Goals as goal
 

@@ -1,5 +1,5 @@
 use Rattle.std.specs.Vec.Iter.{into_iter_items}
-use Rattle.record_runs.specs.Runs.{records_in}
+use Rattle.ipfix_records.specs.Runs.{records_in}
 use Rattle.subscriber_stream.proofs.Standings.{IsGiving}
 use Rattle.subscriber_stream.proofs.stream.Stream.push_all.Given as goal
 

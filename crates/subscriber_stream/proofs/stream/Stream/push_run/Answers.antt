@@ -4,7 +4,7 @@ use Rattle.std.specs.List.{position_or_len}
 use Rattle.ipfix_template.specs.declared.template.Template.{Template}
 use Rattle.ipfix_template.specs.Template.{is_options, template_record}
 use Rattle.ipfix_template.specs.Equality.{same_template}
-use Rattle.record_runs.proofs.RunLaws.{length_records_of}
+use Rattle.ipfix_records.proofs.RunLaws.{length_records_of}
 use Rattle.subscriber_stream.specs.declared.waiting.Waiting.{Waiting}
 use Rattle.subscriber_stream.specs.Shapes.{with_shape}
 use Rattle.subscriber_stream.specs.Items.{parts_of}

@@ -1,5 +1,5 @@
 use Rattle.std.proofs.Common.{drop, arith, length-drop}
-use Rattle.record_runs.proofs.PieceLaws.{length_pieces}
+use Rattle.ipfix_records.proofs.PieceLaws.{length_pieces}
 use Rattle.subscriber_stream.proofs.texts.Texts.len.Goals as goal
 
 pub returns : goal.returns

@@ -1,8 +1,0 @@
-use Rattle.std.proofs.Common.{ap, ◌^◌, ◌<◌, ◌∙◌}
-use Rattle.address_classes.specs.Classes.{class_of}
-use Rattle.address_classes.proofs.classes.AddressClasses.narrow_class.Goals as goal
-
-pub returns-clause-class : goal.returns-clause-class
-returns-clause-class c =
-    let low : c.args.address < 2 ^ 32 = c.ranges.address.fits in
-    c.class.ensures.class ∙ c.self.invariant.below c.args.address low ∙ ap (λ xs. class_of xs c.args.address) c.self.view_is

@@ -1,9 +1,0 @@
-use Rattle.std.proofs.Common.{ap, ◌∙◌}
-use Rattle.address_classes.specs.Classes.{class_of}
-use Rattle.address_classes.proofs.classes.AddressClasses.of_rules.Goals as goal
-
-pub invariant_of-result : goal.invariant_of-result
-invariant_of-result c = record {
-  sound = record { ascending = c.in_ok-cuts.ensures.ascending; few = c.in_ok-cuts.ensures.few };
-  below = λ address low. c.in_ok-narrow.ensures address low ∙ ap (λ xs. class_of xs address) c.deref.ensures.value;
-}

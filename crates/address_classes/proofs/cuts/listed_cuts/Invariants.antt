@@ -1,7 +1,0 @@
-use Rattle.std.proofs.Common.{◌≡◌, take}
-use Rattle.std.specs.List.{flat_map}
-use Rattle.address_classes.specs.Cuts.{cuts_of}
-use Rattle.address_classes.proofs.cuts.listed_cuts.Given as goal
-
-abbrev pub invariant-loop-rule : goal.invariant-loop-rule
-invariant-loop-rule l = l.cuts.items ≡ flat_map cuts_of (take l.rule-index l.rules)

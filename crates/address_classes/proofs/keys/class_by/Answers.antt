@@ -1,5 +1,0 @@
-use Rattle.std.proofs.Common.{refl, sym}
-use Rattle.address_classes.proofs.keys.class_by.Goals as goal
-
-pub returns-then-has-clause-class : goal.returns-then-has-clause-class
-returns-then-has-clause-class c = let among = c.if-has.ensures refl in sym (c.requires.each c.args.address among.above among.below)

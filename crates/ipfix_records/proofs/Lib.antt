@@ -1,0 +1,4 @@
+pub mod PieceLaws
+pub mod RunLaws
+pub mod GapLaws
+pub mod LayoutLaws

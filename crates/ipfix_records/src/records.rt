@@ -1,0 +1,147 @@
+//! Lists of records, kept as runs.
+ghost use Rattle.std.specs.Prelude.{◌≡◌, ◌==◌, ◌<◌, ◌^◌, ◌++◌, [], ◌∷◌, length, IfOk, OnOk, OnErr};
+ghost use Rattle.std.specs.List.{AllByRecursion};
+
+use crate::run::Run;
+use ipfix_template::Record;
+use std::alloc::{AllocError, Global};
+use std::marker::Model;
+
+/// As many records as a list may have. More find no place in memory.
+const MOST_RECORDS: usize = isize::MAX as usize;
+
+/// Data Records one after another, of any templates. Contracts see the list of them.
+pub struct Records {
+    runs: Vec<Run>,
+    /// How many records the runs have.
+    count: usize,
+}
+
+impl Drop for Records {
+    // Written out: a derived one is proved anew in each crate that drops such a value.
+    fn drop(self) {
+        let Records { runs: _, count: _ } = self;
+    }
+}
+
+impl Model for Records {
+    ghost use Rattle.std.specs.Prelude.{◌≡◌, ◌<◌, ◌^◌, List, length};
+    ghost use Rattle.std.specs.List.{AllByRecursion};
+    ghost use Rattle.ipfix_template.specs.DataRecord.{DataRecord};
+    ghost use Rattle.ipfix_records.specs.Runs.{records_in, IsKeptRun};
+
+    ghost Value = { List DataRecord };
+
+    ghost view = { λ r. records_in r.runs.items };
+
+    ghost invariant = { λ r. (r.count ≡ length (records_in r.runs.items)) × (r.count < 2 ^ 63) × AllByRecursion IsKeptRun r.runs.items };
+}
+
+impl Records {
+    ghost use Rattle.ipfix_template.specs.DataRecord.{IsSound};
+    ghost use Rattle.ipfix_records.specs.Runs.{records_of, records_in, IsKeptRun};
+
+    /// No record. What it comes to keep is taken from `alloc`.
+    pub fn new(alloc: Global) -> Records
+        ensures { result ≡ [] }
+    {
+        Records {
+            runs: Vec::new(alloc),
+            count: 0,
+        }
+    }
+
+    /// How many records there are.
+    #[tactic(auto, using(crate::proofs::RunLaws::kept_runs_sound))]
+    pub fn len(&self) -> usize
+        ensures value { result ≡ length self.now }
+        ensures few { result < 2 ^ 63 }
+        ensures sound { AllByRecursion IsSound self.now }
+    {
+        self.count
+    }
+
+    pub fn is_empty(&self) -> bool
+        ensures { result ≡ (length self.now == 0) }
+    {
+        self.count == 0
+    }
+
+    /// The runs, one after another.
+    #[tactic(auto, using(crate::proofs::RunLaws::kept_runs_sound))]
+    pub fn runs(&self) -> &[Run]
+        ensures value { records_in result.now ≡ self.now }
+        ensures kept { AllByRecursion IsKeptRun result.now }
+        ensures sound { AllByRecursion IsSound self.now }
+    {
+        &self.runs
+    }
+
+    #[tactic(auto, using(crate::proofs::RunLaws::kept_runs_sound))]
+    pub fn into_runs(self) -> Vec<Run>
+        ensures value { records_in result.items ≡ self }
+        ensures kept { AllByRecursion IsKeptRun result.items }
+        ensures sound { AllByRecursion IsSound self }
+    {
+        let Records { runs, count: _ } = self;
+        runs
+    }
+
+    /// Puts the records of a run behind the others.
+    ///
+    /// # Errors
+    /// Want of memory, and then nothing has changed.
+    pub fn push_run(&mut self, run: Run) -> Result<(), AllocError>
+        ensures ok { OnOk result (self.new ≡ self.old ++ records_of run) }
+        ensures err { OnErr result (self.new ≡ self.old) }
+    {
+        let more = run.len();
+        if more > MOST_RECORDS - self.count {
+            return Err(AllocError);
+        }
+        self.runs.reserve(1)?;
+        self.runs.push_reserved(run);
+        self.count += more;
+        Ok(())
+    }
+
+    /// Puts a record behind the others, as a run of its own.
+    ///
+    /// # Errors
+    /// Want of memory, and then nothing has changed.
+    pub fn push(&mut self, alloc: Global, single: Record) -> Result<(), AllocError>
+        ensures ok { OnOk result (self.new ≡ self.old ++ single ∷ []) }
+        ensures err { OnErr result (self.new ≡ self.old) }
+    {
+        let run = Run::of_record(alloc, single)?;
+        self.push_run(run)
+    }
+
+    /// The records as a list. Each is cut out of its run, and not copied.
+    ///
+    /// # Errors
+    /// Want of memory.
+    pub fn to_vec(&self, alloc: Global) -> Result<Vec<Record>, AllocError>
+        ensures { IfOk result (λ list. list.items ≡ self.now) }
+    {
+        let mut list = Vec::with_capacity(alloc, self.count)?;
+        for run in &self.runs {
+            run.append_to(&mut list)?;
+        }
+        Ok(list)
+    }
+}
+
+impl Clone for Records {
+    ghost use Rattle.std.specs.Prelude.{◌≡◌};
+
+    ghost is_clone = { λ r copy. copy ≡ r };
+
+    /// The same runs, of which no octet is copied.
+    fn clone(&self) -> Result<Records, AllocError> {
+        Ok(Records {
+            runs: self.runs.clone()?,
+            count: self.count,
+        })
+    }
+}

@@ -1,0 +1,218 @@
+//! Runs: records of one template.
+ghost use Rattle.std.specs.Prelude.{◌≡◌, ◌==◌, ◌-◌, ◌<◌, ◌≤◌, ◌++◌, [], ◌∷◌, length, take, drop, slice_index, slice_index_or, IfOk, OnOk};
+ghost use Rattle.std.specs.Arc.{arc_value};
+ghost use Rattle.std.specs.List.{AllByRecursion, concat};
+ghost use Rattle.ipfix_records.specs.Pieces.{pieces, AreEnds};
+
+use bytes::Bytes;
+use ipfix_template::{Record, RecordView, Template};
+use std::alloc::{AllocError, Global};
+use std::marker::Model;
+use std::sync::Arc;
+
+/// Data Records of one template, as the octets of their values, one after another (RFC 7011, sections 3.3.1 and
+/// 3.4.3). Its type keeps of each what [`Record`] keeps. Contracts see the template and the text of each record.
+#[derive(Drop)]
+pub struct Run {
+    template: Arc<Template>,
+    octets: Bytes,
+    /// Where each record ends in the octets.
+    ends: Vec<u32>,
+}
+
+impl Model for Run {
+    ghost use Rattle.std.specs.Prelude.{◌≡◌, length};
+    ghost use Rattle.std.specs.List.{AllByRecursion};
+    ghost use Rattle.std.specs.Arc.{arc_value};
+    ghost use Rattle.ipfix_template.specs.DataRecord.{IsKept};
+    ghost use Rattle.ipfix_records.specs.Pieces.{pieces, AreEnds};
+    ghost use Rattle.ipfix_records.specs.Runs.{RunOf};
+
+    ghost Value = { RunOf };
+
+    ghost view = { λ r. record { template = arc_value r.template; texts = pieces r.octets 0 r.ends.items } };
+
+    ghost invariant = { λ r. AreEnds 0 r.ends.items (length r.octets)
+        × AllByRecursion (IsKept (arc_value r.template)) (pieces r.octets 0 r.ends.items) };
+}
+
+impl Run {
+    ghost use Rattle.ipfix_template.specs.DataRecord.{IsKept, kept_record};
+    ghost use Rattle.ipfix_template.specs.Values.{record_text};
+    ghost use Rattle.ipfix_records.specs.Runs.{IsKeptRun, records_of};
+
+    /// The records whose texts end at these places of the octets. Nothing is copied, and it takes no memory.
+    pub fn new(template: Arc<Template>, octets: Bytes, ends: Vec<u32>) -> Run
+        requires ends { AreEnds 0 ends.items (length octets) }
+        requires kept { AllByRecursion (IsKept (arc_value template)) (pieces octets 0 ends.items) }
+        ensures { result ≡ record { template = arc_value template; texts = pieces octets 0 ends.items } }
+    {
+        Run {
+            template,
+            octets,
+            ends,
+        }
+    }
+
+    /// The run of one record.
+    ///
+    /// # Errors
+    /// Want of memory.
+    pub fn of_record(alloc: Global, single: Record) -> Result<Run, AllocError>
+        ensures run { IfOk result (λ run. run ≡ record { template = single.template; texts = record_text single.template.fields single.values ∷ [] }) }
+        ensures records { IfOk result (λ run. records_of run ≡ single ∷ []) }
+    {
+        let end = single.octets() as u32;
+        let mut ends = Vec::with_capacity(alloc, 1)?;
+        ends.push_reserved(end);
+        let (template, octets) = single.into_parts();
+        Ok(Run::new(template, octets, ends))
+    }
+
+    /// How many records there are.
+    #[tactic(auto, using(crate::proofs::PieceLaws::length_pieces))]
+    pub fn len(&self) -> usize
+        ensures value { result ≡ length self.now.texts }
+        ensures kept { IsKeptRun self.now }
+    {
+        self.ends.len()
+    }
+
+    #[tactic(auto, using(crate::proofs::PieceLaws::length_pieces))]
+    pub fn is_empty(&self) -> bool
+        ensures value { result ≡ (length self.now.texts == 0) }
+        ensures kept { IsKeptRun self.now }
+    {
+        self.ends.is_empty()
+    }
+
+    pub fn template(&self) -> &Template
+        ensures value { result.now ≡ self.now.template }
+        ensures kept { IsKeptRun self.now }
+    {
+        &self.template
+    }
+
+    /// The template as records share it.
+    pub fn shared_template(&self) -> &Arc<Template>
+        ensures value { arc_value result.now ≡ self.now.template }
+        ensures kept { IsKeptRun self.now }
+    {
+        &self.template
+    }
+
+    /// The octets of all records, one after another.
+    #[tactic(auto, using(crate::proofs::PieceLaws::whole_pieces))]
+    pub fn as_octets(&self) -> &Bytes
+        ensures value { result.now ≡ concat self.now.texts }
+        ensures kept { IsKeptRun self.now }
+    {
+        &self.octets
+    }
+
+    /// Where the first so many records end in the octets, in a time that doesn't grow with their number.
+    pub fn end(&self, count: usize) -> usize
+        requires { count ≤ length self.now.texts }
+        ensures value { result ≡ length (concat (take count self.now.texts)) }
+        ensures within { result ≤ length (concat self.now.texts) }
+    {
+        end_of(&self.ends, count)
+    }
+
+    /// The octets of the record at this index.
+    pub fn text(&self, index: usize) -> &[u8]
+        requires { index < length self.now.texts }
+        ensures value { result.now ≡ slice_index_or self.now.texts index [] }
+        ensures kept { IsKept self.now.template result.now }
+    {
+        let (start, end) = place_of(&self.octets, &self.ends, index);
+        &self.octets[start..end]
+    }
+
+    /// The record at this index. Its octets are a part of the run's, and not copied.
+    ///
+    /// # Errors
+    /// Want of memory.
+    pub fn record(&self, index: usize) -> Result<Record, AllocError>
+        requires { index < length self.now.texts }
+        ensures { IfOk result (λ r. r ≡ kept_record self.now.template (slice_index_or self.now.texts index [])) }
+    {
+        self.view(index).to_record()
+    }
+
+    /// The record at this index, where it stands.
+    pub fn view(&self, index: usize) -> RecordView<'_>
+        requires { index < length self.now.texts }
+        ensures { result ≡ kept_record self.now.template (slice_index_or self.now.texts index []) }
+    {
+        let (start, end) = place_of(&self.octets, &self.ends, index);
+        RecordView::new(&self.template, &self.octets, start, end)
+    }
+
+    /// Puts the records behind a list of records, each cut out and not copied.
+    ///
+    /// # Errors
+    /// Want of memory, and then some of them stand there.
+    pub fn append_to(&self, list: &mut Vec<Record>) -> Result<(), AllocError>
+        ensures { OnOk result (list.new.items ≡ list.old.items ++ records_of self.now) }
+    {
+        for index in 0..self.len() {
+            list.push(self.record(index)?)?;
+        }
+        Ok(())
+    }
+
+    /// The template, the octets and the ends.
+    #[tactic(auto, using(crate::proofs::PieceLaws::whole_pieces))]
+    pub fn into_parts(self) -> (Arc<Template>, Bytes, Vec<u32>)
+        ensures template { arc_value result.0 ≡ self.template }
+        ensures texts { pieces result.1 0 result.2.items ≡ self.texts }
+        ensures octets { result.1 ≡ concat self.texts }
+        ensures ends { AreEnds 0 result.2.items (length result.1) }
+        ensures kept { IsKeptRun self }
+    {
+        let Run {
+            template,
+            octets,
+            ends,
+        } = self;
+        (template, octets, ends)
+    }
+}
+
+impl Clone for Run {
+    ghost use Rattle.std.specs.Prelude.{◌≡◌};
+
+    ghost is_clone = { λ r copy. copy ≡ r };
+
+    /// One more owner of the template and of the octets, with a copy of the ends.
+    fn clone(&self) -> Result<Run, AllocError> {
+        Ok(Run {
+            template: self.template.clone()?,
+            octets: self.octets.clone()?,
+            ends: self.ends.clone()?,
+        })
+    }
+}
+
+/// Where the text at this index starts in the octets, and where it ends.
+fn place_of(octets: &[u8], ends: &[u32], index: usize) -> (usize, usize)
+    requires ends { AreEnds 0 ends.now (length octets.now) }
+    requires index { index < length ends.now }
+    ensures within { (result.0 ≤ result.1) × (result.1 ≤ length octets.now) }
+    ensures shown { take (result.1 - result.0) (drop result.0 octets.now) ≡ slice_index_or (pieces octets.now 0 ends.now) index [] }
+{
+    (end_of(ends, index), end_of(ends, index + 1))
+}
+
+/// Where the first so many texts end.
+fn end_of(ends: &[u32], count: usize) -> usize
+    requires { count ≤ length ends.now }
+    ensures { result ≡ slice_index (0 ∷ ends.now) count }
+{
+    if count == 0 {
+        0
+    } else {
+        ends[count - 1] as usize
+    }
+}

@@ -1,2 +1,0 @@
-pub mod NameLaws
-pub mod LiveLaws

@@ -1,0 +1,4 @@
+pub mod GroupTableLaws
+pub mod AddingLaws
+pub mod NameLaws
+pub mod LiveLaws

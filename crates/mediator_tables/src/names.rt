@@ -1,0 +1,53 @@
+//! The numbers of the live subscriptions by their subscribers' names.
+ghost use Rattle.std.specs.Prelude.{◌≡◌, ℕ, List, [], Some, None, OnOk, OnErr};
+ghost use Rattle.std.specs.Map.{update};
+ghost use Rattle.std.specs.Str.{bytes_eq};
+
+use std::alloc::{AllocError, Global};
+use std::collections::BTreeMap;
+
+/// Numbers by names.
+#[derive(Drop)]
+pub(crate) struct Names {
+    by_name: BTreeMap<String, u64>,
+}
+
+impl Names {
+    ghost use Rattle.mediator_tables.specs.Naming.{number_of};
+
+    /// No name.
+    pub(crate) fn new(alloc: Global) -> Names
+        ensures { result.by_name.entries ≡ [] }
+    {
+        Names {
+            by_name: BTreeMap::new(alloc),
+        }
+    }
+
+    /// The number under a name.
+    pub(crate) fn get(&self, name: &str) -> Option<u64>
+        ensures { result ≡ number_of self.now name.now }
+    {
+        self.by_name.get(name).copied()
+    }
+
+    /// Sets the number under a name.
+    ///
+    /// # Errors
+    /// Want of memory, and then nothing has changed.
+    pub(crate) fn insert(&mut self, alloc: Global, name: &str, sub: u64) -> Result<(), AllocError>
+        ensures ok { OnOk result ((n : List ℕ) → number_of self.new n ≡ update bytes_eq (number_of self.old) name.now (Some sub) n) }
+        ensures err { OnErr result (self.new.by_name.entries ≡ self.old.by_name.entries) }
+    {
+        let key = String::from_str(alloc, name)?;
+        self.by_name.insert(key, sub)?;
+        Ok(())
+    }
+
+    /// Takes out a name. It takes no memory.
+    pub(crate) fn remove(&mut self, name: &str)
+        ensures { (n : List ℕ) → number_of self.new n ≡ update bytes_eq (number_of self.old) name.now None n }
+    {
+        let _ = self.by_name.remove(name);
+    }
+}

@@ -1,6 +1,0 @@
-use Rattle.std.proofs.Common.{◌≡◌, take}
-use Rattle.record_runs.specs.Runs.{records_in}
-use Rattle.record_runs.proofs.records.Records.to_vec.Given as goal
-
-abbrev pub invariant-loop-run : goal.invariant-loop-run
-invariant-loop-run l = l.list.items ≡ records_in (take l.run-index l.run-items)

@@ -1,8 +1,0 @@
-use Rattle.std.proofs.Common.{ap, arith}
-use Rattle.record_runs.specs.Runs.{RunOf}
-use Rattle.record_runs.proofs.PieceLaws.{ends_there}
-use Rattle.record_runs.proofs.run.Run.view.Goals as goal
-
-pub place_of-start-requires-clause-index : goal.place_of-start-requires-clause-index
-place_of-start-requires-clause-index c =
-    omega (arith, c.requires, ends_there c.self.inside.octets c.self.inside.ends.items c.deref-2.result.now c.args.self.now.texts (ap (λ (r : RunOf). r.texts) c.self.view_is) c.deref-2.ensures.value)

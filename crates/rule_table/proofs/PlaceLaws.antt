@@ -1,0 +1,182 @@
+-- Where the values of a side stand, field by field.
+use Rattle.std.proofs.Common.{◌≡◌, ◌==◌, ℕ, ◌+◌, ◌-◌, ◌*◌, ◌<◌, ◌≤◌, Bool, true, false, cond, List, [], ◌∷◌, ◌++◌, length, take, drop, map, filter, get_or, Option, Some, None, IfSome, refl, sym, ap, subst, ◌∙◌, arith, length-append, length-drop, append-nil}
+use Rattle.std.specs.List.{zip, fold}
+use Rattle.std.proofs.lemmas.Bool.{eqb-true}
+use Rattle.std.proofs.lemmas.List.{drop-drop, drop_at, drop_more, take_at, map_push, append-nil}
+use Rattle.std.proofs.lemmas.List.Elements.{All-push, filter_more}
+use Rattle.std.proofs.lemmas.List.Folds.{fold-map}
+use Rattle.sequences.proofs.ListLaws.{drop_read}
+use Rattle.ipfix_template.specs.declared.field.FieldSpec.{FieldSpec}
+use Rattle.ipfix_template.specs.Template.{is_variable}
+use Rattle.ipfix_template.specs.Values.{fits_field, value_text, record_text}
+use Rattle.ipfix_template.specs.DataRecord.{DataRecord, IsSound}
+use Rattle.ipfix_template.proofs.Encoding.{fit_fields-length, fit_fields-at}
+use Rattle.policy_judge.specs.declared.occurrences.Side.{Side}
+use Rattle.policy_judge.specs.Sides.{is_of}
+use Rattle.policy_judge.proofs.PairLaws.{IsAt, pair_within, pair_at, all_pairs}
+use Rattle.policy_judge.proofs.OccurrenceLaws.{field_at}
+use Rattle.rule_table.specs.declared.place.Place.{Place}
+use Rattle.rule_table.specs.declared.place.Place.TheVariants.{Octets, Field}
+use Rattle.rule_table.specs.Classes.{digit_of, with_digit, key_of}
+use Rattle.rule_table.specs.Places.{text_of, value_at, HasPlace, ShowsAt, ArePlaces, place_at, start_behind}
+
+-- ---- where the value of a field starts
+
+-- behind so many octets the values of the fields from this place on are left
+pub record StartsAt (r : DataRecord) (i start : ℕ) : Type 0 where
+  pub within : start ≤ length (text_of r)
+  pub left : drop start (text_of r) ≡ record_text (drop i r.template.fields) (drop i r.values)
+
+-- a value of fixed length, and what is left behind it
+pub record IsFixed (r : DataRecord) (i start end : ℕ) : Type 0 where
+  pub value : take (end - start) (drop start (text_of r)) ≡ get_or r.values i []
+  pub next : StartsAt r (i + 1) end
+
+fits_by : (b : Bool) (short : Bool) (n m : ℕ) → b ≡ false → cond b short (n == m) ≡ true → n ≡ m
+fits_by true short n m fixed fits = absurd cc
+fits_by false short n m fixed fits = eqb-true n m fits
+
+pub fixed_value : (r : DataRecord) (f : FieldSpec) (i start : ℕ) → IsSound r → i < length r.template.fields → f ≡ get_or r.template.fields i f → is_variable f ≡ false → StartsAt r i start → IsFixed r i start (start + f.length)
+fixed_value r f i start sound lt is fixed was =
+    let fs = r.template.fields in
+    let vs = r.values in
+    let value = get_or vs i [] in
+    let after = record_text (drop (i + 1) fs) (drop (i + 1) vs) in
+    let even = fit_fields-length fs vs sound.fit in
+    let fits : fits_field f value ≡ true = ap (λ (g : FieldSpec). fits_field g value) is ∙ fit_fields-at fs vs i f [] sound.fit lt in
+    let wide : length value ≡ f.length = fits_by (is_variable f) _ (length value) f.length fixed fits in
+    let plain : value_text f value ≡ value = rw fixed refl in
+    let front : record_text (drop i fs) (drop i vs) ≡ value_text f value ++ after = rw (drop_read fs i f lt is, drop_more vs i [] (omega (arith, even, lt))) refl in
+    let parts : drop start (text_of r) ≡ value ++ after = was.left ∙ front ∙ ap (λ (t : List ℕ). t ++ after) plain in
+    let size : start + f.length - start ≡ f.length = omega arith in
+    record {
+      value = ap (λ (n : ℕ). take n (drop start (text_of r))) size ∙ ap (take f.length) parts ∙ take_at value after f.length wide;
+      next = record {
+        within = omega (arith, was.within, ap length parts, length-append value after, wide, length-drop start (text_of r));
+        left = sym (drop-drop f.length start (text_of r)) ∙ ap (drop f.length) parts ∙ drop_at value after f.length wide;
+      };
+    }
+
+pub starts : (r : DataRecord) → StartsAt r 0 0
+starts r = record { within = omega arith; left = refl }
+
+-- where the value of the field at this place starts in each record, if that is known
+abbrev pub IsStart : List FieldSpec → ℕ → Option ℕ → Type 0
+IsStart fields i start = (r : DataRecord) → IsSound r → r.template.fields ≡ fields → IfSome start (StartsAt r i)
+
+pub first_start : (fields : List FieldSpec) → IsStart fields 0 (Some 0)
+first_start fields r sound same = starts r
+
+known_by : (r : DataRecord) (f : FieldSpec) (i start : ℕ) (b : Bool) → is_variable f ≡ b → (is_variable f ≡ false → StartsAt r (i + 1) (start + f.length)) → IfSome (cond b None (Some (start + f.length))) (StartsAt r (i + 1))
+known_by r f i start true is next = tt
+known_by r f i start false is next = next is
+
+known_next : (r : DataRecord) (f : FieldSpec) (i : ℕ) → IsSound r → i < length r.template.fields → f ≡ get_or r.template.fields i f → (start : Option ℕ) → IfSome start (StartsAt r i) → IfSome (start_behind start f) (StartsAt r (i + 1))
+known_next r f i sound lt is None was = tt
+known_next r f i sound lt is (Some start) was =
+    known_by r f i start (is_variable f) refl (λ fixed. (fixed_value r f i start sound lt is fixed was).next)
+
+pub next_start : (fields : List FieldSpec) (f : FieldSpec) (i : ℕ) (start next : Option ℕ) → i < length fields → f ≡ get_or fields i f → next ≡ start_behind start f → IsStart fields i start → IsStart fields (i + 1) next
+next_start fields f i start next lt is made was r sound same =
+    let at = field_at r fields f i sound (sym same) lt is in
+    subst (λ (s : Option ℕ). IfSome s (StartsAt r (i + 1))) (sym made) (known_next r f i sound at.within at.is start (was r sound same))
+
+-- it lies in the first 65,535 * 65,535 octets
+few_by : (i start : ℕ) (next : Option ℕ) → start ≤ 65535 * i → IfSome next (λ n. n ≤ start + 65535) → IfSome next (λ s. s ≤ 65535 * (i + 1))
+few_by i start None few near = tt
+few_by i start (Some next) few near = omega (arith, few, near)
+
+pub next_few : (f : FieldSpec) (i : ℕ) (start next : Option ℕ) → next ≡ start_behind start f → IfSome start (λ s. IfSome next (λ n. n ≤ s + 65535)) → IfSome start (λ s. s ≤ 65535 * i) → IfSome next (λ s. s ≤ 65535 * (i + 1))
+next_few f i None next made near few = rw made tt
+next_few f i (Some start) next made near few = few_by i start next few near
+
+-- ---- the place of a field's value
+
+-- a record shows the field's value at its place
+abbrev IsPlaceOf : DataRecord → ℕ → Place → Type 0
+IsPlaceOf r i place = HasPlace r place × (value_at r place ≡ get_or r.values i [])
+
+place_by : (r : DataRecord) (f : FieldSpec) (i start : ℕ) (b : Bool) → i < length r.template.fields → is_variable f ≡ b → (is_variable f ≡ false → IsFixed r i start (start + f.length)) → IsPlaceOf r i (cond b (Field i) (Octets start (start + f.length)))
+place_by r f i start true lt is fixed = (lt, refl)
+place_by r f i start false lt is fixed =
+    let there = fixed is in
+    ((omega arith, there.next.within), there.value)
+
+shown_at : (r : DataRecord) (f : FieldSpec) (i : ℕ) → IsSound r → i < length r.template.fields → f ≡ get_or r.template.fields i f → (start : Option ℕ) → IfSome start (StartsAt r i) → IsPlaceOf r i (place_at start f i)
+shown_at r f i sound lt is None was = (lt, refl)
+shown_at r f i sound lt is (Some start) was =
+    place_by r f i start (is_variable f) lt refl (λ fixed. fixed_value r f i start sound lt is fixed was)
+
+-- ---- the places of a side's values
+
+-- the values of a side among fields with their values
+abbrev pub side_values : Side → List (FieldSpec × List ℕ) → List (List ℕ)
+side_values side entries = map (λ p. p.1) (filter (λ p. is_of side p.0.element) entries)
+
+-- each record shows its addresses of the side there, as far as the fields before this place hold them
+abbrev pub ArePlacesTo : Side → List FieldSpec → ℕ → List Place → Type 0
+ArePlacesTo side fields i places = (r : DataRecord) → IsSound r → r.template.fields ≡ fields → ShowsAt r places (side_values side (take i (zip r.template.fields r.values)))
+
+pub no_places : (side : Side) (fields : List FieldSpec) → ArePlacesTo side fields 0 []
+no_places side fields r sound same = record { within = λ k d l. absurd (omega arith); values = refl }
+
+own_by : (side : Side) (entries : List (FieldSpec × List ℕ)) (entry : FieldSpec × List ℕ) (b : Bool) → b ≡ true → map (λ (p : FieldSpec × List ℕ). p.1) (filter (λ p. is_of side p.0.element) entries ++ cond b (entry ∷ []) []) ≡ side_values side entries ++ entry.1 ∷ []
+own_by side entries entry true e = map_push (λ (p : FieldSpec × List ℕ). p.1) (filter (λ p. is_of side p.0.element) entries) entry
+own_by side entries entry false e = absurd cc
+
+other_by : (side : Side) (entries : List (FieldSpec × List ℕ)) (entry : FieldSpec × List ℕ) (b : Bool) → b ≡ false → map (λ (p : FieldSpec × List ℕ). p.1) (filter (λ p. is_of side p.0.element) entries ++ cond b (entry ∷ []) []) ≡ side_values side entries
+other_by side entries entry true e = absurd cc
+other_by side entries entry false e = ap (map (λ (p : FieldSpec × List ℕ). p.1)) (append-nil (filter (λ p. is_of side p.0.element) entries))
+
+-- the values of a side with one field more
+more_values : (side : Side) (r : DataRecord) (f : FieldSpec) (i : ℕ) → IsAt r.template.fields r.values i f
+    → side_values side (take (i + 1) (zip r.template.fields r.values))
+    ≡ map (λ (p : FieldSpec × List ℕ). p.1) (filter (λ p. is_of side p.0.element) (take i (zip r.template.fields r.values)) ++ cond (is_of side f.element) ((f, get_or r.values i []) ∷ []) [])
+more_values side r f i at =
+    let entries = zip r.template.fields r.values in
+    ap (map (λ (p : FieldSpec × List ℕ). p.1)) (filter_more (λ p. is_of side p.0.element) entries i (f, []) (pair_within r.template.fields r.values i f at)
+    ∙ ap (λ (p : FieldSpec × List ℕ). filter (λ p. is_of side p.0.element) (take i entries) ++ cond (is_of side p.0.element) (p ∷ []) []) (pair_at r.template.fields r.values i f [] at))
+
+pub own_place : (side : Side) (fields : List FieldSpec) (f : FieldSpec) (i : ℕ) (start : Option ℕ) (place : Place) (places more : List Place) → i < length fields → f ≡ get_or fields i f → is_of side f.element ≡ true → place ≡ place_at start f i → more ≡ places ++ place ∷ []
+    → IsStart fields i start → ArePlacesTo side fields i places → ArePlacesTo side fields (i + 1) more
+own_place side fields f i start place places more lt is own made grown known were r sound same =
+    let at = field_at r fields f i sound (sym same) lt is in
+    let before = were r sound same in
+    let there : IsPlaceOf r i place = subst (λ (p : Place). IsPlaceOf r i p) (sym made) (shown_at r f i sound at.within at.is start (known r sound same)) in
+    let all : ShowsAt r (places ++ place ∷ []) (side_values side (take (i + 1) (zip r.template.fields r.values))) = record {
+      within = All-push (HasPlace r) places place before.within there.0;
+      values =
+          map_push (value_at r) places place
+          ∙ ap (λ (vs : List (List ℕ)). vs ++ value_at r place ∷ []) before.values
+          ∙ ap (λ (v : List ℕ). side_values side (take i (zip r.template.fields r.values)) ++ v ∷ []) there.1
+          ∙ sym (more_values side r f i at ∙ own_by side (take i (zip r.template.fields r.values)) (f, get_or r.values i []) (is_of side f.element) own);
+    } in
+    subst (λ (ps : List Place). ShowsAt r ps (side_values side (take (i + 1) (zip r.template.fields r.values)))) (sym grown) all
+
+pub other_place : (side : Side) (fields : List FieldSpec) (f : FieldSpec) (i : ℕ) (places more : List Place) → i < length fields → f ≡ get_or fields i f → is_of side f.element ≡ false → more ≡ places
+    → ArePlacesTo side fields i places → ArePlacesTo side fields (i + 1) more
+other_place side fields f i places more lt is other kept were r sound same =
+    let at = field_at r fields f i sound (sym same) lt is in
+    let before = were r sound same in
+    let values = more_values side r f i at ∙ other_by side (take i (zip r.template.fields r.values)) (f, get_or r.values i []) (is_of side f.element) other in
+    let all : ShowsAt r places (side_values side (take (i + 1) (zip r.template.fields r.values))) = record {
+      within = before.within;
+      values = before.values ∙ sym values;
+    } in
+    subst (λ (ps : List Place). ShowsAt r ps (side_values side (take (i + 1) (zip r.template.fields r.values)))) (sym kept) all
+
+pub all_places : (side : Side) (fields : List FieldSpec) (i : ℕ) (places : List Place) → length fields ≤ i → ArePlacesTo side fields i places → ArePlaces side fields places
+all_places side fields i places le were r sound same =
+    let whole : take i (zip r.template.fields r.values) ≡ zip r.template.fields r.values = all_pairs r.template.fields r.values i (omega (arith, le, ap length same)) in
+    subst (λ (es : List (FieldSpec × List ℕ)). ShowsAt r places (side_values side es)) whole (were r sound same)
+
+-- ---- the key of what is shown
+
+-- the key with the value at one place more
+abbrev pub with_place : List ℕ → DataRecord → Option ℕ → Place → Option ℕ
+with_place cuts r key place = with_digit key (digit_of cuts (value_at r place))
+
+pub key_at_places : (cuts : List ℕ) (r : DataRecord) (places : List Place) → fold (with_place cuts r) (Some 1) places ≡ key_of cuts (map (value_at r) places)
+key_at_places cuts r places =
+    sym (fold-map (λ key v. with_digit key (digit_of cuts v)) (value_at r) (Some 1) places)
+    ∙ sym (fold-map with_digit (digit_of cuts) (Some 1) (map (value_at r) places))

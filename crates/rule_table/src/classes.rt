@@ -1,0 +1,179 @@
+ghost use Rattle.std.specs.Prelude.{◌≡◌, ◌≤◌, length, Some, IfOk};
+ghost use Rattle.std.specs.List.{fold, zip};
+ghost use Rattle.std.specs.List.Sorted.{IsNonDecreasing};
+ghost use Rattle.sequences.specs.Octets.{be_value};
+ghost use Rattle.policy_judge.specs.Sides.{is_of};
+ghost use Rattle.policy_judge.specs.Occurrences.{values_of};
+ghost use Rattle.rule_table.specs.Cuts.{AreCuts, HaveCuts, most_cuts};
+ghost use Rattle.rule_table.specs.Classes.{class_of, digit_of, with_digit, with_field, key_of};
+ghost use Rattle.rule_table.specs.Spans.{IsSpan, IsAmong};
+
+use crate::cuts::sorted_cuts;
+use crate::narrow::NarrowCuts;
+use crate::span::Span;
+use flow_prefix::{IPV4_OCTETS, IPV6_OCTETS};
+use ipfix_template::Record;
+use policy_judge::Side;
+use policy_text::Rule;
+use std::alloc::{AllocError, Global};
+use std::marker::Model;
+
+/// The key of no value.
+pub(crate) const EMPTY_KEY: u64 = 1;
+
+/// One above the greatest digit of a key.
+const DIGITS: u64 = 0x1_0000;
+
+/// Keys of fewer than three digits are below this.
+const FULL_KEY: u64 = 0x1_0000_0000_0000;
+
+/// Where an address lies among the bounds of the prefixes that rules name. Contracts see the cuts.
+pub struct AddressClasses {
+    /// Before and behind each prefix, ascending.
+    cuts: Vec<u128>,
+    /// Those among which an address of IPv4 lies.
+    narrow: NarrowCuts,
+}
+
+impl Drop for AddressClasses {
+    // Written out: a derived one is proved anew in each crate that drops such a value.
+    fn drop(self) {
+        let AddressClasses { cuts: _, narrow: _ } = self;
+    }
+}
+
+impl Model for AddressClasses {
+    ghost use Rattle.std.specs.Prelude.{ℕ, List};
+    ghost use Rattle.rule_table.specs.Narrow.{AreKeptCuts};
+
+    ghost Value = { List ℕ };
+
+    ghost view = { λ c. c.cuts.items };
+
+    ghost invariant = { λ c. AreKeptCuts c.cuts.items c.narrow };
+}
+
+impl AddressClasses {
+    /// The classes that the prefixes of these rules make.
+    ///
+    /// # Errors
+    /// Want of memory.
+    pub fn of_rules(alloc: Global, rules: &[Rule]) -> Result<AddressClasses, AllocError>
+        requires { length rules.now ≤ 4096 }
+        ensures { IfOk result (λ classes. HaveCuts classes rules.now) }
+    {
+        let cuts = sorted_cuts(alloc, rules)?;
+        let narrow = NarrowCuts::of(alloc, &cuts)?;
+        Ok(AddressClasses { cuts, narrow })
+    }
+
+    /// The cuts, ascending: addresses behind which a prefix begins, or ends.
+    pub fn cuts(&self) -> &[u128]
+        ensures value { result.now ≡ self.now }
+        ensures sound { AreCuts self.now }
+    {
+        self.cuts.as_slice()
+    }
+
+    /// The key of the classes of a record's addresses on a side; `None` where there are more than three.
+    pub fn key(&self, side: Side, flow_record: &Record) -> Option<u64>
+        ensures few { length self.now ≤ most_cuts }
+        ensures key { result ≡ key_of self.now (values_of (is_of side) flow_record.now) }
+    {
+        // What is read of the cuts has what their type keeps of them, as `few` says.
+        let _count = self.cuts.len();
+        key_of_fields(self, side, flow_record)
+    }
+
+    /// The class of a value, odd for 4 octets and even for 16; 0 for a value that is no address.
+    #[tactic(auto, unfolding(crate::specs::Classes::digit_of))]
+    pub(crate) fn digit(&self, octets: &[u8]) -> u16
+        ensures { result ≡ digit_of self.now octets.now }
+    {
+        if octets.len() == IPV4_OCTETS {
+            return self.narrow_class(narrow_number(octets)) * 2 + 1;
+        }
+        if octets.len() == IPV6_OCTETS {
+            return self.class(wide_number(octets)) * 2 + 2;
+        }
+        0
+    }
+
+    /// How many cuts are below an address.
+    fn class(&self, address: u128) -> u16
+        ensures class { result ≡ class_of self.now address }
+        ensures few { result ≤ most_cuts }
+    {
+        count_below(&self.cuts, address) as u16
+    }
+
+    /// The addresses of IPv4 about one that have its class: those between the cuts beside it.
+    pub(crate) fn span_of(&self, address: u32) -> Span
+        ensures span { IsSpan self.now result }
+        ensures among { IsAmong address result }
+    {
+        self.narrow.span_of(address)
+    }
+
+    /// How many cuts are below an address of IPv4.
+    fn narrow_class(&self, address: u32) -> u16
+        ensures class { result ≡ class_of self.now address }
+        ensures few { result ≤ most_cuts }
+    {
+        self.narrow.class(address)
+    }
+}
+
+/// The number that 4 octets write, the most significant first.
+pub(crate) fn narrow_number(octets: &[u8]) -> u32
+    requires { length octets.now ≡ 4 }
+    ensures { result ≡ be_value octets.now }
+{
+    u32::from_be_bytes([octets[0], octets[1], octets[2], octets[3]])
+}
+
+/// The number that 16 octets write, the most significant first.
+fn wide_number(octets: &[u8]) -> u128
+    requires { length octets.now ≡ 16 }
+    ensures { result ≡ be_value octets.now }
+{
+    u128::from_be_bytes([
+        octets[0], octets[1], octets[2], octets[3], octets[4], octets[5], octets[6], octets[7],
+        octets[8], octets[9], octets[10], octets[11], octets[12], octets[13], octets[14],
+        octets[15],
+    ])
+}
+
+/// How many of ascending numbers are below a bound.
+fn count_below(numbers: &[u128], bound: u128) -> usize
+    requires { IsNonDecreasing numbers.now }
+    ensures class { result ≡ class_of numbers.now bound }
+    ensures within { result ≤ length numbers.now }
+{
+    numbers.partition_point(|number| *number < bound)
+}
+
+/// The key of those values whose fields are of this side.
+fn key_of_fields(classes: &AddressClasses, side: Side, flow_record: &Record) -> Option<u64>
+    ensures { result ≡ fold (with_field classes.now side) (Some 1) (zip flow_record.now.template.fields flow_record.now.values) }
+{
+    flow_record
+        .entries()
+        .fold(Some(EMPTY_KEY), |key, (field, value)| {
+            if side.has(field.element) {
+                with_digit(key, classes.digit(value))
+            } else {
+                key
+            }
+        })
+}
+
+/// A key with one digit more, if it has fewer than three.
+pub(crate) fn with_digit(key: Option<u64>, digit: u16) -> Option<u64>
+    ensures { result ≡ with_digit key digit }
+{
+    match key {
+        Some(key) if key < FULL_KEY => Some(key * DIGITS + u64::from(digit)),
+        _ => None,
+    }
+}

@@ -1,0 +1,77 @@
+//! Where the values of a side stand in each record of a template.
+ghost use Rattle.std.specs.Prelude.{◌≡◌, ◌≤◌, ◌+◌, ◌*◌, length, IfOk, IfSome};
+ghost use Rattle.ipfix_template.specs.declared.field.TheConstants.{VARIABLE, MOST_FIELDS};
+ghost use Rattle.rule_table.specs.Places.{ArePlaces, place_at, start_behind, HasPlace, value_at};
+
+use ipfix_template::{FieldSpec, RecordView};
+use policy_judge::Side;
+use std::alloc::{AllocError, Global};
+
+/// Where a value stands in each record of a template.
+#[derive(Clone, Copy, Debug)]
+pub(crate) enum Place {
+    /// In these octets of the record: only fields of fixed length stand before it.
+    Octets { from: usize, to: usize },
+    /// At the field of this place.
+    Field(usize),
+}
+
+/// The places of the values of a side, in the order of their fields.
+pub(crate) fn places_of(
+    alloc: Global,
+    side: Side,
+    fields: &[FieldSpec],
+) -> Result<Vec<Place>, AllocError>
+    requires { length fields.now ≤ MOST_FIELDS }
+    ensures { IfOk result (λ places. ArePlaces side fields.now places.items) }
+{
+    let mut places = Vec::new(alloc);
+    let mut start = Some(0);
+    for index in 0..fields.len() {
+        let field = &fields[index];
+        if side.has(field.element) {
+            places.push(place_at(start, field, index))?;
+        }
+        start = start_behind(start, field);
+    }
+    Ok(places)
+}
+
+/// Where a field's value stands, with where it starts, if that is the same in each record.
+fn place_at(start: Option<usize>, field: &FieldSpec, index: usize) -> Place
+    requires { IfSome start (λ s. s ≤ MOST_FIELDS * VARIABLE) }
+    ensures { result ≡ place_at start field.now index }
+{
+    let length = usize::from(field.length);
+    match start {
+        Some(from) if !field.is_variable() => Place::Octets {
+            from,
+            to: from + length,
+        },
+        _ => Place::Field(index),
+    }
+}
+
+/// Where the value behind the field's starts, if that is the same in each record.
+fn start_behind(start: Option<usize>, field: &FieldSpec) -> Option<usize>
+    requires { IfSome start (λ s. s ≤ MOST_FIELDS * VARIABLE) }
+    ensures start { result ≡ start_behind start field.now }
+    ensures near { IfSome start (λ s. IfSome result (λ next. next ≤ s + VARIABLE)) }
+{
+    let length = usize::from(field.length);
+    match start {
+        Some(from) if !field.is_variable() => Some(from + length),
+        _ => None,
+    }
+}
+
+/// What a record shows at a place.
+pub(crate) fn value_at<'r>(place: &Place, flow_record: &RecordView<'r>) -> &'r [u8]
+    requires { HasPlace flow_record.now place.now }
+    ensures { result.now ≡ value_at flow_record.now place.now }
+{
+    match place {
+        Place::Octets { from, to } => &flow_record.as_octets()[*from..*to],
+        Place::Field(index) => flow_record.value(*index),
+    }
+}
