@@ -26,12 +26,14 @@ pub fn items(alloc: Global, octets: &[u8]) -> Result<Vec<Item>, DecodeError>
     // What is read is a message of the grammar.
     ensures found { IfOk result (λ v. (h : Header) × IsMessage octets.now h v.items) }
     // What is a message of the grammar is read, unless memory runs out.
-    ensures only { (h : Header) (said : List Item) → IsMessage octets.now h said → Gives (λ v. v.items) result (Ok said) }
+    ensures only { (h : Header) (said : List Item) → IsMessage octets.now h said
+        → Gives (λ v. v.items) result (Ok said) }
     // Which fault it is.
     ensures exact { Gives (λ v. v.items) result (items_of octets.now) }
     // A fault of the header, and a message without sets, are answered without memory.
     ensures header { IfErr (read_header octets.now) (λ e. result ≡ Err e) }
-    ensures bare { IfOk (read_header octets.now) (λ _. length octets.now ≡ header_octets → IsOk result) }
+    ensures bare { IfOk (read_header octets.now) (λ _. length octets.now ≡ header_octets
+        → IsOk result) }
 {
     read_items(alloc, octets)
 }
@@ -40,7 +42,8 @@ pub fn items(alloc: Global, octets: &[u8]) -> Result<Vec<Item>, DecodeError>
 fn read_items(alloc: Global, octets: &[u8]) -> Result<Vec<Item>, DecodeError>
     ensures exact { Gives (λ v. v.items) result (items_of octets.now) }
     ensures header { IfErr (read_header octets.now) (λ e. result ≡ Err e) }
-    ensures bare { IfOk (read_header octets.now) (λ _. length octets.now ≡ header_octets → IsOk result) }
+    ensures bare { IfOk (read_header octets.now) (λ _. length octets.now ≡ header_octets
+        → IsOk result) }
 {
     read_header(octets)?;
     let mut items = Vec::new(alloc);
@@ -61,7 +64,8 @@ fn put_sets(
     items: &mut Vec<Item>,
 ) -> Result<(), DecodeError>
     requires { length octets.now ≤ total }
-    ensures read { Gives (λ _. items.new.items) result (with_front items.old.items (read_all (set_front total) octets.now)) }
+    ensures read { Gives (λ _. items.new.items) result
+        (with_front items.old.items (read_all (set_front total) octets.now)) }
     ensures bare { length octets.now ≡ 0 → IsOk result }
 {
     let mut rest = octets;
@@ -106,7 +110,8 @@ fn put_content(
     content: &[u8],
     items: &mut Vec<Item>,
 ) -> Result<(), DecodeError>
-    ensures { Gives (λ _. items.new.items) result (with_front items.old.items (set_items id place content.now)) }
+    ensures { Gives (λ _. items.new.items) result
+        (with_front items.old.items (set_items id place content.now)) }
 {
     if id == TEMPLATE_SET {
         return put_templates(alloc, false, content, items);
@@ -133,7 +138,8 @@ fn put_templates(
     content: &[u8],
     items: &mut Vec<Item>,
 ) -> Result<(), DecodeError>
-    ensures { Gives (λ _. items.new.items) result (with_front items.old.items (read_all (template_front options) content.now)) }
+    ensures { Gives (λ _. items.new.items) result
+        (with_front items.old.items (read_all (template_front options) content.now)) }
 {
     let mut rest = content;
     'records: while let Some((item, after)) = first_record(alloc, options, rest)? {

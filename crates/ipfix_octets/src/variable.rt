@@ -15,7 +15,8 @@ const LONG_FORM: u8 = 255;
 ///
 /// `None` exactly where no length and value of so many octets stand at the front.
 pub fn read_varlen(octets: &[u8]) -> Option<(usize, usize)>
-    ensures found { IfSome result (λ f. IsVarText (take (f.0 + f.1) octets.now) (take f.1 (drop f.0 octets.now))) }
+    ensures found { IfSome result
+        (λ f. IsVarText (take (f.0 + f.1) octets.now) (take f.1 (drop f.0 octets.now))) }
     ensures only { (text value rest : List ℕ) → octets.now ≡ text ++ rest → IsVarText text value
         → result ≡ Some (length text - length value, length value) }
     ensures within { IfSome result (λ f. f.0 + f.1 ≤ length octets.now) }
@@ -54,7 +55,8 @@ pub fn write_varlen(value: &[u8], out: &mut Vec<u8>) -> Result<(), AllocError>
     requires { length value.now ≤ longest_value }
     ensures ok { OnOk result (out.new.items ≡ out.old.items ++ shortest_text value.now) }
     ensures err { OnErr result (out.new.items ≡ out.old.items) }
-    ensures full { OnErr result (vec_capacity out.old < vec_len out.old + length (shortest_text value.now)) }
+    ensures full { OnErr result
+        (vec_capacity out.old < vec_len out.old + length (shortest_text value.now)) }
     ensures capacity { vec_capacity out.old ≤ vec_capacity out.new }
 {
     let short = value.len() < usize::from(LONG_FORM);
@@ -73,5 +75,6 @@ pub fn write_varlen(value: &[u8], out: &mut Vec<u8>) -> Result<(), AllocError>
 /// A text is read as one value: two values of variable length that stand at the front of the same
 /// octets are equal, and so are their texts.
 pub fn one_value()
-    ensures { (octets a b x y v w : List ℕ) → octets ≡ a ++ x → octets ≡ b ++ y → IsVarText a v → IsVarText b w → (a ≡ b) × (v ≡ w) }
+    ensures { (octets a b x y v w : List ℕ) → octets ≡ a ++ x
+        → octets ≡ b ++ y → IsVarText a v → IsVarText b w → (a ≡ b) × (v ≡ w) }
 {}

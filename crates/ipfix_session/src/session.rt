@@ -180,7 +180,8 @@ impl Session {
     /// Want of memory.
     pub fn templates(&self) -> Result<Templates, AllocError>
         ensures same { IfOk result (λ t. t ≡ self.now.standing.templates) }
-        ensures knows { (older : List (List ℕ)) → StandsFor self.now older → IfOk result (λ t. Knows t older) }
+        ensures knows { (older : List (List ℕ)) → StandsFor self.now older
+            → IfOk result (λ t. Knows t older) }
     {
         let tables = self.tables.for_one_more(self.alloc)?;
         Ok(Templates::new(self.alloc, tables))
@@ -199,15 +200,19 @@ impl Session {
         unknown: bool,
     ) -> Result<Option<Gap>, AllocError>
         ensures gap { (older : List (List ℕ)) → StandsFor self.old older
-            → IfOk result (λ gap. gap ≡ gap_between (expected_number header.now.domain older) header.now.sequence) }
+            → IfOk result (λ gap. gap
+            ≡ gap_between (expected_number header.now.domain older) header.now.sequence) }
         // Where it is the next message after those that the session stands for, the session then stands for them and it.
-        ensures stands { (older : List (List ℕ)) (message : List ℕ) (c : Contents) → StandsFor self.old older
-            → header_of message ≡ header.now → HasNoTemplates message → contents_of older message ≡ Ok c
-            → length c.records ≡ records → unknown ≡ not (c.skips.unknown == 0) → OnOk result (StandsFor self.new (message ∷ older)) }
+        ensures stands { (older : List (List ℕ)) (message : List ℕ) (c : Contents)
+            → StandsFor self.old older → header_of message ≡ header.now
+            → HasNoTemplates message → contents_of older message ≡ Ok c
+            → length c.records ≡ records → unknown ≡ not (c.skips.unknown == 0)
+            → OnOk result (StandsFor self.new (message ∷ older)) }
         // Whatever was read, the templates stay, and so do the numbers of the other domains.
         ensures templates { self.new.standing.templates ≡ self.old.standing.templates }
         ensures number { OnOk result ((q : ℕ) → at_key q self.new.standing.expected
-            ≡ (if q == header.now.domain then number_past header.now records unknown else at_key q self.old.standing.expected)) }
+            ≡ (if q == header.now.domain
+            then number_past header.now records unknown else at_key q self.old.standing.expected)) }
         ensures err { OnErr result (self.new.standing ≡ self.old.standing) }
     {
         let expected = self.numbers.get(header.domain);
@@ -227,7 +232,8 @@ impl Session {
         } }
         ensures reading { (older : List (List ℕ)) (message : List ℕ) → StandsFor self.now older
             → header_of message ≡ header → HasNoTemplates message
-            → contents_of older message ≡ Ok (record { records = records; skips = skips }) → IsReadingOf older message result }
+            → contents_of older message ≡ Ok (record { records = records; skips = skips })
+            → IsReadingOf older message result }
     {
         let next = number_after(header, &records, skips);
         let gap = gap_between(self.numbers.get(header.domain), header.sequence);
@@ -267,12 +273,16 @@ impl Session {
     ) -> Result<Reading, ReadError>
         requires few { length message.now ≤ longest_message }
         requires stand { StandIn (length message.now) said.items }
-        ensures reads { (older : List Item) → Keeps (kept_of header.domain self.now.standing).templates older
+        ensures reads { (older : List Item)
+            → Keeps (kept_of header.domain self.now.standing).templates older
             → Gives contents_read result (contents_after older message.now said.items) }
-        ensures keeps { (older : List Item) → Keeps (kept_of header.domain self.now.standing).templates older
-            → IfOk result (λ r. AreInForce (afterwards r (kept_of header.domain self.now.standing).templates) (reverse said.items ++ older)) }
+        ensures keeps { (older : List Item)
+            → Keeps (kept_of header.domain self.now.standing).templates older
+            → IfOk result (λ r. AreInForce (afterwards r
+            (kept_of header.domain self.now.standing).templates) (reverse said.items ++ older)) }
         ensures header { IfOk result (λ r. r.meaning.header ≡ header) }
-        ensures gap { IfOk result (λ r. r.meaning.gap ≡ gap_between (kept_of header.domain self.now.standing).expected header.sequence) }
+        ensures gap { IfOk result (λ r. r.meaning.gap
+            ≡ gap_between (kept_of header.domain self.now.standing).expected header.sequence) }
         ensures next { IfOk result (λ r. r.next ≡ number_after header (contents_read r)) }
     {
         let empty = Table::new(self.alloc);

@@ -70,7 +70,8 @@ impl Templates {
 
     /// The template of a domain and an ID, of which one may become an owner.
     pub fn shared(&self, domain: u32, id: u16) -> Option<&Arc<Template>>
-        ensures { option_map (λ t. arc_value t.now) result ≡ at_key id (templates_of domain self.now) }
+        ensures { option_map (λ t. arc_value t.now) result
+            ≡ at_key id (templates_of domain self.now) }
     {
         self.tables.shared(domain, id)
     }
@@ -88,9 +89,11 @@ impl Templates {
     pub fn read(&self, message: &Bytes, said: Vec<Item>) -> Result<Contents, ReadError>
         requires said { items_of message.now ≡ Ok said.items }
         // The answer is what the message holds after those messages, or its first fault.
-        ensures messages { (older : List (List ℕ)) → Knows self.now older → Gives held result (contents_of older message.now) }
+        ensures messages { (older : List (List ℕ)) → Knows self.now older
+            → Gives held result (contents_of older message.now) }
         // So it is after any items that leave these templates in force.
-        ensures items { (older : List Item) → Keeps (templates_of (domain_of message.now) self.now) older
+        ensures items { (older : List Item)
+            → Keeps (templates_of (domain_of message.now) self.now) older
             → Gives held result (contents_after older message.now said.items) }
     {
         let octets: &[u8] = message;

@@ -139,7 +139,8 @@ impl Record {
     ) -> Result<Record, RefusedRecord>
         ensures { MatchResult result
             (λ r. (r ≡ record { template = arc_value template; values = values }) × IsSound r)
-            (λ refused. (arc_value refused.template ≡ arc_value template) × (refused.values ≡ values)
+            (λ refused. (arc_value refused.template ≡ arc_value template)
+            × (refused.values ≡ values)
             × IsWhy refused.why (record { template = arc_value template; values = values })) }
     {
         if !is_record(&template, values.as_slice()) {
@@ -173,7 +174,8 @@ impl Record {
         values: &Values,
     ) -> Result<Record, AllocError>
         requires { IsSound (record { template = arc_value template; values = values.now }) }
-        ensures { IfOk result (λ r. r ≡ record { template = arc_value template; values = values.now }) }
+        ensures { IfOk result
+            (λ r. r ≡ record { template = arc_value template; values = values.now }) }
     {
         let octets = text_of(alloc, &template, values)?;
         Ok(Record { template, octets })
@@ -223,7 +225,8 @@ fn is_record(template: &Template, values: &[Bytes]) -> bool
 /// The octets of the template's record, as [`encode_template`](crate::encode_template) appends it.
 #[tactic(auto, using(crate::proofs::Encoding::octets_of_record))]
 pub fn template_octets(template: &Template) -> usize
-    ensures { result ≡ length (template_record least_template_id (is_options template.now) template.now) }
+    ensures { result
+        ≡ length (template_record least_template_id (is_options template.now) template.now) }
 {
     let specifiers = specifier_octets(template.fields.as_slice());
     if template.is_options() {

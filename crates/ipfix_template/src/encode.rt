@@ -28,7 +28,8 @@ pub fn encode_template(id: u16, template: &Template, out: &mut Vec<u8>) -> Resul
     ensures ok { OnOk result (out.new.items
         ≡ out.old.items ++ template_record id (is_options template.now) template.now) }
     ensures err { OnErr result (out.new.items ≡ out.old.items) }
-    ensures full { OnErr result (vec_capacity out.old < vec_len out.old + length (template_record id (is_options template.now) template.now)) }
+    ensures full { OnErr result (vec_capacity out.old
+        < vec_len out.old + length (template_record id (is_options template.now) template.now)) }
     ensures capacity { vec_capacity out.old ≤ vec_capacity out.new }
 {
     let held = out.len();
@@ -45,9 +46,11 @@ pub fn encode_template(id: u16, template: &Template, out: &mut Vec<u8>) -> Resul
 /// # Errors
 /// Want of memory, only where `out` had no room for it, and then nothing is appended.
 pub fn encode_record(whole: &Record, out: &mut Vec<u8>) -> Result<(), AllocError>
-    ensures ok { OnOk result (out.new.items ≡ out.old.items ++ record_text whole.now.template.fields whole.now.values) }
+    ensures ok { OnOk result
+        (out.new.items ≡ out.old.items ++ record_text whole.now.template.fields whole.now.values) }
     ensures err { OnErr result (out.new.items ≡ out.old.items) }
-    ensures full { OnErr result (vec_capacity out.old < vec_len out.old + length (record_text whole.now.template.fields whole.now.values)) }
+    ensures full { OnErr result (vec_capacity out.old
+        < vec_len out.old + length (record_text whole.now.template.fields whole.now.values)) }
     ensures capacity { vec_capacity out.old ≤ vec_capacity out.new }
 {
     out.extend_from_slice(whole.as_octets())
@@ -58,7 +61,8 @@ fn put_template(id: u16, template: &Template, out: &mut Vec<u8>) -> Result<(), A
     ensures ok { OnOk result (out.new.items
         ≡ out.old.items ++ template_record id (is_options template.now) template.now) }
     ensures err { OnErr result (take (length out.old.items) out.new.items ≡ out.old.items) }
-    ensures full { OnErr result (vec_capacity out.old < vec_len out.old + length (template_record id (is_options template.now) template.now)) }
+    ensures full { OnErr result (vec_capacity out.old
+        < vec_len out.old + length (template_record id (is_options template.now) template.now)) }
     ensures capacity { vec_capacity out.old ≤ vec_capacity out.new }
 {
     put_head(id, template, out)?;
@@ -66,9 +70,11 @@ fn put_template(id: u16, template: &Template, out: &mut Vec<u8>) -> Result<(), A
 }
 
 fn put_head(id: u16, template: &Template, out: &mut Vec<u8>) -> Result<(), AllocError>
-    ensures ok { OnOk result (out.new.items ≡ out.old.items ++ record_head id (is_options template.now) template.now) }
+    ensures ok { OnOk result
+        (out.new.items ≡ out.old.items ++ record_head id (is_options template.now) template.now) }
     ensures err { OnErr result (out.new.items ≡ out.old.items) }
-    ensures full { OnErr result (vec_capacity out.old < vec_len out.old + length (record_head id (is_options template.now) template.now)) }
+    ensures full { OnErr result (vec_capacity out.old
+        < vec_len out.old + length (record_head id (is_options template.now) template.now)) }
     ensures capacity { vec_capacity out.old ≤ vec_capacity out.new }
 {
     let [a, b] = id.to_be_bytes();
@@ -84,7 +90,8 @@ fn put_head(id: u16, template: &Template, out: &mut Vec<u8>) -> Result<(), Alloc
 fn put_specifiers(fields: &[FieldSpec], out: &mut Vec<u8>) -> Result<(), AllocError>
     ensures ok { OnOk result (out.new.items ≡ out.old.items ++ flat_map specifier fields.now) }
     ensures err { OnErr result (take (length out.old.items) out.new.items ≡ out.old.items) }
-    ensures full { OnErr result (vec_capacity out.old < vec_len out.old + length (flat_map specifier fields.now)) }
+    ensures full { OnErr result
+        (vec_capacity out.old < vec_len out.old + length (flat_map specifier fields.now)) }
     ensures capacity { vec_capacity out.old ≤ vec_capacity out.new }
 {
     for field in fields {
@@ -96,7 +103,8 @@ fn put_specifiers(fields: &[FieldSpec], out: &mut Vec<u8>) -> Result<(), AllocEr
 fn put_specifier(field: &FieldSpec, out: &mut Vec<u8>) -> Result<(), AllocError>
     ensures ok { OnOk result (out.new.items ≡ out.old.items ++ specifier field.now) }
     ensures err { OnErr result (out.new.items ≡ out.old.items) }
-    ensures full { OnErr result (vec_capacity out.old < vec_len out.old + length (specifier field.now)) }
+    ensures full { OnErr result
+        (vec_capacity out.old < vec_len out.old + length (specifier field.now)) }
     ensures capacity { vec_capacity out.old ≤ vec_capacity out.new }
 {
     let number = field.element.number();
@@ -118,7 +126,8 @@ fn put_values(fields: &[FieldSpec], values: &[Bytes], out: &mut Vec<u8>) -> Resu
     requires { fit_fields fields.now values.now ≡ true }
     ensures ok { OnOk result (out.new.items ≡ out.old.items ++ record_text fields.now values.now) }
     ensures err { OnErr result (take (length out.old.items) out.new.items ≡ out.old.items) }
-    ensures full { OnErr result (vec_capacity out.old < vec_len out.old + length (record_text fields.now values.now)) }
+    ensures full { OnErr result
+        (vec_capacity out.old < vec_len out.old + length (record_text fields.now values.now)) }
     ensures capacity { vec_capacity out.old ≤ vec_capacity out.new }
 {
     for (field, value) in fields.iter().zip(values) {

@@ -34,7 +34,8 @@ impl Model for Records {
 
     ghost view = { λ r. records_in r.runs.items };
 
-    ghost invariant = { λ r. (r.count ≡ length (records_in r.runs.items)) × (r.count < 2 ^ 63) × AllByRecursion IsKeptRun r.runs.items };
+    ghost invariant = { λ r. (r.count ≡ length (records_in r.runs.items))
+        × (r.count < 2 ^ 63) × AllByRecursion IsKeptRun r.runs.items };
 }
 
 impl Records {

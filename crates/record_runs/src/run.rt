@@ -45,7 +45,8 @@ impl Run {
     pub fn new(template: Arc<Template>, octets: Bytes, ends: Vec<u32>) -> Run
         requires ends { AreEnds 0 ends.items (length octets) }
         requires kept { AllByRecursion (IsKept (arc_value template)) (pieces octets 0 ends.items) }
-        ensures { result ≡ record { template = arc_value template; texts = pieces octets 0 ends.items } }
+        ensures { result
+            ≡ record { template = arc_value template; texts = pieces octets 0 ends.items } }
     {
         Run {
             template,
@@ -59,7 +60,10 @@ impl Run {
     /// # Errors
     /// Want of memory.
     pub fn of_record(alloc: Global, single: Record) -> Result<Run, AllocError>
-        ensures run { IfOk result (λ run. run ≡ record { template = single.template; texts = record_text single.template.fields single.values ∷ [] }) }
+        ensures run { IfOk result (λ run. run ≡ record {
+          template = single.template;
+          texts = record_text single.template.fields single.values ∷ [];
+        }) }
         ensures records { IfOk result (λ run. records_of run ≡ single ∷ []) }
     {
         let end = single.octets() as u32;
@@ -135,7 +139,8 @@ impl Run {
     /// Want of memory.
     pub fn record(&self, index: usize) -> Result<Record, AllocError>
         requires { index < length self.now.texts }
-        ensures { IfOk result (λ r. r ≡ kept_record self.now.template (slice_index_or self.now.texts index [])) }
+        ensures { IfOk result
+            (λ r. r ≡ kept_record self.now.template (slice_index_or self.now.texts index [])) }
     {
         self.view(index).to_record()
     }
@@ -200,7 +205,8 @@ fn place_of(octets: &[u8], ends: &[u32], index: usize) -> (usize, usize)
     requires ends { AreEnds 0 ends.now (length octets.now) }
     requires index { index < length ends.now }
     ensures within { (result.0 ≤ result.1) × (result.1 ≤ length octets.now) }
-    ensures shown { take (result.1 - result.0) (drop result.0 octets.now) ≡ slice_index_or (pieces octets.now 0 ends.now) index [] }
+    ensures shown { take (result.1 - result.0) (drop result.0 octets.now)
+        ≡ slice_index_or (pieces octets.now 0 ends.now) index [] }
 {
     (end_of(ends, index), end_of(ends, index + 1))
 }

@@ -15,8 +15,10 @@ pub(crate) fn fitting(queue: &VecDeque<Waiting>, target: u16) -> Front
     requires filled { AreFilled queue.now.items }
     requires few { length (items_in queue.now.items) < 2 ^ 64 }
     requires first { total None (take 1 (items_in queue.now.items)) ≤ longest_body }
-    ensures parts { result.parts ≡ max 1 (fits target None header_octets (items_in queue.now.items)) }
-    ensures octets { result.octets ≡ header_octets + total None (take result.parts (items_in queue.now.items)) }
+    ensures parts { result.parts
+        ≡ max 1 (fits target None header_octets (items_in queue.now.items)) }
+    ensures octets { result.octets
+        ≡ header_octets + total None (take result.parts (items_in queue.now.items)) }
     ensures within { result.parts ≤ length (items_in queue.now.items) }
     ensures small { result.octets ≤ longest_message }
 {
@@ -35,7 +37,8 @@ fn whole_run(queue: &VecDeque<Waiting>, target: u16) -> Front
     requires filled { AreFilled queue.now.items }
     requires few { length (items_in queue.now.items) < 2 ^ 64 }
     ensures parts { result.parts ≡ fits target None header_octets (items_in queue.now.items) }
-    ensures octets { result.octets ≡ header_octets + total None (take result.parts (items_in queue.now.items)) }
+    ensures octets { result.octets
+        ≡ header_octets + total None (take result.parts (items_in queue.now.items)) }
     ensures within { result.parts ≤ length (items_in queue.now.items) }
     ensures small { result.octets ≤ longest_message }
 {

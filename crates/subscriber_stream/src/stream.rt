@@ -68,7 +68,8 @@ impl Model for Stream {
 
     ghost view = { λ s. record { standing = record { shapes = s.shapes.shapes; handed = s.handed; announced = s.announced; waiting = parts_of s.shapes.shapes (items_in s.queue.items) }; limits = s.limits; spare = s.spare } };
 
-    ghost invariant = { λ s. IsConsistent s.shapes s.queue.items (deque_capacity s.queue) s.limits s.waiting s.handed s.announced s.spare };
+    ghost invariant = { λ s. IsConsistent s.shapes s.queue.items
+        (deque_capacity s.queue) s.limits s.waiting s.handed s.announced s.spare };
 }
 
 impl Stream {
@@ -133,7 +134,8 @@ impl Stream {
     pub fn room(&self, records: &Records) -> bool
         ensures room { IsTrue result ↔ HasRoom self.now records.now }
         // That is room behind the list of records that the stream was given.
-        ensures exact { (given_before : List DataRecord) (p : ℕ) → StandsAt self.now.standing given_before p
+        ensures exact { (given_before : List DataRecord) (p : ℕ)
+            → StandsAt self.now.standing given_before p
             → (IsTrue result ↔ FitsLimits self.now.limits given_before p records.now) }
     {
         self.has_room(records)
@@ -149,7 +151,9 @@ impl Stream {
     /// Whether these records have no room in the queue until some of what waits is pulled, and have room then. It takes no
     /// memory.
     pub fn is_held_up(&self, records: &Records) -> bool
-        ensures { IsTrue result ↔ (self.now.limits.queue < queued self.now.standing + length records.now) × (length records.now ≤ self.now.limits.queue) }
+        ensures { IsTrue result
+            ↔ (self.now.limits.queue < queued self.now.standing + length records.now)
+            × (length records.now ≤ self.now.limits.queue) }
     {
         let (count, most) = (records.len(), self.limits.queue as usize);
         count <= most && self.queued() as usize + count > most
@@ -182,7 +186,8 @@ impl Stream {
     pub fn push_reserved(&mut self, records: Records)
         requires room { HasRoom self.old records }
         requires reserved { length records ≤ self.old.spare }
-        requires count { self.old.standing.handed + queued self.old.standing + length records < 2 ^ 64 }
+        requires count { self.old.standing.handed + queued self.old.standing + length records
+            < 2 ^ 64 }
         // The list that was given goes on with the records, and the place stays.
         ensures ok { TakesRecords self.old.standing records self.new.standing }
         ensures limits { self.new.limits ≡ self.old.limits }
@@ -194,7 +199,8 @@ impl Stream {
     fn push_all(&mut self, records: Records)
         requires room { HasRoom self.old records }
         requires reserved { length records ≤ self.old.spare }
-        requires count { self.old.standing.handed + queued self.old.standing + length records < 2 ^ 64 }
+        requires count { self.old.standing.handed + queued self.old.standing + length records
+            < 2 ^ 64 }
         ensures { self.new ≡ given self.old records }
     {
         for next in records.into_runs() {
@@ -206,7 +212,8 @@ impl Stream {
     fn push_run(&mut self, next: Run)
         requires room { HasRoom self.old (records_of next) }
         requires reserved { length next.texts ≤ self.old.spare }
-        requires count { self.old.standing.handed + queued self.old.standing + length next.texts < 2 ^ 64 }
+        requires count { self.old.standing.handed + queued self.old.standing + length next.texts
+            < 2 ^ 64 }
         ensures { self.new ≡ given self.old (records_of next) }
     {
         let count = next.len();

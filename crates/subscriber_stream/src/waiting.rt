@@ -66,7 +66,8 @@ impl Waiting {
     pub(crate) fn fitting(&self, target: u16, last: Option<u16>, octets: usize) -> Front
         requires { octets ≤ longest_message }
         ensures parts { result.parts ≡ fits target last octets (items_of self.now) }
-        ensures octets { result.octets ≡ octets + total last (take result.parts (items_of self.now)) }
+        ensures octets { result.octets
+            ≡ octets + total last (take result.parts (items_of self.now)) }
         ensures small { result.octets ≤ longest_message }
     {
         match self {
@@ -95,7 +96,8 @@ ghost use Rattle.subscriber_stream.specs.Items.{Brought, fits, total};
 fn fitting_records(texts: &Texts, target: u16, last: Option<u16>, id: u16, octets: usize) -> Front
     requires { octets ≤ longest_message }
     ensures parts { result.parts ≡ fits target last octets (map (Brought id) texts.now) }
-    ensures octets { result.octets ≡ octets + total last (take result.parts (map (Brought id) texts.now)) }
+    ensures octets { result.octets
+        ≡ octets + total last (take result.parts (map (Brought id) texts.now)) }
     ensures small { result.octets ≤ longest_message }
 {
     let opened = octets + head_octets(last, id);

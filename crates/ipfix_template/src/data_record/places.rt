@@ -43,7 +43,8 @@ pub(crate) fn place_of(fields: &[FieldSpec], octets: &[u8], place: usize) -> (us
     requires kept { AreKept fields.now octets.now }
     requires place { place < length fields.now }
     ensures within { (result.0 ≤ result.1) × (result.1 ≤ length octets.now) }
-    ensures shown { take (result.1 - result.0) (drop result.0 octets.now) ≡ slice_index_or (values_in fields.now octets.now) place [] }
+    ensures shown { take (result.1 - result.0) (drop result.0 octets.now)
+        ≡ slice_index_or (values_in fields.now octets.now) place [] }
 {
     let mut used = 0;
     for before in 0..place {
@@ -79,7 +80,8 @@ pub(crate) fn next_place(
     requires place { place < length fields.now }
     requires passed { ArePassed fields.now octets.now place used }
     ensures within { (result.0 ≤ result.1) × (result.1 ≤ length octets.now) }
-    ensures shown { take (result.1 - result.0) (drop result.0 octets.now) ≡ slice_index_or (values_in fields.now octets.now) place [] }
+    ensures shown { take (result.1 - result.0) (drop result.0 octets.now)
+        ≡ slice_index_or (values_in fields.now octets.now) place [] }
     ensures passed { ArePassed fields.now octets.now (place + 1) result.1 }
 {
     match find_span(&fields[place], &octets[used..]) {

@@ -27,8 +27,10 @@ impl Record {
         is_shortest: bool,
     ) -> Result<Record, AllocError>
         requires sound { IsSound (kept_record (arc_value template) text) }
-        requires splits { Splits (arc_value template).fields text (values_in (arc_value template).fields text) }
-        requires shortest { is_shortest ≡ true → text ≡ record_text (arc_value template).fields (values_in (arc_value template).fields text) }
+        requires splits { Splits
+            (arc_value template).fields text (values_in (arc_value template).fields text) }
+        requires shortest { is_shortest ≡ true → text
+            ≡ record_text (arc_value template).fields (values_in (arc_value template).fields text) }
         ensures value { IfOk result (λ r. r ≡ kept_record (arc_value template) text) }
         ensures no_memory { is_shortest ≡ true → IsOk result }
     {
@@ -44,7 +46,8 @@ impl Record {
 fn shortest_text(alloc: Global, fields: &[FieldSpec], text: &[u8]) -> Result<Bytes, AllocError>
     requires fit { fit_fields fields.now (values_in fields.now text.now) ≡ true }
     requires splits { Splits fields.now text.now (values_in fields.now text.now) }
-    ensures { IfOk result (λ octets. octets ≡ record_text fields.now (values_in fields.now text.now)) }
+    ensures { IfOk result
+        (λ octets. octets ≡ record_text fields.now (values_in fields.now text.now)) }
 {
     let mut octets = Vec::with_capacity(alloc, text.len())?;
     let mut rest = text;

@@ -47,8 +47,10 @@ impl<'r> RecordView<'r> {
         end: usize,
     ) -> RecordView<'r>
         requires within { (start ≤ end) × (end ≤ length octets.now) }
-        requires kept { IsKept (arc_value template.now) (take (end - start) (drop start octets.now)) }
-        ensures { result ≡ kept_record (arc_value template.now) (take (end - start) (drop start octets.now)) }
+        requires kept { IsKept
+            (arc_value template.now) (take (end - start) (drop start octets.now)) }
+        ensures { result
+            ≡ kept_record (arc_value template.now) (take (end - start) (drop start octets.now)) }
     {
         RecordView {
             template,

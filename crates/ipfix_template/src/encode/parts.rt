@@ -19,9 +19,11 @@ pub fn encode_values(
     out: &mut Vec<u8>,
 ) -> Result<(), AllocError>
     requires { fit_fields template.now.fields values.now ≡ true }
-    ensures ok { OnOk result (out.new.items ≡ out.old.items ++ record_text template.now.fields values.now) }
+    ensures ok { OnOk result
+        (out.new.items ≡ out.old.items ++ record_text template.now.fields values.now) }
     ensures err { OnErr result (out.new.items ≡ out.old.items) }
-    ensures full { OnErr result (vec_capacity out.old < vec_len out.old + length (record_text template.now.fields values.now)) }
+    ensures full { OnErr result (vec_capacity out.old
+        < vec_len out.old + length (record_text template.now.fields values.now)) }
     ensures capacity { vec_capacity out.old ≤ vec_capacity out.new }
 {
     let held = out.len();
@@ -40,7 +42,8 @@ pub fn encode_value(field: &FieldSpec, value: &[u8], out: &mut Vec<u8>) -> Resul
     requires { fits_field field.now value.now ≡ true }
     ensures ok { OnOk result (out.new.items ≡ out.old.items ++ value_text field.now value.now) }
     ensures err { OnErr result (out.new.items ≡ out.old.items) }
-    ensures full { OnErr result (vec_capacity out.old < vec_len out.old + length (value_text field.now value.now)) }
+    ensures full { OnErr result
+        (vec_capacity out.old < vec_len out.old + length (value_text field.now value.now)) }
     ensures capacity { vec_capacity out.old ≤ vec_capacity out.new }
 {
     if field.is_variable() {
