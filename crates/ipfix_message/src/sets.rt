@@ -18,10 +18,12 @@ use ipfix_octets::message_format::{
 };
 use std::alloc::Global;
 
-/// What a message says, in the order of its octets.
+/// What a message says, in the order of its octets (RFC 7011, sections 3.3, 3.4 and 8.1). `octets`
+/// are all octets of the message. The list is in memory from `alloc`.
 ///
 /// # Errors
-/// The first fault in reading order, or want of memory.
+/// The first fault in reading order, or `OutOfMemory` for want of memory. A fault of the header is
+/// always named, since it takes no memory.
 pub fn items(alloc: Global, octets: &[u8]) -> Result<Vec<Item>, DecodeError>
     // What is read is a message of the grammar.
     ensures found { IfOk result (λ v. (h : Header) × IsMessage octets.now h v.items) }

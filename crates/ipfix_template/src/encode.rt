@@ -17,17 +17,20 @@ use std::alloc::AllocError;
 /// The enterprise bit of a Field Specifier's element number (RFC 7011, section 3.2).
 const ENTERPRISE_BIT: u16 = 0x8000;
 
-/// Appends the template as a record of a Template Set or, where it has scope fields, of an Options
-/// Template Set: ID, Field Count, Scope Field Count for an options template, and the Field Specifiers
-/// (RFC 7011, sections 3.2 and 3.4).
+/// Appends `template` to `out` as a record of a Template Set or, where it has scope fields, of an
+/// Options Template Set: `id`, Field Count, Scope Field Count for an options template, and the
+/// Field Specifiers (RFC 7011, sections 3.2 and 3.4). The template passes [`Template::check`] under
+/// this ID, so that the ID is from 256 to 65535.
 ///
 /// # Errors
-/// Want of memory, only where `out` had no room for it, and then nothing is appended.
+/// Want of memory, only where `out` had no room for the record, and then nothing is appended.
 pub fn encode_template(id: u16, template: &Template, out: &mut Vec<u8>) -> Result<(), AllocError>
     requires { refusal_of id (is_options template.now) template.now ≡ None }
+    // All of it is appended, or nothing.
     ensures ok { OnOk result (out.new.items
         ≡ out.old.items ++ template_record id (is_options template.now) template.now) }
     ensures err { OnErr result (out.new.items ≡ out.old.items) }
+    // Room that is there is enough, and is kept.
     ensures full { OnErr result (vec_capacity out.old
         < vec_len out.old + length (template_record id (is_options template.now) template.now)) }
     ensures capacity { vec_capacity out.old ≤ vec_capacity out.new }
@@ -40,11 +43,12 @@ pub fn encode_template(id: u16, template: &Template, out: &mut Vec<u8>) -> Resul
     put
 }
 
-/// For a program that writes records by itself, for tests and for laws: appends the record's values, each in its shortest
-/// text, as they stand in a Data Set (RFC 7011, sections 3.4.3 and 7). It is a copy of the octets that the record keeps.
+/// For a program that writes records by itself, for tests and for laws: appends to `out` the values
+/// of the record `whole`, each in its shortest text, as they stand in a Data Set (RFC 7011,
+/// sections 3.4.3 and 7). It copies the octets that the record keeps.
 ///
 /// # Errors
-/// Want of memory, only where `out` had no room for it, and then nothing is appended.
+/// Want of memory, only where `out` had no room for them, and then nothing is appended.
 pub fn encode_record(whole: &Record, out: &mut Vec<u8>) -> Result<(), AllocError>
     ensures ok { OnOk result
         (out.new.items ≡ out.old.items ++ record_text whole.now.template.fields whole.now.values) }
@@ -124,8 +128,10 @@ fn put_specifier(field: &FieldSpec, out: &mut Vec<u8>) -> Result<(), AllocError>
 
 fn put_values(fields: &[FieldSpec], values: &[Bytes], out: &mut Vec<u8>) -> Result<(), AllocError>
     requires { fit_fields fields.now values.now ≡ true }
+    // All of it is appended, or what was there before is still at the front.
     ensures ok { OnOk result (out.new.items ≡ out.old.items ++ record_text fields.now values.now) }
     ensures err { OnErr result (take (length out.old.items) out.new.items ≡ out.old.items) }
+    // Room that is there is enough, and is kept.
     ensures full { OnErr result
         (vec_capacity out.old < vec_len out.old + length (record_text fields.now values.now)) }
     ensures capacity { vec_capacity out.old ≤ vec_capacity out.new }

@@ -10,8 +10,9 @@ use crate::template::Template;
 use ipfix_octets::read_varlen;
 use std::alloc::{AllocError, Global};
 
-/// Finds the record of a template at the front of `octets`: where each value lies, without a copy, and
-/// the octets that the record takes.
+/// Finds the record of `template` at the front of `octets`: where each value lies, without a copy,
+/// and how many octets the record takes (RFC 7011, sections 3.3.1 and 3.4.3). The list of spans is
+/// in memory from `alloc`.
 ///
 /// # Errors
 /// Want of memory for the list of spans. Padding needs none.

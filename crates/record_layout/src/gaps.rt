@@ -7,7 +7,8 @@ use ipfix_octets::read_varlen;
 use ipfix_template::FieldSpec;
 use std::alloc::{AllocError, Global};
 
-/// Values of so many octets and more have their length behind an octet of 255, in two octets.
+/// The least length of a value that stands in two octets, behind an octet of 255 (RFC 7011, section
+/// 7).
 const LONG_FROM: usize = 255;
 
 /// The octets of the fields before the first field of variable length.
@@ -64,7 +65,7 @@ pub(crate) fn walk(first: usize, gaps: &[usize], octets: &[u8]) -> Option<(usize
     Some((used, is_shortest))
 }
 
-/// Where a value of so many octets starts in its shortest text.
+/// Where a value of `length` octets starts in its shortest text.
 fn shortest_start(length: usize) -> usize
     ensures { result ≡ start_of length }
 {
