@@ -64,7 +64,7 @@ impl ByDomain {
         }
     }
 
-    /// The same, with the share in it.
+    /// The template of a domain and an ID, with its share, of which one may become an owner.
     pub(crate) fn shared(&self, domain: u32, id: u16) -> Option<&Arc<Template>>
         ensures { option_map (λ t. arc_value t.now) result
             ≡ at_key id (held_templates self.now.tables.entries domain) }

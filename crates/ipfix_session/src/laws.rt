@@ -2,9 +2,9 @@
 ghost use Rattle.std.specs.Prelude.{◌≡◌, ◌++◌, ◌∷◌, [], ℕ, List, reverse};
 ghost use Rattle.ipfix_session.specs.Meaning.{domain_of, expected_number, meaning_of, records_after, joined, records_meant};
 
-/// Reading message by message is the meaning's step: what further messages of a session mean is what the
-/// first of them mean, and then the others by a session that stands for the first too. One message brings
-/// the records of its meaning, each with the message's domain.
+/// Reading message by message is the meaning's step: what further messages of a session mean is
+/// what the first of them mean, and then the others by a session that stands for the first too. One
+/// message brings the records of its meaning, each with the message's domain.
 pub fn messages_join()
     ensures joined { (older first others : List (List ℕ))
         → records_after older (first ++ others)
@@ -37,22 +37,24 @@ ghost use Rattle.ipfix_session.specs.LastDefinition.{IsInForce};
 ghost use Rattle.ipfix_session.specs.LastMessage.{IsExpected};
 ghost use Rattle.ipfix_session.specs.DataSetContent.{AreRecords};
 
-/// The template in force for an ID is what the last item that decides on it defines, where all templates of its kind were not
-/// withdrawn after it; and there is none else.
+/// The template in force for an ID is what the last item that decides on it defines, where all
+/// templates of its kind were not withdrawn after it (RFC 7011, section 8.1). No other template is
+/// in force.
 pub fn last_definition_is_in_force()
     ensures { (id : ℕ) (items : List Item) (t : Template)
         → (template_in_force id items ≡ Some t) ↔ IsInForce id items t }
 {}
 
-/// The number that a domain's next message is expected to have is the one after the domain's last message, where that one has
-/// a next number; and there is none else.
+/// The number that a domain's next message is expected to have is the one after the domain's last
+/// message, where that one has a next number (RFC 7011, section 3.1). No other number is expected.
 pub fn last_message_sets_the_number()
     ensures { (domain : ℕ) (messages : List (List ℕ)) (number : ℕ)
         → (expected_number domain messages ≡ Some number) ↔ IsExpected domain messages number }
 {}
 
-/// What is read of a Data Set's content is its records, one after another, and padding; and such records are read. Where there are
-/// none such, a record runs past the end.
+/// What is read of a Data Set's content is its records, one after another, and padding; and such
+/// records are read (RFC 7011, sections 3.3.1 and 3.4.3). Where the content is no such list, a
+/// record runs past the end.
 pub fn records_are_read()
     ensures found { (t : Template) (octets : List ℕ) (rows : List (List (List ℕ))) → IsAccepted t
         → AreOctets octets → records_in t octets ≡ Ok rows → AreRecords t octets rows }
@@ -64,8 +66,9 @@ ghost use Rattle.ipfix_message.specs.Reading.{items_of};
 ghost use Rattle.ipfix_session.specs.Meaning.{items_of_domain, contents_of};
 ghost use Rattle.ipfix_session.specs.Unchanging.{BringNoTemplates, AgreeOn, in_force_after};
 
-/// What a message holds that brings no template depends on the templates of its Data Sets alone: after other messages of its
-/// session it holds the same, where the IDs of its Data Sets have the same templates then.
+/// What a message holds that brings no template depends on the templates of its Data Sets alone.
+/// After other messages of its session it holds as much, where the IDs of its Data Sets have these
+/// templates then too.
 pub fn same_templates_read_the_same()
     ensures items { (older newer : List Item) (message : List ℕ) (said : List Item)
         → BringNoTemplates said

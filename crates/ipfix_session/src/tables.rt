@@ -15,7 +15,9 @@ use std::sync::Arc;
 /// by them is one more owner, and a message that changes no template leaves them shared.
 #[derive(Drop)]
 pub(crate) enum Tables {
+    /// Templates that the session alone owns, and may change.
     Own(ByDomain),
+    /// Templates that others may own too.
     Shared(Arc<ByDomain>),
 }
 

@@ -74,13 +74,15 @@ fn read_item(
     requires few { length message.now ≤ longest_message }
     requires stands { StandsIn (length message.now) item }
     requires room { IsCounted state.old.skips (2 ^ 64 - 2) }
+    // The item adds what it holds after those that were read, and changes the templates so.
     ensures reads { (done : List Item)
         → AreInForce (after state.old.changes base.now.templates) done
-        → Adds (contents_in state.old)
-        (contents_in state.new) (item_contents done message.now item) result }
+        → Adds (contents_in state.old) (contents_in state.new)
+        (item_contents done message.now item) result }
     ensures keeps { (done : List Item)
         → AreInForce (after state.old.changes base.now.templates) done
         → OnOk result (AreInForce (after state.new.changes base.now.templates) (item ∷ done)) }
+    // Each item is counted once at most.
     ensures counts { (n : ℕ) → IsCounted state.old.skips n
         → OnOk result (IsCounted state.new.skips (n + 1)) }
 {
@@ -127,10 +129,12 @@ fn read_data_set(
     requires stands { (header_octets + set_header_octets ≤ start)
         × (start + len ≤ length message.now) }
     requires room { IsCounted state.old.skips (2 ^ 64 - 2) }
+    // The set adds what it holds by the template in force, and changes no template.
     ensures reads { Adds (contents_in state.old) (contents_in state.new)
         (set_contents (after state.old.changes base.now.templates id)
         (take len (drop start message.now))) result }
     ensures changes { state.new.changes ≡ state.old.changes }
+    // Each set is counted once at most.
     ensures counts { (n : ℕ) → IsCounted state.old.skips n
         → OnOk result (IsCounted state.new.skips (n + 1)) }
 {
@@ -142,7 +146,7 @@ fn read_data_set(
     read_set(alloc, template, &content, &mut state.records)
 }
 
-/// So many octets at this place of the message, cut from it.
+/// The `len` octets that stand at the place `start` of the message, cut from it.
 fn content_of(message: &Bytes, start: usize, len: usize) -> Result<Bytes, AllocError>
     requires within { start + len ≤ length message.now }
     requires few { length message.now ≤ longest_message }
