@@ -14,10 +14,10 @@ ghost use Rattle.std.specs.Prelude.{true, ◌↔◌};
 /// The octets that a stream gives are a function of the records that it was given and of the pulls: the
 /// messages built one after another, whatever else differs between two streams.
 pub fn octets_of_pulls()
-    ensures { (s : Standing)
-        (records : List DataRecord) (p : ℕ) (calls : List Call) (answers : List (Option (List ℕ)))
-        → StandsAt s records p
-        → Serves s calls answers → answers ≡ octets_from p (pulls_of records calls) }
+    ensures { (s : Standing) (records : List DataRecord) (p : ℕ)
+        (calls : List Call) (answers : List (Option (List ℕ)))
+        → StandsAt s records p → Serves s calls answers
+        → answers ≡ octets_from p (pulls_of records calls) }
 {}
 
 /// The records among the parts of a list are the list.
@@ -42,8 +42,8 @@ pub fn shapes_go_on()
         → shapes_of (records ++ more) ≡ shapes_after (shapes_of records) more }
 {}
 
-/// The sets of parts hold these parts in their order, each Data Set brings a record, and none stands right before another of its
-/// ID, so that none could be longer; and only the sets of the parts are so.
+/// The sets of parts hold these parts in their order, each Data Set brings a record, and none
+/// stands right before another of its ID, so that none could be longer. No other sets are so.
 pub fn sets_are_longest()
     ensures { (ps : List Part) (sets : List Set) → (sets ≡ sets_of ps) ↔ AreSets ps sets }
 {}

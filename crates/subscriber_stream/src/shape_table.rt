@@ -69,7 +69,7 @@ impl ShapeTable {
         shape
     }
 
-    /// Makes room for so many more templates.
+    /// Makes room for `more` further templates.
     ///
     /// # Errors
     /// Want of memory; then no room was made.
@@ -85,6 +85,7 @@ impl ShapeTable {
     pub(crate) fn place_reserved(&mut self, shape: Arc<Template>) -> (usize, bool)
         requires { 0 < self.old.spare }
         ensures shapes { self.new.shapes ≡ with_shape self.old.shapes (arc_value shape) }
+        // The place is that of an equal template, or the end where there is none.
         ensures place { result.0
             ≡ position_or_len (same_template (arc_value shape)) self.old.shapes }
         ensures added { result.1 ≡ not (is_among (arc_value shape) self.old.shapes) }
@@ -109,10 +110,11 @@ impl ShapeTable {
         None
     }
 
-    /// The same as [`ShapeTable::place_reserved`], by the template's hash.
+    /// Places the template as [`ShapeTable::place_reserved`] does, by its hash.
     fn place_by_hash(&mut self, shape: Arc<Template>) -> (usize, bool)
         requires { 0 < self.old.spare }
         ensures shapes { self.new.shapes ≡ with_shape self.old.shapes (arc_value shape) }
+        // The place is that of an equal template, or the end where there is none.
         ensures place { result.0
             ≡ position_or_len (same_template (arc_value shape)) self.old.shapes }
         ensures added { result.1 ≡ not (is_among (arc_value shape) self.old.shapes) }

@@ -31,6 +31,7 @@ pub(crate) fn message_of(
 ) -> Result<Bytes, AllocError>
     requires filled { AreFilled queue.now.items }
     requires kept { AreKept shapes.now.shapes (items_in queue.now.items) }
+    // It is known how long the message of these parts is, and a message can be that long.
     requires octets { whole.octets
         ≡ header_octets + total None (take whole.parts (items_in queue.now.items)) }
     requires fits { whole.octets ≤ longest_message }
@@ -97,6 +98,7 @@ fn put_span(
 ) -> Result<(), AllocError>
     requires filled { IsFilled next.now × AreFilled queue.now.items }
     requires kept { AreKept shapes.now.shapes (items_of next.now) }
+    // The parts behind the place follow it in the message, and all of it fits.
     requires place { place ≤ length queue.now.items }
     requires some { 0 < left }
     requires fits { total last
@@ -148,7 +150,7 @@ fn put_announcement(
     encode_template(id, shape, out)
 }
 
-/// Appends the header of a set with so many octets of content (RFC 7011, section 3.3.2).
+/// Appends the header of a set with `octets` octets of content (RFC 7011, section 3.3.2).
 #[tactic(auto, unfolding(crate::specs::Message::set_head))]
 fn put_head(id: u16, octets: usize, out: &mut Vec<u8>) -> Result<(), AllocError>
     requires { octets ≤ 65531 }
