@@ -47,7 +47,8 @@ impl Model for Audit {
 
     ghost view = { λ a. record { standing = record { drained = a.drained; entries = entries_of a.queue.items }; limit = a.limit; spare = a.spare } };
 
-    ghost invariant = { λ a. IsConsistent a.queue.items (deque_capacity a.queue) a.waiting a.limit a.drained a.spare };
+    ghost invariant = { λ a. IsConsistent a.queue.items
+        (deque_capacity a.queue) a.waiting a.limit a.drained a.spare };
 }
 
 impl Audit {
@@ -119,7 +120,11 @@ impl Audit {
         requires room { length self.old.standing.entries < self.old.limit }
         requires reserved { 0 < self.old.spare }
         requires count { self.old.standing.drained + length self.old.standing.entries + 1 < 2 ^ 64 }
-        ensures value { self.new ≡ record { standing = with_entry self.old.standing entry; limit = self.old.limit; spare = self.old.spare - 1 } }
+        ensures value { self.new ≡ record {
+          standing = with_entry self.old.standing entry;
+          limit = self.old.limit;
+          spare = self.old.spare - 1;
+        } }
         // The list of all entries goes on with this one.
         ensures stands { Takes self.old.standing (entry ∷ []) self.new.standing }
     {
@@ -133,10 +138,16 @@ impl Audit {
     pub fn push_notes(&mut self, position: u64, notes: Vec<Note>)
         requires room { length self.old.standing.entries + length notes.items ≤ self.old.limit }
         requires reserved { 0 < self.old.spare }
-        requires count { self.old.standing.drained + length self.old.standing.entries + length notes.items < 2 ^ 64 }
-        ensures value { self.new ≡ record { standing = with_entries self.old.standing (map (stamp position) notes.items); limit = self.old.limit; spare = self.old.spare - 1 } }
+        requires count { self.old.standing.drained
+            + length self.old.standing.entries + length notes.items < 2 ^ 64 }
+        ensures value { self.new ≡ record {
+          standing = with_entries self.old.standing (map (stamp position) notes.items);
+          limit = self.old.limit;
+          spare = self.old.spare - 1;
+        } }
         // The list of all entries goes on with these.
-        ensures stands { Takes self.old.standing (map (stamp position) notes.items) self.new.standing }
+        ensures stands { Takes self.old.standing
+            (map (stamp position) notes.items) self.new.standing }
     {
         self.spare -= 1;
         self.waiting += notes.len() as u32;
@@ -151,9 +162,14 @@ impl Audit {
     /// Want of memory for the list, and then nothing has changed.
     pub fn drain(&mut self, most: u32) -> Result<Vec<AuditEntry>, AllocError>
         ensures oldest { IfOk result (λ out. out.items ≡ oldest most self.old.standing) }
-        ensures left { OnOk result (self.new ≡ record { standing = without_oldest most self.old.standing; limit = self.old.limit; spare = self.old.spare }) }
+        ensures left { OnOk result (self.new ≡ record {
+          standing = without_oldest most self.old.standing;
+          limit = self.old.limit;
+          spare = self.old.spare;
+        }) }
         // They are the next entries of the list of all entries.
-        ensures stands { IfOk result (λ out. Drains self.old.standing most out.items self.new.standing) }
+        ensures stands { IfOk result
+            (λ out. Drains self.old.standing most out.items self.new.standing) }
         ensures err { OnErr result (self.new ≡ self.old) }
         // Nothing to hand out takes no memory.
         ensures none { oldest most self.old.standing ≡ [] → IsOk result }

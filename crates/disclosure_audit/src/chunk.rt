@@ -70,7 +70,8 @@ impl Chunk {
 fn move_notes(position: u64, notes: &mut IntoIter<Note>, count: usize, out: &mut Vec<AuditEntry>)
     requires there { count ≤ length (into_iter_items notes.old) }
     requires room { length out.old.items + count ≤ vec_capacity out.old }
-    ensures moved { out.new.items ≡ out.old.items ++ map (stamp position) (take count (into_iter_items notes.old)) }
+    ensures moved { out.new.items
+        ≡ out.old.items ++ map (stamp position) (take count (into_iter_items notes.old)) }
     ensures left { into_iter_items notes.new ≡ drop count (into_iter_items notes.old) }
     ensures capacity { vec_capacity out.new ≡ vec_capacity out.old }
 {

@@ -62,7 +62,8 @@ fn put_what(text: &mut String, what: &What) -> Result<(), AllocError>
 
 /// Removed fields with commas between.
 fn put_fields(text: &mut String, fields: &[RemovedField]) -> Result<(), AllocError>
-    ensures { OnOk result (string_bytes text.new ≡ string_bytes text.old ++ fields_text fields.now) }
+    ensures { OnOk result
+        (string_bytes text.new ≡ string_bytes text.old ++ fields_text fields.now) }
 {
     for (at, field) in fields.iter().enumerate() {
         if at > 0 {

@@ -56,7 +56,8 @@ impl ClosedAggregate {
 
     #[tactic(auto, unfolding(crate::specs::Closed::closed_values))]
     fn values(&self, alloc: Global) -> Result<Vec<Bytes>, AllocError>
-        ensures { IfOk result (λ values. values.items ≡ closed_values self.now.group self.now.sums) }
+        ensures { IfOk result
+            (λ values. values.items ≡ closed_values self.now.group self.now.sums) }
     {
         let definition = self.group.definition();
         let start = self.group.start();

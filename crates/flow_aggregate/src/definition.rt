@@ -49,7 +49,12 @@ impl Model for Definition {
 
     ghost view = { λ d. record { name = (arc_value d.parts).name.items; key = (arc_value d.parts).key.items; interval = (arc_value d.parts).interval; grace = (arc_value d.parts).grace } };
 
-    ghost invariant = { λ d. IsSummed (record { name = (arc_value d.parts).name.items; key = (arc_value d.parts).key.items; interval = (arc_value d.parts).interval; grace = (arc_value d.parts).grace }) × HasTemplate (arc_value d.parts).key.items (arc_value (arc_value d.parts).closed) };
+    ghost invariant = { λ d. IsSummed (record {
+      name = (arc_value d.parts).name.items;
+      key = (arc_value d.parts).key.items;
+      interval = (arc_value d.parts).interval;
+      grace = (arc_value d.parts).grace;
+    }) × HasTemplate (arc_value d.parts).key.items (arc_value (arc_value d.parts).closed) };
 }
 
 impl Definition {

@@ -34,7 +34,8 @@ impl Model for Group {
 
     ghost view = { λ g. record { start = g.start; definition = g.definition; key = g.key.items } };
 
-    ghost invariant = { λ g. IsGroup (record { start = g.start; definition = g.definition; key = g.key.items }) };
+    ghost invariant = { λ g. IsGroup
+        (record { start = g.start; definition = g.definition; key = g.key.items }) };
 }
 
 impl Group {
@@ -161,7 +162,8 @@ pub(crate) fn width_of(element: ElementId) -> u16
 }
 
 fn put_zeros(count: usize, out: &mut SmallVec<u8, KEY_OCTETS>) -> Result<(), AllocError>
-    ensures { OnOk result (out.new.items ≡ out.old.items ++ Rattle.std.specs.Prelude.replicate count 0) }
+    ensures { OnOk result
+        (out.new.items ≡ out.old.items ++ Rattle.std.specs.Prelude.replicate count 0) }
 {
     for done in 0..count {
         out.push(0)?;

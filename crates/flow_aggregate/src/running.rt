@@ -83,7 +83,8 @@ impl Running {
     /// count or are to be added.
     pub fn len(&self) -> usize
         ensures value { result ≡ length (places self.now) }
-        ensures few { (counted : List Counted) → StandsFor self.now.groups counted → result ≤ length counted + length self.now.ready }
+        ensures few { (counted : List Counted) → StandsFor self.now.groups counted
+            → result ≤ length counted + length self.now.ready }
     {
         self.groups.len()
     }
@@ -117,7 +118,9 @@ impl Running {
     /// Adds what the last `reserve` made ready. It takes no memory and looks for no group.
     pub fn add_reserved(&mut self, additions: Vec<Addition>)
         requires { (counts : List OneCount) × AreReady self.old additions.items counts }
-        ensures adds { (before more : List Counted) → StandsFor self.old.groups before → AreReady self.old additions.items (map count_of more) → StandsFor self.new.groups (before ++ more) }
+        ensures adds { (before more : List Counted) → StandsFor self.old.groups before
+            → AreReady self.old additions.items (map count_of more)
+            → StandsFor self.new.groups (before ++ more) }
         ensures ready { self.new.ready ≡ [] }
     {
         self.counted = self.groups.len();
@@ -126,7 +129,8 @@ impl Running {
 
     /// Drops the groups that an advance of the clock to `t` closes. What was reserved before is so no more.
     pub fn close(&mut self, t: u64)
-        ensures stays { (counted : List Counted) → StandsFor self.old.groups counted → StandsFor self.new.groups (staying t counted) }
+        ensures stays { (counted : List Counted) → StandsFor self.old.groups counted
+            → StandsFor self.new.groups (staying t counted) }
         ensures ready { self.new.ready ≡ [] }
     {
         self.release();
@@ -142,7 +146,9 @@ impl Running {
     /// # Errors
     /// Want of memory.
     pub fn closing(&self, t: u64) -> Result<Vec<ClosedAggregate>, AllocError>
-        ensures { IfOk result (λ closed. (counted : List Counted) → StandsFor self.now.groups counted → map record_of closed.items ≡ closed_by t counted) }
+        ensures { IfOk result
+            (λ closed. (counted : List Counted) → StandsFor self.now.groups counted
+            → map record_of closed.items ≡ closed_by t counted) }
     {
         let mut closed = self.due(t)?;
         closed.sort_unstable_by(
@@ -187,7 +193,8 @@ impl Running {
 
     fn keep_open(&mut self, t: u64)
         requires { self.old.ready ≡ [] }
-        ensures { self.new ≡ record { groups = filter (λ e. not (is_due t e.0)) self.old.groups; ready = [] } }
+        ensures { self.new
+            ≡ record { groups = filter (λ e. not (is_due t e.0)) self.old.groups; ready = [] } }
     {
         self.groups.retain(
             |group: &Group, sums: &mut Sums| -> bool
@@ -230,7 +237,8 @@ impl Running {
     /// Makes a group that is wanting, and answers its place.
     fn make(&mut self, group: &Group) -> Result<usize, AllocError>
         requires { is_among (places self.old) group.now ≡ false }
-        ensures ok { IfOk result (λ place. (place ≡ length (places self.old)) × (self.new ≡ record { groups = self.old.groups; ready = self.old.ready ++ group.now ∷ [] })) }
+        ensures ok { IfOk result (λ place. (place ≡ length (places self.old)) × (self.new
+            ≡ record { groups = self.old.groups; ready = self.old.ready ++ group.now ∷ [] })) }
         ensures err { OnErr result (self.new ≡ self.old) }
     {
         let place = self.groups.len();

@@ -32,7 +32,8 @@ pub(crate) fn first_value(flow_record: &Record, element: ElementId) -> Option<&[
 
 /// The place of the first field of the element.
 fn place_of(fields: &[FieldSpec], element: ElementId) -> Option<usize>
-    ensures { result ≡ Rattle.std.specs.Prelude.position (λ f. is_same_element element f.element) fields.now }
+    ensures { result
+        ≡ Rattle.std.specs.Prelude.position (λ f. is_same_element element f.element) fields.now }
 {
     fields
         .iter()

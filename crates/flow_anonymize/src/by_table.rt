@@ -24,9 +24,12 @@ pub fn disclose_by(
     domain: u32,
     flow_record: &Record,
 ) -> Result<Disclosure, AllocError>
-    ensures exact { IfOk result (λ d. shown d ≡ disclosure_of name.now domain flow_record.now table.now) }
+    ensures exact { IfOk result
+        (λ d. shown d ≡ disclosure_of name.now domain flow_record.now table.now) }
     // What is said of a record that doesn't pass takes no memory.
-    ensures at_once { (record_verdict_of name.now domain flow_record.now table.now).action ≢ on_record.Pass → IsOk result }
+    ensures at_once { (record_verdict_of name.now domain flow_record.now table.now).action
+        ≢ on_record.Pass
+        → IsOk result }
 {
     let plan = plan_by(alloc, table, name, domain, flow_record)?;
     plan.disclose(alloc, flow_record)
@@ -46,9 +49,13 @@ pub(crate) fn plan_by(
     domain: u32,
     flow_record: &Record,
 ) -> Result<Plan, AllocError>
-    ensures plan { IfOk result (λ plan. IsPlan flow_record.now.template (record_verdict_of name.now domain flow_record.now table.now) (verdicts_of name.now domain flow_record.now table.now) plan) }
+    ensures plan { IfOk result (λ plan. IsPlan flow_record.now.template
+        (record_verdict_of name.now domain flow_record.now table.now)
+        (verdicts_of name.now domain flow_record.now table.now) plan) }
     ensures showable { IfOk result (λ plan. IsShowable plan flow_record.now) }
-    ensures at_once { (record_verdict_of name.now domain flow_record.now table.now).action ≢ on_record.Pass → IsOk result }
+    ensures at_once { (record_verdict_of name.now domain flow_record.now table.now).action
+        ≢ on_record.Pass
+        → IsOk result }
 {
     let Ok(candidates) = table.candidates(alloc, name, domain, flow_record) else {
         let verdict = table.record_verdict(name, domain, flow_record);

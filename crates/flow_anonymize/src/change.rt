@@ -75,7 +75,8 @@ fn first_bits(number: u32, bits: usize) -> u32
 /// Appends a time that is lowered to a multiple of so many seconds since 1970. No time has another length than 4 octets, in
 /// seconds, or 8, in milliseconds; of such a value zeros are shown.
 fn put_degraded(octets: &[u8], seconds: u32, text: &mut Vec<u8>) -> Result<(), AllocError>
-    ensures ok { OnOk result (text.new.items ≡ text.old.items ++ degraded_octets seconds octets.now) }
+    ensures ok { OnOk result
+        (text.new.items ≡ text.old.items ++ degraded_octets seconds octets.now) }
     ensures err { OnErr result (text.new.items ≡ text.old.items) }
 {
     let width = octets.len();

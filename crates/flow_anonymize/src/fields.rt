@@ -20,7 +20,8 @@ pub(crate) fn judge_fields(
     domain: u32,
     flow_record: &Record,
 ) -> Result<Vec<ElementVerdict>, AllocError>
-    ensures exact { IfOk result (λ verdicts. verdicts.items ≡ verdicts_of name.now domain flow_record.now policy.now.rules) }
+    ensures exact { IfOk result (λ verdicts. verdicts.items
+        ≡ verdicts_of name.now domain flow_record.now policy.now.rules) }
     ensures judged { IfOk result (λ verdicts. AreJudged flow_record.now verdicts.items) }
 {
     // Each rule is one of the grammar, so it keeps no more bits than a value of its element has.
@@ -40,7 +41,8 @@ pub(crate) fn judge_candidates(
     fields: usize,
 ) -> Result<Vec<ElementVerdict>, AllocError>
     requires { fields ≡ length candidates.now.flow_record.template.fields }
-    ensures { IfOk result (λ verdicts. verdicts.items ≡ verdicts_of candidates.now.name candidates.now.domain candidates.now.flow_record candidates.now.rules) }
+    ensures { IfOk result (λ verdicts. verdicts.items ≡ verdicts_of
+        candidates.now.name candidates.now.domain candidates.now.flow_record candidates.now.rules) }
 {
     let mut verdicts = Vec::with_capacity(alloc, fields)?;
     for field in 0..fields {

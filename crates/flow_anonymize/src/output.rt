@@ -75,7 +75,8 @@ impl Output {
     /// # Errors
     /// Want of memory.
     pub(crate) fn begin(&mut self, template: Arc<Template>) -> Result<(), AllocError>
-        ensures { OnOk result (self.new ≡ record { given = self.old.given; writing = Some (arc_value template) }) }
+        ensures { OnOk result
+            (self.new ≡ record { given = self.old.given; writing = Some (arc_value template) }) }
     {
         self.close()?;
         self.text.reserve(self.last.octets)?;
@@ -123,7 +124,10 @@ impl Output {
         requires showable { IsShowable plan.now flow_record.now }
         requires begun { IsSome self.old.writing }
         requires same { self.old.writing ≡ shown_template plan.now }
-        ensures { OnOk result (self.new ≡ record { given = self.old.given ++ passed (planned plan.now flow_record.now.values); writing = self.old.writing }) }
+        ensures { OnOk result (self.new ≡ record {
+          given = self.old.given ++ passed (planned plan.now flow_record.now.values);
+          writing = self.old.writing;
+        }) }
     {
         self.renew_long_run()?;
         self.ends.reserve(1)?;
@@ -164,7 +168,8 @@ impl Output {
     /// # Errors
     /// Want of memory.
     pub(crate) fn push(&mut self, single: Record) -> Result<(), AllocError>
-        ensures { OnOk result (self.new ≡ record { given = self.old.given ++ single ∷ []; writing = None }) }
+        ensures { OnOk result
+            (self.new ≡ record { given = self.old.given ++ single ∷ []; writing = None }) }
     {
         self.close()?;
         self.done.push(self.alloc, single)
@@ -205,7 +210,8 @@ fn put_shown(
     text: &mut Vec<u8>,
 ) -> Result<u32, AllocError>
     requires { IsShowable plan.now flow_record.now }
-    ensures text { OnOk result (text.new.items ≡ text.old.items ++ passed_text (planned plan.now flow_record.now.values)) }
+    ensures text { OnOk result
+        (text.new.items ≡ text.old.items ++ passed_text (planned plan.now flow_record.now.values)) }
     ensures end { IfOk result (λ end. end ≡ length text.new.items) }
 {
     plan.put_shown(flow_record, text)?;

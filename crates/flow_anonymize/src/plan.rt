@@ -47,9 +47,9 @@ impl Plan {
 
     /// The plan for records that don't pass.
     pub(crate) fn for_verdict(verdict: RecordVerdict) -> Option<Plan>
-        ensures { MatchOption result
-            (verdict.action ≡ RecordAction.Pass)
-            (λ plan. ShowsNone plan × ((values : List (List ℕ)) (passing : Outcome) → planned plan values ≡ by_verdict verdict passing)) }
+        ensures { MatchOption result (verdict.action ≡ RecordAction.Pass)
+            (λ plan. ShowsNone plan × ((values : List (List ℕ)) (passing : Outcome)
+            → planned plan values ≡ by_verdict verdict passing)) }
     {
         let rule = verdict.rule;
         match verdict.action {
@@ -73,7 +73,8 @@ impl Plan {
         verdicts: Vec<ElementVerdict>,
     ) -> Result<Plan, AllocError>
         requires { AreJudged flow_record.now verdicts.items }
-        ensures passing { IfOk result (λ plan. IsPassing flow_record.now.template verdicts.items plan) }
+        ensures passing { IfOk result
+            (λ plan. IsPassing flow_record.now.template verdicts.items plan) }
         ensures showable { IfOk result (λ plan. IsShowable plan flow_record.now) }
     {
         let removed = removed_fields(alloc, &verdicts)?;
@@ -142,7 +143,8 @@ impl Plan {
         text: &mut Vec<u8>,
     ) -> Result<(), AllocError>
         requires { IsShowable self.now flow_record.now }
-        ensures ok { OnOk result (text.new.items ≡ text.old.items ++ passed_text (planned self.now flow_record.now.values)) }
+        ensures ok { OnOk result (text.new.items
+            ≡ text.old.items ++ passed_text (planned self.now flow_record.now.values)) }
         ensures err { OnErr result (text.new.items ≡ text.old.items) }
         ensures kept { IsKeptAsText (planned self.now flow_record.now.values) }
         ensures at_once { ShowsNone self.now → IsOk result }
@@ -169,7 +171,8 @@ impl Plan {
     /// # Errors
     /// Want of memory.
     pub(crate) fn decision(&self) -> Result<Decision, AllocError>
-        ensures { (values : List (List ℕ)) → IfOk result (λ d. d ≡ decision_of (planned self.now values)) }
+        ensures { (values : List (List ℕ))
+            → IfOk result (λ d. d ≡ decision_of (planned self.now values)) }
     {
         Ok(match self {
             Plan::Pass { removed, .. } => Decision::Passed {
@@ -201,7 +204,10 @@ fn pass(
     flow_record: &Record,
 ) -> Result<Disclosure, AllocError>
     requires { ShowsRecord flow_record.now (arc_value template.now) verdicts.now steps.now }
-    ensures { IfOk result (λ d. shown d ≡ Passes (record { template = arc_value template.now; values = kept_values flow_record.now.values verdicts.now }) removed.now) }
+    ensures { IfOk result (λ d. shown d ≡ Passes (record {
+      template = arc_value template.now;
+      values = kept_values flow_record.now.values verdicts.now;
+    }) removed.now) }
 {
     let text = kept_text(alloc, flow_record, verdicts, steps)?;
     let kept = Record::from_octets(template.clone()?, text);
@@ -235,7 +241,8 @@ fn remaining_template(
 ) -> Result<Arc<Template>, AllocError>
     requires judged { AreJudged flow_record.now verdicts.now }
     requires removed { removed.now ≡ removed_fields verdicts.now }
-    ensures { IfOk result (λ t. arc_value t ≡ remaining_template flow_record.now.template verdicts.now) }
+    ensures { IfOk result
+        (λ t. arc_value t ≡ remaining_template flow_record.now.template verdicts.now) }
 {
     if removed.is_empty() {
         return flow_record.shared_template().clone();

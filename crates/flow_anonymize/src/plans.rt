@@ -55,7 +55,13 @@ impl Model for Plans {
 
     ghost view = { λ p. record { for = record { rules = arc_value p.table; cuts = arc_value p.classes; name = string_bytes p.name; domain = p.domain; template = option_map arc_value p.template }; given = p.shelf.given } };
 
-    ghost invariant = { λ p. AreKept (record { rules = arc_value p.table; cuts = arc_value p.classes; name = string_bytes p.name; domain = p.domain; template = option_map arc_value p.template }) p.shelf.slots };
+    ghost invariant = { λ p. AreKept (record {
+      rules = arc_value p.table;
+      cuts = arc_value p.classes;
+      name = string_bytes p.name;
+      domain = p.domain;
+      template = option_map arc_value p.template;
+    }) p.shelf.slots };
 }
 
 impl Plans {
@@ -71,7 +77,16 @@ impl Plans {
         domain: u32,
     ) -> Result<Plans, AllocError>
         requires { HaveCuts (arc_value classes) (arc_value table) }
-        ensures { IfOk result (λ plans. plans ≡ record { for = record { rules = arc_value table; cuts = arc_value classes; name = name.now; domain = domain; template = None }; given = [] }) }
+        ensures { IfOk result (λ plans. plans ≡ record {
+          for = record {
+            rules = arc_value table;
+            cuts = arc_value classes;
+            name = name.now;
+            domain = domain;
+            template = None;
+          };
+          given = [];
+        }) }
     {
         // There are no more cuts than a key has room for.
         let _cuts = classes.cuts();
@@ -105,7 +120,10 @@ impl Plans {
     /// # Errors
     /// Want of memory, and then nothing has changed.
     pub fn begin(&mut self, template: &Arc<Template>) -> Result<(), AllocError>
-        ensures ok { OnOk result (self.new ≡ record { for = record self.old.for { template = Some (arc_value template.now) }; given = self.old.given }) }
+        ensures ok { OnOk result (self.new ≡ record {
+          for = record self.old.for { template = Some (arc_value template.now) };
+          given = self.old.given;
+        }) }
         ensures err { OnErr result (self.new ≡ self.old) }
     {
         if self.is_for(template) {
@@ -143,8 +161,10 @@ impl Plans {
     ) -> Result<Decision, AllocError>
         requires template { self.old.for.template ≡ Some flow_record.now.template }
         requires classes { classes ≡ classes_of self.old.for.cuts flow_record.now }
-        ensures given { OnOk result (self.new.given ≡ self.old.given ++ passed (outcome_for self.old.for flow_record.now)) }
-        ensures decision { IfOk result (λ d. d ≡ decision_of (outcome_for self.old.for flow_record.now)) }
+        ensures given { OnOk result
+            (self.new.given ≡ self.old.given ++ passed (outcome_for self.old.for flow_record.now)) }
+        ensures decision { IfOk result
+            (λ d. d ≡ decision_of (outcome_for self.old.for flow_record.now)) }
         ensures same { self.new.for ≡ self.old.for }
         ensures dropped { OnErr result (self.new.given ≡ []) }
     {
@@ -164,8 +184,10 @@ impl Plans {
     ) -> Result<Decision, AllocError>
         requires template { self.old.for.template ≡ Some flow_record.now.template }
         requires classes { classes ≡ classes_of self.old.for.cuts flow_record.now }
-        ensures given { OnOk result (self.new.given ≡ self.old.given ++ passed (outcome_for self.old.for flow_record.now)) }
-        ensures decision { IfOk result (λ d. d ≡ decision_of (outcome_for self.old.for flow_record.now)) }
+        ensures given { OnOk result
+            (self.new.given ≡ self.old.given ++ passed (outcome_for self.old.for flow_record.now)) }
+        ensures decision { IfOk result
+            (λ d. d ≡ decision_of (outcome_for self.old.for flow_record.now)) }
         ensures same { self.new.for ≡ self.old.for }
     {
         let Some(classes) = classes else {
@@ -188,8 +210,10 @@ impl Plans {
     ) -> Result<Decision, AllocError>
         requires template { self.old.for.template ≡ Some flow_record.now.template }
         requires classes { Some classes ≡ classes_of self.old.for.cuts flow_record.now }
-        ensures given { OnOk result (self.new.given ≡ self.old.given ++ passed (outcome_for self.old.for flow_record.now)) }
-        ensures decision { IfOk result (λ d. d ≡ decision_of (outcome_for self.old.for flow_record.now)) }
+        ensures given { OnOk result
+            (self.new.given ≡ self.old.given ++ passed (outcome_for self.old.for flow_record.now)) }
+        ensures decision { IfOk result
+            (λ d. d ≡ decision_of (outcome_for self.old.for flow_record.now)) }
         ensures same { self.new.for ≡ self.old.for }
     {
         // A record keeps that it is sound.
@@ -229,8 +253,10 @@ impl Plans {
         alloc: Global,
         flow_record: &Record,
     ) -> Result<Decision, AllocError>
-        ensures given { OnOk result (self.new.given ≡ self.old.given ++ passed (outcome_for self.old.for flow_record.now)) }
-        ensures decision { IfOk result (λ d. d ≡ decision_of (outcome_for self.old.for flow_record.now)) }
+        ensures given { OnOk result
+            (self.new.given ≡ self.old.given ++ passed (outcome_for self.old.for flow_record.now)) }
+        ensures decision { IfOk result
+            (λ d. d ≡ decision_of (outcome_for self.old.for flow_record.now)) }
         ensures same { self.new.for ≡ self.old.for }
     {
         match disclose_by(

@@ -97,10 +97,14 @@ impl Shelf {
         flow_record: &RecordView<'_>,
     ) -> Result<Decision, AllocError>
         requires there { place < length self.old.slots }
-        requires showable { (slot : Slot) → slice_get self.old.slots place ≡ Some slot → IsShowable slot.plan flow_record.now }
+        requires showable { (slot : Slot) → slice_get self.old.slots place ≡ Some slot
+            → IsShowable slot.plan flow_record.now }
         ensures slots { self.new.slots ≡ self.old.slots }
-        ensures given { (slot : Slot) → slice_get self.old.slots place ≡ Some slot → OnOk result (self.new.given ≡ self.old.given ++ passed (planned slot.plan flow_record.now.values)) }
-        ensures decision { (slot : Slot) → slice_get self.old.slots place ≡ Some slot → IfOk result (λ d. d ≡ decision_of (planned slot.plan flow_record.now.values)) }
+        ensures given { (slot : Slot) → slice_get self.old.slots place ≡ Some slot
+            → OnOk result
+            (self.new.given ≡ self.old.given ++ passed (planned slot.plan flow_record.now.values)) }
+        ensures decision { (slot : Slot) → slice_get self.old.slots place ≡ Some slot
+            → IfOk result (λ d. d ≡ decision_of (planned slot.plan flow_record.now.values)) }
     {
         let is_open = self.open == Some(place);
         let open = self.open.take();
@@ -118,7 +122,8 @@ impl Shelf {
     /// # Errors
     /// Want of memory.
     pub(crate) fn push(&mut self, kept: Record) -> Result<(), AllocError>
-        ensures given { OnOk result (self.new ≡ record { slots = self.old.slots; given = self.old.given ++ kept ∷ [] }) }
+        ensures given { OnOk result
+            (self.new ≡ record { slots = self.old.slots; given = self.old.given ++ kept ∷ [] }) }
         ensures slots { self.new.slots ≡ self.old.slots }
     {
         self.open = None;
@@ -163,8 +168,10 @@ fn pass(
 ) -> Result<(), AllocError>
     requires showable { IsShowable plan.now flow_record.now }
     requires same { is_open ≡ true → output.old.writing ≡ shown_template plan.now }
-    ensures given { OnOk result (output.new.given ≡ output.old.given ++ passed (planned plan.now flow_record.now.values)) }
-    ensures writing { OnOk result (WritesOn (shown_template plan.now) output.old.writing output.new.writing) }
+    ensures given { OnOk result
+        (output.new.given ≡ output.old.given ++ passed (planned plan.now flow_record.now.values)) }
+    ensures writing { OnOk result
+        (WritesOn (shown_template plan.now) output.old.writing output.new.writing) }
 {
     let Some(template) = plan.template() else {
         return Ok(());

@@ -79,7 +79,8 @@ fn changed_step(field: &FieldSpec, change: Change) -> Step
 
 /// Joins the next step with the last one, or appends the last one; the step that comes last then.
 fn join(last: Step, next: Step, steps: &mut Vec<Step>) -> Result<Step, AllocError>
-    ensures { IfOk result (λ step. (after : List Step) → AreAlike (steps.new.items ++ step ∷ after) (steps.old.items ++ last ∷ next ∷ after)) }
+    ensures { IfOk result (λ step. (after : List Step)
+        → AreAlike (steps.new.items ++ step ∷ after) (steps.old.items ++ last ∷ next ∷ after)) }
 {
     match joined(last, next) {
         Some(both) => Ok(both),
@@ -93,7 +94,8 @@ fn join(last: Step, next: Step, steps: &mut Vec<Step>) -> Result<Step, AllocErro
 /// One step in place of two neighbours that both show octets as they stand, or both leave octets out, or of which one takes no
 /// octets: so each step but the last takes some, and a record has no more steps than octets.
 fn joined(last: Step, next: Step) -> Option<Step>
-    ensures { IfSome result (λ both. (after : List Step) → AreAlike (both ∷ after) (last ∷ next ∷ after)) }
+    ensures { IfSome result
+        (λ both. (after : List Step) → AreAlike (both ∷ after) (last ∷ next ∷ after)) }
 {
     match (last, next) {
         (Step::Show(0), next) => Some(next),
@@ -220,7 +222,8 @@ fn put_behind(
     change: Change,
     text: &mut Vec<u8>,
 ) -> Result<(), AllocError>
-    ensures ok { OnOk result (text.new.items ≡ text.old.items ++ (before.now ++ changed change value.now)) }
+    ensures ok { OnOk result
+        (text.new.items ≡ text.old.items ++ (before.now ++ changed change value.now)) }
     ensures err { OnErr result (take (length text.old.items) text.new.items ≡ text.old.items) }
 {
     text.extend_from_slice(before)?;

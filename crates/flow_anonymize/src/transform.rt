@@ -30,9 +30,12 @@ pub fn disclose(
     domain: u32,
     flow_record: &Record,
 ) -> Result<Disclosure, AllocError>
-    ensures exact { IfOk result (λ d. shown d ≡ disclosure_of name.now domain flow_record.now policy.now.rules) }
+    ensures exact { IfOk result
+        (λ d. shown d ≡ disclosure_of name.now domain flow_record.now policy.now.rules) }
     // What is said of a record that doesn't pass takes no memory.
-    ensures at_once { (record_verdict_of name.now domain flow_record.now policy.now.rules).action ≢ on_record.Pass → IsOk result }
+    ensures at_once { (record_verdict_of name.now domain flow_record.now policy.now.rules).action
+        ≢ on_record.Pass
+        → IsOk result }
 {
     let plan = plan_of(alloc, policy, name, domain, flow_record)?;
     plan.disclose(alloc, flow_record)
@@ -49,9 +52,13 @@ fn plan_of(
     domain: u32,
     flow_record: &Record,
 ) -> Result<Plan, AllocError>
-    ensures plan { IfOk result (λ plan. IsPlan flow_record.now.template (record_verdict_of name.now domain flow_record.now policy.now.rules) (verdicts_of name.now domain flow_record.now policy.now.rules) plan) }
+    ensures plan { IfOk result (λ plan. IsPlan flow_record.now.template
+        (record_verdict_of name.now domain flow_record.now policy.now.rules)
+        (verdicts_of name.now domain flow_record.now policy.now.rules) plan) }
     ensures showable { IfOk result (λ plan. IsShowable plan flow_record.now) }
-    ensures at_once { (record_verdict_of name.now domain flow_record.now policy.now.rules).action ≢ on_record.Pass → IsOk result }
+    ensures at_once { (record_verdict_of name.now domain flow_record.now policy.now.rules).action
+        ≢ on_record.Pass
+        → IsOk result }
 {
     if let Some(plan) = Plan::for_verdict(record_verdict(policy, name, domain, flow_record)) {
         return Ok(plan);

@@ -22,7 +22,9 @@ pub(crate) fn kept_text(
 ) -> Result<Bytes, AllocError>
     requires by_steps { AreSteps flow_record.now.template.fields verdicts.now steps.now }
     requires each { length verdicts.now ≡ length flow_record.now.template.fields }
-    ensures { IfOk result (λ text. text ≡ record_text (kept_fields flow_record.now.template.fields verdicts.now) (kept_values flow_record.now.values verdicts.now)) }
+    ensures { IfOk result (λ text. text
+        ≡ record_text (kept_fields flow_record.now.template.fields verdicts.now)
+        (kept_values flow_record.now.values verdicts.now)) }
 {
     let octets = flow_record.as_octets();
     if are_whole(verdicts) {

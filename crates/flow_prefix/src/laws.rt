@@ -10,5 +10,6 @@ pub fn print_then_parse()
 
 /// Keeping bits leaves the width, and the number is the truncated one.
 pub fn kept_bits_are_truncated()
-    ensures { (n : ℕ) (octets : List ℕ) → AreOctets octets → KeepsBits n octets (kept_octets n octets) }
+    ensures { (n : ℕ) (octets : List ℕ) → AreOctets octets
+        → KeepsBits n octets (kept_octets n octets) }
 {}

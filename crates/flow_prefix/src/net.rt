@@ -116,7 +116,8 @@ impl Prefix6 {
 
     /// Whether the first bits of the value are those of the prefix.
     pub(crate) fn contains(&self, octets: &[u8]) -> bool
-        ensures { result ≡ (length octets.now == 16 && is_inside 128 self.now (be_value octets.now)) }
+        ensures { result
+            ≡ (length octets.now == 16 && is_inside 128 self.now (be_value octets.now)) }
     {
         if octets.len() != IPV6_OCTETS {
             return false;

@@ -1,22 +1,23 @@
 //! Keys of hash tables.
 use std::hash::{BuildHasher, DefaultHasher, RandomState};
 
-/// What a hash table is hashed with. Where it is secret, strangers can't choose entries that collide, of which each one more costs as
-/// much as there are already. It shows in no answer.
+/// What a hash table is hashed with. Where it is secret, strangers can't choose entries that
+/// collide. Of entries that collide, each one more costs as much time as there are already. The
+/// keys show in no answer.
 #[derive(Clone, Copy)]
 pub struct HashKeys {
     begun: DefaultHasher,
 }
 
 impl HashKeys {
-    /// Keys that everybody knows, for entries that no stranger chooses.
+    /// Keys that everybody knows, for tables whose entries no stranger chooses.
     pub fn known() -> HashKeys {
         HashKeys {
             begun: DefaultHasher::new(),
         }
     }
 
-    /// Keys that only those know who know this state.
+    /// Keys that only those know who know `state`, which a program draws at random.
     pub fn secret(state: &RandomState) -> HashKeys {
         HashKeys {
             begun: state.build_hasher(),

@@ -30,8 +30,8 @@ impl ElementId {
     /// The greatest number of an element, which has 15 bits (RFC 7011, section 3.2).
     pub const GREATEST_NUMBER: u16 = 32767;
 
-    /// The element of this number, of the enterprise `pen` or of the registry. `None` exactly where the
-    /// number is above 32767.
+    /// The element of this `number`, of the enterprise `pen`, or of the registry where `pen` is
+    /// `None`. `None` exactly where the number is above 32767.
     pub fn new(pen: Option<u32>, number: u16) -> Option<Self>
         ensures { MatchOption result (32768 ≤ number)
             (λ e. (number < 32768) × (e ≡ record { pen = pen; number = number })) }
@@ -42,7 +42,7 @@ impl ElementId {
         Some(ElementId { pen, number })
     }
 
-    /// The element that no enterprise defined, of a number of at most 32767.
+    /// The element of this `number`, at most 32767, that no enterprise defined.
     pub fn registered(number: u16) -> Self
         requires { number < 32768 }
         ensures { result ≡ record { pen = None; number = number } }
@@ -50,7 +50,7 @@ impl ElementId {
         ElementId { pen: None, number }
     }
 
-    /// The element that the enterprise `pen` defined under a number of at most 32767.
+    /// The element that the enterprise `pen` defined under this `number`, at most 32767.
     pub fn enterprise(pen: u32, number: u16) -> Self
         requires { number < 32768 }
         ensures { result ≡ record { pen = Some pen; number = number } }

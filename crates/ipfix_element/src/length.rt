@@ -4,9 +4,10 @@ ghost use Rattle.ipfix_element.specs.Kinds.{is_allowed_length, full_width_of};
 
 use crate::kind::Kind;
 
-/// Whether a field of this kind may have this Field Length, in octets: the full width, for unsigned
-/// numbers any length from 1 octet to it (reduced-size encoding, RFC 7011, section 6.2), and for text
-/// and octets any length, where 65535 says that each value brings its own (RFC 7011, section 7).
+/// Whether a field of this `kind` may have the Field Length `length`, in octets. Addresses and
+/// times have the full width alone. Unsigned numbers have any length from 1 octet to the full width
+/// (reduced-size encoding, RFC 7011, section 6.2). Text and octets have any length, where 65535
+/// says that each value brings its own (RFC 7011, section 7).
 #[tactic(auto, unfolding(crate::specs::Kinds::is_allowed_length, crate::specs::Kinds::full_width_of))]
 pub fn allowed_length(kind: Kind, length: u16) -> bool
     ensures { result ≡ is_allowed_length kind length }
@@ -22,7 +23,8 @@ pub fn allowed_length(kind: Kind, length: u16) -> bool
     }
 }
 
-/// The octets of a value of this kind at full width; `None` for text and octets, which have none.
+/// The octets of a value of this `kind` at full width (RFC 7011, section 6.1). `None` for text and
+/// for octets, which have none.
 #[tactic(auto, unfolding(crate::specs::Kinds::full_width_of))]
 pub fn full_width(kind: Kind) -> Option<u16>
     ensures { result ≡ full_width_of kind }

@@ -15,7 +15,11 @@ use crate::registry::{NUMBERS, entry_for, entry_of};
 use numerals::read_number;
 use std::alloc::{AllocError, Global};
 
-/// The name of an element. Each [`ElementId`] has one, and what the laws of names ask of it.
+/// The name of `element` in a policy, in memory from `alloc`. Each [`ElementId`] has one, and is
+/// what the laws of names ask of an element.
+///
+/// # Errors
+/// Want of memory for the name.
 #[tactic(auto, unfolding(crate::specs::Names::element_name))]
 pub fn name_of(alloc: Global, element: ElementId) -> Result<String, AllocError>
     ensures name { IfOk result (λ name. string_bytes name ≡ element_name element) }
@@ -31,8 +35,8 @@ pub fn name_of(alloc: Global, element: ElementId) -> Result<String, AllocError>
     }
 }
 
-/// The element of this name. `None` for every text that is no element's name, `e8` and `e08` among
-/// them, since 8 has a registry name and no number has a leading zero.
+/// The element whose name is `text`. `None` for every text that is no element's name, `e8` and
+/// `e08` among them: element 8 has a registry name, and no number has a leading zero.
 #[tactic(auto, unfolding(crate::specs::Names::element_name))]
 pub fn by_name(text: &str) -> Option<ElementId>
     // What is found has this name.

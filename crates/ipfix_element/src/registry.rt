@@ -23,7 +23,7 @@ impl Entry {
     }
 }
 
-/// How the values of an element are to be read: as the registry says for a registered element of the
+/// How the values of `element` are to be read: as the registry says for a registered element of the
 /// profile, and as bare octets for every other element and for every enterprise's.
 #[tactic(auto, unfolding(crate::specs::Kinds::kind_of))]
 pub fn kind_of(element: ElementId) -> Kind

@@ -46,14 +46,21 @@ impl Framer {
         }
     }
 
-    /// The messages that become whole with the next octets of the stream, in their order.
+    /// The messages that become whole with `piece`, the next octets of the stream, in their order
+    /// (RFC 7011, sections 3.1 and 10.4). The messages of one call share one block of memory. A
+    /// call takes time in proportion to its octets.
     ///
-    /// A fault is judged once 4 octets of a header are there: `BadVersion` for a version other than 10, else
-    /// `BadLength` for a length under 16 octets. Where messages became whole before the fault, the answer is
-    /// these messages, and else the fault; `fault` shows it at once, and every later call answers it. After
-    /// `OutOfMemory` the piece is no part of the stream, and nothing has changed.
+    /// A fault is judged as soon as the first 4 octets of a header are there. Where messages became
+    /// whole before the fault, the answer is these messages; [`fault`](Framer::fault) shows the
+    /// fault at once.
     ///
-    /// The messages of one call share one block of memory. A call takes time in proportion to its octets.
+    /// # Errors
+    /// - `BadVersion` where a header's version isn't 10, and else `BadLength` where its length is
+    ///   less than
+    /// the 16 octets of a header. Each comes where no message became whole before it in this call.
+    /// It ends the stream: every later call answers it.
+    /// - `OutOfMemory` for want of memory. The piece is then no part of the stream, and nothing has
+    ///   changed.
     pub fn feed(&mut self, piece: &[u8]) -> Result<Vec<Bytes>, FrameError>
         ensures ok { IfOk result (λ out. GoesOn self.old piece.now out.items self.new) }
         // No answer without messages hides a fault.
@@ -83,7 +90,7 @@ impl Framer {
         Ok(messages)
     }
 
-    /// The fault that ended the stream, once it is there. Want of memory is none.
+    /// The fault that ended the stream, once it is there. Want of memory ends no stream.
     pub fn fault(&self) -> Option<FrameError>
         ensures value { result ≡ self.now.fault }
         ensures of_stream { result ≢ Some FrameError.OutOfMemory }
@@ -91,7 +98,7 @@ impl Framer {
         self.fault
     }
 
-    /// How many octets of a message that isn't whole yet were fed; after a fault 0.
+    /// How many octets of a message that isn't whole yet were fed. After a fault it is 0.
     pub fn pending(&self) -> usize
         ensures value { result ≡ length self.now.pending }
         ensures emptied { IsSome self.now.fault → result ≡ 0 }

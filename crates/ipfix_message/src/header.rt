@@ -14,15 +14,16 @@ pub struct Header {
     pub export_time: u32,
     /// The Data Records sent before this message in the session and domain, modulo 2^32.
     pub sequence: u32,
-    /// The Observation Domain ID.
+    /// The Observation Domain ID, which is the exporter's own number.
     pub domain: u32,
 }
 
-/// Reads the header of a message, of which these are all octets.
+/// Reads the header of a message (RFC 7011, section 3.1). `octets` are all octets of the message.
 ///
 /// # Errors
-/// ShortHeader under 16 octets; BadVersion where the version is not 10; BadLength where the Length is
-/// not the number of octets.
+/// - `ShortHeader` where there are fewer than 16 octets.
+/// - `BadVersion` where the version isn't 10.
+/// - `BadLength` where the Length isn't the number of the octets.
 #[tactic(auto, unfolding(crate::specs::Reading::read_header))]
 pub fn read_header(octets: &[u8]) -> Result<Header, DecodeError>
     ensures exact { result ≡ reading.read_header octets.now }

@@ -14,8 +14,8 @@ pub enum Item {
     WithdrawAll { options: bool },
     /// A definition is refused, and its ID then counts as withdrawn.
     Refused { id: u16, why: Refused },
-    /// A Data Set for the template of an ID: its content starts at this place of the message, after the
-    /// set header, and has so many octets.
+    /// A Data Set for the template of an ID. Its content starts at the place `start` of the
+    /// message, behind the set header, and has `len` octets.
     DataSet { id: u16, start: usize, len: usize },
     /// A set of an ID that RFC 7011 reserves: 0, 1 or 4 to 255.
     Skipped { set: u16 },

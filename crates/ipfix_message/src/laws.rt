@@ -8,13 +8,14 @@ ghost use Rattle.ipfix_message.specs.Reading.{read_header, items_of};
 /// What is read as a message is one of the grammar, and what is a message of the grammar is read as that,
 /// header and items.
 pub fn grammar_is_read()
-    ensures found { (octets : List ℕ) (said : List Item) → items_of octets ≡ Ok said → (h : Header) × IsMessage octets h said }
+    ensures found { (octets : List ℕ) (said : List Item) → items_of octets ≡ Ok said
+        → (h : Header) × IsMessage octets h said }
     ensures only { (octets : List ℕ) (h : Header) (said : List Item) → IsMessage octets h said
         → (items_of octets ≡ Ok said) × (read_header octets ≡ Ok h) }
 {}
 
 /// Octets are at most one message: two readings of them by the grammar are equal.
 pub fn one_message()
-    ensures { (octets : List ℕ) (g h : Header) (first second : List Item) → IsMessage octets g first → IsMessage octets h second
-        → (g ≡ h) × (first ≡ second) }
+    ensures { (octets : List ℕ) (g h : Header) (first second : List Item) → IsMessage octets g first
+        → IsMessage octets h second → (g ≡ h) × (first ≡ second) }
 {}

@@ -18,20 +18,24 @@ use ipfix_octets::message_format::{
 };
 use std::alloc::Global;
 
-/// What a message says, in the order of its octets.
+/// What a message says, in the order of its octets (RFC 7011, sections 3.3, 3.4 and 8.1). `octets`
+/// are all octets of the message. The list is in memory from `alloc`.
 ///
 /// # Errors
-/// The first fault in reading order, or want of memory.
+/// The first fault in reading order, or `OutOfMemory` for want of memory. A fault of the header is
+/// always named, since it takes no memory.
 pub fn items(alloc: Global, octets: &[u8]) -> Result<Vec<Item>, DecodeError>
     // What is read is a message of the grammar.
     ensures found { IfOk result (λ v. (h : Header) × IsMessage octets.now h v.items) }
     // What is a message of the grammar is read, unless memory runs out.
-    ensures only { (h : Header) (said : List Item) → IsMessage octets.now h said → Gives (λ v. v.items) result (Ok said) }
+    ensures only { (h : Header) (said : List Item) → IsMessage octets.now h said
+        → Gives (λ v. v.items) result (Ok said) }
     // Which fault it is.
     ensures exact { Gives (λ v. v.items) result (items_of octets.now) }
     // A fault of the header, and a message without sets, are answered without memory.
     ensures header { IfErr (read_header octets.now) (λ e. result ≡ Err e) }
-    ensures bare { IfOk (read_header octets.now) (λ _. length octets.now ≡ header_octets → IsOk result) }
+    ensures bare { IfOk (read_header octets.now) (λ _. length octets.now ≡ header_octets
+        → IsOk result) }
 {
     read_items(alloc, octets)
 }
@@ -40,7 +44,8 @@ pub fn items(alloc: Global, octets: &[u8]) -> Result<Vec<Item>, DecodeError>
 fn read_items(alloc: Global, octets: &[u8]) -> Result<Vec<Item>, DecodeError>
     ensures exact { Gives (λ v. v.items) result (items_of octets.now) }
     ensures header { IfErr (read_header octets.now) (λ e. result ≡ Err e) }
-    ensures bare { IfOk (read_header octets.now) (λ _. length octets.now ≡ header_octets → IsOk result) }
+    ensures bare { IfOk (read_header octets.now) (λ _. length octets.now ≡ header_octets
+        → IsOk result) }
 {
     read_header(octets)?;
     let mut items = Vec::new(alloc);
@@ -61,7 +66,8 @@ fn put_sets(
     items: &mut Vec<Item>,
 ) -> Result<(), DecodeError>
     requires { length octets.now ≤ total }
-    ensures read { Gives (λ _. items.new.items) result (with_front items.old.items (read_all (set_front total) octets.now)) }
+    ensures read { Gives (λ _. items.new.items) result
+        (with_front items.old.items (read_all (set_front total) octets.now)) }
     ensures bare { length octets.now ≡ 0 → IsOk result }
 {
     let mut rest = octets;
@@ -106,7 +112,8 @@ fn put_content(
     content: &[u8],
     items: &mut Vec<Item>,
 ) -> Result<(), DecodeError>
-    ensures { Gives (λ _. items.new.items) result (with_front items.old.items (set_items id place content.now)) }
+    ensures { Gives (λ _. items.new.items) result
+        (with_front items.old.items (set_items id place content.now)) }
 {
     if id == TEMPLATE_SET {
         return put_templates(alloc, false, content, items);
@@ -133,7 +140,8 @@ fn put_templates(
     content: &[u8],
     items: &mut Vec<Item>,
 ) -> Result<(), DecodeError>
-    ensures { Gives (λ _. items.new.items) result (with_front items.old.items (read_all (template_front options) content.now)) }
+    ensures { Gives (λ _. items.new.items) result
+        (with_front items.old.items (read_all (template_front options) content.now)) }
 {
     let mut rest = content;
     'records: while let Some((item, after)) = first_record(alloc, options, rest)? {

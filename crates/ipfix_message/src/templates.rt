@@ -15,9 +15,10 @@ use ipfix_octets::message_format::{
 use ipfix_template::{FieldSpec, Fields, Refused, Template};
 use std::alloc::Global;
 
-/// The octets of a Field Specifier, and of one with an enterprise number (RFC 7011, section 3.2).
+/// The octets of a Field Specifier without an enterprise number (RFC 7011, section 3.2).
 const SPECIFIER: usize = 4;
 
+/// The octets of a Field Specifier with an enterprise number (RFC 7011, section 3.2).
 const ENTERPRISE_SPECIFIER: usize = 8;
 
 /// The Field Specifier at the front, and the octets after it.
@@ -44,7 +45,7 @@ fn first_field(octets: &[u8]) -> Option<(FieldSpec, &[u8])>
     ))
 }
 
-/// So many Field Specifiers at the front, and the octets after them.
+/// The first `count` Field Specifiers, and the octets after them.
 fn first_fields(
     alloc: Global,
     count: u16,
@@ -85,7 +86,7 @@ fn first_template(
     with_scope(alloc, scope, count, octets.split_at(2).1)
 }
 
-/// The template of so many fields at the front, and the octets after them.
+/// The template of the first `count` Field Specifiers, and the octets after them.
 #[tactic(auto, unfolding(crate::specs::Reading::scoped_at))]
 fn with_scope(
     alloc: Global,

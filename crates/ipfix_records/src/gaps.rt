@@ -62,7 +62,7 @@ pub(crate) fn walk(first: usize, gaps: &[usize], octets: &[u8]) -> Option<(usize
     Some((used, is_shortest))
 }
 
-/// Where a value of so many octets starts in its shortest text.
+/// Where a value of `length` octets starts in its shortest text.
 fn shortest_start(length: usize) -> usize
     ensures { result ≡ start_of length }
 {

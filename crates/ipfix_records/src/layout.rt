@@ -35,7 +35,7 @@ impl Model for Layout {
 }
 
 impl Layout {
-    /// The layout of a template.
+    /// The layout of the records of `template`, in memory from `alloc`.
     ///
     /// # Errors
     /// Want of memory.
@@ -54,21 +54,23 @@ impl Layout {
         })
     }
 
+    /// The template whose records are laid out.
     pub fn template(&self) -> &Template
         ensures { result.now ≡ self.now }
     {
         &self.template
     }
 
-    /// The template as records share it.
+    /// The template, as it is shared with records.
     pub fn shared_template(&self) -> &Arc<Template>
         ensures { arc_value result.now ≡ self.now }
     {
         &self.template
     }
 
-    /// Finds how many octets the record of the template takes at the front of `octets`, and whether they are what
-    /// `encode_record` writes for its values, as [`measure`](ipfix_template::measure) does. It takes no memory.
+    /// Finds how many octets the record of the template takes at the front of `octets`, and whether
+    /// these are what `encode_record` writes for its values. It answers what
+    /// [`ipfix_template::measure`](ipfix_template::measure) does, and takes no memory.
     pub fn measure(&self, octets: &[u8]) -> Extent
         // What is found is split by the fields.
         ensures found { IsMeasuredBy self.now.fields octets.now result }

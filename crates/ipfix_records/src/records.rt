@@ -7,7 +7,7 @@ use ipfix_template::Record;
 use std::alloc::{AllocError, Global};
 use std::marker::Model;
 
-/// As many records as a list may have. More find no place in memory.
+/// The most records that a list may have. There is no memory for more.
 const MOST_RECORDS: usize = isize::MAX as usize;
 
 /// Data Records one after another, of any templates. Contracts see the list of them.
@@ -34,7 +34,8 @@ impl Model for Records {
 
     ghost view = { λ r. records_in r.runs.items };
 
-    ghost invariant = { λ r. (r.count ≡ length (records_in r.runs.items)) × (r.count < 2 ^ 63) × AllByRecursion IsKeptRun r.runs.items };
+    ghost invariant = { λ r. (r.count ≡ length (records_in r.runs.items))
+        × (r.count < 2 ^ 63) × AllByRecursion IsKeptRun r.runs.items };
 }
 
 impl Records {
@@ -61,6 +62,7 @@ impl Records {
         self.count
     }
 
+    /// Whether there is no record.
     pub fn is_empty(&self) -> bool
         ensures { result ≡ (length self.now == 0) }
     {
@@ -77,6 +79,7 @@ impl Records {
         &self.runs
     }
 
+    /// The runs, one after another. Nothing is copied.
     #[tactic(auto, using(crate::proofs::RunLaws::kept_runs_sound))]
     pub fn into_runs(self) -> Vec<Run>
         ensures value { records_in result.items ≡ self }
@@ -87,7 +90,7 @@ impl Records {
         runs
     }
 
-    /// Puts the records of a run behind the others.
+    /// Puts the records of `run` behind the others, in their order. No octet is copied.
     ///
     /// # Errors
     /// Want of memory, and then nothing has changed.
@@ -105,7 +108,7 @@ impl Records {
         Ok(())
     }
 
-    /// Puts a record behind the others, as a run of its own.
+    /// Puts the record `single` behind the others, as a run of its own, in memory from `alloc`.
     ///
     /// # Errors
     /// Want of memory, and then nothing has changed.
@@ -117,7 +120,7 @@ impl Records {
         self.push_run(run)
     }
 
-    /// The records as a list. Each is cut out of its run, and not copied.
+    /// The records as a list, in memory from `alloc`. Each is cut out of its run, and not copied.
     ///
     /// # Errors
     /// Want of memory.
@@ -137,7 +140,7 @@ impl Clone for Records {
 
     ghost is_clone = { λ r copy. copy ≡ r };
 
-    /// The same runs, of which no octet is copied.
+    /// A list of the same runs. No octet of a record is copied.
     fn clone(&self) -> Result<Records, AllocError> {
         Ok(Records {
             runs: self.runs.clone()?,

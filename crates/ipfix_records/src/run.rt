@@ -41,11 +41,14 @@ impl Run {
     ghost use Rattle.ipfix_template.specs.Values.{record_text};
     ghost use Rattle.ipfix_records.specs.Runs.{IsKeptRun, records_of};
 
-    /// The records whose texts end at these places of the octets. Nothing is copied, and it takes no memory.
+    /// The records of `template` that stand in `octets`, one after another. `ends` says for each
+    /// where it ends, counted from the first octet of all. Nothing is copied, and it takes no
+    /// memory.
     pub fn new(template: Arc<Template>, octets: Bytes, ends: Vec<u32>) -> Run
         requires ends { AreEnds 0 ends.items (length octets) }
         requires kept { AllByRecursion (IsKept (arc_value template)) (pieces octets 0 ends.items) }
-        ensures { result ≡ record { template = arc_value template; texts = pieces octets 0 ends.items } }
+        ensures { result
+            ≡ record { template = arc_value template; texts = pieces octets 0 ends.items } }
     {
         Run {
             template,
@@ -54,12 +57,16 @@ impl Run {
         }
     }
 
-    /// The run of one record.
+    /// The run of the record `single` alone. Its octets are not copied; the list of ends is in
+    /// memory from `alloc`.
     ///
     /// # Errors
-    /// Want of memory.
+    /// Want of memory for the list of ends.
     pub fn of_record(alloc: Global, single: Record) -> Result<Run, AllocError>
-        ensures run { IfOk result (λ run. run ≡ record { template = single.template; texts = record_text single.template.fields single.values ∷ [] }) }
+        ensures run { IfOk result (λ run. run ≡ record {
+          template = single.template;
+          texts = record_text single.template.fields single.values ∷ [];
+        }) }
         ensures records { IfOk result (λ run. records_of run ≡ single ∷ []) }
     {
         let end = single.octets() as u32;
@@ -78,6 +85,7 @@ impl Run {
         self.ends.len()
     }
 
+    /// Whether there is no record.
     #[tactic(auto, using(crate::proofs::PieceLaws::length_pieces))]
     pub fn is_empty(&self) -> bool
         ensures value { result ≡ (length self.now.texts == 0) }
@@ -86,6 +94,7 @@ impl Run {
         self.ends.is_empty()
     }
 
+    /// The template of all records of the run.
     pub fn template(&self) -> &Template
         ensures value { result.now ≡ self.now.template }
         ensures kept { IsKeptRun self.now }
@@ -93,7 +102,7 @@ impl Run {
         &self.template
     }
 
-    /// The template as records share it.
+    /// The template, as it is shared with records.
     pub fn shared_template(&self) -> &Arc<Template>
         ensures value { arc_value result.now ≡ self.now.template }
         ensures kept { IsKeptRun self.now }
@@ -110,7 +119,8 @@ impl Run {
         &self.octets
     }
 
-    /// Where the first so many records end in the octets, in a time that doesn't grow with their number.
+    /// Where the first `count` records end, counted from the first octet of all. It takes no longer
+    /// for many records than for few.
     pub fn end(&self, count: usize) -> usize
         requires { count ≤ length self.now.texts }
         ensures value { result ≡ length (concat (take count self.now.texts)) }
@@ -119,7 +129,7 @@ impl Run {
         end_of(&self.ends, count)
     }
 
-    /// The octets of the record at this index.
+    /// The octets of the record at `index`, counted from 0.
     pub fn text(&self, index: usize) -> &[u8]
         requires { index < length self.now.texts }
         ensures value { result.now ≡ slice_index_or self.now.texts index [] }
@@ -129,18 +139,19 @@ impl Run {
         &self.octets[start..end]
     }
 
-    /// The record at this index. Its octets are a part of the run's, and not copied.
+    /// The record at `index`, counted from 0. Its octets are a part of the run's, and not copied.
     ///
     /// # Errors
     /// Want of memory.
     pub fn record(&self, index: usize) -> Result<Record, AllocError>
         requires { index < length self.now.texts }
-        ensures { IfOk result (λ r. r ≡ kept_record self.now.template (slice_index_or self.now.texts index [])) }
+        ensures { IfOk result
+            (λ r. r ≡ kept_record self.now.template (slice_index_or self.now.texts index [])) }
     {
         self.view(index).to_record()
     }
 
-    /// The record at this index, where it stands.
+    /// The record at `index`, counted from 0, where it stands. It takes no memory.
     pub fn view(&self, index: usize) -> RecordView<'_>
         requires { index < length self.now.texts }
         ensures { result ≡ kept_record self.now.template (slice_index_or self.now.texts index []) }
@@ -149,10 +160,10 @@ impl Run {
         RecordView::new(&self.template, &self.octets, start, end)
     }
 
-    /// Puts the records behind a list of records, each cut out and not copied.
+    /// Puts the records behind those of `list`, in their order. Each is cut out, and not copied.
     ///
     /// # Errors
-    /// Want of memory, and then some of them stand there.
+    /// Want of memory, and then some of the records may stand in the list.
     pub fn append_to(&self, list: &mut Vec<Record>) -> Result<(), AllocError>
         ensures { OnOk result (list.new.items ≡ list.old.items ++ records_of self.now) }
     {
@@ -162,11 +173,13 @@ impl Run {
         Ok(())
     }
 
-    /// The template, the octets and the ends.
+    /// The template, the octets of all records, and for each record where it ends in them. Nothing
+    /// is copied.
     #[tactic(auto, using(crate::proofs::PieceLaws::whole_pieces))]
     pub fn into_parts(self) -> (Arc<Template>, Bytes, Vec<u32>)
         ensures template { arc_value result.0 ≡ self.template }
         ensures texts { pieces result.1 0 result.2.items ≡ self.texts }
+        // The octets are those of the records, and no others.
         ensures octets { result.1 ≡ concat self.texts }
         ensures ends { AreEnds 0 result.2.items (length result.1) }
         ensures kept { IsKeptRun self }
@@ -200,12 +213,13 @@ fn place_of(octets: &[u8], ends: &[u32], index: usize) -> (usize, usize)
     requires ends { AreEnds 0 ends.now (length octets.now) }
     requires index { index < length ends.now }
     ensures within { (result.0 ≤ result.1) × (result.1 ≤ length octets.now) }
-    ensures shown { take (result.1 - result.0) (drop result.0 octets.now) ≡ slice_index_or (pieces octets.now 0 ends.now) index [] }
+    ensures shown { take (result.1 - result.0) (drop result.0 octets.now)
+        ≡ slice_index_or (pieces octets.now 0 ends.now) index [] }
 {
     (end_of(ends, index), end_of(ends, index + 1))
 }
 
-/// Where the first so many texts end.
+/// Where the first `count` texts end.
 fn end_of(ends: &[u32], count: usize) -> usize
     requires { count ≤ length ends.now }
     ensures { result ≡ slice_index (0 ∷ ends.now) count }

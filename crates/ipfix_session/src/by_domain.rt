@@ -64,9 +64,10 @@ impl ByDomain {
         }
     }
 
-    /// The same, with the share in it.
+    /// The template of a domain and an ID, with its share, of which one may become an owner.
     pub(crate) fn shared(&self, domain: u32, id: u16) -> Option<&Arc<Template>>
-        ensures { option_map (λ t. arc_value t.now) result ≡ at_key id (held_templates self.now.tables.entries domain) }
+        ensures { option_map (λ t. arc_value t.now) result
+            ≡ at_key id (held_templates self.now.tables.entries domain) }
     {
         match self.get(domain) {
             Some(table) => table.get(id),
@@ -85,7 +86,8 @@ impl ByDomain {
         changes: &Changes,
     ) -> Result<(), AllocError>
         ensures same { shown_tables self.new.tables.entries ≡ shown_tables self.old.tables.entries }
-        ensures room { OnOk result (IsSomeAnd (at_key domain (places_of self.new.tables.entries)) (λ there. HasPlaces there changes.now.defined.places)) }
+        ensures room { OnOk result (IsSomeAnd (at_key domain (places_of self.new.tables.entries))
+            (λ there. HasPlaces there changes.now.defined.places)) }
     {
         if let Some(table) = self.tables.get_mut(&domain) {
             return changes.make_room(table);
@@ -98,8 +100,10 @@ impl ByDomain {
 
     /// Makes what a message of a domain changes, in room that was made for it.
     pub(crate) fn settle(&mut self, domain: u32, changes: Changes)
-        requires { IsSomeAnd (at_key domain (places_of self.old.tables.entries)) (λ there. HasPlaces there changes.defined.places) }
-        ensures { Settles self.old.tables.entries self.new.tables.entries domain (after changes (held_templates self.old.tables.entries domain)) }
+        requires { IsSomeAnd (at_key domain (places_of self.old.tables.entries))
+            (λ there. HasPlaces there changes.defined.places) }
+        ensures { Settles self.old.tables.entries self.new.tables.entries domain
+            (after changes (held_templates self.old.tables.entries domain)) }
     {
         if let Some(table) = self.tables.get_mut(&domain) {
             changes.make(table);

@@ -38,8 +38,10 @@ impl Changes {
 
     /// No change.
     pub(crate) fn new(alloc: Global) -> Changes
-        ensures same { (before : List (ℕ × Template)) (q : ℕ) → after result before q ≡ at_key q before }
-        ensures nothing { (found : Option Template) (q : ℕ) → changed (change_of result) q found ≡ found }
+        ensures same { (before : List (ℕ × Template)) (q : ℕ)
+            → after result before q ≡ at_key q before }
+        ensures nothing { (found : Option Template) (q : ℕ)
+            → changed (change_of result) q found ≡ found }
     {
         Changes {
             alloc,
@@ -53,14 +55,16 @@ impl Changes {
     /// Whether nothing is changed: no ID is decided, and no kind is withdrawn. Repeated definitions change nothing.
     pub(crate) fn is_none(&self) -> bool
         ensures value { result ≡ changes_none (change_of self.now) }
-        ensures same { IsTrue result → (before : List (ℕ × Template)) (q : ℕ) → after self.now before q ≡ at_key q before }
+        ensures same { IsTrue result
+            → (before : List (ℕ × Template)) (q : ℕ) → after self.now before q ≡ at_key q before }
     {
         !self.plain_withdrawn && !self.options_withdrawn && self.decided.is_empty()
     }
 
     /// The template that an ID has after the changes.
     pub(crate) fn get<'a>(&'a self, before: &'a Table, id: u16) -> Option<&'a Arc<Template>>
-        ensures value { option_map (λ t. arc_value t.now) result ≡ after self.now before.now.templates id }
+        ensures value { option_map (λ t. arc_value t.now) result
+            ≡ after self.now before.now.templates id }
         ensures keepable { IfSome result (λ t. IsKeepable (arc_value t.now)) }
     {
         if let Some(template) = self.defined.get(id) {
@@ -77,7 +81,8 @@ impl Changes {
 
     /// Whether the message withdraws all templates of this one's kind that stood before it.
     fn withdraws(&self, template: &Template) -> bool
-        ensures { result ≡ (if is_options template.now then self.now.options_withdrawn else self.now.plain_withdrawn) }
+        ensures { result ≡ (if is_options template.now
+            then self.now.options_withdrawn else self.now.plain_withdrawn) }
     {
         if template.is_options() {
             self.options_withdrawn
@@ -98,7 +103,8 @@ impl Changes {
         template: Template,
     ) -> Result<(), AllocError>
         requires { IsKeepable template }
-        ensures { OnOk result ((q : ℕ) → after self.new before.now.templates q ≡ (if q == id then Some template else after self.old before.now.templates q)) }
+        ensures { OnOk result ((q : ℕ) → after self.new before.now.templates q
+            ≡ (if q == id then Some template else after self.old before.now.templates q)) }
     {
         if self.repeats(before, id, &template) {
             return Ok(());
@@ -125,7 +131,8 @@ impl Changes {
     /// # Errors
     /// Want of memory.
     pub(crate) fn withdraw(&mut self, before: &Table, id: u16) -> Result<(), AllocError>
-        ensures { OnOk result ((q : ℕ) → after self.new before.now.templates q ≡ (if q == id then None else after self.old before.now.templates q)) }
+        ensures { OnOk result ((q : ℕ) → after self.new before.now.templates q
+            ≡ (if q == id then None else after self.old before.now.templates q)) }
     {
         if self.get(before, id).is_none() {
             return Ok(());
@@ -137,7 +144,8 @@ impl Changes {
 
     /// Takes out all options templates, or all plain ones: those before the message, and those that it defined.
     pub(crate) fn withdraw_all(&mut self, options: bool)
-        ensures { (before : List (ℕ × Template)) (q : ℕ) → after self.new before q ≡ unless_of_kind options (after self.old before q) }
+        ensures { (before : List (ℕ × Template)) (q : ℕ)
+            → after self.new before q ≡ unless_of_kind options (after self.old before q) }
     {
         self.defined.withdraw_all(self.alloc, options);
         if options {
@@ -161,7 +169,8 @@ impl Changes {
     /// Makes the changes, in room that was made for them.
     pub(crate) fn make(self, templates: &mut Table)
         requires { HasPlaces templates.old.places self.defined.places }
-        ensures { (q : ℕ) → at_key q templates.new.templates ≡ after self templates.old.templates q }
+        ensures { (q : ℕ)
+            → at_key q templates.new.templates ≡ after self templates.old.templates q }
     {
         templates.take_over(
             self.defined,

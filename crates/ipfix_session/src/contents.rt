@@ -8,5 +8,6 @@ use ipfix_records::Records;
 pub struct Contents {
     /// The Data Records, in the order of the message.
     pub records: Records,
+    /// What the message brings that gives no record.
     pub skips: Skips,
 }

@@ -90,7 +90,8 @@ fn run_of(
 ) -> Result<Run, AllocError>
     requires fits { FitsOneMessage content.now }
     requires found { AreFound (arc_value template.now) content.now found }
-    ensures { IfOk result (λ run. records_of run ≡ map (kept_record (arc_value template.now)) (pieces content.now 0 found.ends.items)) }
+    ensures { IfOk result (λ run. records_of run
+        ≡ map (kept_record (arc_value template.now)) (pieces content.now 0 found.ends.items)) }
 {
     if found.is_shortest {
         let octets = content.slice(0..found.used)?;
@@ -108,7 +109,8 @@ fn written_anew(
 ) -> Result<Run, AllocError>
     requires fits { FitsOneMessage content.now }
     requires found { AreFound (arc_value template.now) content.now found.now }
-    ensures { IfOk result (λ run. records_of run ≡ map (kept_record (arc_value template.now)) (pieces content.now 0 found.now.ends.items)) }
+    ensures { IfOk result (λ run. records_of run
+        ≡ map (kept_record (arc_value template.now)) (pieces content.now 0 found.now.ends.items)) }
 {
     let mut octets = Vec::with_capacity(alloc, content.len())?;
     let mut written = Vec::with_capacity(alloc, found.ends.len())?;

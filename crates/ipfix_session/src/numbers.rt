@@ -56,7 +56,8 @@ impl Numbers {
     /// # Errors
     /// Want of memory, and then no number is changed.
     pub(crate) fn set(&mut self, domain: u32, number: Option<u32>) -> Result<(), AllocError>
-        ensures ok { OnOk result ((q : ℕ) → number_of self.new q ≡ (if q == domain then number else number_of self.old q)) }
+        ensures ok { OnOk result ((q : ℕ)
+            → number_of self.new q ≡ (if q == domain then number else number_of self.old q)) }
         ensures err { OnErr result (shown_numbers self.new ≡ shown_numbers self.old) }
     {
         self.by_domain.insert(domain, number)?;
@@ -66,7 +67,8 @@ impl Numbers {
     /// Sets the number of a domain that has a place, which takes no memory.
     pub(crate) fn fill(&mut self, domain: u32, number: Option<u32>)
         requires { has_number self.old domain ≡ true }
-        ensures { (q : ℕ) → number_of self.new q ≡ (if q == domain then number else number_of self.old q) }
+        ensures { (q : ℕ)
+            → number_of self.new q ≡ (if q == domain then number else number_of self.old q) }
     {
         if let Some(place) = self.by_domain.get_mut(&domain) {
             *place = number;

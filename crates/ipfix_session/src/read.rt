@@ -6,11 +6,14 @@ use ipfix_records::Records;
 /// What a session's message means after the messages before it.
 #[derive(Drop)]
 pub struct Read {
+    /// The message's header.
     pub header: Header,
     /// The Data Records, in the order of the message.
     pub records: Records,
+    /// What the message brings that gives no record.
     pub skips: Skips,
-    /// Set where the sequence number is not the one that the last message of the domain left to expect.
+    /// Set where the sequence number is not the one that the last message of the domain left to
+    /// expect (RFC 7011, section 3.1).
     pub gap: Option<Gap>,
 }
 

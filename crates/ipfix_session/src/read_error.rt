@@ -7,7 +7,7 @@ use thiserror::Error;
 /// Why a session refuses a message: the first fault in reading order.
 #[derive(Clone, Copy, Debug, PartialEq, Eq, Error)]
 pub enum ReadError {
-    /// The octets are no message.
+    /// The octets are no message, for this reason.
     #[error("Malformed")]
     Malformed(DecodeError),
     /// A data record goes past its set.

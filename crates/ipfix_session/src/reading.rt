@@ -37,21 +37,21 @@ impl Reading {
         self.read.header
     }
 
-    /// Its Data Records, in its order.
+    /// The message's Data Records, in its order.
     pub fn records(&self) -> &Records
         ensures { result.now ≡ self.now.meaning.records }
     {
         &self.read.records
     }
 
-    /// What it brings that gives no record.
+    /// What the message brings that gives no record.
     pub fn skips(&self) -> Skips
         ensures { result ≡ self.now.meaning.skips }
     {
         self.read.skips
     }
 
-    /// Set where its sequence number is not the one that is expected.
+    /// Set where the message's sequence number is not the one that is expected.
     pub fn gap(&self) -> Option<Gap>
         ensures { result ≡ self.now.meaning.gap }
     {

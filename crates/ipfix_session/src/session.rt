@@ -66,7 +66,7 @@ impl Model for Session {
 }
 
 impl Session {
-    /// A session without a message.
+    /// A session without a message. What it comes to keep is taken from `alloc`.
     pub fn new(alloc: Global) -> Session
         ensures { StandsFor result [] }
     {
@@ -77,12 +77,16 @@ impl Session {
         }
     }
 
-    /// For a program that reads one message after another, and for tests: reads the next message, which is
-    /// [`read`](Session::read), [`make_room`](Session::make_room) and [`keep`](Session::keep) of a copy of it.
+    /// For a program that reads one message after another, and for tests: reads `message`, all
+    /// octets of the next one, and keeps what it changes. That is [`read`](Session::read),
+    /// [`make_room`](Session::make_room) and [`keep`](Session::keep) of a copy of it. It answers
+    /// the message's records, what of it gave none, and whether numbers were passed over.
     ///
     /// # Errors
-    /// The first fault: Malformed with its cause, RecordOverrun, or want of memory. A refused message
-    /// changes nothing.
+    /// The first fault in reading order, and then nothing has changed:
+    /// - `Malformed` with its cause, where the octets are no message.
+    /// - `RecordOverrun` where a Data Record goes past its set.
+    /// - `OutOfMemory` for want of memory.
     pub fn apply(&mut self, message: &[u8]) -> Result<Read, ReadError>
         // The answer is what the message means after those before it, or its first fault.
         ensures meaning { (older : List (List ℕ)) → StandsFor self.old older
@@ -101,11 +105,14 @@ impl Session {
         Ok(self.keep(reading))
     }
 
-    /// Reads the next message and keeps nothing of it. The values of its records are cut from the message, and
-    /// not copied.
+    /// Reads `message`, all octets of the next one, and keeps nothing of it. The values of its
+    /// records are cut from the message where they stand in their shortest texts, and not copied.
     ///
     /// # Errors
-    /// The first fault: Malformed with its cause, RecordOverrun, or want of memory.
+    /// The first fault in reading order:
+    /// - `Malformed` with its cause, where the octets are no message.
+    /// - `RecordOverrun` where a Data Record goes past its set.
+    /// - `OutOfMemory` for want of memory.
     pub fn read(&self, message: &Bytes) -> Result<Reading, ReadError>
         // The answer is what the message means after those before it, or its first fault.
         ensures meaning { (older : List (List ℕ)) → StandsFor self.now older
@@ -121,8 +128,9 @@ impl Session {
         self.read_message(header, message, said)
     }
 
-    /// Makes room for what a message changes, so that to keep it takes no memory. Where it changes templates that are
-    /// shared, the session gets its own: a copy is made only where somebody still owns the shared ones too.
+    /// Makes room for what `reading` changes, so that to keep it takes no memory. Where it changes
+    /// templates that are shared, the session gets its own: a copy is made only where somebody
+    /// still owns the shared ones too.
     ///
     /// # Errors
     /// Want of memory. The session stands for the same messages, whatever the answer.
@@ -135,7 +143,8 @@ impl Session {
             .make_room(self.alloc, reading.read.header.domain, &reading.changes)
     }
 
-    /// Keeps what was read of the next message, in room that was made for it. It takes no memory.
+    /// Keeps `reading`, which was read of the next message, in room that was made for it. It
+    /// answers what the message brings, and takes no memory.
     pub fn keep(&mut self, reading: Reading) -> Read
         requires room { HasRoomFor self.old reading }
         ensures read { shown result ≡ reading.meaning }
@@ -154,7 +163,8 @@ impl Session {
         read
     }
 
-    /// The template in force for a domain and an ID.
+    /// The template that is in force under `id` in the Observation Domain `domain`, if there is one
+    /// (RFC 7011, section 8).
     pub fn template(&self, domain: u32, id: u16) -> Option<&Template>
         ensures { (messages : List (List ℕ)) → StandsFor self.now messages
             → option_copied result ≡ template_in_force id (items_of_domain domain messages) }
@@ -180,15 +190,17 @@ impl Session {
     /// Want of memory.
     pub fn templates(&self) -> Result<Templates, AllocError>
         ensures same { IfOk result (λ t. t ≡ self.now.standing.templates) }
-        ensures knows { (older : List (List ℕ)) → StandsFor self.now older → IfOk result (λ t. Knows t older) }
+        ensures knows { (older : List (List ℕ)) → StandsFor self.now older
+            → IfOk result (λ t. Knows t older) }
     {
         let tables = self.tables.for_one_more(self.alloc)?;
         Ok(Templates::new(self.alloc, tables))
     }
 
-    /// Takes in the next message where it was read elsewhere and brings no template: `header` is its header, `records` says
-    /// how many records it holds, and `unknown` whether a Data Set was skipped for want of a template. The answer is set
-    /// where its sequence number is not the one that is expected.
+    /// Takes in the next message where it was read elsewhere and brings no template. `header` is
+    /// its header, `records` is how many records it holds, and `unknown` says whether a Data Set
+    /// was skipped for want of a template. The answer is set where its sequence number is not the
+    /// one that is expected (RFC 7011, section 3.1).
     ///
     /// # Errors
     /// Want of memory, and then nothing is changed.
@@ -199,15 +211,20 @@ impl Session {
         unknown: bool,
     ) -> Result<Option<Gap>, AllocError>
         ensures gap { (older : List (List ℕ)) → StandsFor self.old older
-            → IfOk result (λ gap. gap ≡ gap_between (expected_number header.now.domain older) header.now.sequence) }
+            → IfOk result (λ gap. gap
+            ≡ gap_between (expected_number header.now.domain older) header.now.sequence) }
         // Where it is the next message after those that the session stands for, the session then stands for them and it.
-        ensures stands { (older : List (List ℕ)) (message : List ℕ) (c : Contents) → StandsFor self.old older
-            → header_of message ≡ header.now → HasNoTemplates message → contents_of older message ≡ Ok c
-            → length c.records ≡ records → unknown ≡ not (c.skips.unknown == 0) → OnOk result (StandsFor self.new (message ∷ older)) }
+        ensures stands { (older : List (List ℕ)) (message : List ℕ) (c : Contents)
+            → StandsFor self.old older → header_of message ≡ header.now
+            → HasNoTemplates message → contents_of older message ≡ Ok c
+            → length c.records ≡ records → unknown ≡ not (c.skips.unknown == 0)
+            → OnOk result (StandsFor self.new (message ∷ older)) }
         // Whatever was read, the templates stay, and so do the numbers of the other domains.
         ensures templates { self.new.standing.templates ≡ self.old.standing.templates }
         ensures number { OnOk result ((q : ℕ) → at_key q self.new.standing.expected
-            ≡ (if q == header.now.domain then number_past header.now records unknown else at_key q self.old.standing.expected)) }
+            ≡ (if q == header.now.domain
+            then number_past header.now records unknown
+            else at_key q self.old.standing.expected)) }
         ensures err { OnErr result (self.new.standing ≡ self.old.standing) }
     {
         let expected = self.numbers.get(header.domain);
@@ -216,8 +233,10 @@ impl Session {
         Ok(gap_between(expected, header.sequence))
     }
 
-    /// What was read elsewhere of the next message, which brings no template, as [`make_room`](Session::make_room) and
-    /// [`keep`](Session::keep) take it. It takes no memory.
+    /// What was read elsewhere of the next message, which brings no template, as
+    /// [`make_room`](Session::make_room) and [`keep`](Session::keep) take it. `header` is the
+    /// message's header, `records` are its Data Records in their order, and `skips` is what gave no
+    /// record. It takes no memory.
     pub fn reading_of(&self, header: Header, records: Records, skips: Skips) -> Reading
         ensures meaning { result.meaning ≡ record {
           header = header;
@@ -227,7 +246,8 @@ impl Session {
         } }
         ensures reading { (older : List (List ℕ)) (message : List ℕ) → StandsFor self.now older
             → header_of message ≡ header → HasNoTemplates message
-            → contents_of older message ≡ Ok (record { records = records; skips = skips }) → IsReadingOf older message result }
+            → contents_of older message ≡ Ok (record { records = records; skips = skips })
+            → IsReadingOf older message result }
     {
         let next = number_after(header, &records, skips);
         let gap = gap_between(self.numbers.get(header.domain), header.sequence);
@@ -267,12 +287,20 @@ impl Session {
     ) -> Result<Reading, ReadError>
         requires few { length message.now ≤ longest_message }
         requires stand { StandIn (length message.now) said.items }
-        ensures reads { (older : List Item) → Keeps (kept_of header.domain self.now.standing).templates older
+        // What is answered is what these items hold after any others that leave the domain's
+        // templates in force.
+        ensures reads { (older : List Item)
+            → Keeps (kept_of header.domain self.now.standing).templates older
             → Gives contents_read result (contents_after older message.now said.items) }
-        ensures keeps { (older : List Item) → Keeps (kept_of header.domain self.now.standing).templates older
-            → IfOk result (λ r. AreInForce (afterwards r (kept_of header.domain self.now.standing).templates) (reverse said.items ++ older)) }
+        ensures keeps { (older : List Item)
+            → Keeps (kept_of header.domain self.now.standing).templates older
+            → IfOk result (λ r. AreInForce
+            (afterwards r (kept_of header.domain self.now.standing).templates)
+            (reverse said.items ++ older)) }
+        // The header is the one that was given, and the numbers are those that follow from it.
         ensures header { IfOk result (λ r. r.meaning.header ≡ header) }
-        ensures gap { IfOk result (λ r. r.meaning.gap ≡ gap_between (kept_of header.domain self.now.standing).expected header.sequence) }
+        ensures gap { IfOk result (λ r. r.meaning.gap
+            ≡ gap_between (kept_of header.domain self.now.standing).expected header.sequence) }
         ensures next { IfOk result (λ r. r.next ≡ number_after header (contents_read r)) }
     {
         let empty = Table::new(self.alloc);
@@ -300,7 +328,8 @@ fn number_after(header: Header, records: &Records, skips: Skips) -> Option<u32>
     number_past(header, records.len() as u64, skips.unknown != 0)
 }
 
-/// The same by how many records there are, and whether a Data Set was skipped for want of a template.
+/// The sequence number of the message after one with this header and this many records. There is
+/// none where a Data Set was skipped for want of a template: nobody knows how many records it had.
 fn number_past(header: Header, records: u64, unknown: bool) -> Option<u32>
     requires { records < 2 ^ 63 }
     ensures { result ≡ number_past header records unknown }
@@ -312,6 +341,7 @@ fn number_past(header: Header, records: u64, unknown: bool) -> Option<u32>
     Some((next % SEQUENCE_NUMBERS) as u32)
 }
 
+/// The gap between the number that is expected, where one is, and the number that came.
 fn gap_between(expected: Option<u32>, got: u32) -> Option<Gap>
     ensures { result ≡ gap_between expected got }
 {

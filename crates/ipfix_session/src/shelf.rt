@@ -48,7 +48,8 @@ impl Shelf {
     /// # Errors
     /// Want of memory, and then no template is changed.
     pub(crate) fn put(&mut self, id: u16, template: Arc<Template>) -> Result<(), AllocError>
-        ensures ok { OnOk result ((q : ℕ) → on_shelf self.new q ≡ (if q == id then Some (arc_value template) else on_shelf self.old q)) }
+        ensures ok { OnOk result ((q : ℕ) → on_shelf self.new q
+            ≡ (if q == id then Some (arc_value template) else on_shelf self.old q)) }
         ensures err { OnErr result (shown_on self.new ≡ shown_on self.old) }
     {
         self.places.insert(id, Some(template))?;
@@ -59,16 +60,20 @@ impl Shelf {
     fn take(&mut self, id: u16) -> Option<Option<Arc<Template>>>
         ensures taken { shown_of (option_map arc_value) result ≡ on_shelf self.old id }
         ensures place { is_some result ≡ has_place self.old id }
-        ensures others { (q : ℕ) → on_shelf self.new q ≡ (if q == id then None else on_shelf self.old q) }
-        ensures places { (q : ℕ) → has_place self.new q ≡ (if q == id then false else has_place self.old q) }
+        ensures others { (q : ℕ)
+            → on_shelf self.new q ≡ (if q == id then None else on_shelf self.old q) }
+        ensures places { (q : ℕ)
+            → has_place self.new q ≡ (if q == id then false else has_place self.old q) }
     {
         self.places.remove(&id)
     }
 
     /// Takes away the place of an ID.
     pub(crate) fn remove(&mut self, id: u16)
-        ensures others { (q : ℕ) → on_shelf self.new q ≡ (if q == id then None else on_shelf self.old q) }
-        ensures places { (q : ℕ) → has_place self.new q ≡ (if q == id then false else has_place self.old q) }
+        ensures others { (q : ℕ)
+            → on_shelf self.new q ≡ (if q == id then None else on_shelf self.old q) }
+        ensures places { (q : ℕ)
+            → has_place self.new q ≡ (if q == id then false else has_place self.old q) }
     {
         let _ = self.take(id);
     }
@@ -76,7 +81,8 @@ impl Shelf {
     /// Sets what stands in the place of an ID, which takes no memory.
     fn fill(&mut self, id: u16, template: Option<Arc<Template>>)
         requires { has_place self.old id ≡ true }
-        ensures filled { (q : ℕ) → on_shelf self.new q ≡ (if q == id then option_map arc_value template else on_shelf self.old q) }
+        ensures filled { (q : ℕ) → on_shelf self.new q
+            ≡ (if q == id then option_map arc_value template else on_shelf self.old q) }
         ensures places { (q : ℕ) → has_place self.new q ≡ has_place self.old q }
     {
         if let Some(place) = self.places.get_mut(&id) {
@@ -90,7 +96,8 @@ impl Shelf {
     /// Want of memory. No template is changed, whatever the answer.
     pub(crate) fn make_room(&mut self, others: &Shelf) -> Result<(), AllocError>
         ensures same { shown_on self.new ≡ shown_on self.old }
-        ensures room { OnOk result ((q : ℕ) → has_place others.now q ≡ true → has_place self.new q ≡ true) }
+        ensures room { OnOk result ((q : ℕ) → has_place others.now q ≡ true
+            → has_place self.new q ≡ true) }
     {
         for id in others.places.keys() {
             self.make_place(*id)?;
@@ -102,7 +109,8 @@ impl Shelf {
     fn make_place(&mut self, id: u16) -> Result<(), AllocError>
         ensures same { shown_on self.new ≡ shown_on self.old }
         ensures made { OnOk result (has_place self.new id ≡ true) }
-        ensures stay { OnOk result ((q : ℕ) → has_place self.old q ≡ true → has_place self.new q ≡ true) }
+        ensures stay { OnOk result ((q : ℕ) → has_place self.old q ≡ true
+            → has_place self.new q ≡ true) }
     {
         if !self.places.contains_key(&id) {
             self.places.insert(id, None)?;
@@ -114,7 +122,9 @@ impl Shelf {
     /// others; of each further ID none, where it withdraws all, and else the one before.
     pub(crate) fn take_over(&mut self, withdrawn: bool, decided: &BTreeSet<u16>, defined: Shelf)
         requires room { (q : ℕ) → has_place defined q ≡ true → has_place self.old q ≡ true }
-        ensures { (q : ℕ) → on_shelf self.new q ≡ (if withdrawn then on_shelf defined q else if contains nat_cmp decided.now q then on_shelf defined q else on_shelf self.old q) }
+        ensures { (q : ℕ) → on_shelf self.new q
+            ≡ (if withdrawn then on_shelf defined q else if contains nat_cmp decided.now q
+            then on_shelf defined q else on_shelf self.old q) }
     {
         if withdrawn {
             *self = defined;
@@ -126,7 +136,8 @@ impl Shelf {
     /// Sets, of the IDs that a message decided, the templates that it defines, and takes out the others.
     fn settle(&mut self, decided: &BTreeSet<u16>, defined: Shelf)
         requires room { (q : ℕ) → has_place defined q ≡ true → has_place self.old q ≡ true }
-        ensures { (q : ℕ) → on_shelf self.new q ≡ (if contains nat_cmp decided.now q then on_shelf defined q else on_shelf self.old q) }
+        ensures { (q : ℕ) → on_shelf self.new q
+            ≡ (if contains nat_cmp decided.now q then on_shelf defined q else on_shelf self.old q) }
     {
         let mut left = defined;
         for id in decided {

@@ -96,7 +96,8 @@ impl Table {
         template: Template,
     ) -> Result<(), AllocError>
         requires { IsKeepable template }
-        ensures ok { OnOk result ((q : ℕ) → at_key q self.new.templates ≡ (if q == id then Some template else at_key q self.old.templates)) }
+        ensures ok { OnOk result ((q : ℕ) → at_key q self.new.templates
+            ≡ (if q == id then Some template else at_key q self.old.templates)) }
         ensures err { OnErr result (self.new.templates ≡ self.old.templates) }
     {
         let is_options = template.is_options();
@@ -113,7 +114,8 @@ impl Table {
 
     /// Takes out the template of an ID.
     pub(crate) fn withdraw(&mut self, id: u16)
-        ensures { (q : ℕ) → at_key q self.new.templates ≡ (if q == id then None else at_key q self.old.templates) }
+        ensures { (q : ℕ) → at_key q self.new.templates
+            ≡ (if q == id then None else at_key q self.old.templates) }
     {
         self.plain.remove(id);
         self.options.remove(id);
@@ -121,7 +123,8 @@ impl Table {
 
     /// Takes out all options templates, or all plain ones.
     pub(crate) fn withdraw_all(&mut self, alloc: Global, options: bool)
-        ensures { (q : ℕ) → at_key q self.new.templates ≡ unless_of_kind options (at_key q self.old.templates) }
+        ensures { (q : ℕ)
+            → at_key q self.new.templates ≡ unless_of_kind options (at_key q self.old.templates) }
     {
         if options {
             self.options = Shelf::new(alloc);
@@ -152,10 +155,12 @@ impl Table {
         plain_withdrawn: bool,
         options_withdrawn: bool,
     )
-        requires decided { (q : ℕ) → contains nat_cmp decided.now q ≡ false → at_key q defined.templates ≡ None }
+        requires decided { (q : ℕ) → contains nat_cmp decided.now q ≡ false
+            → at_key q defined.templates ≡ None }
         requires room { HasPlaces self.old.places defined.places }
         ensures { (q : ℕ) → at_key q self.new.templates
-            ≡ template_after (at_key q defined.templates) (contains nat_cmp decided.now q) plain_withdrawn options_withdrawn (at_key q self.old.templates) }
+            ≡ template_after (at_key q defined.templates) (contains nat_cmp decided.now q)
+            plain_withdrawn options_withdrawn (at_key q self.old.templates) }
     {
         let Table { plain, options } = defined;
         self.plain.take_over(plain_withdrawn, decided, plain);

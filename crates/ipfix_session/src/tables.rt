@@ -15,7 +15,9 @@ use std::sync::Arc;
 /// by them is one more owner, and a message that changes no template leaves them shared.
 #[derive(Drop)]
 pub(crate) enum Tables {
+    /// Templates that the session alone owns, and may change.
     Own(ByDomain),
+    /// Templates that others may own too.
     Shared(Arc<ByDomain>),
 }
 
@@ -134,7 +136,8 @@ impl Tables {
         changes: &Changes,
     ) -> Result<(), AllocError>
         ensures same { shown_tables (tables_in self.new) ≡ shown_tables (tables_in self.old) }
-        ensures room { OnOk result (HasTables (own_places self.new) domain (change_of changes.now)) }
+        ensures room { OnOk result
+            (HasTables (own_places self.new) domain (change_of changes.now)) }
     {
         if changes.is_none() {
             return Ok(());
@@ -149,7 +152,8 @@ impl Tables {
     /// Makes what a message of a domain changes, in room that was made for it.
     pub(crate) fn settle(&mut self, domain: u32, changes: Changes)
         requires { HasTables (own_places self.old) domain (change_of changes) }
-        ensures { Settles (tables_in self.old) (tables_in self.new) domain (after changes (held_templates (tables_in self.old) domain)) }
+        ensures { Settles (tables_in self.old) (tables_in self.new) domain
+            (after changes (held_templates (tables_in self.old) domain)) }
     {
         if changes.is_none() {
             return;

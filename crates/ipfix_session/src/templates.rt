@@ -61,16 +61,18 @@ impl Templates {
         Templates { alloc, tables }
     }
 
-    /// The template of a domain and an ID.
+    /// The template under `id` in the Observation Domain `domain`, if there is one.
     pub fn template(&self, domain: u32, id: u16) -> Option<&Template>
         ensures { option_copied result ≡ at_key id (templates_of domain self.now) }
     {
         self.tables.template(domain, id)
     }
 
-    /// The template of a domain and an ID, of which one may become an owner.
+    /// The template under `id` in the Observation Domain `domain`, if there is one, of which one
+    /// may become an owner.
     pub fn shared(&self, domain: u32, id: u16) -> Option<&Arc<Template>>
-        ensures { option_map (λ t. arc_value t.now) result ≡ at_key id (templates_of domain self.now) }
+        ensures { option_map (λ t. arc_value t.now) result
+            ≡ at_key id (templates_of domain self.now) }
     {
         self.tables.shared(domain, id)
     }
@@ -80,17 +82,21 @@ impl Templates {
         self.alloc
     }
 
-    /// Reads a message by these templates, and keeps nothing of it; `said` are its items. The values of its records are
-    /// cut from the message, and not copied.
+    /// Reads `message`, all octets of one, by these templates, and keeps nothing of it. `said` are
+    /// the message's items, as [`items`](ipfix_message::items) answers them. The values of its
+    /// records are cut from the message where they stand in their shortest texts, and not copied.
     ///
     /// # Errors
-    /// The first fault, which is RecordOverrun, or want of memory.
+    /// - `RecordOverrun` where a Data Record goes past its set.
+    /// - `OutOfMemory` for want of memory.
     pub fn read(&self, message: &Bytes, said: Vec<Item>) -> Result<Contents, ReadError>
         requires said { items_of message.now ≡ Ok said.items }
         // The answer is what the message holds after those messages, or its first fault.
-        ensures messages { (older : List (List ℕ)) → Knows self.now older → Gives held result (contents_of older message.now) }
+        ensures messages { (older : List (List ℕ)) → Knows self.now older
+            → Gives held result (contents_of older message.now) }
         // So it is after any items that leave these templates in force.
-        ensures items { (older : List Item) → Keeps (templates_of (domain_of message.now) self.now) older
+        ensures items { (older : List Item)
+            → Keeps (templates_of (domain_of message.now) self.now) older
             → Gives held result (contents_after older message.now said.items) }
     {
         let octets: &[u8] = message;

@@ -43,7 +43,8 @@ pub(crate) fn walk_items(
     ensures reads { (older : List Item) → Keeps base.now.templates older
         → Gives contents_in result (contents_after older message.now said.items) }
     ensures keeps { (older : List Item) → Keeps base.now.templates older
-        → IfOk result (λ w. AreInForce (after w.changes base.now.templates) (reverse said.items ++ older)) }
+        → IfOk result
+        (λ w. AreInForce (after w.changes base.now.templates) (reverse said.items ++ older)) }
 {
     let total = said.len();
     let mut state = Walk {
@@ -73,11 +74,17 @@ fn read_item(
     requires few { length message.now ≤ longest_message }
     requires stands { StandsIn (length message.now) item }
     requires room { IsCounted state.old.skips (2 ^ 64 - 2) }
-    ensures reads { (done : List Item) → AreInForce (after state.old.changes base.now.templates) done
-        → Adds (contents_in state.old) (contents_in state.new) (item_contents done message.now item) result }
-    ensures keeps { (done : List Item) → AreInForce (after state.old.changes base.now.templates) done
+    // The item adds what it holds after those that were read, and changes the templates so.
+    ensures reads { (done : List Item)
+        → AreInForce (after state.old.changes base.now.templates) done
+        → Adds (contents_in state.old) (contents_in state.new)
+        (item_contents done message.now item) result }
+    ensures keeps { (done : List Item)
+        → AreInForce (after state.old.changes base.now.templates) done
         → OnOk result (AreInForce (after state.new.changes base.now.templates) (item ∷ done)) }
-    ensures counts { (n : ℕ) → IsCounted state.old.skips n → OnOk result (IsCounted state.new.skips (n + 1)) }
+    // Each item is counted once at most.
+    ensures counts { (n : ℕ) → IsCounted state.old.skips n
+        → OnOk result (IsCounted state.new.skips (n + 1)) }
 {
     match item {
         Item::DataSet { id, start, len } => {
@@ -119,12 +126,17 @@ fn read_data_set(
     state: &mut Walk,
 ) -> Result<(), ReadError>
     requires few { length message.now ≤ longest_message }
-    requires stands { (header_octets + set_header_octets ≤ start) × (start + len ≤ length message.now) }
+    requires stands { (header_octets + set_header_octets ≤ start)
+        × (start + len ≤ length message.now) }
     requires room { IsCounted state.old.skips (2 ^ 64 - 2) }
+    // The set adds what it holds by the template in force, and changes no template.
     ensures reads { Adds (contents_in state.old) (contents_in state.new)
-        (set_contents (after state.old.changes base.now.templates id) (take len (drop start message.now))) result }
+        (set_contents (after state.old.changes base.now.templates id)
+        (take len (drop start message.now))) result }
     ensures changes { state.new.changes ≡ state.old.changes }
-    ensures counts { (n : ℕ) → IsCounted state.old.skips n → OnOk result (IsCounted state.new.skips (n + 1)) }
+    // Each set is counted once at most.
+    ensures counts { (n : ℕ) → IsCounted state.old.skips n
+        → OnOk result (IsCounted state.new.skips (n + 1)) }
 {
     let Some(template) = state.changes.get(base, id) else {
         state.skips.unknown += 1;
@@ -134,7 +146,7 @@ fn read_data_set(
     read_set(alloc, template, &content, &mut state.records)
 }
 
-/// So many octets at this place of the message, cut from it.
+/// The `len` octets that stand at the place `start` of the message, cut from it.
 fn content_of(message: &Bytes, start: usize, len: usize) -> Result<Bytes, AllocError>
     requires within { start + len ≤ length message.now }
     requires few { length message.now ≤ longest_message }

@@ -42,18 +42,21 @@ impl Model for Values {
 }
 
 impl Values {
+    /// A list of values, of `values` in their order. Nothing is copied.
     pub fn from_vec(values: Vec<Bytes>) -> Values
         ensures { result ≡ values.items }
     {
         Values { values }
     }
 
+    /// The values in their order. Nothing is copied.
     pub fn into_vec(self) -> Vec<Bytes>
         ensures { result.items ≡ self }
     {
         self.values
     }
 
+    /// The values in their order.
     pub fn as_slice(&self) -> &[Bytes]
         ensures { result.now ≡ self.now }
     {
@@ -67,6 +70,7 @@ impl Values {
         self.values.len()
     }
 
+    /// Whether there is no value.
     pub fn is_empty(&self) -> bool
         ensures { result ≡ (length self.now == 0) }
     {
@@ -116,11 +120,14 @@ pub enum NotMade {
     OutOfMemory,
 }
 
-/// A template and values that were made no record, and why.
+/// A template and values that were made no record, both given back, and why.
 #[derive(Drop)]
 pub struct RefusedRecord {
+    /// The template, as it was given.
     pub template: Arc<Template>,
+    /// The values, as they were given.
     pub values: Values,
+    /// Why they were made no record.
     pub why: NotMade,
 }
 
@@ -128,10 +135,12 @@ impl Record {
     ghost use Rattle.ipfix_template.specs.DataRecord.{DataRecord, IsSound, IsKept, kept_record};
     ghost use Rattle.ipfix_template.specs.Refusals.{IsWhy};
 
-    /// For a program that has values of its own, and for tests: the record of a template and values.
+    /// For a program that has values of its own, and for tests: the record of `template` and
+    /// `values`, a value for each field. Its octets are written anew, in memory from `alloc`.
     ///
     /// # Errors
-    /// Both of them again: as [`NotMade::NoRecord`] exactly where they are no record, else for want of memory.
+    /// Both of them again: as [`NotMade::NoRecord`] exactly where they are no record, and else as
+    /// [`NotMade::OutOfMemory`] for want of memory.
     pub fn try_new(
         alloc: Global,
         template: Arc<Template>,
@@ -139,7 +148,8 @@ impl Record {
     ) -> Result<Record, RefusedRecord>
         ensures { MatchResult result
             (λ r. (r ≡ record { template = arc_value template; values = values }) × IsSound r)
-            (λ refused. (arc_value refused.template ≡ arc_value template) × (refused.values ≡ values)
+            (λ refused. (arc_value refused.template ≡ arc_value template)
+            × (refused.values ≡ values)
             × IsWhy refused.why (record { template = arc_value template; values = values })) }
     {
         if !is_record(&template, values.as_slice()) {
@@ -163,7 +173,8 @@ impl Record {
         }
     }
 
-    /// The record of a template and values of which it is known that they are one.
+    /// The record of `template` and `values`, of which it is known that they are one. Its octets
+    /// are written anew, in memory from `alloc`.
     ///
     /// # Errors
     /// Want of memory for its octets.
@@ -173,14 +184,16 @@ impl Record {
         values: &Values,
     ) -> Result<Record, AllocError>
         requires { IsSound (record { template = arc_value template; values = values.now }) }
-        ensures { IfOk result (λ r. r ≡ record { template = arc_value template; values = values.now }) }
+        ensures { IfOk result
+            (λ r. r ≡ record { template = arc_value template; values = values.now }) }
     {
         let octets = text_of(alloc, &template, values)?;
         Ok(Record { template, octets })
     }
 
-    /// The record of a template and octets of which it is known that they are its values, each in its
-    /// shortest text. Nothing is copied, and it takes no memory.
+    /// The record of `template` and `octets`, of which it is known that they are the values of a
+    /// record, each in its shortest text (RFC 7011, sections 3.4.3 and 7). Nothing is copied, and
+    /// it takes no memory.
     pub fn from_octets(template: Arc<Template>, octets: Bytes) -> Record
         requires { IsKept (arc_value template) octets }
         ensures { result ≡ kept_record (arc_value template) octets }
@@ -220,10 +233,12 @@ fn is_record(template: &Template, values: &[Bytes]) -> bool
         && record_octets(fields, values) <= RECORD_ROOM
 }
 
-/// The octets of the template's record, as [`encode_template`](crate::encode_template) appends it.
+/// How many octets [`encode_template`](crate::encode_template) appends for `template`: the header
+/// of its record, and its Field Specifiers (RFC 7011, sections 3.2 and 3.4).
 #[tactic(auto, using(crate::proofs::Encoding::octets_of_record))]
 pub fn template_octets(template: &Template) -> usize
-    ensures { result ≡ length (template_record least_template_id (is_options template.now) template.now) }
+    ensures { result
+        ≡ length (template_record least_template_id (is_options template.now) template.now) }
 {
     let specifiers = specifier_octets(template.fields.as_slice());
     if template.is_options() {
@@ -261,6 +276,8 @@ fn values_fit(fields: &[FieldSpec], values: &[Bytes]) -> bool
     true
 }
 
+/// Whether the value can stand in the field: it has the field's length, or at most 65,535 octets
+/// where it brings its own length.
 fn value_fits(field: &FieldSpec, value: &[u8]) -> bool
     ensures { result ≡ fits_field field.now value.now }
 {
@@ -284,6 +301,7 @@ fn record_octets(fields: &[FieldSpec], values: &[Bytes]) -> usize
     octets
 }
 
+/// The octets of a value in its shortest text.
 fn value_octets(field: &FieldSpec, value: &[u8]) -> usize
     requires { fits_field field.now value.now ≡ true }
     ensures exact { result ≡ length (value_text field.now value.now) }

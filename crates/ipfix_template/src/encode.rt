@@ -15,18 +15,22 @@ use ipfix_octets::message_format::ENTERPRISE_BIT;
 pub use parts::{encode_value, encode_values};
 use std::alloc::AllocError;
 
-/// Appends the template as a record of a Template Set or, where it has scope fields, of an Options
-/// Template Set: ID, Field Count, Scope Field Count for an options template, and the Field Specifiers
-/// (RFC 7011, sections 3.2 and 3.4).
+/// Appends `template` to `out` as a record of a Template Set or, where it has scope fields, of an
+/// Options Template Set: `id`, Field Count, Scope Field Count for an options template, and the
+/// Field Specifiers (RFC 7011, sections 3.2 and 3.4). The template passes [`Template::check`] under
+/// this ID, so that the ID is from 256 to 65535.
 ///
 /// # Errors
-/// Want of memory, only where `out` had no room for it, and then nothing is appended.
+/// Want of memory, only where `out` had no room for the record, and then nothing is appended.
 pub fn encode_template(id: u16, template: &Template, out: &mut Vec<u8>) -> Result<(), AllocError>
     requires { refusal_of id (is_options template.now) template.now ≡ None }
+    // All of it is appended, or nothing.
     ensures ok { OnOk result (out.new.items
         ≡ out.old.items ++ template_record id (is_options template.now) template.now) }
     ensures err { OnErr result (out.new.items ≡ out.old.items) }
-    ensures full { OnErr result (vec_capacity out.old < vec_len out.old + length (template_record id (is_options template.now) template.now)) }
+    // Room that is there is enough, and is kept.
+    ensures full { OnErr result (vec_capacity out.old
+        < vec_len out.old + length (template_record id (is_options template.now) template.now)) }
     ensures capacity { vec_capacity out.old ≤ vec_capacity out.new }
 {
     let held = out.len();
@@ -37,15 +41,18 @@ pub fn encode_template(id: u16, template: &Template, out: &mut Vec<u8>) -> Resul
     put
 }
 
-/// For a program that writes records by itself, for tests and for laws: appends the record's values, each in its shortest
-/// text, as they stand in a Data Set (RFC 7011, sections 3.4.3 and 7). It is a copy of the octets that the record keeps.
+/// For a program that writes records by itself, for tests and for laws: appends to `out` the values
+/// of the record `whole`, each in its shortest text, as they stand in a Data Set (RFC 7011,
+/// sections 3.4.3 and 7). It copies the octets that the record keeps.
 ///
 /// # Errors
-/// Want of memory, only where `out` had no room for it, and then nothing is appended.
+/// Want of memory, only where `out` had no room for them, and then nothing is appended.
 pub fn encode_record(whole: &Record, out: &mut Vec<u8>) -> Result<(), AllocError>
-    ensures ok { OnOk result (out.new.items ≡ out.old.items ++ record_text whole.now.template.fields whole.now.values) }
+    ensures ok { OnOk result
+        (out.new.items ≡ out.old.items ++ record_text whole.now.template.fields whole.now.values) }
     ensures err { OnErr result (out.new.items ≡ out.old.items) }
-    ensures full { OnErr result (vec_capacity out.old < vec_len out.old + length (record_text whole.now.template.fields whole.now.values)) }
+    ensures full { OnErr result (vec_capacity out.old
+        < vec_len out.old + length (record_text whole.now.template.fields whole.now.values)) }
     ensures capacity { vec_capacity out.old ≤ vec_capacity out.new }
 {
     out.extend_from_slice(whole.as_octets())
@@ -56,7 +63,8 @@ fn put_template(id: u16, template: &Template, out: &mut Vec<u8>) -> Result<(), A
     ensures ok { OnOk result (out.new.items
         ≡ out.old.items ++ template_record id (is_options template.now) template.now) }
     ensures err { OnErr result (take (length out.old.items) out.new.items ≡ out.old.items) }
-    ensures full { OnErr result (vec_capacity out.old < vec_len out.old + length (template_record id (is_options template.now) template.now)) }
+    ensures full { OnErr result (vec_capacity out.old
+        < vec_len out.old + length (template_record id (is_options template.now) template.now)) }
     ensures capacity { vec_capacity out.old ≤ vec_capacity out.new }
 {
     put_head(id, template, out)?;
@@ -64,9 +72,11 @@ fn put_template(id: u16, template: &Template, out: &mut Vec<u8>) -> Result<(), A
 }
 
 fn put_head(id: u16, template: &Template, out: &mut Vec<u8>) -> Result<(), AllocError>
-    ensures ok { OnOk result (out.new.items ≡ out.old.items ++ record_head id (is_options template.now) template.now) }
+    ensures ok { OnOk result
+        (out.new.items ≡ out.old.items ++ record_head id (is_options template.now) template.now) }
     ensures err { OnErr result (out.new.items ≡ out.old.items) }
-    ensures full { OnErr result (vec_capacity out.old < vec_len out.old + length (record_head id (is_options template.now) template.now)) }
+    ensures full { OnErr result (vec_capacity out.old
+        < vec_len out.old + length (record_head id (is_options template.now) template.now)) }
     ensures capacity { vec_capacity out.old ≤ vec_capacity out.new }
 {
     let [a, b] = id.to_be_bytes();
@@ -82,7 +92,8 @@ fn put_head(id: u16, template: &Template, out: &mut Vec<u8>) -> Result<(), Alloc
 fn put_specifiers(fields: &[FieldSpec], out: &mut Vec<u8>) -> Result<(), AllocError>
     ensures ok { OnOk result (out.new.items ≡ out.old.items ++ flat_map specifier fields.now) }
     ensures err { OnErr result (take (length out.old.items) out.new.items ≡ out.old.items) }
-    ensures full { OnErr result (vec_capacity out.old < vec_len out.old + length (flat_map specifier fields.now)) }
+    ensures full { OnErr result
+        (vec_capacity out.old < vec_len out.old + length (flat_map specifier fields.now)) }
     ensures capacity { vec_capacity out.old ≤ vec_capacity out.new }
 {
     for field in fields {
@@ -94,7 +105,8 @@ fn put_specifiers(fields: &[FieldSpec], out: &mut Vec<u8>) -> Result<(), AllocEr
 fn put_specifier(field: &FieldSpec, out: &mut Vec<u8>) -> Result<(), AllocError>
     ensures ok { OnOk result (out.new.items ≡ out.old.items ++ specifier field.now) }
     ensures err { OnErr result (out.new.items ≡ out.old.items) }
-    ensures full { OnErr result (vec_capacity out.old < vec_len out.old + length (specifier field.now)) }
+    ensures full { OnErr result
+        (vec_capacity out.old < vec_len out.old + length (specifier field.now)) }
     ensures capacity { vec_capacity out.old ≤ vec_capacity out.new }
 {
     let number = field.element.number();
@@ -114,9 +126,12 @@ fn put_specifier(field: &FieldSpec, out: &mut Vec<u8>) -> Result<(), AllocError>
 
 fn put_values(fields: &[FieldSpec], values: &[Bytes], out: &mut Vec<u8>) -> Result<(), AllocError>
     requires { fit_fields fields.now values.now ≡ true }
+    // All of it is appended, or what was there before is still at the front.
     ensures ok { OnOk result (out.new.items ≡ out.old.items ++ record_text fields.now values.now) }
     ensures err { OnErr result (take (length out.old.items) out.new.items ≡ out.old.items) }
-    ensures full { OnErr result (vec_capacity out.old < vec_len out.old + length (record_text fields.now values.now)) }
+    // Room that is there is enough, and is kept.
+    ensures full { OnErr result
+        (vec_capacity out.old < vec_len out.old + length (record_text fields.now values.now)) }
     ensures capacity { vec_capacity out.old ≤ vec_capacity out.new }
 {
     for (field, value) in fields.iter().zip(values) {

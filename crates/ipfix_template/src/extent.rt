@@ -8,9 +8,10 @@ use crate::spans::Extent;
 use crate::template::Template;
 use crate::values::find_span;
 
-/// Finds how many octets the record of a template takes at the front of `octets`, and whether they are what
-/// `encode_record` writes for its values. It answers as [`split`](crate::split) does, makes no list of the values,
-/// and takes no memory.
+/// Finds how many octets the record of `template` takes at the front of `octets`, and whether these
+/// are what [`encode_record`](crate::encode_record) writes for its values. It finds a record,
+/// padding or an overrun exactly where [`split`](crate::split) does (RFC 7011, section 3.3.1). It
+/// makes no list of the values, and takes no memory.
 pub fn measure(template: &Template, octets: &[u8]) -> Extent
     // What is found is split by the fields.
     ensures found { IsMeasuredBy template.now.fields octets.now result }

@@ -15,7 +15,9 @@ pub const MOST_FIELDS: usize = 65535;
 /// section 3.2).
 #[derive(Clone, Copy, Debug, PartialEq, Eq, Hash)]
 pub struct FieldSpec {
+    /// The element whose values the field has.
     pub element: ElementId,
+    /// The Field Length: the octets of each value, or [`VARIABLE`].
     pub length: u16,
 }
 
@@ -23,15 +25,15 @@ impl FieldSpec {
     ghost use Rattle.ipfix_template.specs.Template.{is_variable, least_octets, has_allowed_length};
     ghost use Rattle.ipfix_template.specs.Values.{value_start};
 
-    /// Whether each value brings its own length.
+    /// Whether each value brings its own length (RFC 7011, section 7).
     pub fn is_variable(self) -> bool
         ensures { result ≡ is_variable self }
     {
         self.length == VARIABLE
     }
 
-    /// Where a value of so many octets starts in its shortest text: behind a length of one octet or three, or
-    /// of none.
+    /// Where a value of `length` octets starts in its shortest text: behind its length, which has 1
+    /// octet or 3, or at once where the field fixes the length.
     pub(crate) fn value_start(self, length: usize) -> usize
         ensures { result ≡ value_start self length }
     {
@@ -50,7 +52,7 @@ impl FieldSpec {
         if self.is_variable() { 1 } else { length }
     }
 
-    /// Whether the element's type allows the length.
+    /// Whether the element's type allows the Field Length.
     pub fn has_allowed_length(self) -> bool
         ensures { result ≡ has_allowed_length self }
     {
@@ -77,7 +79,7 @@ impl Model for Fields {
 }
 
 impl Fields {
-    /// The fields of a list.
+    /// The fields of a template, of `specs` in their order.
     ///
     /// # Errors
     /// The list itself, exactly where it has more than 65,535 fields.
@@ -92,13 +94,14 @@ impl Fields {
         Ok(Fields { specs })
     }
 
-    /// The list of the fields.
+    /// The fields in their order. Nothing is copied.
     pub fn into_vec(self) -> Vec<FieldSpec>
         ensures { result.items ≡ self }
     {
         self.specs
     }
 
+    /// The fields in their order.
     pub fn as_slice(&self) -> &[FieldSpec]
         ensures value { result.now ≡ self.now }
         ensures few { length self.now ≤ MOST_FIELDS }
@@ -114,6 +117,7 @@ impl Fields {
         self.specs.len()
     }
 
+    /// Whether there is no field.
     pub fn is_empty(&self) -> bool
         ensures { result ≡ (length self.now == 0) }
     {

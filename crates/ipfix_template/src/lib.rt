@@ -9,8 +9,8 @@
 //! - [`extent`]: `measure`, which finds how far a record reaches, and no list of its values.
 //! - [`spans`]: what the two answer, `Split` with its `Span`s, and `Extent`.
 //! - [`data_record`]: `Record`, a template and the octets of values that fit it; `Values`, a list of values; `Entries`,
-//!   a record's fields with their values; `RecordView`, a record among octets that others own; `RefusedRecord` and `NotMade`, what was
-//!   made no record, and why; `template_octets`, how long a template's record is.
+//!   a record's fields with their values; `RecordView`, a record among octets that others own; `RefusedRecord` and
+//!   `NotMade`, what was made no record, and why; `template_octets`, how long a template's record is.
 //! - [`encode`]: `encode_template`, `encode_record`, and `encode_values` and `encode_value` for values by themselves.
 //! - [`laws`]: what is written is read as what it was, and as nothing else.
 //!

@@ -3,7 +3,9 @@
 /// Where a value lies in the octets that were split.
 #[derive(Clone, Copy, Debug, PartialEq, Eq)]
 pub struct Span {
+    /// The place of the value's first octet, counted from 0.
     pub start: usize,
+    /// How many octets the value has, without a length before it.
     pub length: usize,
 }
 

@@ -29,31 +29,35 @@ pub enum Refused {
 /// options template at least one (RFC 7011, sections 3.4.1 and 3.4.2).
 #[derive(Debug, Drop)]
 pub struct Template {
+    /// The fields in their order, the scope fields first.
     pub fields: Fields,
+    /// How many of the fields are scope fields (RFC 7011, section 3.4.2.2).
     pub scope: u16,
 }
 
 impl Template {
     ghost use Rattle.ipfix_template.specs.Template.{refusal_of, shortest_record, is_options};
 
-    /// Whether the template has scope fields.
+    /// Whether the template is an options template, which has scope fields.
     pub fn is_options(&self) -> bool
         ensures { result ≡ is_options self.now }
     {
         self.scope > 0
     }
 
-    /// The octets of the template's shortest record: fixed lengths, and 1 for each variable field.
+    /// The octets of the template's shortest record: the length of each field that fixes it, and 1
+    /// for each field of variable length.
     pub fn shortest(&self) -> u32
         ensures { result ≡ shortest_record self.now }
     {
         least_octets_of(self.fields.as_slice())
     }
 
-    /// Whether the template may be announced under this ID, as an options template or a plain one.
+    /// Whether the template may be announced under `id`, in an Options Template Set where `options`
+    /// is true, and else in a Template Set.
     ///
     /// # Errors
-    /// The first reason to refuse it.
+    /// The first reason to refuse it, in the order of [`Refused`].
     #[tactic(auto, unfolding(crate::specs::Template::refusal_of))]
     pub fn check(&self, id: u16, options: bool) -> Result<(), Refused>
         ensures { MatchResult result

@@ -10,8 +10,9 @@ use crate::template::Template;
 use ipfix_octets::read_varlen;
 use std::alloc::{AllocError, Global};
 
-/// Finds the record of a template at the front of `octets`: where each value lies, without a copy, and
-/// the octets that the record takes.
+/// Finds the record of `template` at the front of `octets`: where each value lies, without a copy,
+/// and how many octets the record takes (RFC 7011, sections 3.3.1 and 3.4.3). The list of spans is
+/// in memory from `alloc`.
 ///
 /// # Errors
 /// Want of memory for the list of spans. Padding needs none.
@@ -22,8 +23,10 @@ pub fn split(alloc: Global, template: &Template, octets: &[u8]) -> Result<Split,
     ensures laid { IfOk result (IsLaid template.now.fields octets.now) }
     // What is split so by the fields is found, whatever follows it.
     ensures only { (text rest : List ℕ) (values : List (List ℕ)) → octets.now ≡ text ++ rest
-        → Splits template.now.fields text values → IfOk result (IsFound octets.now values (length text)) }
-    ensures padding { IfOk result (λ s. IsPadding s ↔ (length octets.now < shortest_record template.now)) }
+        → Splits template.now.fields text values
+        → IfOk result (IsFound octets.now values (length text)) }
+    ensures padding { IfOk result
+        (λ s. IsPadding s ↔ (length octets.now < shortest_record template.now)) }
     ensures exact { IfOk result (Shows octets.now (record_front template.now octets.now)) }
     ensures no_memory { length octets.now < shortest_record template.now → IsOk result }
 {
@@ -51,7 +54,8 @@ fn find_values(
     fields: &[FieldSpec],
     octets: &[u8],
 ) -> Result<Option<(Vec<Span>, usize)>, AllocError>
-    ensures shown { IfOk result (λ found. spans_shown octets.now found ≡ values_at fields.now octets.now) }
+    ensures shown { IfOk result
+        (λ found. spans_shown octets.now found ≡ values_at fields.now octets.now) }
     ensures within { IfOk result (AreFoundWithin octets.now) }
     ensures laid { IfOk result (AreFoundLaid fields.now octets.now) }
 {

@@ -79,7 +79,8 @@ impl RunningGroups {
     /// than records that count or are to be added.
     pub fn len(&self, sub: u64) -> usize
         ensures value { result ≡ length (places (held_at self.now sub)) }
-        ensures few { (counted : List Counted) → StandsFor (groups_at self.now sub) counted → result ≤ length counted + length (held_at self.now sub).ready }
+        ensures few { (counted : List Counted) → StandsFor (groups_at self.now sub) counted
+            → result ≤ length counted + length (held_at self.now sub).ready }
     {
         match self.by_number.get(&sub) {
             Some(groups) => groups.len(),
@@ -105,8 +106,10 @@ impl RunningGroups {
     /// Want of memory; then nothing is reserved. No sum changes, whatever the answer.
     pub fn reserve(&mut self, tallies: &[Tally]) -> Result<Vec<Reserved>, AllocError>
         ensures same { (q : ℕ) → groups_at self.new q ≡ groups_at self.old q }
-        ensures ok { IfOk result (λ reserved. AreApart (map tallied tallies.now) → AllReady self.new (map reserved_for reserved.items) (map tallied tallies.now)) }
-        ensures few { (q : ℕ) → length (held_at self.new q).ready ≤ length (added_to q (map tallied tallies.now)) }
+        ensures ok { IfOk result (λ reserved. AreApart (map tallied tallies.now)
+            → AllReady self.new (map reserved_for reserved.items) (map tallied tallies.now)) }
+        ensures few { (q : ℕ)
+            → length (held_at self.new q).ready ≤ length (added_to q (map tallied tallies.now)) }
         ensures err { OnErr result ((q : ℕ) → (held_at self.new q).ready ≡ []) }
     {
         self.release();
@@ -119,11 +122,13 @@ impl RunningGroups {
 
     /// Takes out the groups that were made for what wasn't added. It takes no memory. What was reserved before is so no more.
     pub fn release(&mut self)
-        ensures { (q : ℕ) → held_at self.new q ≡ record { groups = groups_at self.old q; ready = [] } }
+        ensures { (q : ℕ)
+            → held_at self.new q ≡ record { groups = groups_at self.old q; ready = [] } }
     {
         self.by_number.retain(
             |_sub: &u64, groups: &mut Running| -> bool
-                ensures { (result ≡ is_kept groups.new) × (groups.new ≡ record { groups = groups.old.groups; ready = [] }) }
+                ensures { (result ≡ is_kept groups.new)
+                    × (groups.new ≡ record { groups = groups.old.groups; ready = [] }) }
             {
                 groups.release();
                 groups.len() > 0
@@ -134,14 +139,19 @@ impl RunningGroups {
     /// Adds what the last `reserve` made ready. It looks nothing up and takes no memory.
     pub fn add_reserved(&mut self, reserved: Vec<Reserved>)
         requires { AreCountable self.old (map reserved_for reserved.items) }
-        ensures adds { (tallies : List (ℕ × List Count)) → AllReady self.old (map reserved_for reserved.items) tallies → AreApart tallies
-            → (q : ℕ) (before more : List Counted) → StandsFor (groups_at self.old q) before → added_to q tallies ≡ map count_of more
+        ensures adds { (tallies : List (ℕ × List Count))
+            → AllReady self.old (map reserved_for reserved.items) tallies → AreApart tallies
+            → (q : ℕ) (before more : List Counted) → StandsFor (groups_at self.old q) before
+            → added_to q tallies ≡ map count_of more
             → StandsFor (groups_at self.new q) (before ++ more) }
         // Nothing is ready then for those that were added to, and others are held as before.
-        ensures ready { (tallies : List (ℕ × List Count)) → AllReady self.old (map reserved_for reserved.items) tallies → AreApart tallies
+        ensures ready { (tallies : List (ℕ × List Count))
+            → AllReady self.old (map reserved_for reserved.items) tallies → AreApart tallies
             → AllByRecursion (λ t. (held_at self.new t.0).ready ≡ []) tallies }
-        ensures others { (tallies : List (ℕ × List Count)) → AllReady self.old (map reserved_for reserved.items) tallies → AreApart tallies
-            → (q : ℕ) → AllByRecursion (λ t. t.0 ≢ q) tallies → held_at self.new q ≡ held_at self.old q }
+        ensures others { (tallies : List (ℕ × List Count))
+            → AllReady self.old (map reserved_for reserved.items) tallies → AreApart tallies
+            → (q : ℕ) → AllByRecursion (λ t. t.0 ≢ q) tallies
+            → held_at self.new q ≡ held_at self.old q }
     {
         'reserved: for one in reserved {
             self.add_one(one);
@@ -153,7 +163,8 @@ impl RunningGroups {
     /// # Errors
     /// Want of memory.
     pub fn closing(&self, sub: u64, t: u64) -> Result<Records, AllocError>
-        ensures { IfOk result (λ records. (counted : List Counted) → StandsFor (groups_at self.now sub) counted → records ≡ closed_by t counted) }
+        ensures { IfOk result (λ records. (counted : List Counted)
+            → StandsFor (groups_at self.now sub) counted → records ≡ closed_by t counted) }
     {
         match self.by_number.get(&sub) {
             Some(groups) => records_of(self.alloc, &groups.closing(t)?),
@@ -164,12 +175,15 @@ impl RunningGroups {
     /// Drops the groups that an advance of the clock to `t` closes. It takes no memory. What was reserved before is so no
     /// more.
     pub fn close(&mut self, t: u64)
-        ensures stays { (q : ℕ) (counted : List Counted) → StandsFor (groups_at self.old q) counted → StandsFor (groups_at self.new q) (staying t counted) }
+        ensures stays { (q : ℕ) (counted : List Counted) → StandsFor (groups_at self.old q) counted
+            → StandsFor (groups_at self.new q) (staying t counted) }
         ensures ready { (q : ℕ) → (held_at self.new q).ready ≡ [] }
     {
         self.by_number.retain(
             |_sub: &u64, groups: &mut Running| -> bool
-                ensures { (result ≡ is_kept groups.new) × ((counted : List Counted) → StandsFor groups.old.groups counted → StandsFor groups.new.groups (staying t counted)) × (groups.new.ready ≡ []) }
+                ensures { (result ≡ is_kept groups.new)
+                    × ((counted : List Counted) → StandsFor groups.old.groups counted
+                    → StandsFor groups.new.groups (staying t counted)) × (groups.new.ready ≡ []) }
             {
                 groups.close(t);
                 groups.len() > 0
@@ -194,8 +208,10 @@ impl RunningGroups {
     fn reserve_each(&mut self, tallies: &[Tally]) -> Result<Vec<Reserved>, AllocError>
         requires { (q : ℕ) → (held_at self.old q).ready ≡ [] }
         ensures same { (q : ℕ) → groups_at self.new q ≡ groups_at self.old q }
-        ensures ok { IfOk result (λ reserved. AreApart (map tallied tallies.now) → AllReady self.new (map reserved_for reserved.items) (map tallied tallies.now)) }
-        ensures few { (q : ℕ) → length (held_at self.new q).ready ≤ length (added_to q (map tallied tallies.now)) }
+        ensures ok { IfOk result (λ reserved. AreApart (map tallied tallies.now)
+            → AllReady self.new (map reserved_for reserved.items) (map tallied tallies.now)) }
+        ensures few { (q : ℕ)
+            → length (held_at self.new q).ready ≤ length (added_to q (map tallied tallies.now)) }
     {
         let mut reserved = Vec::with_capacity(self.alloc, tallies.len())?;
         'tallies: for tally in tallies {
@@ -207,8 +223,10 @@ impl RunningGroups {
     /// Makes ready for what is added to the groups of one subscription. What was reserved for it before is so no more.
     fn reserve_one(&mut self, tally: &Tally) -> Result<Reserved, AllocError>
         ensures same { (q : ℕ) → groups_at self.new q ≡ groups_at self.old q }
-        ensures ok { IfOk result (λ reserved. IsReadyFor self.new (reserved_for reserved) (tallied tally.now)) }
-        ensures few { length (held_at self.new tally.now.sub).ready ≤ length tally.now.counts.items }
+        ensures ok { IfOk result
+            (λ reserved. IsReadyFor self.new (reserved_for reserved) (tallied tally.now)) }
+        ensures few { length (held_at self.new tally.now.sub).ready
+            ≤ length tally.now.counts.items }
         ensures others { (q : ℕ) → q ≢ tally.now.sub → held_at self.new q ≡ held_at self.old q }
         ensures places { (place q : ℕ) → StandsAt self.old place q → StandsAt self.new place q }
     {
@@ -242,11 +260,16 @@ impl RunningGroups {
 
     /// Adds to the groups of the subscription at a place.
     fn add_one(&mut self, reserved: Reserved)
-        requires { (sub : ℕ) × (counts : List Count) × IsReadyFor self.old (reserved_for reserved) (sub, counts) }
-        ensures adds { (sub : ℕ) (before more : List Counted) → IsReadyFor self.old (reserved_for reserved) (sub, map count_of more) → StandsFor (groups_at self.old sub) before
+        requires { (sub : ℕ)
+            × (counts : List Count) × IsReadyFor self.old (reserved_for reserved) (sub, counts) }
+        ensures adds { (sub : ℕ) (before more : List Counted)
+            → IsReadyFor self.old (reserved_for reserved) (sub, map count_of more)
+            → StandsFor (groups_at self.old sub) before
             → StandsFor (groups_at self.new sub) (before ++ more) }
-        ensures ready { (sub : ℕ) → StandsAt self.old reserved.place sub → (held_at self.new sub).ready ≡ [] }
-        ensures others { (sub q : ℕ) → StandsAt self.old reserved.place sub → q ≢ sub → held_at self.new q ≡ held_at self.old q }
+        ensures ready { (sub : ℕ) → StandsAt self.old reserved.place sub
+            → (held_at self.new sub).ready ≡ [] }
+        ensures others { (sub q : ℕ) → StandsAt self.old reserved.place sub
+            → q ≢ sub → held_at self.new q ≡ held_at self.old q }
         ensures places { keys_of self.new ≡ keys_of self.old }
     {
         let Reserved { place, additions } = reserved;

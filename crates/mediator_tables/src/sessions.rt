@@ -47,14 +47,14 @@ impl Sessions {
         }
     }
 
-    /// The open session with this number.
+    /// The session that is open under `number`, if there is one.
     pub fn get(&self, number: u64) -> Option<&OpenSession>
         ensures { option_copied result ≡ at_key number self.now }
     {
         self.by_number.get(&number)
     }
 
-    /// Opens a session without a message, in place of one that was open under its number.
+    /// Opens a session without a message under `number`, in place of one that was open under it.
     ///
     /// # Errors
     /// Want of memory, and then nothing has changed.
@@ -71,19 +71,21 @@ impl Sessions {
         Ok(())
     }
 
-    /// Closes a session, if it is open. It takes no memory.
+    /// Closes the session `number`, if it is open. It takes no memory.
     pub fn close(&mut self, number: u64)
         ensures { (q : ℕ) → at_key q self.new ≡ (if q == number then None else at_key q self.old) }
     {
         let _ = self.by_number.remove(&number);
     }
 
-    /// Has a session share its templates, where it is open, so that a snapshot of it makes no copy of them.
+    /// Has the session `number` share its templates, where it is open, so that a snapshot of it
+    /// makes no copy of them.
     ///
     /// # Errors
     /// Want of memory. The sessions stand for the same messages, whatever the answer.
     pub fn share(&mut self, number: u64) -> Result<(), AllocError>
-        ensures same { (q : ℕ) → option_map seen (at_key q self.new) ≡ option_map seen (at_key q self.old) }
+        ensures same { (q : ℕ)
+            → option_map seen (at_key q self.new) ≡ option_map seen (at_key q self.old) }
     {
         if let Some(open) = self.by_number.get_mut(&number) {
             open.session.share()?;
@@ -91,13 +93,16 @@ impl Sessions {
         Ok(())
     }
 
-    /// Makes room for what a session's message changes, so that to keep it takes no memory.
+    /// Makes room for what `reading`, of the next message of the session `number`, changes, so that
+    /// to keep it takes no memory. Where no such session is open, nothing is to be done.
     ///
     /// # Errors
     /// Want of memory. The sessions stand for the same messages, whatever the answer.
     pub fn make_room(&mut self, number: u64, reading: &Reading) -> Result<(), AllocError>
-        ensures same { (q : ℕ) → option_map seen (at_key q self.new) ≡ option_map seen (at_key q self.old) }
-        ensures room { OnOk result (IfSome (at_key number self.new) (λ o. HasRoomFor o.session reading.now)) }
+        ensures same { (q : ℕ)
+            → option_map seen (at_key q self.new) ≡ option_map seen (at_key q self.old) }
+        ensures room { OnOk result
+            (IfSome (at_key number self.new) (λ o. HasRoomFor o.session reading.now)) }
     {
         if let Some(open) = self.by_number.get_mut(&number) {
             open.session.make_room(reading)?;
@@ -105,7 +110,8 @@ impl Sessions {
         Ok(())
     }
 
-    /// Keeps what was read of a session's next message, in room that was made for it. It takes no memory.
+    /// Keeps `reading`, which was read of the next message of the session `number`, in room that
+    /// was made for it. It counts the message, and takes no memory.
     pub fn keep(&mut self, number: u64, reading: Reading)
         requires room { IsSomeAnd (at_key number self.old) (λ o. HasRoomFor o.session reading) }
         requires count { IfSome (at_key number self.old) (λ o. o.accepted + 1 < 2 ^ 64) }

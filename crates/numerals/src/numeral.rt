@@ -1,10 +1,12 @@
+//! Numbers that words of digits write.
 ghost use Rattle.std.specs.Prelude.{◌≡◌, ℕ, ◌≤◌, Some, IfSome};
 ghost use Rattle.numerals.specs.Numerals.{digits_number, number_of, IsNumber};
 
 const DECIMAL: u32 = 10;
 
-/// The number that a word of digits writes in this radix. `None` where the word is empty, has another
-/// character, or writes more than `most`; it may be of any length.
+/// The number that `word`, of any length, writes in digits of `radix`, from 2 to 36. A digit above
+/// 9 is a letter, in either case. `None` where the word is empty, has another character, or writes
+/// more than `most`.
 pub fn read_digits(word: &[u8], radix: u32, most: u32) -> Option<u32>
     requires low { 2 ≤ radix }
     requires high { radix ≤ 36 }
@@ -24,8 +26,8 @@ pub fn read_digits(word: &[u8], radix: u32, most: u32) -> Option<u32>
     Some(value as u32)
 }
 
-/// The number that a word writes, decimal and without leading zeros. `None` where it writes none, or
-/// more than `most`; the word may be of any length.
+/// The number that `word`, of any length, writes in decimal digits without leading zeros. `None`
+/// where it writes none, or more than `most`.
 pub fn read_number(word: &[u8], most: u32) -> Option<u32>
     ensures exact { result ≡ number_of most word.now }
     ensures found { IfSome result (λ n. IsNumber most word.now n) }

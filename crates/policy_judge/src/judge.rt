@@ -121,7 +121,8 @@ fn first_on_fields(
     flow_record: &Record,
     element: ElementId,
 ) -> Option<usize>
-    ensures value { result ≡ position (matches_field name.now domain flow_record.now (Some element)) rules.now }
+    ensures value { result
+        ≡ position (matches_field name.now domain flow_record.now (Some element)) rules.now }
     ensures within { IfSome result (λ place. place < length rules.now) }
 {
     rules.iter().position(|rule| matches_field(rule, name, domain, flow_record, element))

@@ -54,7 +54,8 @@ pub(crate) fn are_inside(flow_record: &Record, side: Side, denies: bool, prefix:
 
 /// Whether there is an occurrence.
 fn occurs(flow_record: &Record, side: Side) -> bool
-    ensures { result ≡ list_any (λ p. is_of side p.0.element) (zip flow_record.now.template.fields flow_record.now.values) }
+    ensures { result ≡ list_any
+        (λ p. is_of side p.0.element) (zip flow_record.now.template.fields flow_record.now.values) }
 {
     has_field(flow_record.template().fields.as_slice(), side)
 }
@@ -68,14 +69,16 @@ fn has_field(fields: &[FieldSpec], side: Side) -> bool
 
 /// Whether some occurrence is inside.
 fn some_inside(flow_record: &Record, side: Side, prefix: &Prefix) -> bool
-    ensures { result ≡ list_any (λ p. is_of side p.0.element && contains prefix.now p.1) (zip flow_record.now.template.fields flow_record.now.values) }
+    ensures { result ≡ list_any (λ p. is_of side p.0.element && contains prefix.now p.1)
+        (zip flow_record.now.template.fields flow_record.now.values) }
 {
     flow_record.entries().any(|(field, value)| side.has(field.element) && prefix.contains(value))
 }
 
 /// Whether each occurrence is inside.
 fn each_inside(flow_record: &Record, side: Side, prefix: &Prefix) -> bool
-    ensures { result ≡ list_all (λ p. not (is_of side p.0.element) || contains prefix.now p.1) (zip flow_record.now.template.fields flow_record.now.values) }
+    ensures { result ≡ list_all (λ p. not (is_of side p.0.element) || contains prefix.now p.1)
+        (zip flow_record.now.template.fields flow_record.now.values) }
 {
     flow_record.entries().all(|(field, value)| !side.has(field.element) || prefix.contains(value))
 }

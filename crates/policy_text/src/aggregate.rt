@@ -30,7 +30,8 @@ impl Model for AggregateDef {
 impl AggregateDef {
     pub(crate) fn new(name: Name, key: Vec<ElementId>, interval: u32, grace: u32) -> AggregateDef
         requires { IsRanged (length key.items) interval grace }
-        ensures { result ≡ record { name = name; key = key.items; interval = interval; grace = grace } }
+        ensures { result
+            ≡ record { name = name; key = key.items; interval = interval; grace = grace } }
     {
         AggregateDef {
             name,

@@ -233,7 +233,8 @@ pub(crate) fn read_new_name(
 ) -> Result<Name, FaultKind>
     ensures value { Gives (λ n. n) result (new_name aggregates.now word.now) }
     ensures unused { IfOk result (λ _. is_new_name aggregates.now word.now ≡ true) }
-    ensures memory { IfErr result (λ kind. is_memory kind ≡ true → is_new_name aggregates.now word.now ≡ true) }
+    ensures memory { IfErr result (λ kind. is_memory kind ≡ true
+        → is_new_name aggregates.now word.now ≡ true) }
 {
     if !is_name_word(word) {
         return Err(FaultKind::BadName);

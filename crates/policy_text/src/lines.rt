@@ -25,7 +25,8 @@ impl Words<'_> {
     #[tactic(auto, unfolding(crate::specs::Lines::next, crate::specs::Memory::is_next))]
     fn who(&mut self, alloc: Global) -> Result<Option<Name>, FaultKind>
         ensures value { Gives (λ who. (who, self.new)) result (next (or_star name) self.old) }
-        ensures memory { IfErr result (λ kind. is_memory kind ≡ true → is_next is_name self.old ≡ true) }
+        ensures memory { IfErr result (λ kind. is_memory kind ≡ true
+            → is_next is_name self.old ≡ true) }
     {
         let word = self.word()?;
         read_who(alloc, word)
@@ -43,7 +44,8 @@ impl Words<'_> {
 
     #[tactic(auto, unfolding(crate::specs::Lines::next))]
     fn prefix(&mut self) -> Result<Option<Prefix>, FaultKind>
-        ensures value { Gives (λ prefix. (prefix, self.new)) result (next (or_star prefix) self.old) }
+        ensures value { Gives
+            (λ prefix. (prefix, self.new)) result (next (or_star prefix) self.old) }
         ensures sure { IfErr result (λ kind. is_memory kind ≡ false) }
     {
         let word = self.word()?;
@@ -71,7 +73,8 @@ impl Words<'_> {
 
     #[tactic(auto, unfolding(crate::specs::Lines::next))]
     fn bits(&mut self, width: u32) -> Result<usize, FaultKind>
-        ensures value { Gives (λ bits. (bits, self.new)) result (next (bits_within width) self.old) }
+        ensures value { Gives
+            (λ bits. (bits, self.new)) result (next (bits_within width) self.old) }
         ensures sure { IfErr result (λ kind. is_memory kind ≡ false) }
     {
         let word = self.word()?;
@@ -186,7 +189,8 @@ impl Words<'_> {
         ensures value { Gives (λ name. (name, self.new)) result
             (next (new_name aggregates.now) self.old) }
         ensures unused { IfOk result (λ _. is_next (is_new_name aggregates.now) self.old ≡ true) }
-        ensures memory { IfErr result (λ kind. is_memory kind ≡ true → is_next (is_new_name aggregates.now) self.old ≡ true) }
+        ensures memory { IfErr result (λ kind. is_memory kind ≡ true
+            → is_next (is_new_name aggregates.now) self.old ≡ true) }
     {
         let word = self.word()?;
         read_new_name(alloc, aggregates, word)
@@ -231,7 +235,8 @@ pub(crate) fn read_rule(
     words: &mut Words<'_>,
 ) -> Result<Rule, FaultKind>
     ensures value { Gives (λ rule. rule) result (rule_of version aggregates.now words.old) }
-    ensures memory { IfErr result (λ kind. is_memory kind ≡ true → names_subscriber words.old ≡ true) }
+    ensures memory { IfErr result (λ kind. is_memory kind ≡ true
+        → names_subscriber words.old ≡ true) }
 {
     words.keyword(b"for")?;
     let who = words.who(alloc)?;
@@ -262,7 +267,8 @@ pub(crate) fn read_aggregate(
 ) -> Result<AggregateDef, FaultKind>
     ensures value { Gives (λ a. a) result (aggregate_of aggregates.now words.old) }
     ensures unused { IfOk result (λ _. is_next (is_new_name aggregates.now) words.old ≡ true) }
-    ensures memory { IfErr result (λ kind. is_memory kind ≡ true → is_next (is_new_name aggregates.now) words.old ≡ true) }
+    ensures memory { IfErr result (λ kind. is_memory kind ≡ true
+        → is_next (is_new_name aggregates.now) words.old ≡ true) }
 {
     let name = words.new_name(alloc, aggregates)?;
     words.keyword(b"key")?;

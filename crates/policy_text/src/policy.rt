@@ -53,7 +53,8 @@ impl Model for Policy {
 
     ghost view = { λ p. record { version = p.version; aggregates = p.aggregates.items; rules = p.rules.items } };
 
-    ghost invariant = { λ p. IsPolicy (record { version = p.version; aggregates = p.aggregates.items; rules = p.rules.items }) };
+    ghost invariant = { λ p. IsPolicy
+        (record { version = p.version; aggregates = p.aggregates.items; rules = p.rules.items }) };
 }
 
 impl Policy {
@@ -68,11 +69,13 @@ impl Policy {
         ensures only { (policy : Meaning) → Spells text.now policy
             → Parses (λ p. p) result (Ok policy) }
         // What is refused has this first fault, unless memory ran out.
-        ensures first { IfErr result (λ fault. is_memory fault.kind ≡ false → IsFirstFault text.now fault) }
+        ensures first { IfErr result (λ fault. is_memory fault.kind ≡ false
+            → IsFirstFault text.now fault) }
         // Which fault it is.
         ensures exact { Parses (λ p. p) result (policy_of text.now) }
         // Memory runs out only where the text takes some, up to its first fault.
-        ensures memory { IfErr result (λ fault. is_memory fault.kind ≡ true → TakesMemory text.now) }
+        ensures memory { IfErr result (λ fault. is_memory fault.kind ≡ true
+            → TakesMemory text.now) }
     {
         Policy::read(alloc, text)
     }
@@ -80,7 +83,8 @@ impl Policy {
     /// The policy of a text, or its first fault.
     fn read(alloc: Global, text: &str) -> Result<Policy, PolicyFault>
         ensures exact { Parses (λ policy. policy) result (policy_of text.now) }
-        ensures memory { IfErr result (λ fault. is_memory fault.kind ≡ true → TakesMemory text.now) }
+        ensures memory { IfErr result (λ fault. is_memory fault.kind ≡ true
+            → TakesMemory text.now) }
     {
         let mut policy = None;
         let mut number = 1;
@@ -148,7 +152,8 @@ impl Policy {
     #[tactic(auto, unfolding(crate::specs::Lines::line_of, crate::specs::Memory::line_takes))]
     fn add_line(&mut self, alloc: Global, line: &[u8]) -> Result<(), FaultKind>
         ensures value { Gives (λ _. self.new) result (line_of self.old (words_of line.now)) }
-        ensures memory { IfErr result (λ kind. is_memory kind ≡ true → line_takes self.old (words_of line.now) ≡ true) }
+        ensures memory { IfErr result (λ kind. is_memory kind ≡ true
+            → line_takes self.old (words_of line.now) ≡ true) }
     {
         let mut words = Words::new(line);
         let word = words.word()?;
@@ -164,7 +169,8 @@ impl Policy {
     #[tactic(auto, unfolding(crate::specs::Lines::rule_line, crate::specs::Memory::rule_takes))]
     fn add_rule(&mut self, alloc: Global, words: &mut Words<'_>) -> Result<(), FaultKind>
         ensures value { Gives (λ _. self.new) result (rule_line self.old words.old) }
-        ensures memory { IfErr result (λ kind. is_memory kind ≡ true → rule_takes self.old words.old ≡ true) }
+        ensures memory { IfErr result (λ kind. is_memory kind ≡ true
+            → rule_takes self.old words.old ≡ true) }
     {
         if self.rules.len() >= MOST_RULES {
             return Err(FaultKind::TooMany);
@@ -177,7 +183,8 @@ impl Policy {
     #[tactic(auto, unfolding(crate::specs::Lines::aggregate_line, crate::specs::Memory::aggregate_takes))]
     fn add_aggregate(&mut self, alloc: Global, words: &mut Words<'_>) -> Result<(), FaultKind>
         ensures value { Gives (λ _. self.new) result (aggregate_line self.old words.old) }
-        ensures memory { IfErr result (λ kind. is_memory kind ≡ true → aggregate_takes self.old words.old ≡ true) }
+        ensures memory { IfErr result (λ kind. is_memory kind ≡ true
+            → aggregate_takes self.old words.old ≡ true) }
     {
         if self.aggregates.len() >= MOST_AGGREGATES {
             return Err(FaultKind::TooMany);
@@ -196,7 +203,8 @@ fn read_line(
     line: &[u8],
 ) -> Result<Option<Policy>, FaultKind>
     ensures value { Gives (λ policy. policy) result (line_step policy line.now) }
-    ensures memory { IfErr result (λ kind. is_memory kind ≡ true → step_takes policy line.now ≡ true) }
+    ensures memory { IfErr result (λ kind. is_memory kind ≡ true
+        → step_takes policy line.now ≡ true) }
 {
     if is_skipped(line) {
         return Ok(policy);

@@ -109,8 +109,10 @@ pub(crate) fn shapes_of(alloc: Global, side: Side, rules: &[Rule]) -> Result<Vec
 
 /// Adds the shape of the prefix that a rule names on a side, if it names one and its shape isn't there yet.
 fn note_rule(shapes: &mut Vec<Shape>, side: Side, rule: &Rule) -> Result<(), AllocError>
-    ensures kept { OnOk result ((shape : _) → Contains shapes.old.items shape → Contains shapes.new.items shape) }
-    ensures noted { OnOk result (IfSome (named side rule.now) (λ prefix. Contains shapes.new.items (shape_of prefix))) }
+    ensures kept { OnOk result ((shape : _) → Contains shapes.old.items shape
+        → Contains shapes.new.items shape) }
+    ensures noted { OnOk result
+        (IfSome (named side rule.now) (λ prefix. Contains shapes.new.items (shape_of prefix))) }
 {
     let prefix = match side {
         Side::Source => &rule.from,
@@ -124,7 +126,8 @@ fn note_rule(shapes: &mut Vec<Shape>, side: Side, rule: &Rule) -> Result<(), All
 
 /// Adds a shape, if it isn't there yet.
 fn note(shapes: &mut Vec<Shape>, shape: Shape) -> Result<(), AllocError>
-    ensures kept { OnOk result ((other : _) → Contains shapes.old.items other → Contains shapes.new.items other) }
+    ensures kept { OnOk result ((other : _) → Contains shapes.old.items other
+        → Contains shapes.new.items other) }
     ensures noted { OnOk result (Contains shapes.new.items shape) }
 {
     if !has_shape(shapes, shape) {
@@ -135,7 +138,8 @@ fn note(shapes: &mut Vec<Shape>, shape: Shape) -> Result<(), AllocError>
 
 /// Whether the shape is among these.
 fn has_shape(shapes: &[Shape], shape: Shape) -> bool
-    ensures { result ≡ list_any (λ other. other.width == shape.width && other.length == shape.length) shapes.now }
+    ensures { result ≡ list_any
+        (λ other. other.width == shape.width && other.length == shape.length) shapes.now }
 {
     shapes.iter().any(|other| other.width == shape.width && other.length == shape.length)
 }

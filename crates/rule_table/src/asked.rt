@@ -24,7 +24,8 @@ pub(crate) fn asked(
 ) -> Result<Vec<u64>, AllocError>
     requires from { from.now ≡ addresses_of Source flow_record.now }
     requires to { to.now ≡ addresses_of Destination flow_record.now }
-    ensures { IfOk result (λ marks. marks.items ≡ asked name.now domain sources.now destinations.now flow_record.now) }
+    ensures { IfOk result (λ marks. marks.items
+        ≡ asked name.now domain sources.now destinations.now flow_record.now) }
 {
     let mut marks = Vec::new(alloc);
     let fields = flow_record.template().fields.as_slice();
@@ -41,7 +42,8 @@ pub(crate) fn asked(
 
 /// Adds what is looked up for the rules of a subscriber, or for those of any, that stand under no prefix.
 fn ask(who: u64, domain: u32, fields: &[FieldSpec], marks: &mut Vec<u64>) -> Result<(), AllocError>
-    ensures { OnOk result (marks.new.items ≡ marks.old.items ++ who ∷ [] ++ domain_mark who domain ∷ [] ++ asked_elements who fields.now) }
+    ensures { OnOk result (marks.new.items ≡ marks.old.items
+        ++ who ∷ [] ++ domain_mark who domain ∷ [] ++ asked_elements who fields.now) }
 {
     marks.push(who)?;
     marks.push(domain_mark(who, domain))?;
@@ -59,7 +61,8 @@ fn ask_all(
     addresses: &[Address],
     marks: &mut Vec<u64>,
 ) -> Result<(), AllocError>
-    ensures { OnOk result (marks.new.items ≡ marks.old.items ++ asked_of who side shapes.now addresses.now) }
+    ensures { OnOk result
+        (marks.new.items ≡ marks.old.items ++ asked_of who side shapes.now addresses.now) }
 {
     for address in addresses {
         ask_one(who, side, shapes, *address, marks)?;
@@ -75,7 +78,8 @@ fn ask_one(
     address: Address,
     marks: &mut Vec<u64>,
 ) -> Result<(), AllocError>
-    ensures { OnOk result (marks.new.items ≡ marks.old.items ++ filter_map (asked_at who side address) shapes.now) }
+    ensures { OnOk result
+        (marks.new.items ≡ marks.old.items ++ filter_map (asked_at who side address) shapes.now) }
 {
     for shape in shapes {
         if let Some(mark) = asked_at(who, side, address, *shape) {

@@ -58,7 +58,12 @@ impl<'a> Model for Candidates<'a> {
 
     ghost view = { λ c. record { rules = c.rules.now; name = c.name.now; domain = c.domain; flow_record = c.flow_record.now } };
 
-    ghost invariant = { λ c. AreFirsts (record { rules = c.rules.now; name = c.name.now; domain = c.domain; flow_record = c.flow_record.now }) c.on_record c.on_any (get nat_cmp c.on_named) };
+    ghost invariant = { λ c. AreFirsts (record {
+      rules = c.rules.now;
+      name = c.name.now;
+      domain = c.domain;
+      flow_record = c.flow_record.now;
+    }) c.on_record c.on_any (get nat_cmp c.on_named) };
 }
 
 impl<'a> Candidates<'a> {
@@ -71,8 +76,18 @@ impl<'a> Candidates<'a> {
         flow_record: &'a Record,
         places: &[usize],
     ) -> Result<Candidates<'a>, AllocError>
-        requires { AreApplying (record { rules = rules.now; name = name.now; domain = domain; flow_record = flow_record.now }) places.now }
-        ensures { IfOk result (λ candidates. candidates ≡ record { rules = rules.now; name = name.now; domain = domain; flow_record = flow_record.now }) }
+        requires { AreApplying (record {
+          rules = rules.now;
+          name = name.now;
+          domain = domain;
+          flow_record = flow_record.now;
+        }) places.now }
+        ensures { IfOk result (λ candidates. candidates ≡ record {
+          rules = rules.now;
+          name = name.now;
+          domain = domain;
+          flow_record = flow_record.now;
+        }) }
     {
         let on_named = firsts_on_elements(alloc, rules, places)?;
         Ok(Candidates {
@@ -88,7 +103,8 @@ impl<'a> Candidates<'a> {
 
     /// The verdict on the record: that of the first matching rule on records, or rule 0, which withholds.
     pub fn record_verdict(&self) -> RecordVerdict
-        ensures { result ≡ record_verdict_of self.now.name self.now.domain self.now.flow_record self.now.rules }
+        ensures { result
+            ≡ record_verdict_of self.now.name self.now.domain self.now.flow_record self.now.rules }
     {
         record_verdict_at(self.rules, self.on_record)
     }
@@ -97,7 +113,8 @@ impl<'a> Candidates<'a> {
     /// removes.
     pub fn element_verdict(&self, field: usize) -> ElementVerdict
         requires { field < length self.now.flow_record.template.fields }
-        ensures { result ≡ element_verdict_of self.now.name self.now.domain self.now.flow_record field self.now.rules }
+        ensures { result ≡ element_verdict_of
+            self.now.name self.now.domain self.now.flow_record field self.now.rules }
     {
         let element = self.flow_record.template().fields.as_slice()[field].element;
         let named = first_on(&self.on_named, element);
@@ -151,7 +168,8 @@ fn firsts_on_elements(
     rules: &[Rule],
     places: &[usize],
 ) -> Result<BTreeMap<u64, usize>, AllocError>
-    ensures { IfOk result (λ firsts. (e : Element) → e.number < 32768 → get nat_cmp firsts (element_key e) ≡ find (passes (on_element e) rules.now) places.now) }
+    ensures { IfOk result (λ firsts. (e : Element) → e.number < 32768
+        → get nat_cmp firsts (element_key e) ≡ find (passes (on_element e) rules.now) places.now) }
 {
     let mut firsts = BTreeMap::new(alloc);
     for place in places {
@@ -166,7 +184,9 @@ fn note_first(
     rules: &[Rule],
     place: usize,
 ) -> Result<(), AllocError>
-    ensures { OnOk result ((e : Element) → e.number < 32768 → get nat_cmp firsts.new (element_key e) ≡ option_or (get nat_cmp firsts.old (element_key e)) (if passes (on_element e) rules.now place then Some place else None)) }
+    ensures { OnOk result ((e : Element) → e.number < 32768 → get nat_cmp firsts.new (element_key e)
+        ≡ option_or (get nat_cmp firsts.old (element_key e))
+        (if passes (on_element e) rules.now place then Some place else None)) }
 {
     match key_at(rules, place) {
         Some(key) => note(firsts, key, place),
@@ -176,7 +196,8 @@ fn note_first(
 
 /// Notes a place under a key, unless one is noted there.
 fn note(firsts: &mut BTreeMap<u64, usize>, key: u64, place: usize) -> Result<(), AllocError>
-    ensures { OnOk result ((other : ℕ) → get nat_cmp firsts.new other ≡ option_or (get nat_cmp firsts.old other) (if other == key then Some place else None)) }
+    ensures { OnOk result ((other : ℕ) → get nat_cmp firsts.new other
+        ≡ option_or (get nat_cmp firsts.old other) (if other == key then Some place else None)) }
 {
     if !firsts.contains_key(&key) {
         firsts.insert(key, place)?;
@@ -186,7 +207,8 @@ fn note(firsts: &mut BTreeMap<u64, usize>, key: u64, place: usize) -> Result<(),
 
 /// The key of the element that the rule at a place names, if that is one on fields.
 fn key_at(rules: &[Rule], place: usize) -> Option<u64>
-    ensures { (e : Element) → e.number < 32768 → passes (on_element e) rules.now place ≡ is_key (element_key e) result }
+    ensures { (e : Element) → e.number < 32768
+        → passes (on_element e) rules.now place ≡ is_key (element_key e) result }
 {
     match rules.get(place) {
         Some(rule) => key_of_rule(rule),
@@ -196,7 +218,8 @@ fn key_at(rules: &[Rule], place: usize) -> Option<u64>
 
 /// The key of the element that a rule names, if it is one on fields.
 fn key_of_rule(rule: &Rule) -> Option<u64>
-    ensures { (e : Element) → e.number < 32768 → on_element e rule.now ≡ is_key (element_key e) result }
+    ensures { (e : Element) → e.number < 32768
+        → on_element e rule.now ≡ is_key (element_key e) result }
 {
     if is_on_records(rule.action) {
         return None;

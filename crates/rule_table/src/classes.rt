@@ -155,7 +155,8 @@ fn count_below(numbers: &[u128], bound: u128) -> usize
 
 /// The key of those values whose fields are of this side.
 fn key_of_fields(classes: &AddressClasses, side: Side, flow_record: &Record) -> Option<u64>
-    ensures { result ≡ fold (with_field classes.now side) (Some 1) (zip flow_record.now.template.fields flow_record.now.values) }
+    ensures { result ≡ fold (with_field classes.now side)
+        (Some 1) (zip flow_record.now.template.fields flow_record.now.values) }
 {
     flow_record
         .entries()

@@ -49,7 +49,8 @@ impl<'a> Model for Sorted<'a> {
 
     ghost view = { λ s. values_of (is_of s.side) s.flow_record.now };
 
-    ghost invariant = { λ s. AreInOrder (values_of (is_of s.side) s.flow_record.now) s.count s.narrow.items s.wide.items };
+    ghost invariant = { λ s. AreInOrder
+        (values_of (is_of s.side) s.flow_record.now) s.count s.narrow.items s.wide.items };
 }
 
 impl<'a> Sorted<'a> {
@@ -112,7 +113,8 @@ fn count_in(fields: &[FieldSpec], side: Side) -> usize
 
 /// The numbers of the addresses of so many bits, ascending.
 fn ascending(alloc: Global, addresses: &[Address], width: u32) -> Result<Vec<u128>, AllocError>
-    ensures each { IfOk result (λ numbers. IsPermutation (filter_map (number_in width) addresses.now) numbers.items) }
+    ensures each { IfOk result
+        (λ numbers. IsPermutation (filter_map (number_in width) addresses.now) numbers.items) }
     ensures ascending { IfOk result (λ numbers. IsNonDecreasing numbers.items) }
 {
     let mut numbers = listed(alloc, addresses, width)?;

@@ -79,7 +79,8 @@ fn bounds_of(prefix: &Prefix) -> Bounds
 /// The bounds of a prefix whose addresses have so many bits.
 fn bounds_in(width: u32, first: u128, length: u8) -> Bounds
     requires { width ≤ 128 }
-    ensures { result ≡ record { first = first; last = min (first + (2 ^ (width - length) - 1)) (2 ^ 128 - 1) } }
+    ensures { result
+        ≡ record { first = first; last = min (first + (2 ^ (width - length) - 1)) (2 ^ 128 - 1) } }
 {
     let free = ones(width.saturating_sub(u32::from(length)));
     Bounds {

@@ -45,7 +45,9 @@ pub(crate) fn places_under(
     marks: Vec<u64>,
 ) -> Result<Vec<usize>, AllocError>
     requires { IsNonDecreasing entries.now }
-    ensures each { IfOk result (λ places. (mark place : ℕ) → place < 4096 → Contains marks.items mark → Contains entries.now (entry mark place) → Contains places.items place) }
+    ensures each { IfOk result (λ places. (mark place : ℕ) → place < 4096
+        → Contains marks.items mark
+        → Contains entries.now (entry mark place) → Contains places.items place) }
     ensures ascending { IfOk result (λ places. IsNonDecreasing places.items) }
 {
     let marks = each_once(marks);
@@ -67,7 +69,8 @@ fn each_once(marks: Vec<u64>) -> Vec<u64>
 /// The same places, mark by mark.
 fn gathered(alloc: Global, entries: &[u128], marks: &[u64]) -> Result<Vec<usize>, AllocError>
     requires { IsNonDecreasing entries.now }
-    ensures { IfOk result (λ places. (mark place : ℕ) → place < 4096 → Contains marks.now mark → Contains entries.now (entry mark place) → Contains places.items place) }
+    ensures { IfOk result (λ places. (mark place : ℕ) → place < 4096 → Contains marks.now mark
+        → Contains entries.now (entry mark place) → Contains places.items place) }
 {
     let mut places = Vec::new(alloc);
     for mark in marks {
@@ -78,7 +81,8 @@ fn gathered(alloc: Global, entries: &[u128], marks: &[u64]) -> Result<Vec<usize>
 
 /// Adds the places of these entries.
 fn put_places(entries: &[u128], places: &mut Vec<usize>) -> Result<(), AllocError>
-    ensures { OnOk result (places.new.items ≡ places.old.items ++ map (λ entry. entry % 2 ^ 64) entries.now) }
+    ensures { OnOk result
+        (places.new.items ≡ places.old.items ++ map (λ entry. entry % 2 ^ 64) entries.now) }
 {
     for entry in entries {
         places.push((*entry % SPAN) as usize)?;
@@ -89,7 +93,8 @@ fn put_places(entries: &[u128], places: &mut Vec<usize>) -> Result<(), AllocErro
 /// The entries under a mark.
 fn under(entries: &[u128], mark: u64) -> &[u128]
     requires { IsNonDecreasing entries.now }
-    ensures { (place : ℕ) → place < 4096 → Contains entries.now (entry mark place) → Contains result.now (entry mark place) }
+    ensures { (place : ℕ) → place < 4096
+        → Contains entries.now (entry mark place) → Contains result.now (entry mark place) }
 {
     // Rules are few, so that none stands at the very last place.
     let low = entry(mark, 0);
@@ -103,7 +108,8 @@ pub(crate) fn from_bound(entries: &[u128], bound: u128) -> &[u128]
     ensures ascending { IsNonDecreasing result.now }
     ensures among { (entry : ℕ) → Contains result.now entry → Contains entries.now entry }
     ensures above { (entry : ℕ) → Contains result.now entry → bound ≤ entry }
-    ensures kept { (entry : ℕ) → bound ≤ entry → Contains entries.now entry → Contains result.now entry }
+    ensures kept { (entry : ℕ) → bound ≤ entry
+        → Contains entries.now entry → Contains result.now entry }
 {
     &entries[count_below(entries, bound)..]
 }
@@ -113,7 +119,8 @@ fn count_below(entries: &[u128], bound: u128) -> usize
     requires { IsNonDecreasing entries.now }
     ensures within { result ≤ length entries.now }
     ensures below { (k : ℕ) → k < result → slice_index entries.now k < bound }
-    ensures above { (k : ℕ) → result ≤ k → k < length entries.now → bound ≤ slice_index entries.now k }
+    ensures above { (k : ℕ) → result ≤ k
+        → k < length entries.now → bound ≤ slice_index entries.now k }
 {
     entries.partition_point(|entry| *entry < bound)
 }

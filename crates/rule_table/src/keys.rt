@@ -71,7 +71,8 @@ impl RecentClasses {
         requires same { flow_record.now.template ≡ places.now }
         ensures few { length self.old ≤ most_cuts }
         ensures sources { result.0 ≡ key_of self.old (values_of (is_of Source) flow_record.now) }
-        ensures destinations { result.1 ≡ key_of self.old (values_of (is_of Destination) flow_record.now) }
+        ensures destinations { result.1
+            ≡ key_of self.old (values_of (is_of Destination) flow_record.now) }
         ensures stay { self.new ≡ self.old }
     {
         // What is read of the cuts has what their type keeps of them, as `few` says.

@@ -119,7 +119,8 @@ fn last_of_class(cuts: &[u32], class: u16, address: u32) -> u32
     requires ascending { IsNonDecreasing cuts.now }
     requires class { class ≡ class_of cuts.now address }
     ensures below { address ≤ result }
-    ensures each { (k other : ℕ) → class ≤ k → k < length cuts.now → other ≤ result → other ≤ slice_index cuts.now k }
+    ensures each { (k other : ℕ) → class ≤ k
+        → k < length cuts.now → other ≤ result → other ≤ slice_index cuts.now k }
 {
     let place = usize::from(class);
     if place < cuts.len() {
@@ -163,7 +164,8 @@ fn fill(cuts: &mut Vec<u32>, count: usize) -> Result<(), AllocError>
     requires room { length cuts.old.items ≤ count }
     ensures ascending { OnOk result (IsNonDecreasing cuts.new.items) }
     ensures count { OnOk result (length cuts.new.items ≡ count) }
-    ensures same { (address : ℕ) → address < 2 ^ 32 → OnOk result (class_of cuts.new.items address ≡ class_of cuts.old.items address) }
+    ensures same { (address : ℕ) → address < 2 ^ 32
+        → OnOk result (class_of cuts.new.items address ≡ class_of cuts.old.items address) }
 {
     'cuts: while cuts.len() < count {
         cuts.push(u32::MAX)?;

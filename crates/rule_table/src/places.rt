@@ -30,7 +30,8 @@ impl Model for AddressPlaces {
 
     ghost view = { λ p. arc_value p.template };
 
-    ghost invariant = { λ p. AreAddressPlaces (arc_value p.template) p.sources.items p.destinations.items };
+    ghost invariant = { λ p. AreAddressPlaces
+        (arc_value p.template) p.sources.items p.destinations.items };
 }
 
 impl AddressPlaces {

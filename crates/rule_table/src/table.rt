@@ -61,7 +61,8 @@ impl Model for RuleTable {
 
     ghost view = { λ t. t.rules.items };
 
-    ghost invariant = { λ t. AreOfPolicy t.rules.items × IsIndex t.rules.items t.entries.items t.sources.items t.destinations.items };
+    ghost invariant = { λ t. AreOfPolicy t.rules.items
+        × IsIndex t.rules.items t.entries.items t.sources.items t.destinations.items };
 }
 
 impl RuleTable {
@@ -128,7 +129,12 @@ impl RuleTable {
         domain: u32,
         flow_record: &'a Record,
     ) -> Result<Candidates<'a>, AllocError>
-        ensures { IfOk result (λ candidates. candidates ≡ record { rules = self.now; name = name.now; domain = domain; flow_record = flow_record.now }) }
+        ensures { IfOk result (λ candidates. candidates ≡ record {
+          rules = self.now;
+          name = name.now;
+          domain = domain;
+          flow_record = flow_record.now;
+        }) }
     {
         let rules = self.rules.as_slice();
         let from = addresses_of(alloc, Side::Source, flow_record)?;
@@ -152,7 +158,12 @@ impl RuleTable {
     ) -> Result<Vec<usize>, AllocError>
         requires from { from.now ≡ addresses_of Source flow_record.now }
         requires to { to.now ≡ addresses_of Destination flow_record.now }
-        ensures { IfOk result (λ places. AreCandidates (record { rules = self.now; name = name.now; domain = domain; flow_record = flow_record.now }) places.items) }
+        ensures { IfOk result (λ places. AreCandidates (record {
+          rules = self.now;
+          name = name.now;
+          domain = domain;
+          flow_record = flow_record.now;
+        }) places.items) }
     {
         let rules = self.rules();
         let fields = flow_record.template().fields.len();
@@ -182,7 +193,12 @@ impl RuleTable {
     ) -> Result<Vec<usize>, AllocError>
         requires from { from.now ≡ addresses_of Source flow_record.now }
         requires to { to.now ≡ addresses_of Destination flow_record.now }
-        ensures { IfOk result (λ places. AreCandidates (record { rules = self.now; name = name.now; domain = domain; flow_record = flow_record.now }) places.items) }
+        ensures { IfOk result (λ places. AreCandidates (record {
+          rules = self.now;
+          name = name.now;
+          domain = domain;
+          flow_record = flow_record.now;
+        }) places.items) }
     {
         let (sources, destinations) = (self.sources.as_slice(), self.destinations.as_slice());
         let octets = name.as_bytes();
@@ -203,7 +219,9 @@ impl RuleTable {
 /// The places of all rules.
 fn all_places(alloc: Global, rules: &[Rule]) -> Result<Vec<usize>, AllocError>
     requires { length rules.now ≤ 4096 }
-    ensures { IfOk result (λ places. (name : List ℕ) (domain : ℕ) (r : DataRecord) → AreCandidates (record { rules = rules.now; name = name; domain = domain; flow_record = r }) places.items) }
+    ensures { IfOk result (λ places. (name : List ℕ) (domain : ℕ) (r : DataRecord) → AreCandidates
+        (record { rules = rules.now; name = name; domain = domain; flow_record = r })
+        places.items) }
 {
     let mut places = Vec::with_capacity(alloc, rules.len())?;
     for place in 0..rules.len() {
@@ -223,10 +241,20 @@ fn applying(
     from: &Sorted<'_>,
     to: &Sorted<'_>,
 ) -> Result<Vec<usize>, AllocError>
-    requires are { AreCandidates (record { rules = rules.now; name = name.now; domain = domain; flow_record = flow_record.now }) places.now }
+    requires are { AreCandidates (record {
+      rules = rules.now;
+      name = name.now;
+      domain = domain;
+      flow_record = flow_record.now;
+    }) places.now }
     requires from { from.now ≡ sources flow_record.now }
     requires to { to.now ≡ destinations flow_record.now }
-    ensures { IfOk result (λ applying. AreApplying (record { rules = rules.now; name = name.now; domain = domain; flow_record = flow_record.now }) applying.items) }
+    ensures { IfOk result (λ applying. AreApplying (record {
+      rules = rules.now;
+      name = name.now;
+      domain = domain;
+      flow_record = flow_record.now;
+    }) applying.items) }
 {
     kept(alloc, rules, places, name.as_bytes(), domain, from, to)
 }
@@ -241,7 +269,8 @@ fn kept(
     from: &Sorted<'_>,
     to: &Sorted<'_>,
 ) -> Result<Vec<usize>, AllocError>
-    ensures { IfOk result (λ kept. kept.items ≡ filter (passes (applies_by name.now domain from.now to.now) rules.now) places.now) }
+    ensures { IfOk result (λ kept. kept.items
+        ≡ filter (passes (applies_by name.now domain from.now to.now) rules.now) places.now) }
 {
     let mut kept = Vec::new(alloc);
     for place in places {

@@ -28,16 +28,19 @@ ghost use Rattle.stream_meaning.specs.HandedOut.{AreHandedOut};
 /// do after as many further pulls as the records have parts, whatever the targets (`drained`).
 pub fn messages_mean_the_list()
     ensures so_far { (calls : List Call) → AreStreamable (records_given calls) → AreInRange calls
-        → Means (messages_got calls) (records_in (take (place_reached calls) (parts (records_given calls)))) }
-    ensures whole { (calls : List Call) (now target : ℕ) → AreStreamable (records_given calls) → AreInRange calls
-        → built (records_given calls) (place_reached calls) now target ≡ None
+        → Means (messages_got calls)
+        (records_in (take (place_reached calls) (parts (records_given calls)))) }
+    ensures whole { (calls : List Call) (now target : ℕ) → AreStreamable (records_given calls)
+        → AreInRange calls → built (records_given calls) (place_reached calls) now target ≡ None
         → Means (messages_got calls) (records_given calls) }
-    ensures drained { (calls : List Call) (turns : List (ℕ × ℕ)) → AreStreamable (records_given calls) → AreInRange (calls ++ pulls turns)
+    ensures drained { (calls : List Call) (turns : List (ℕ × ℕ))
+        → AreStreamable (records_given calls) → AreInRange (calls ++ pulls turns)
         → length (parts (records_given calls)) ≤ length turns
         → Means (messages_got (calls ++ pulls turns)) (records_given calls) }
 {}
 
-/// The pulls among calls are those that `messages_got` and `place_reached` go by: each with all records that were given before it.
+/// The pulls among calls are those that `messages_got` and `place_reached` go by: each with all
+/// records that were given before it.
 pub fn pulls_see_what_was_given()
     ensures { (calls : List Call) → pulls_of [] calls ≡ each_with_before pull_at calls }
 {}
@@ -49,12 +52,15 @@ pub fn the_first_are_handed_out()
         → records_in (take p (parts records)) ≡ take s.handed records }
 {}
 
-/// The same of what a stream answers: where it takes these calls one after another, by the contracts of
-/// `Stream::push_reserved` and `Stream::pull`.
+/// What a stream answers means the list too, where it takes these calls one after another by the
+/// contracts of `Stream::push_reserved` and `Stream::pull`: its messages bring exactly the records
+/// that were handed out.
 pub fn answers_mean_the_list()
-    ensures { (s : Standing) (calls : List Call) (answers : List (Option (List ℕ))) → StandsAt s [] 0 → Serves s calls answers
+    ensures { (s : Standing) (calls : List Call) (answers : List (Option (List ℕ)))
+        → StandsAt s [] 0 → Serves s calls answers
         → AreStreamable (records_given calls) → AreInRange calls
-        → Means (messages_in answers) (records_in (take (place_reached calls) (parts (records_given calls)))) }
+        → Means (messages_in answers)
+        (records_in (take (place_reached calls) (parts (records_given calls)))) }
 {}
 
 /// What a holder of a stream keeps beside it, call by call: that the messages are all that were handed out
@@ -66,15 +72,23 @@ pub fn answers_mean_the_list()
 pub fn holders_keep()
     ensures start { AreHandedOut [] [] 0 }
     ensures streamable { AreStreamable [] }
-    ensures given { (messages : List (List ℕ)) (records more : List DataRecord) (p : ℕ) → AreHandedOut messages records p
-        → AreHandedOut messages (records ++ more) p }
-    ensures streamable_more { (limits : Limits) (records more : List DataRecord) (p : ℕ) → AreStreamable records → AllByRecursion IsStreamable more
-        → FitsLimits limits records p more → limits.shapes ≤ MOST_SHAPES → AreStreamable (records ++ more) }
-    ensures pulled { (messages : List (List ℕ)) (answer : Option (List ℕ)) (records : List DataRecord) (p now target : ℕ) → now < 2 ^ 32 → target < 2 ^ 16
+    // What is given, or pulled, leaves both true.
+    ensures given { (messages : List (List ℕ)) (records more : List DataRecord) (p : ℕ)
+        → AreHandedOut messages records p → AreHandedOut messages (records ++ more) p }
+    ensures streamable_more { (limits : Limits) (records more : List DataRecord) (p : ℕ)
+        → AreStreamable records → AllByRecursion IsStreamable more
+        → FitsLimits limits records p more → limits.shapes ≤ MOST_SHAPES
+        → AreStreamable (records ++ more) }
+    ensures pulled { (messages : List (List ℕ)) (answer : Option (List ℕ))
+        (records : List DataRecord) (p now target : ℕ) → now < 2 ^ 32 → target < 2 ^ 16
         → AreHandedOut messages records p → answer ≡ built records p now target
-        → AreHandedOut (messages ++ messages_in (answer ∷ [])) records (place_after records p target) }
-    ensures so_far { (messages : List (List ℕ)) (records : List DataRecord) (p : ℕ) → AreHandedOut messages records p → AreStreamable records
+        → AreHandedOut (messages ++ messages_in (answer ∷ []))
+        records (place_after records p target) }
+    // So it is known what the messages mean.
+    ensures so_far { (messages : List (List ℕ)) (records : List DataRecord) (p : ℕ)
+        → AreHandedOut messages records p → AreStreamable records
         → Means messages (records_in (take p (parts records))) }
-    ensures whole { (messages : List (List ℕ)) (records : List DataRecord) (p now target : ℕ) → AreHandedOut messages records p → AreStreamable records
+    ensures whole { (messages : List (List ℕ)) (records : List DataRecord) (p now target : ℕ)
+        → AreHandedOut messages records p → AreStreamable records
         → built records p now target ≡ None → Means messages records }
 {}

@@ -9,8 +9,8 @@ ghost use Rattle.stream_meaning.specs.Served.{IsStreamable};
 use ipfix_records::{Records, Run};
 use ipfix_template::{FieldSpec, Template};
 
-/// Each record may be streamed: always so, by its type. A caller who has records learns it here, and the
-/// call does nothing else.
+/// Each record of `records` may be streamed: always so, by its type. A caller who has records
+/// learns it here, and the call does nothing else.
 pub fn see_records(records: &Records)
     ensures { AllByRecursion IsStreamable records.now }
 {
@@ -19,7 +19,8 @@ pub fn see_records(records: &Records)
     }
 }
 
-/// The records of a run are sound, and the numbers of its template fit their octets.
+/// The records of `run` are sound, and the numbers of its template fit their octets. A caller who
+/// has a run learns it here, and the call does nothing else.
 pub fn see_run(run: &Run)
     ensures { AllByRecursion IsStreamable (records_of run.now) }
 {

@@ -8,8 +8,10 @@ use ipfix_template::{Template, template_octets};
 
 /// The octets of the template's record, where it is new and so is to be announced.
 pub(crate) fn announced_octets(shape: &Template, is_new: bool) -> Option<u16>
-    requires { length (template_record least_template_id (is_options shape.now) shape.now) ≤ RECORD_ROOM }
-    ensures { result ≡ (if is_new then Some (length (template_record least_template_id (is_options shape.now) shape.now)) else None) }
+    requires { length (template_record least_template_id (is_options shape.now) shape.now)
+        ≤ RECORD_ROOM }
+    ensures { result ≡ (if is_new then Some
+        (length (template_record least_template_id (is_options shape.now) shape.now)) else None) }
 {
     if is_new {
         Some(template_octets(shape) as u16)

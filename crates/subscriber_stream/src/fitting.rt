@@ -15,8 +15,12 @@ pub(crate) fn fitting(queue: &VecDeque<Waiting>, target: u16) -> Front
     requires filled { AreFilled queue.now.items }
     requires few { length (items_in queue.now.items) < 2 ^ 64 }
     requires first { total None (take 1 (items_in queue.now.items)) ≤ longest_body }
-    ensures parts { result.parts ≡ max 1 (fits target None header_octets (items_in queue.now.items)) }
-    ensures octets { result.octets ≡ header_octets + total None (take result.parts (items_in queue.now.items)) }
+    // It says how many parts the message takes, and how many octets that message has.
+    ensures parts { result.parts
+        ≡ max 1 (fits target None header_octets (items_in queue.now.items)) }
+    ensures octets { result.octets
+        ≡ header_octets + total None (take result.parts (items_in queue.now.items)) }
+    // There are as many parts, and a message can be that long.
     ensures within { result.parts ≤ length (items_in queue.now.items) }
     ensures small { result.octets ≤ longest_message }
 {
@@ -34,8 +38,11 @@ pub(crate) fn fitting(queue: &VecDeque<Waiting>, target: u16) -> Front
 fn whole_run(queue: &VecDeque<Waiting>, target: u16) -> Front
     requires filled { AreFilled queue.now.items }
     requires few { length (items_in queue.now.items) < 2 ^ 64 }
+    // It says how many parts fit, and how many octets the message of these has.
     ensures parts { result.parts ≡ fits target None header_octets (items_in queue.now.items) }
-    ensures octets { result.octets ≡ header_octets + total None (take result.parts (items_in queue.now.items)) }
+    ensures octets { result.octets
+        ≡ header_octets + total None (take result.parts (items_in queue.now.items)) }
+    // There are as many parts, and a message can be that long.
     ensures within { result.parts ≤ length (items_in queue.now.items) }
     ensures small { result.octets ≤ longest_message }
 {

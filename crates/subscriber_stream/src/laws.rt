@@ -14,8 +14,10 @@ ghost use Rattle.std.specs.Prelude.{true, ◌↔◌};
 /// The octets that a stream gives are a function of the records that it was given and of the pulls: the
 /// messages built one after another, whatever else differs between two streams.
 pub fn octets_of_pulls()
-    ensures { (s : Standing) (records : List DataRecord) (p : ℕ) (calls : List Call) (answers : List (Option (List ℕ)))
-        → StandsAt s records p → Serves s calls answers → answers ≡ octets_from p (pulls_of records calls) }
+    ensures { (s : Standing) (records : List DataRecord) (p : ℕ)
+        (calls : List Call) (answers : List (Option (List ℕ)))
+        → StandsAt s records p → Serves s calls answers
+        → answers ≡ octets_from p (pulls_of records calls) }
 {}
 
 /// The records among the parts of a list are the list.
@@ -25,7 +27,8 @@ pub fn parts_bring_the_list()
 
 /// The parts of a list begin the parts of each longer one.
 pub fn parts_go_on()
-    ensures { (records more : List DataRecord) → (others : List Part) × (parts (records ++ more) ≡ parts records ++ others) }
+    ensures { (records more : List DataRecord)
+        → (others : List Part) × (parts (records ++ more) ≡ parts records ++ others) }
 {}
 
 /// Two templates are one shape exactly where they are equal.
@@ -35,11 +38,12 @@ pub fn one_shape()
 
 /// The shapes of a longer list are those of its front, and then those of the rest that are not among them.
 pub fn shapes_go_on()
-    ensures { (records more : List DataRecord) → shapes_of (records ++ more) ≡ shapes_after (shapes_of records) more }
+    ensures { (records more : List DataRecord)
+        → shapes_of (records ++ more) ≡ shapes_after (shapes_of records) more }
 {}
 
-/// The sets of parts hold these parts in their order, each Data Set brings a record, and none stands right before another of its
-/// ID, so that none could be longer; and only the sets of the parts are so.
+/// The sets of parts hold these parts in their order, each Data Set brings a record, and none
+/// stands right before another of its ID, so that none could be longer. No other sets are so.
 pub fn sets_are_longest()
     ensures { (ps : List Part) (sets : List Set) → (sets ≡ sets_of ps) ↔ AreSets ps sets }
 {}
@@ -48,6 +52,6 @@ pub fn sets_are_longest()
 pub fn longest_run()
     ensures within { (target now sequence : ℕ) (ps : List Part) → 1 < run_length target ps
         → length (message now sequence (take (run_length target ps) ps)) ≤ target }
-    ensures longest { (target now sequence n : ℕ) (ps : List Part) → run_length target ps < n → n ≤ length ps
-        → target < length (message now sequence (take n ps)) }
+    ensures longest { (target now sequence n : ℕ) (ps : List Part) → run_length target ps < n
+        → n ≤ length ps → target < length (message now sequence (take n ps)) }
 {}

@@ -9,7 +9,8 @@ use ipfix_template::Template;
 
 /// Whether there are at most `most` templates in the table with those of the records.
 pub(crate) fn has_shape_room(shapes: &ShapeTable, runs: &[Run], most: u32) -> bool
-    ensures { IsTrue result ↔ (length (shapes_after shapes.now.shapes (records_in runs.now)) ≤ most) }
+    ensures { IsTrue result
+        ↔ (length (shapes_after shapes.now.shapes (records_in runs.now)) ≤ most) }
 {
     let known = shapes.len();
     // Each run brings one template at most, so that most lists need no further look.
@@ -21,7 +22,8 @@ pub(crate) fn has_shape_room(shapes: &ShapeTable, runs: &[Run], most: u32) -> bo
 
 /// How many distinct templates of the records the table has not.
 fn new_shapes(shapes: &ShapeTable, runs: &[Run]) -> usize
-    ensures { length shapes.now.shapes + result ≡ length (shapes_after shapes.now.shapes (records_in runs.now)) }
+    ensures { length shapes.now.shapes + result
+        ≡ length (shapes_after shapes.now.shapes (records_in runs.now)) }
 {
     let mut count = 0;
     for place in 0..runs.len() {
@@ -36,7 +38,8 @@ fn new_shapes(shapes: &ShapeTable, runs: &[Run]) -> usize
 fn is_new_at(shapes: &ShapeTable, runs: &[Run], place: usize) -> bool
     requires { place < length runs.now }
     ensures { length (shapes_after shapes.now.shapes (records_in (take (place + 1) runs.now)))
-        ≡ length (shapes_after shapes.now.shapes (records_in (take place runs.now))) + (if result then 1 else 0) }
+        ≡ length (shapes_after shapes.now.shapes (records_in (take place runs.now)))
+        + (if result then 1 else 0) }
 {
     let next = &runs[place];
     if next.len() == 0 {

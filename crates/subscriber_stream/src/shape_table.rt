@@ -60,7 +60,8 @@ impl ShapeTable {
     /// The template at a place.
     pub(crate) fn shape(&self, place: usize) -> &Template
         requires { place < length self.now.shapes }
-        ensures { Rattle.std.specs.Prelude.slice_get self.now.shapes place ≡ Rattle.std.specs.Prelude.Some result.now }
+        ensures { Rattle.std.specs.Prelude.slice_get self.now.shapes place
+            ≡ Rattle.std.specs.Prelude.Some result.now }
     {
         let Some(shape) = self.shapes.get_index(place) else {
             unreachable!()
@@ -68,7 +69,7 @@ impl ShapeTable {
         shape
     }
 
-    /// Makes room for so many more templates.
+    /// Makes room for `more` further templates.
     ///
     /// # Errors
     /// Want of memory; then no room was made.
@@ -84,7 +85,9 @@ impl ShapeTable {
     pub(crate) fn place_reserved(&mut self, shape: Arc<Template>) -> (usize, bool)
         requires { 0 < self.old.spare }
         ensures shapes { self.new.shapes ≡ with_shape self.old.shapes (arc_value shape) }
-        ensures place { result.0 ≡ position_or_len (same_template (arc_value shape)) self.old.shapes }
+        // The place is that of an equal template, or the end where there is none.
+        ensures place { result.0
+            ≡ position_or_len (same_template (arc_value shape)) self.old.shapes }
         ensures added { result.1 ≡ not (is_among (arc_value shape) self.old.shapes) }
         ensures kept { self.old.spare ≤ self.new.spare + 1 }
     {
@@ -96,7 +99,9 @@ impl ShapeTable {
 
     /// The template's place, where it is the one that was answered last. No hash is taken.
     fn place_again(&self, shape: &Template) -> Option<usize>
-        ensures { IfSome result (λ place. (place ≡ position_or_len (same_template shape.now) self.now.shapes) × (is_among shape.now self.now.shapes ≡ true)) }
+        ensures { IfSome result
+            (λ place. (place ≡ position_or_len (same_template shape.now) self.now.shapes)
+            × (is_among shape.now self.now.shapes ≡ true)) }
     {
         // The templates are distinct, so that one that is equal to this one has its place.
         if self.last < self.shapes.len() && shape == self.shape(self.last) {
@@ -105,11 +110,13 @@ impl ShapeTable {
         None
     }
 
-    /// The same as [`ShapeTable::place_reserved`], by the template's hash.
+    /// Places the template as [`ShapeTable::place_reserved`] does, by its hash.
     fn place_by_hash(&mut self, shape: Arc<Template>) -> (usize, bool)
         requires { 0 < self.old.spare }
         ensures shapes { self.new.shapes ≡ with_shape self.old.shapes (arc_value shape) }
-        ensures place { result.0 ≡ position_or_len (same_template (arc_value shape)) self.old.shapes }
+        // The place is that of an equal template, or the end where there is none.
+        ensures place { result.0
+            ≡ position_or_len (same_template (arc_value shape)) self.old.shapes }
         ensures added { result.1 ≡ not (is_among (arc_value shape) self.old.shapes) }
         ensures kept { self.old.spare ≤ self.new.spare + 1 }
     {

@@ -68,7 +68,8 @@ impl Model for Stream {
 
     ghost view = { λ s. record { standing = record { shapes = s.shapes.shapes; handed = s.handed; announced = s.announced; waiting = parts_of s.shapes.shapes (items_in s.queue.items) }; limits = s.limits; spare = s.spare } };
 
-    ghost invariant = { λ s. IsConsistent s.shapes s.queue.items (deque_capacity s.queue) s.limits s.waiting s.handed s.announced s.spare };
+    ghost invariant = { λ s. IsConsistent s.shapes s.queue.items
+        (deque_capacity s.queue) s.limits s.waiting s.handed s.announced s.spare };
 }
 
 impl Stream {
@@ -77,7 +78,8 @@ impl Stream {
     ghost use Rattle.subscriber_stream.specs.Steps.{given, handed_parts};
     ghost use Rattle.ipfix_records.specs.Runs.{records_of};
 
-    /// A stream that was given no record. What it comes to keep is taken from `alloc`.
+    /// A stream that was given no record, and that holds at most what `limits` allow. What it comes
+    /// to keep is taken from `alloc`. Its templates are hashed with keys that everybody knows.
     pub fn new(alloc: Global, limits: Limits) -> Stream
         requires { limits.shapes ≤ MOST_SHAPES }
         ensures value { result ≡ record { standing = at_start; limits = limits; spare = 0 } }
@@ -88,7 +90,9 @@ impl Stream {
         Stream::hashed(alloc, limits, HashKeys::known())
     }
 
-    /// The same, with its templates hashed with these keys.
+    /// A stream that was given no record, and that holds at most what `limits` allow. What it comes
+    /// to keep is taken from `alloc`. Its templates are hashed with `keys`, so that no exporter can
+    /// choose templates that collide where these are secret.
     pub fn hashed(alloc: Global, limits: Limits, keys: HashKeys) -> Stream
         requires { limits.shapes ≤ MOST_SHAPES }
         ensures value { result ≡ record { standing = at_start; limits = limits; spare = 0 } }
@@ -121,19 +125,20 @@ impl Stream {
         self.handed
     }
 
-    /// How many templates the stream has announced or is to announce.
+    /// How many distinct templates the stream has announced or is to announce.
     pub fn shapes(&self) -> u32
         ensures { result ≡ length self.now.standing.shapes }
     {
         self.shapes.len() as u32
     }
 
-    /// Whether the limits leave room for these records: for all of them in the queue, and for their
+    /// Whether the limits leave room for `records`: for all of them in the queue, and for their
     /// templates among those that the stream knows. It takes no memory.
     pub fn room(&self, records: &Records) -> bool
         ensures room { IsTrue result ↔ HasRoom self.now records.now }
         // That is room behind the list of records that the stream was given.
-        ensures exact { (given_before : List DataRecord) (p : ℕ) → StandsAt self.now.standing given_before p
+        ensures exact { (given_before : List DataRecord) (p : ℕ)
+            → StandsAt self.now.standing given_before p
             → (IsTrue result ↔ FitsLimits self.now.limits given_before p records.now) }
     {
         self.has_room(records)
@@ -146,19 +151,21 @@ impl Stream {
             && has_shape_room(&self.shapes, records.runs(), self.limits.shapes)
     }
 
-    /// Whether these records have no room in the queue until some of what waits is pulled, and have room then. It takes no
-    /// memory.
+    /// Whether `records` have no room in the queue until some of what waits is pulled, and have
+    /// room then. It takes no memory.
     pub fn is_held_up(&self, records: &Records) -> bool
-        ensures { IsTrue result ↔ (self.now.limits.queue < queued self.now.standing + length records.now) × (length records.now ≤ self.now.limits.queue) }
+        ensures { IsTrue result
+            ↔ (self.now.limits.queue < queued self.now.standing + length records.now)
+            × (length records.now ≤ self.now.limits.queue) }
     {
         let (count, most) = (records.len(), self.limits.queue as usize);
         count <= most && self.queued() as usize + count > most
     }
 
-    /// Makes room for these records.
+    /// Makes room for `records`, so that to queue them takes no memory.
     ///
     /// # Errors
-    /// Want of memory. Room that was reserved before stays.
+    /// Want of memory. The records that wait, and the room that was reserved before, stay.
     pub fn reserve(&mut self, records: &Records) -> Result<(), AllocError>
         ensures standing { self.new.standing ≡ self.old.standing }
         ensures limits { self.new.limits ≡ self.old.limits }
@@ -178,11 +185,14 @@ impl Stream {
         Ok(())
     }
 
-    /// Takes records into the reserved room, behind those that were given before. It takes no memory.
+    /// Takes `records` into the reserved room, behind those that were given before. A template that
+    /// no record before had gets the next ID, and an announcement that waits before its first
+    /// record. It takes no memory.
     pub fn push_reserved(&mut self, records: Records)
         requires room { HasRoom self.old records }
         requires reserved { length records ≤ self.old.spare }
-        requires count { self.old.standing.handed + queued self.old.standing + length records < 2 ^ 64 }
+        requires count { self.old.standing.handed + queued self.old.standing + length records
+            < 2 ^ 64 }
         // The list that was given goes on with the records, and the place stays.
         ensures ok { TakesRecords self.old.standing records self.new.standing }
         ensures limits { self.new.limits ≡ self.old.limits }
@@ -194,7 +204,8 @@ impl Stream {
     fn push_all(&mut self, records: Records)
         requires room { HasRoom self.old records }
         requires reserved { length records ≤ self.old.spare }
-        requires count { self.old.standing.handed + queued self.old.standing + length records < 2 ^ 64 }
+        requires count { self.old.standing.handed + queued self.old.standing + length records
+            < 2 ^ 64 }
         ensures { self.new ≡ given self.old records }
     {
         for next in records.into_runs() {
@@ -206,7 +217,8 @@ impl Stream {
     fn push_run(&mut self, next: Run)
         requires room { HasRoom self.old (records_of next) }
         requires reserved { length next.texts ≤ self.old.spare }
-        requires count { self.old.standing.handed + queued self.old.standing + length next.texts < 2 ^ 64 }
+        requires count { self.old.standing.handed + queued self.old.standing + length next.texts
+            < 2 ^ 64 }
         ensures { self.new ≡ given self.old (records_of next) }
     {
         let count = next.len();
@@ -222,7 +234,7 @@ impl Stream {
         self.spare -= count;
     }
 
-    /// Hands out the first parts.
+    /// Hands out the first `count` parts.
     fn hand_out(&mut self, count: usize)
         requires { count ≤ length self.old.standing.waiting }
         ensures { self.new ≡ handed_parts count self.old }
@@ -238,6 +250,7 @@ impl Stream {
     fn hand_out_front(&mut self, most: usize) -> usize
         requires waiting { 0 < length self.old.standing.waiting }
         requires some { 0 < most }
+        // It answers how many parts it took, one at least.
         ensures some { 0 < result }
         ensures few { result ≤ most }
         ensures within { result ≤ length self.old.standing.waiting }
@@ -259,12 +272,13 @@ impl Stream {
         }
     }
 
-    /// Builds the next message: the longest run of parts whose message is at most `target` octets long, or
-    /// the next part alone where no such run has any; with the Export Time `now`, in seconds since 1970.
-    /// `None` exactly at the end, where nothing is queued.
+    /// Builds the next message (RFC 7011, section 3.1): the longest run of parts whose message is
+    /// at most `target` octets long, or the next part alone where even its message is longer. A
+    /// part is an announcement or a record. `now` is the message's Export Time, in seconds since
+    /// 1970. `None` exactly at the end, where nothing is queued.
     ///
     /// # Errors
-    /// Want of memory for the message, and then the stream is as it was.
+    /// `OutOfMemory` for want of memory for the message, and then the stream is as it was.
     pub fn pull(&mut self, now: u32, target: u16) -> Result<Option<Bytes>, PullError>
         // The message is the one that is built at the place where the stream stands, and the stream then
         // stands after its parts.

@@ -29,7 +29,8 @@ impl Model for Texts {
 
     ghost view = { λ t. pieces t.octets t.start (drop t.handed t.ends.items) };
 
-    ghost invariant = { λ t. AreEnds t.start (drop t.handed t.ends.items) (length t.octets) × (t.handed ≤ length t.ends.items) };
+    ghost invariant = { λ t. AreEnds t.start (drop t.handed t.ends.items) (length t.octets)
+        × (t.handed ≤ length t.ends.items) };
 }
 
 impl Texts {

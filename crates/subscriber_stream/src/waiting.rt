@@ -11,7 +11,7 @@ use std::collections::VecDeque;
 /// What waits to be handed out. It names its template by the ID alone.
 #[derive(Drop)]
 pub(crate) enum Waiting {
-    /// The template of the ID is to be announced: its record has so many octets.
+    /// The template of the ID is to be announced: its record has `octets` octets.
     Announce { id: u16, octets: u16 },
     /// Records of the template of the ID: their octets, as a Data Set brings them.
     Bring { id: u16, texts: Texts },
@@ -20,7 +20,9 @@ pub(crate) enum Waiting {
 /// Parts at the front of a list of parts, and the octets of the message that ends with them.
 #[derive(Clone, Copy)]
 pub(crate) struct Front {
+    /// How many parts stand at the front.
     pub(crate) parts: usize,
+    /// The octets of the message that ends with them.
     pub(crate) octets: usize,
 }
 
@@ -61,12 +63,13 @@ impl Waiting {
         }
     }
 
-    /// How many of its parts fit into a message that has so many octets and ends with the Data Set of this
-    /// ID, or with no Data Set.
+    /// How many of its parts fit into a message of at most `target` octets, which has `octets`
+    /// octets before them and ends with the Data Set of the ID `last`, or with no Data Set.
     pub(crate) fn fitting(&self, target: u16, last: Option<u16>, octets: usize) -> Front
         requires { octets ≤ longest_message }
         ensures parts { result.parts ≡ fits target last octets (items_of self.now) }
-        ensures octets { result.octets ≡ octets + total last (take result.parts (items_of self.now)) }
+        ensures octets { result.octets
+            ≡ octets + total last (take result.parts (items_of self.now)) }
         ensures small { result.octets ≤ longest_message }
     {
         match self {
@@ -90,12 +93,13 @@ ghost use Rattle.std.specs.Prelude.{map, if◌then◌else◌};
 ghost use Rattle.ipfix_octets.specs.MessageFormat.{longest_message, set_header_octets};
 ghost use Rattle.subscriber_stream.specs.Items.{Brought, fits, total};
 
-/// How many records of this ID fit into a message that has so many octets and ends with the Data Set of the ID
-/// `last`, or with no Data Set.
+/// How many records of this ID fit into a message of at most `target` octets, which has `octets`
+/// octets before them and ends with the Data Set of the ID `last`, or with no Data Set.
 fn fitting_records(texts: &Texts, target: u16, last: Option<u16>, id: u16, octets: usize) -> Front
     requires { octets ≤ longest_message }
     ensures parts { result.parts ≡ fits target last octets (map (Brought id) texts.now) }
-    ensures octets { result.octets ≡ octets + total last (take result.parts (map (Brought id) texts.now)) }
+    ensures octets { result.octets
+        ≡ octets + total last (take result.parts (map (Brought id) texts.now)) }
     ensures small { result.octets ≤ longest_message }
 {
     let opened = octets + head_octets(last, id);

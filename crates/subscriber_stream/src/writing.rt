@@ -31,9 +31,12 @@ pub(crate) fn message_of(
 ) -> Result<Bytes, AllocError>
     requires filled { AreFilled queue.now.items }
     requires kept { AreKept shapes.now.shapes (items_in queue.now.items) }
-    requires octets { whole.octets ≡ header_octets + total None (take whole.parts (items_in queue.now.items)) }
+    // It is known how long the message of these parts is, and a message can be that long.
+    requires octets { whole.octets
+        ≡ header_octets + total None (take whole.parts (items_in queue.now.items)) }
     requires fits { whole.octets ≤ longest_message }
-    ensures { IfOk result (λ m. m ≡ message now handed (parts_of shapes.now.shapes (take whole.parts (items_in queue.now.items)))) }
+    ensures { IfOk result (λ m. m ≡ message now handed
+        (parts_of shapes.now.shapes (take whole.parts (items_in queue.now.items)))) }
 {
     let mut out = Vec::with_capacity(alloc, whole.octets)?;
     put_header(whole.octets, now, (handed % (1 << 32)) as u32, &mut out)?;
@@ -45,7 +48,8 @@ pub(crate) fn message_of(
 /// (RFC 7011, section 3.1).
 fn put_header(octets: usize, now: u32, sequence: u32, out: &mut Vec<u8>) -> Result<(), AllocError>
     requires { octets ≤ longest_message }
-    ensures { OnOk result (out.new.items ≡ out.old.items ++ (be_octets 2 ipfix_version ++ be_octets 2 octets ++ be_octets 4 now ++ be_octets 4 sequence ++ be_octets 4 0)) }
+    ensures { OnOk result (out.new.items ≡ out.old.items ++ (be_octets 2 ipfix_version
+        ++ be_octets 2 octets ++ be_octets 4 now ++ be_octets 4 sequence ++ be_octets 4 0)) }
 {
     let [a, b] = IPFIX_VERSION.to_be_bytes();
     let [c, d] = (octets as u16).to_be_bytes();
@@ -64,7 +68,8 @@ fn put_parts(
     requires filled { AreFilled queue.now.items }
     requires kept { AreKept shapes.now.shapes (items_in queue.now.items) }
     requires fits { total None (take count (items_in queue.now.items)) ≤ longest_body }
-    ensures { OnOk result (out.new.items ≡ out.old.items ++ pieces shapes.now.shapes None (take count (items_in queue.now.items))) }
+    ensures { OnOk result (out.new.items
+        ≡ out.old.items ++ pieces shapes.now.shapes None (take count (items_in queue.now.items))) }
 {
     let mut left = count;
     let mut last = None;
@@ -93,10 +98,13 @@ fn put_span(
 ) -> Result<(), AllocError>
     requires filled { IsFilled next.now × AreFilled queue.now.items }
     requires kept { AreKept shapes.now.shapes (items_of next.now) }
+    // The parts behind the place follow it in the message, and all of it fits.
     requires place { place ≤ length queue.now.items }
     requires some { 0 < left }
-    requires fits { total last (take left (items_of next.now ++ items_in (drop place queue.now.items))) ≤ longest_body }
-    ensures { OnOk result (out.new.items ≡ out.old.items ++ span shapes.now.shapes last left next.now (drop place queue.now.items)) }
+    requires fits { total last
+        (take left (items_of next.now ++ items_in (drop place queue.now.items))) ≤ longest_body }
+    ensures { OnOk result (out.new.items
+        ≡ out.old.items ++ span shapes.now.shapes last left next.now (drop place queue.now.items)) }
 {
     match next {
         Waiting::Announce { id, octets } => {
@@ -135,13 +143,14 @@ fn put_announcement(
     requires accepted { refusal_of id (is_options shape.now) shape.now ≡ None }
     requires few { octets ≤ RECORD_ROOM }
     ensures { OnOk result (out.new.items
-        ≡ out.old.items ++ (set_head (template_set shape.now) octets ++ template_record id (is_options shape.now) shape.now)) }
+        ≡ out.old.items ++ (set_head (template_set shape.now) octets
+        ++ template_record id (is_options shape.now) shape.now)) }
 {
     put_head(template_set(shape), usize::from(octets), out)?;
     encode_template(id, shape, out)
 }
 
-/// Appends the header of a set with so many octets of content (RFC 7011, section 3.3.2).
+/// Appends the header of a set with `octets` octets of content (RFC 7011, section 3.3.2).
 #[tactic(auto, unfolding(crate::specs::Message::set_head))]
 fn put_head(id: u16, octets: usize, out: &mut Vec<u8>) -> Result<(), AllocError>
     requires { octets ≤ 65531 }

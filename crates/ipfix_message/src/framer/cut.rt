@@ -6,8 +6,12 @@ use crate::framer::scan::{Front, front_of};
 use bytes::Bytes;
 use std::alloc::{AllocError, Global};
 
-/// The messages of octets that are whole messages, in their order. The octets are copied once, into one
-/// block that the messages share; where there is none, no memory is taken.
+/// The messages of `octets`, which are whole messages, in their order. The octets are copied once,
+/// into one block that the messages share, in memory from `alloc`. Where there is no octet, no
+/// memory is taken.
+///
+/// # Errors
+/// Want of memory.
 pub fn cut_messages(alloc: Global, octets: &[u8]) -> Result<Vec<Bytes>, AllocError>
     ensures { IfOk result (λ out. AreCut octets.now out.items) }
 {

@@ -14,7 +14,7 @@ const JUDGED_OCTETS: usize = 4;
 pub enum Front {
     /// Less than a message.
     Partial,
-    /// A whole message of so many octets.
+    /// A whole message, of this many octets.
     Whole(usize),
     /// Octets that begin no message.
     Faulty(FrameError),
@@ -23,7 +23,9 @@ pub enum Front {
 /// How many octets at the front are whole messages, and the fault that follows them.
 #[derive(Clone, Copy)]
 pub struct Extent {
+    /// How many octets at the front are whole messages.
     pub whole: usize,
+    /// The fault of the octets behind these messages, if they begin no message.
     pub fault: Option<FrameError>,
 }
 
@@ -35,7 +37,8 @@ fn number_in_two(octets: &[u8], place: usize) -> u16
     u16::from_be_bytes([octets[place], octets[place + 1]])
 }
 
-/// Judges the first 4 octets, as soon as they are there: the version, and then the length.
+/// Judges the first 4 octets of `octets`, as soon as they are there: the version, and then the
+/// length (RFC 7011, section 3.1).
 pub fn front_of(octets: &[u8]) -> Front
     ensures { IsFront octets.now result }
 {
@@ -55,7 +58,7 @@ pub fn front_of(octets: &[u8]) -> Front
     Front::Whole(length)
 }
 
-/// Goes from header to header, as far as messages are whole.
+/// Goes through `octets` from header to header, as far as messages are whole.
 pub fn extent_of(octets: &[u8]) -> Extent
     ensures { IsExtent octets.now result }
 {

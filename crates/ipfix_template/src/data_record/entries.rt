@@ -70,7 +70,8 @@ ghost use Rattle.ipfix_template.specs.Places.{AreKept};
 fn cut_first<'r>(fields: &[FieldSpec], octets: &'r [u8]) -> (&'r [u8], &'r [u8])
     requires kept { AreKept fields.now octets.now }
     requires some { 0 < length fields.now }
-    ensures first { values_in fields.now octets.now ≡ result.0.now ∷ values_in (drop 1 fields.now) result.1.now }
+    ensures first { values_in fields.now octets.now
+        ≡ result.0.now ∷ values_in (drop 1 fields.now) result.1.now }
     ensures kept { AreKept (drop 1 fields.now) result.1.now }
 {
     let (start, end) = next_place(fields, octets, 0, 0);

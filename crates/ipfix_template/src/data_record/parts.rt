@@ -12,7 +12,7 @@ impl Record {
     ghost use Rattle.ipfix_template.specs.Values.{record_text};
     ghost use Rattle.ipfix_template.specs.declared.data_record.TheConstants.{RECORD_ROOM};
 
-    /// The template, of which a record keeps that it passes its check.
+    /// The template. A record keeps that it passes [`Template::check`].
     pub fn template(&self) -> &Template
         ensures value { result.now ≡ self.now.template }
         ensures sound { IsSound self.now }
@@ -20,7 +20,7 @@ impl Record {
         &self.template
     }
 
-    /// The template as records share it.
+    /// The template, as it is shared with other records.
     pub fn shared_template(&self) -> &Arc<Template>
         ensures value { arc_value result.now ≡ self.now.template }
         ensures sound { IsSound self.now }
@@ -28,7 +28,8 @@ impl Record {
         &self.template
     }
 
-    /// The values as `encode_record` appends them: each in its shortest text, one after another.
+    /// The octets that [`encode_record`](crate::encode_record) appends: the values, each in its
+    /// shortest text, one after another.
     pub fn as_octets(&self) -> &Bytes
         ensures value { result.now ≡ record_text self.now.template.fields self.now.values }
         ensures kept { IsKept self.now.template result.now }
@@ -37,7 +38,8 @@ impl Record {
         &self.octets
     }
 
-    /// The template and the octets.
+    /// The template, and the octets that [`encode_record`](crate::encode_record) appends. Nothing
+    /// is copied.
     pub fn into_parts(self) -> (Arc<Template>, Bytes)
         ensures template { arc_value result.0 ≡ self.template }
         ensures octets { result.1 ≡ record_text self.template.fields self.values }
@@ -48,7 +50,7 @@ impl Record {
         (template, octets)
     }
 
-    /// How many octets `encode_record` appends, at most [`RECORD_ROOM`].
+    /// How many octets [`encode_record`](crate::encode_record) appends, at most [`RECORD_ROOM`].
     pub fn octets(&self) -> usize
         ensures exact { result ≡ length (record_text self.now.template.fields self.now.values) }
         ensures fits { result ≤ RECORD_ROOM }

@@ -12,8 +12,8 @@ use bytes::Bytes;
 use std::alloc::{AllocError, Global};
 
 impl Record {
-    /// The value of the field at this place: its octets, where the record keeps them. The values before it
-    /// are passed over, one after another.
+    /// The octets of the value of the field at `place`, counted from 0, where the record keeps
+    /// them. The values before it are passed over, one after another.
     pub fn value(&self, place: usize) -> &[u8]
         requires { place < length self.now.template.fields }
         ensures value { result.now ≡ slice_index_or self.now.values place [] }
@@ -25,7 +25,8 @@ impl Record {
         &octets[start..end]
     }
 
-    /// The values as a list, one for each field. Each is a part of the record's octets, and not copied.
+    /// The values as a list, one for each field, in memory from `alloc`. Each is a part of the
+    /// record's octets, and not copied.
     ///
     /// # Errors
     /// Want of memory.
@@ -43,7 +44,8 @@ pub(crate) fn place_of(fields: &[FieldSpec], octets: &[u8], place: usize) -> (us
     requires kept { AreKept fields.now octets.now }
     requires place { place < length fields.now }
     ensures within { (result.0 ≤ result.1) × (result.1 ≤ length octets.now) }
-    ensures shown { take (result.1 - result.0) (drop result.0 octets.now) ≡ slice_index_or (values_in fields.now octets.now) place [] }
+    ensures shown { take (result.1 - result.0) (drop result.0 octets.now)
+        ≡ slice_index_or (values_in fields.now octets.now) place [] }
 {
     let mut used = 0;
     for before in 0..place {
@@ -78,8 +80,10 @@ pub(crate) fn next_place(
     requires kept { AreKept fields.now octets.now }
     requires place { place < length fields.now }
     requires passed { ArePassed fields.now octets.now place used }
+    // The place is that of the value, and the next one follows it.
     ensures within { (result.0 ≤ result.1) × (result.1 ≤ length octets.now) }
-    ensures shown { take (result.1 - result.0) (drop result.0 octets.now) ≡ slice_index_or (values_in fields.now octets.now) place [] }
+    ensures shown { take (result.1 - result.0) (drop result.0 octets.now)
+        ≡ slice_index_or (values_in fields.now octets.now) place [] }
     ensures passed { ArePassed fields.now octets.now (place + 1) result.1 }
 {
     match find_span(&fields[place], &octets[used..]) {

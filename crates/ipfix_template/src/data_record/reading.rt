@@ -15,11 +15,13 @@ use std::sync::Arc;
 impl Record {
     ghost use Rattle.ipfix_template.specs.DataRecord.{IsSound, kept_record};
 
-    /// The record that a text is split into by the template's fields, as [`measure`](crate::measure) finds it. The
-    /// text itself is kept where it is the shortest, and else it is written again.
+    /// The record whose values the fields of `template` find in `text`, as
+    /// [`measure`](crate::measure) found them there. `is_shortest` is what it said of the text:
+    /// whether each value stands in its shortest text. The text itself is kept where that is so.
+    /// Else the values are written again, in memory from `alloc`.
     ///
     /// # Errors
-    /// Want of memory, where the text is not the shortest.
+    /// Want of memory, only where a value doesn't stand in its shortest text.
     pub fn read(
         alloc: Global,
         template: Arc<Template>,
@@ -27,8 +29,11 @@ impl Record {
         is_shortest: bool,
     ) -> Result<Record, AllocError>
         requires sound { IsSound (kept_record (arc_value template) text) }
-        requires splits { Splits (arc_value template).fields text (values_in (arc_value template).fields text) }
-        requires shortest { is_shortest ≡ true → text ≡ record_text (arc_value template).fields (values_in (arc_value template).fields text) }
+        requires splits { Splits
+            (arc_value template).fields text (values_in (arc_value template).fields text) }
+        requires shortest { is_shortest ≡ true → text
+            ≡ record_text (arc_value template).fields (values_in (arc_value template).fields text) }
+        // What was measured is a record, and only another text of it takes memory.
         ensures value { IfOk result (λ r. r ≡ kept_record (arc_value template) text) }
         ensures no_memory { is_shortest ≡ true → IsOk result }
     {
@@ -44,7 +49,8 @@ impl Record {
 fn shortest_text(alloc: Global, fields: &[FieldSpec], text: &[u8]) -> Result<Bytes, AllocError>
     requires fit { fit_fields fields.now (values_in fields.now text.now) ≡ true }
     requires splits { Splits fields.now text.now (values_in fields.now text.now) }
-    ensures { IfOk result (λ octets. octets ≡ record_text fields.now (values_in fields.now text.now)) }
+    ensures { IfOk result
+        (λ octets. octets ≡ record_text fields.now (values_in fields.now text.now)) }
 {
     let mut octets = Vec::with_capacity(alloc, text.len())?;
     let mut rest = text;

@@ -38,8 +38,9 @@ impl<'r> RecordView<'r> {
     ghost use Rattle.ipfix_template.specs.DataRecord.{IsSound, IsKept, kept_record};
     ghost use Rattle.ipfix_template.specs.Values.{record_text};
 
-    /// The record of a template and of the octets from `start` to `end`, of which it is known that they are its values,
-    /// each in its shortest text.
+    /// The record of `template` and of those `octets` that stand from `start` up to `end`. Of these
+    /// it is known that they are the values of a record, each in its shortest text. It takes no
+    /// memory.
     pub fn new(
         template: &'r Arc<Template>,
         octets: &'r Bytes,
@@ -47,8 +48,10 @@ impl<'r> RecordView<'r> {
         end: usize,
     ) -> RecordView<'r>
         requires within { (start ≤ end) × (end ≤ length octets.now) }
-        requires kept { IsKept (arc_value template.now) (take (end - start) (drop start octets.now)) }
-        ensures { result ≡ kept_record (arc_value template.now) (take (end - start) (drop start octets.now)) }
+        requires kept { IsKept
+            (arc_value template.now) (take (end - start) (drop start octets.now)) }
+        ensures { result
+            ≡ kept_record (arc_value template.now) (take (end - start) (drop start octets.now)) }
     {
         RecordView {
             template,
@@ -58,7 +61,7 @@ impl<'r> RecordView<'r> {
         }
     }
 
-    /// The template, of which a record keeps that it passes its check.
+    /// The template. A record keeps that it passes [`Template::check`].
     pub fn template(&self) -> &'r Template
         ensures value { result.now ≡ self.now.template }
         ensures sound { IsSound self.now }
@@ -66,7 +69,8 @@ impl<'r> RecordView<'r> {
         self.template
     }
 
-    /// The values as [`encode_record`](crate::encode_record) appends them: each in its shortest text, one after another.
+    /// The octets that [`encode_record`](crate::encode_record) appends for the record: the values,
+    /// each in its shortest text, one after another.
     pub fn as_octets(&self) -> &'r [u8]
         ensures value { result.now ≡ record_text self.now.template.fields self.now.values }
         ensures kept { IsKept self.now.template result.now }
@@ -75,7 +79,8 @@ impl<'r> RecordView<'r> {
         &self.octets.as_slice()[self.start..self.end]
     }
 
-    /// The value of the field at this place. The values before it are passed over, one after another.
+    /// The octets of the value of the field at `place`, counted from 0. The values before it are
+    /// passed over, one after another.
     pub fn value(&self, place: usize) -> &'r [u8]
         requires { place < length self.now.template.fields }
         ensures value { result.now ≡ slice_index_or self.now.values place [] }
@@ -87,7 +92,8 @@ impl<'r> RecordView<'r> {
         &octets[start..end]
     }
 
-    /// The record by itself. Its octets are a part of those among which it stands, and not copied.
+    /// The record by itself, which outlives this view. Its octets are a part of those among which
+    /// it stands, and not copied.
     ///
     /// # Errors
     /// Want of memory.
@@ -101,7 +107,7 @@ impl<'r> RecordView<'r> {
 }
 
 impl Record {
-    /// The record as one among octets.
+    /// The record as one among octets, which are its own.
     pub fn view(&self) -> RecordView<'_>
         ensures { result ≡ self.now }
     {

@@ -9,19 +9,25 @@ use crate::template::Template;
 use ipfix_octets::write_varlen;
 use std::alloc::AllocError;
 
-/// Appends values that fit the template, as `encode_record` does those of a record.
+/// Appends `values` to `out`, one for each field of `template`, each in its shortest text. These
+/// are the octets that [`encode_record`](crate::encode_record) appends for a record of them (RFC
+/// 7011, sections 3.4.3 and 7).
 ///
 /// # Errors
-/// Want of memory, only where `out` had no room for it, and then nothing is appended.
+/// Want of memory, only where `out` had no room for them, and then nothing is appended.
 pub fn encode_values(
     template: &Template,
     values: &Values,
     out: &mut Vec<u8>,
 ) -> Result<(), AllocError>
     requires { fit_fields template.now.fields values.now ≡ true }
-    ensures ok { OnOk result (out.new.items ≡ out.old.items ++ record_text template.now.fields values.now) }
+    // All of it is appended, or nothing.
+    ensures ok { OnOk result
+        (out.new.items ≡ out.old.items ++ record_text template.now.fields values.now) }
     ensures err { OnErr result (out.new.items ≡ out.old.items) }
-    ensures full { OnErr result (vec_capacity out.old < vec_len out.old + length (record_text template.now.fields values.now)) }
+    // Room that is there is enough, and is kept.
+    ensures full { OnErr result (vec_capacity out.old
+        < vec_len out.old + length (record_text template.now.fields values.now)) }
     ensures capacity { vec_capacity out.old ≤ vec_capacity out.new }
 {
     let held = out.len();
@@ -32,15 +38,20 @@ pub fn encode_values(
     put
 }
 
-/// Appends a value that fits its field, in its shortest text, as `encode_record` does each of a record.
+/// Appends `value` to `out` in its shortest text, as it stands in a record in the place of `field`,
+/// which it fits: as it is, or behind its length where the field's length is
+/// [`VARIABLE`](crate::field::VARIABLE) (RFC 7011, section 7).
 ///
 /// # Errors
 /// Want of memory, only where `out` had no room for it, and then nothing is appended.
 pub fn encode_value(field: &FieldSpec, value: &[u8], out: &mut Vec<u8>) -> Result<(), AllocError>
     requires { fits_field field.now value.now ≡ true }
+    // All of it is appended, or nothing.
     ensures ok { OnOk result (out.new.items ≡ out.old.items ++ value_text field.now value.now) }
     ensures err { OnErr result (out.new.items ≡ out.old.items) }
-    ensures full { OnErr result (vec_capacity out.old < vec_len out.old + length (value_text field.now value.now)) }
+    // Room that is there is enough, and is kept.
+    ensures full { OnErr result
+        (vec_capacity out.old < vec_len out.old + length (value_text field.now value.now)) }
     ensures capacity { vec_capacity out.old ≤ vec_capacity out.new }
 {
     if field.is_variable() {
