@@ -46,9 +46,12 @@ pub fn write_answer<S: Sink>(
     answer: &Answer,
     sent: u64,
 ) -> Result<u64, Stopped>
-    ensures ok { IfOk result (λ n. WritesAnswer answer.now sent n (S.contents sink.old) (S.contents sink.new)) }
+    ensures ok { IfOk result (λ n.
+        WritesAnswer answer.now sent n (S.contents sink.old) (S.contents sink.new)) }
     ensures stays { OnOk result (S.has_failed sink.new ≡ S.has_failed sink.old) }
-    ensures err { IfErr result (λ e. StopsAnswering e answer.now sent (S.contents sink.old) (S.contents sink.new) (S.has_failed sink.old) (S.has_failed sink.new)) }
+    ensures err { IfErr result (λ e.
+        StopsAnswering e answer.now sent (S.contents sink.old) (S.contents sink.new)
+        (S.has_failed sink.old) (S.has_failed sink.new)) }
 {
     match answer {
         Answer::Edited(revision) => write_number(buffer, sink, *revision, sent),
@@ -76,9 +79,12 @@ fn write_number<S: Sink>(
     number: u64,
     sent: u64,
 ) -> Result<u64, Stopped>
-    ensures ok { IfOk result (λ n. WritesAll (codes "ok " ++ decimal number ++ 10 ∷ []) sent n (S.contents sink.old) (S.contents sink.new)) }
+    ensures ok { IfOk result (λ n. WritesAll (codes "ok " ++ decimal number ++ 10 ∷ []) sent n
+        (S.contents sink.old) (S.contents sink.new)) }
     ensures stays { OnOk result (S.has_failed sink.new ≡ S.has_failed sink.old) }
-    ensures err { IfErr result (λ e. StopsWriting e (codes "ok " ++ decimal number ++ 10 ∷ []) sent (S.contents sink.old) (S.contents sink.new) (S.has_failed sink.old) (S.has_failed sink.new)) }
+    ensures err { IfErr result (λ e. StopsWriting e (codes "ok " ++ decimal number ++ 10 ∷ []) sent
+        (S.contents sink.old) (S.contents sink.new)
+        (S.has_failed sink.old) (S.has_failed sink.new)) }
 {
     buffer.clear();
     buffer.put(b"ok ");
@@ -97,9 +103,12 @@ fn write_page<S: Sink>(
     page: &[u8],
     sent: u64,
 ) -> Result<u64, Stopped>
-    ensures ok { IfOk result (λ n. WritesAll (page_text page.now) sent n (S.contents sink.old) (S.contents sink.new)) }
+    ensures ok { IfOk result (λ n. WritesAll (page_text page.now) sent n
+        (S.contents sink.old) (S.contents sink.new)) }
     ensures stays { OnOk result (S.has_failed sink.new ≡ S.has_failed sink.old) }
-    ensures err { IfErr result (λ e. StopsWriting e (page_text page.now) sent (S.contents sink.old) (S.contents sink.new) (S.has_failed sink.old) (S.has_failed sink.new)) }
+    ensures err { IfErr result (λ e.
+        StopsWriting e (page_text page.now) sent (S.contents sink.old) (S.contents sink.new)
+        (S.has_failed sink.old) (S.has_failed sink.new)) }
 {
     buffer.clear();
     buffer.put(b"ok ");
@@ -125,9 +134,12 @@ fn write_status<S: Sink>(
     status: &Status,
     sent: u64,
 ) -> Result<u64, Stopped>
-    ensures ok { IfOk result (λ n. WritesAll (status_text status.now) sent n (S.contents sink.old) (S.contents sink.new)) }
+    ensures ok { IfOk result (λ n. WritesAll (status_text status.now) sent n
+        (S.contents sink.old) (S.contents sink.new)) }
     ensures stays { OnOk result (S.has_failed sink.new ≡ S.has_failed sink.old) }
-    ensures err { IfErr result (λ e. StopsWriting e (status_text status.now) sent (S.contents sink.old) (S.contents sink.new) (S.has_failed sink.old) (S.has_failed sink.new)) }
+    ensures err { IfErr result (λ e.
+        StopsWriting e (status_text status.now) sent (S.contents sink.old) (S.contents sink.new)
+        (S.has_failed sink.old) (S.has_failed sink.new)) }
 {
     buffer.clear();
     buffer.put(b"ok ");

@@ -62,9 +62,11 @@ pub enum Command {
 /// Want of memory for the name behind `subscribe`; the other commands take none.
 pub fn read_command(alloc: Global, line: &[u8]) -> Result<Option<Command>, AllocError>
     // What is read stands there.
-    ensures found { IfOk result (λ command. IfSome command (λ command. IsCommandLine (saying command) line.now)) }
+    ensures found { IfOk result (λ command.
+        IfSome command (λ command. IsCommandLine (saying command) line.now)) }
     // What stands there is read, unless memory runs out.
-    ensures only { (said : Saying) → IsCommandLine said line.now → IfOk result (λ command. option_map saying command ≡ Some said) }
+    ensures only { (said : Saying) → IsCommandLine said line.now
+        → IfOk result (λ command. option_map saying command ≡ Some said) }
     // Memory is wanted for a name alone.
     ensures memory { IfErr result (λ _. IsSubscription line.now) }
     // Which command it is.
@@ -117,7 +119,8 @@ const fn tell(topic: Topic) -> Option<Command>
 /// The command that the first word names, with the argument behind it.
 #[tactic(auto, unfolding(crate::specs::Reading::command_by))]
 fn read_by(alloc: Global, word: &[u8], argument: &[u8]) -> Result<Option<Command>, AllocError>
-    ensures value { IfOk result (λ command. option_map saying command ≡ command_by word.now argument.now) }
+    ensures value { IfOk result (λ command. option_map saying command
+        ≡ command_by word.now argument.now) }
     ensures memory { IfErr result (λ _. NamesSubscriber (command_by word.now argument.now)) }
 {
     if is_word(word, b"edit") {

@@ -60,7 +60,8 @@ fn number_text(alloc: Global, number: u64) -> Result<String, AllocError>
 
 /// A message in lower-case hexadecimal digits.
 fn message_text(alloc: Global, message: &Bytes) -> Result<String, AllocError>
-    ensures { IfOk result (λ text. string_bytes text ≡ codes "ok " ++ encode_lower message.now ++ 10 ∷ []) }
+    ensures { IfOk result (λ text. string_bytes text ≡ codes "ok " ++ encode_lower message.now
+        ++ 10 ∷ []) }
 {
     let digits = hex::encode(alloc, message.as_slice())?;
     format!(in alloc; "ok {digits}\n")
@@ -142,7 +143,8 @@ pub fn drained_text(alloc: Global, entries: &[AuditEntry]) -> Result<String, All
 }
 
 fn put_entries(alloc: Global, text: &mut String, entries: &[AuditEntry]) -> Result<(), AllocError>
-    ensures { OnOk result (string_bytes text.new ≡ string_bytes text.old ++ flat_map line_of entries.now) }
+    ensures { OnOk result (string_bytes text.new ≡ string_bytes text.old
+        ++ flat_map line_of entries.now) }
 {
     'entries: for entry in entries {
         let line = line(alloc, entry)?;

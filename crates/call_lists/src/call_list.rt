@@ -90,7 +90,8 @@ impl CallList {
         started: bool,
         line: &str,
     ) -> Result<Option<bool>, AllocError>
-        ensures { IfOk result (λ read. option_map (λ started. (started, asked self.new)) read ≡ line_step started (asked self.old) line.now) }
+        ensures { IfOk result (λ read. option_map (λ started. (started, asked self.new)) read
+            ≡ line_step started (asked self.old) line.now) }
     {
         if is_skipped(line) {
             return Ok(Some(started));
@@ -109,7 +110,8 @@ impl CallList {
         started: bool,
         line: &str,
     ) -> Result<Option<()>, AllocError>
-        ensures { IfOk result (λ read. option_map (λ _. asked self.new) read ≡ step started (asked self.old) line.now) }
+        ensures { IfOk result (λ read. option_map (λ _. asked self.new) read
+            ≡ step started (asked self.old) line.now) }
     {
         if started {
             return self.add_call(alloc, line);
@@ -125,7 +127,8 @@ impl CallList {
 
     #[tactic(auto, unfolding(crate::specs::Lists::call_step))]
     fn add_call(&mut self, alloc: Global, line: &str) -> Result<Option<()>, AllocError>
-        ensures { IfOk result (λ read. option_map (λ _. asked self.new) read ≡ call_step (asked self.old) line.now) }
+        ensures { IfOk result (λ read. option_map (λ _. asked self.new) read
+            ≡ call_step (asked self.old) line.now) }
     {
         let Some(call) = read_call(alloc, line)? else {
             return Ok(None);

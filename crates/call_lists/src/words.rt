@@ -125,7 +125,8 @@ pub fn read_number(word: &str, most: u64) -> Option<u64>
 /// Whether a word that parses is a number as it is printed: it begins neither with a plus nor with a zero before others.
 #[tactic(auto, using(crate::proofs::NumberLaws::no_number_after_plus, crate::proofs::NumberLaws::no_number_after_zero))]
 fn is_plain(word: &[u8]) -> bool
-    ensures plain { result ≡ true → (has_leading_zero word.now ≡ false) × (slice_index word.now 0 ≢ 43) }
+    ensures plain { result ≡ true → (has_leading_zero word.now ≡ false)
+        × (slice_index word.now 0 ≢ 43) }
     ensures other { result ≡ false → (most : ℕ) → number_of most word.now ≡ None }
 {
     match word {

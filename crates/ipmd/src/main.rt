@@ -113,8 +113,15 @@ pub fn program<
     descriptor: RawFd,
     progress: &mut P,
 ) -> u8
-    ensures done { result ≡ 0 → IsDone (map S.text words.now) (I.remaining input) (O.contents (device_inner output.old)) (O.contents (device_inner output.new)) (device_failed errors.new) (E.contents (device_inner errors.old)) (E.contents (device_inner errors.new)) }
-    ensures fails { result ≢ 0 → (e : ProgramFault) × (result ≡ status_of e) × IsFault (map S.text words.now) e (I.remaining input) (O.contents (device_inner output.old)) (O.contents (device_inner output.new)) (device_failed errors.new) (E.contents (device_inner errors.old)) (E.contents (device_inner errors.new)) }
+    ensures done { result ≡ 0 → IsDone (map S.text words.now) (I.remaining input)
+        (O.contents (device_inner output.old)) (O.contents (device_inner output.new))
+        (device_failed errors.new)
+        (E.contents (device_inner errors.old)) (E.contents (device_inner errors.new)) }
+    ensures fails { result ≢ 0 → (e : ProgramFault) × (result ≡ status_of e)
+        × IsFault (map S.text words.now) e (I.remaining input)
+        (O.contents (device_inner output.old)) (O.contents (device_inner output.new))
+        (device_failed errors.new)
+        (E.contents (device_inner errors.old)) (E.contents (device_inner errors.new)) }
 {
     match run(rt, words, input, output, errors, descriptor, progress) {
         Ok(Some(report)) => {
@@ -144,8 +151,12 @@ fn run<
     descriptor: RawFd,
     progress: &mut P,
 ) -> Result<Option<OfflineReport>, ProgramFault>
-    ensures ok { IfOk result (λ report. Does (map S.text words.now) report (I.remaining input) (O.contents (device_inner output.old)) (O.contents (device_inner output.new)) errors.old errors.new) }
-    ensures err { IfErr result (λ e. FailsFor (map S.text words.now) e (I.remaining input) (O.contents (device_inner output.old)) (O.contents (device_inner output.new)) errors.old errors.new) }
+    ensures ok { IfOk result (λ report. Does (map S.text words.now) report (I.remaining input)
+        (O.contents (device_inner output.old)) (O.contents (device_inner output.new))
+        errors.old errors.new) }
+    ensures err { IfErr result (λ e. FailsFor (map S.text words.now) e (I.remaining input)
+        (O.contents (device_inner output.old)) (O.contents (device_inner output.new))
+        errors.old errors.new) }
 {
     match read_command_line(rt.alloc(), words)? {
         Task::Offline(options) => Ok(Some(filter(rt, &options, input, output)?)),

@@ -33,8 +33,10 @@ pub fn replay<R: Files + AllocGlobal, O: Write>(
     options: &ReplayOptions<'_>,
     output: &mut Device<O>,
 ) -> Result<(), ProgramFault>
-    ensures ok { OnOk result (Replays (O.contents (device_inner output.old)) (O.contents (device_inner output.new))) }
-    ensures err { IfErr result (λ e. RefusesToReplay options.entry.now e (O.contents (device_inner output.old)) (O.contents (device_inner output.new))) }
+    ensures ok { OnOk result (Replays
+        (O.contents (device_inner output.old)) (O.contents (device_inner output.new))) }
+    ensures err { IfErr result (λ e. RefusesToReplay options.entry.now e
+        (O.contents (device_inner output.old)) (O.contents (device_inner output.new))) }
 {
     let text = read_text(rt, options.calls)?;
     let Transcript { replies, mediator } = run_text(rt.alloc(), text.as_str())?;

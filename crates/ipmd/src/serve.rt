@@ -59,8 +59,11 @@ pub(crate) fn serve<
     errors: &mut Device<E>,
     descriptor: RawFd,
 ) -> Result<(), ProgramFault>
-    ensures ok { OnOk result (Serves (O.contents (device_inner output.old)) (O.contents (device_inner output.new))) }
-    ensures err { IfErr result (λ e. FailsToServe path.now e (O.contents (device_inner output.old)) (O.contents (device_inner output.new)) errors.old errors.new) }
+    ensures ok { OnOk result (Serves
+        (O.contents (device_inner output.old)) (O.contents (device_inner output.new))) }
+    ensures err { IfErr result (λ e. FailsToServe path.now e
+        (O.contents (device_inner output.old)) (O.contents (device_inner output.new))
+        errors.old errors.new) }
 {
     let service = prepare(rt, path)?;
     let notes = Notes::over(rt, errors, descriptor, !is_journal(rt));
@@ -93,7 +96,8 @@ fn prepare<R: Files + AllocGlobal>(rt: &R, path: &str) -> Result<Service, Progra
 
 /// What settings ask for, with this policy.
 fn service_of(alloc: Global, settings: Settings, policy: String) -> Result<Service, ProgramFault>
-    ensures is { IfOk result (λ service. IsServiceOf (asked settings) (string_bytes policy) service) }
+    ensures is { IfOk result (λ service.
+        IsServiceOf (asked settings) (string_bytes policy) service) }
     ensures err { IfErr result (λ e. e ≡ OutOfMemory) }
 {
     let Settings {

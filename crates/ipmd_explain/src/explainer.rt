@@ -124,14 +124,16 @@ impl Explainer {
     }
 
     fn close(&mut self, session: u64) -> Result<String, AllocError>
-        ensures { IfOk result (λ text. Takes self.old (Close session) self.new (string_bytes text)) }
+        ensures { IfOk result
+            (λ text. Takes self.old (Close session) self.new (string_bytes text)) }
     {
         self.exporters.close(session);
         Ok(self.silent())
     }
 
     fn edit(&mut self, text: &str) -> Result<String, AllocError>
-        ensures { IfOk result (λ said. Takes self.old (Edit text.now) self.new (string_bytes said)) }
+        ensures { IfOk result
+            (λ said. Takes self.old (Edit text.now) self.new (string_bytes said)) }
     {
         let Some(policy) = policy_in(self.alloc, text)? else {
             return Ok(self.silent());
@@ -141,7 +143,8 @@ impl Explainer {
     }
 
     fn subscribe(&mut self, sub: u64, name: &Name) -> Result<String, AllocError>
-        ensures { IfOk result (λ text. Takes self.old (Subscribe sub name.now) self.new (string_bytes text)) }
+        ensures { IfOk result (λ text. Takes self.old (Subscribe sub name.now) self.new
+            (string_bytes text)) }
     {
         if sub != self.question.sub {
             return Ok(self.silent());
@@ -154,7 +157,8 @@ impl Explainer {
 
     /// A subscription ends, or is cut.
     fn end(&mut self, sub: u64) -> Result<String, AllocError>
-        ensures ended { IfOk result (λ text. Takes self.old (Unsubscribe sub) self.new (string_bytes text)) }
+        ensures ended { IfOk result (λ text.
+            Takes self.old (Unsubscribe sub) self.new (string_bytes text)) }
         ensures cut { IfOk result (λ text. Takes self.old (Cut sub) self.new (string_bytes text)) }
     {
         if sub != self.question.sub {
@@ -188,7 +192,8 @@ impl Explainer {
     }
 
     fn message(&mut self, session: u64, number: u64, octets: &Bytes) -> Result<String, AllocError>
-        ensures { IfOk result (λ text. Takes self.old (Message session number octets.now) self.new (string_bytes text)) }
+        ensures { IfOk result (λ text. Takes self.old (Message session number octets.now) self.new
+            (string_bytes text)) }
     {
         let Some(reading) = self.read(session, number, octets)? else {
             return Ok(self.silent());
@@ -207,9 +212,13 @@ impl Explainer {
     /// # Errors
     /// Want of memory.
     fn read(&self, session: u64, number: u64, octets: &Bytes) -> Result<Option<Reading>, AllocError>
-        ensures some { IfOk result (λ found. IfSome found (λ reading. (h : List OneEntry) → AreExporters self.now.exporters h → IsReadOf h session number octets.now reading)) }
-        ensures room { IfOk result (λ found. IfSome found (λ reading. IsSomeAnd (at_key session self.now.exporters.sessions) (λ o. o.accepted + 1 < 2 ^ 64))) }
-        ensures none { IfOk result (λ found. IfNone found ((h : List OneEntry) → AreExporters self.now.exporters h → length h ≤ MOST_ENTRIES → IsAccepted h (Message session number octets.now) → ⊥)) }
+        ensures some { IfOk result (λ found. IfSome found (λ reading. (h : List OneEntry)
+            → AreExporters self.now.exporters h → IsReadOf h session number octets.now reading)) }
+        ensures room { IfOk result (λ found. IfSome found (λ reading. IsSomeAnd
+            (at_key session self.now.exporters.sessions) (λ o. o.accepted + 1 < 2 ^ 64))) }
+        ensures none { IfOk result (λ found. IfNone found ((h : List OneEntry)
+            → AreExporters self.now.exporters h → length h ≤ MOST_ENTRIES
+            → IsAccepted h (Message session number octets.now) → ⊥)) }
     {
         if number == u64::MAX {
             return Ok(None);
@@ -239,7 +248,8 @@ impl Explainer {
 
     /// What is said of the records of a message at this position.
     fn explained(&self, reading: &Reading) -> Result<String, AllocError>
-        ensures { IfOk result (λ text. string_bytes text ≡ said_of self.now reading.now.meaning.header.domain reading.now.meaning.records) }
+        ensures { IfOk result (λ text. string_bytes text
+            ≡ said_of self.now reading.now.meaning.header.domain reading.now.meaning.records) }
     {
         if !(self.question.asks_message(self.position) && self.is_served) {
             return Ok(String::new(self.alloc));
@@ -267,7 +277,8 @@ impl Explainer {
         place: usize,
         flow_record: &Record,
     ) -> Result<String, AllocError>
-        ensures { IfOk result (λ text. string_bytes text ≡ line_for self.now domain (place, flow_record.now)) }
+        ensures { IfOk result (λ text. string_bytes text
+            ≡ line_for self.now domain (place, flow_record.now)) }
     {
         if !self.question.asks_record(place) {
             return Ok(String::new(self.alloc));
@@ -276,7 +287,9 @@ impl Explainer {
     }
 
     fn line(&self, domain: u32, place: usize, flow_record: &Record) -> Result<String, AllocError>
-        ensures { IfOk result (λ text. string_bytes text ≡ line_by self.now.policy (string_bytes self.now.name) domain self.now.clock self.now.position place flow_record.now) }
+        ensures { IfOk result (λ text. string_bytes text
+            ≡ line_by self.now.policy (string_bytes self.now.name) domain self.now.clock
+            self.now.position place flow_record.now) }
     {
         let position = self.position;
         let name = self.name.as_str();

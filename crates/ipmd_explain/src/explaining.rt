@@ -30,8 +30,10 @@ pub fn explain<R: Files + AllocGlobal, O: Write, P: Progress>(
     output: &mut Device<O>,
     progress: &mut P,
 ) -> Result<(), ProgramFault>
-    ensures ok { OnOk result (ExplainsFile (question_of options.entry.now) (O.contents (device_inner output.old)) (O.contents (device_inner output.new))) }
-    ensures err { IfErr result (λ e. RefusesToExplainFile options.entry.now e (O.contents (device_inner output.old)) (O.contents (device_inner output.new))) }
+    ensures ok { OnOk result (ExplainsFile (question_of options.entry.now)
+        (O.contents (device_inner output.old)) (O.contents (device_inner output.new))) }
+    ensures err { IfErr result (λ e. RefusesToExplainFile options.entry.now e
+        (O.contents (device_inner output.old)) (O.contents (device_inner output.new))) }
 {
     let question = question_of(options);
     let (alloc, path) = (rt.alloc(), options.journal);
@@ -69,8 +71,10 @@ pub fn explain_input<I: Read + Drop, O: Write, P: Progress>(
     output: &mut Device<O>,
     progress: &mut P,
 ) -> Result<(), ProgramFault>
-    ensures ok { OnOk result (Explains question (I.remaining input) (O.contents (device_inner output.old)) (O.contents (device_inner output.new))) }
-    ensures err { IfErr result (λ e. RefusesToExplain question path.now e (I.remaining input) (O.contents (device_inner output.old)) (O.contents (device_inner output.new))) }
+    ensures ok { OnOk result (Explains question (I.remaining input)
+        (O.contents (device_inner output.old)) (O.contents (device_inner output.new))) }
+    ensures err { IfErr result (λ e. RefusesToExplain question path.now e (I.remaining input)
+        (O.contents (device_inner output.old)) (O.contents (device_inner output.new))) }
 {
     let mut source = Device::new(input);
     let explained = explain_source(alloc, question, &mut source, output, progress);

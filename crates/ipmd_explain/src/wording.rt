@@ -25,7 +25,8 @@ pub(crate) fn explanation(
     clock: u64,
     flow_record: &Record,
 ) -> Result<String, AllocError>
-    ensures { IfOk result (λ text. string_bytes text ≡ explanation policy.now name.now domain clock flow_record.now) }
+    ensures { IfOk result (λ text. string_bytes text
+        ≡ explanation policy.now name.now domain clock flow_record.now) }
 {
     match disclose(alloc, policy, name, domain, flow_record)? {
         Disclosure::Passed {
@@ -60,7 +61,8 @@ fn withheld_words(
     by: &str,
     reason: Reason,
 ) -> Result<String, AllocError>
-    ensures { IfOk result (λ text. string_bytes text ≡ withheld_words (passing_words policy.now.rules name.now domain flow_record.now) by.now reason) }
+    ensures { IfOk result (λ text. string_bytes text ≡ withheld_words
+        (passing_words policy.now.rules name.now domain flow_record.now) by.now reason) }
 {
     let why = match reason {
         Reason::Rule => return format!(in alloc; "withheld{by}"),
@@ -80,7 +82,8 @@ fn passing_words(
     domain: u32,
     flow_record: &Record,
 ) -> Result<String, AllocError>
-    ensures { IfOk result (λ text. string_bytes text ≡ passing_words policy.now.rules name.now domain flow_record.now) }
+    ensures { IfOk result (λ text. string_bytes text
+        ≡ passing_words policy.now.rules name.now domain flow_record.now) }
 {
     let rule = record_verdict(policy, name, domain, flow_record).rule;
     let fields = fields_words(alloc, policy, name, domain, flow_record)?;
@@ -96,7 +99,8 @@ fn fields_words(
     domain: u32,
     flow_record: &Record,
 ) -> Result<String, AllocError>
-    ensures { IfOk result (λ text. string_bytes text ≡ fields_words policy.now.rules name.now domain flow_record.now) }
+    ensures { IfOk result (λ text. string_bytes text
+        ≡ fields_words policy.now.rules name.now domain flow_record.now) }
 {
     let count = flow_record.template().fields.len();
     let mut text = String::new(alloc);
@@ -117,7 +121,8 @@ fn field_words(
     place: usize,
 ) -> Result<String, AllocError>
     requires { place < length flow_record.now.template.fields }
-    ensures { IfOk result (λ text. string_bytes text ≡ field_words policy.now.rules name.now domain flow_record.now place) }
+    ensures { IfOk result (λ text. string_bytes text
+        ≡ field_words policy.now.rules name.now domain flow_record.now place) }
 {
     let verdict = element_verdict(policy, name, domain, flow_record, place);
     let element = flow_record.template().fields.as_slice()[place].element;
@@ -164,7 +169,8 @@ fn aggregate_words(
     clock: u64,
     flow_record: &Record,
 ) -> Result<String, AllocError>
-    ensures { IfOk result (λ text. string_bytes text ≡ aggregate_words policy.now.aggregates rule place clock flow_record.now) }
+    ensures { IfOk result (λ text. string_bytes text
+        ≡ aggregate_words policy.now.aggregates rule place clock flow_record.now) }
 {
     let by = by_rule(alloc, rule)?;
     match policy.aggregates().get(place) {

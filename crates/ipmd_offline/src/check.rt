@@ -24,8 +24,10 @@ pub fn check_policy<R: Files + AllocGlobal, O: Write>(
     source: PolicySource<'_>,
     output: &mut Device<O>,
 ) -> Result<(), ProgramFault>
-    ensures ok { OnOk result (CountsPolicy source.entry (O.contents (device_inner output.old)) (O.contents (device_inner output.new))) }
-    ensures err { IfErr result (λ e. RefusesToCount source.entry e (O.contents (device_inner output.old)) (O.contents (device_inner output.new))) }
+    ensures ok { OnOk result (CountsPolicy source.entry
+        (O.contents (device_inner output.old)) (O.contents (device_inner output.new))) }
+    ensures err { IfErr result (λ e. RefusesToCount source.entry e
+        (O.contents (device_inner output.old)) (O.contents (device_inner output.new))) }
 {
     let text = policy_text_of(rt, source)?;
     let policy = Policy::parse(rt.alloc(), text.as_str())?;

@@ -130,7 +130,8 @@ impl ProgramFault {
     /// answers the exit status. What can't be written is dropped.
     pub fn report<E: Write>(self, alloc: Global, errors: &mut Device<E>) -> u8
         ensures status { result ≡ status_of self }
-        ensures told { Blames self (device_failed errors.new) (E.contents (device_inner errors.old)) (E.contents (device_inner errors.new)) }
+        ensures told { Blames self (device_failed errors.new)
+            (E.contents (device_inner errors.old)) (E.contents (device_inner errors.new)) }
     {
         self.name_device(alloc, errors);
         self.say(errors);
@@ -142,7 +143,8 @@ impl ProgramFault {
 
     /// Says the fault.
     fn say<E: Write>(&self, errors: &mut Device<E>)
-        ensures told { Tells (line_of_fault self.now) (device_failed errors.new) (E.contents (device_inner errors.old)) (E.contents (device_inner errors.new)) }
+        ensures told { Tells (line_of_fault self.now) (device_failed errors.new)
+            (E.contents (device_inner errors.old)) (E.contents (device_inner errors.new)) }
         ensures stays { device_failed errors.new ≡ false → device_failed errors.old ≡ false }
     {
         let _ = match self {
@@ -155,7 +157,8 @@ impl ProgramFault {
 
     /// Says what failed, where that is known and memory is left for it.
     fn name_device<E: Write>(&self, alloc: Global, errors: &mut Device<E>)
-        ensures { NamesDevice self.now (device_failed errors.new) (E.contents (device_inner errors.old)) (E.contents (device_inner errors.new)) }
+        ensures { NamesDevice self.now (device_failed errors.new)
+            (E.contents (device_inner errors.old)) (E.contents (device_inner errors.new)) }
     {
         match self {
             ProgramFault::Device(Some(failure)) => tell_failure(failure, alloc, errors),
@@ -201,7 +204,8 @@ impl ProgramFault {
 
     /// What the program makes of an error at a place.
     pub fn at(place: Place, why: io::Error) -> ProgramFault
-        ensures kind { ((error_kind why ≡ io_error.OutOfMemory) × (result ≡ OutOfMemory)) ⊎ ((error_kind why ≢ io_error.OutOfMemory) × (result ≡ failed_at place why)) }
+        ensures kind { ((error_kind why ≡ io_error.OutOfMemory) × (result ≡ OutOfMemory))
+            ⊎ ((error_kind why ≢ io_error.OutOfMemory) × (result ≡ failed_at place why)) }
         ensures either { (result ≡ OutOfMemory) ⊎ FailedAt place result }
     {
         match why.kind() {
@@ -240,7 +244,8 @@ impl ProgramFault {
 
 /// Says what failed, unless no memory is left for it.
 fn tell_failure<E: Write>(failure: &Failure, alloc: Global, errors: &mut Device<E>)
-    ensures { NamesFailure failure.now (device_failed errors.new) (E.contents (device_inner errors.old)) (E.contents (device_inner errors.new)) }
+    ensures { NamesFailure failure.now (device_failed errors.new)
+        (E.contents (device_inner errors.old)) (E.contents (device_inner errors.new)) }
 {
     if let Ok(line) = failure.line(alloc) {
         let _ = write_all(errors, line.as_bytes());

@@ -38,8 +38,10 @@ pub fn filter<R: Files + AllocGlobal, I: Read + Drop, O: Write>(
     input: I,
     output: &mut Device<O>,
 ) -> Result<OfflineReport, ProgramFault>
-    ensures ok { IfOk result (λ report. Filters options.entry.now report (I.remaining input) (O.contents (device_inner output.old)) (O.contents (device_inner output.new))) }
-    ensures err { IfErr result (λ e. RefusesToFilter options.entry.now e (I.remaining input) (O.contents (device_inner output.old)) (O.contents (device_inner output.new))) }
+    ensures ok { IfOk result (λ report. Filters options.entry.now report (I.remaining input)
+        (O.contents (device_inner output.old)) (O.contents (device_inner output.new))) }
+    ensures err { IfErr result (λ e. RefusesToFilter options.entry.now e (I.remaining input)
+        (O.contents (device_inner output.old)) (O.contents (device_inner output.new))) }
 {
     let policy = policy_text_of(rt, options.policy)?;
     let job = OfflineJob {
@@ -69,8 +71,12 @@ fn filter_to_file<R: Files + AllocGlobal, I: Read + Drop, O: Write>(
     output: &mut Device<O>,
     path: &str,
 ) -> Result<OfflineReport, ProgramFault>
-    ensures ok { IfOk result (λ report. FinishesWithAudit hex job.entry.now report (I.remaining input) (O.contents (device_inner output.old)) (O.contents (device_inner output.new))) }
-    ensures err { IfErr result (λ e. RefusesWithAudit path.now e hex job.entry.now (I.remaining input) (O.contents (device_inner output.old)) (O.contents (device_inner output.new))) }
+    ensures ok { IfOk result (λ report.
+        FinishesWithAudit hex job.entry.now report (I.remaining input)
+        (O.contents (device_inner output.old)) (O.contents (device_inner output.new))) }
+    ensures err { IfErr result (λ e.
+        RefusesWithAudit path.now e hex job.entry.now (I.remaining input)
+        (O.contents (device_inner output.old)) (O.contents (device_inner output.new))) }
 {
     let alloc = rt.alloc();
     let file = of_file(alloc, path, fs::create(rt, path))?;
@@ -96,8 +102,12 @@ fn filter_input<I: Read + Drop, O: Write, A: Write>(
     output: &mut Device<O>,
     audit: &mut Device<A>,
 ) -> Result<OfflineReport, ProgramFault>
-    ensures ok { IfOk result (λ report. FinishesInput hex job.entry.now report (I.remaining input) (O.contents (device_inner output.old)) (O.contents (device_inner output.new)) (A.contents (device_inner audit.old)) (A.contents (device_inner audit.new))) }
-    ensures err { IfErr result (λ e. RefusesInput e hex job.entry.now (I.remaining input) (O.contents (device_inner output.old)) (O.contents (device_inner output.new)) (A.contents (device_inner audit.old)) (A.contents (device_inner audit.new))) }
+    ensures ok { IfOk result (λ report. FinishesInput hex job.entry.now report (I.remaining input)
+        (O.contents (device_inner output.old)) (O.contents (device_inner output.new))
+        (A.contents (device_inner audit.old)) (A.contents (device_inner audit.new))) }
+    ensures err { IfErr result (λ e. RefusesInput e hex job.entry.now (I.remaining input)
+        (O.contents (device_inner output.old)) (O.contents (device_inner output.new))
+        (A.contents (device_inner audit.old)) (A.contents (device_inner audit.new))) }
 {
     if !hex {
         return filter_octets(alloc, job, input, output, audit);
@@ -114,8 +124,12 @@ fn filter_to_lines<O: Write, A: Write>(
     output: &mut Device<O>,
     audit: &mut Device<A>,
 ) -> Result<OfflineReport, ProgramFault>
-    ensures ok { IfOk result (λ report. FinishesLines job.entry.now report octets.now (O.contents (device_inner output.old)) (O.contents (device_inner output.new)) (A.contents (device_inner audit.old)) (A.contents (device_inner audit.new))) }
-    ensures err { IfErr result (λ e. FailsLines e job.entry.now octets.now (O.contents (device_inner output.old)) (O.contents (device_inner output.new)) (A.contents (device_inner audit.old)) (A.contents (device_inner audit.new))) }
+    ensures ok { IfOk result (λ report. FinishesLines job.entry.now report octets.now
+        (O.contents (device_inner output.old)) (O.contents (device_inner output.new))
+        (A.contents (device_inner audit.old)) (A.contents (device_inner audit.new))) }
+    ensures err { IfErr result (λ e. FailsLines e job.entry.now octets.now
+        (O.contents (device_inner output.old)) (O.contents (device_inner output.new))
+        (A.contents (device_inner audit.old)) (A.contents (device_inner audit.new))) }
 {
     let mut stream = Device::new(Vec::new(alloc));
     let report = filter_octets(alloc, job, octets, &mut stream, audit);
@@ -136,8 +150,12 @@ fn filter_octets<I: Read + Drop, O: Write, A: Write>(
     output: &mut Device<O>,
     audit: &mut Device<A>,
 ) -> Result<OfflineReport, ProgramFault>
-    ensures ok { IfOk result (λ report. FinishesOn job.entry.now report (I.remaining input) (O.contents (device_inner output.old)) (O.contents (device_inner output.new)) (A.contents (device_inner audit.old)) (A.contents (device_inner audit.new))) }
-    ensures err { IfErr result (λ e. FailsOn e job.entry.now (I.remaining input) (O.contents (device_inner output.old)) (O.contents (device_inner output.new)) (A.contents (device_inner audit.old)) (A.contents (device_inner audit.new))) }
+    ensures ok { IfOk result (λ report. FinishesOn job.entry.now report (I.remaining input)
+        (O.contents (device_inner output.old)) (O.contents (device_inner output.new))
+        (A.contents (device_inner audit.old)) (A.contents (device_inner audit.new))) }
+    ensures err { IfErr result (λ e. FailsOn e job.entry.now (I.remaining input)
+        (O.contents (device_inner output.old)) (O.contents (device_inner output.new))
+        (A.contents (device_inner audit.old)) (A.contents (device_inner audit.new))) }
 {
     if output.has_failed() || audit.has_failed() {
         return Err(failed_one(output));

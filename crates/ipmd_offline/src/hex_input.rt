@@ -16,7 +16,8 @@ use std::io::Read;
 /// # Errors
 /// `Device` where a read fails, `Hex` where the text is not hexadecimal, `OutOfMemory`.
 pub fn read_hex<I: Read + Drop>(alloc: Global, mut input: I) -> Result<Vec<u8>, ProgramFault>
-    ensures ok { IfOk result (λ octets. IfSome (I.remaining input) (λ text. SpelledBy text octets.items)) }
+    ensures ok { IfOk result (λ octets.
+        IfSome (I.remaining input) (λ text. SpelledBy text octets.items)) }
     ensures hex { IfErr result (λ e. e ≡ Hex → IfSome (I.remaining input) SpellsNothing) }
     ensures kinds { IfErr result (λ e. (e ≡ Hex) ⊎ ((e ≡ OutOfMemory) ⊎ FailedAt Input e)) }
 {

@@ -21,8 +21,10 @@ use std::io::Write;
 /// `Device` where the output fails; a front of the text may have been written.
 #[tactic(auto, using(crate::proofs::Lines::all_written, crate::proofs::Lines::front_written))]
 pub fn write_text<O: Write>(output: &mut Device<O>, text: &str) -> Result<(), ProgramFault>
-    ensures ok { OnOk result (Appends (O.contents (device_inner output.old)) (O.contents (device_inner output.new)) text.now) }
-    ensures err { IfErr result (λ e. FailedAt Output e × WritesSome text.now (O.contents (device_inner output.old)) (O.contents (device_inner output.new))) }
+    ensures ok { OnOk result (Appends
+        (O.contents (device_inner output.old)) (O.contents (device_inner output.new)) text.now) }
+    ensures err { IfErr result (λ e. FailedAt Output e × WritesSome text.now
+        (O.contents (device_inner output.old)) (O.contents (device_inner output.new))) }
 {
     put_text(output, text)?;
     flush(output)
@@ -33,8 +35,10 @@ pub fn write_text<O: Write>(output: &mut Device<O>, text: &str) -> Result<(), Pr
 /// # Errors
 /// `Device` where the output fails; a front of the text was written.
 pub fn put_text<O: Write>(output: &mut Device<O>, text: &str) -> Result<(), ProgramFault>
-    ensures ok { OnOk result (Appends (O.contents (device_inner output.old)) (O.contents (device_inner output.new)) text.now) }
-    ensures err { IfErr result (λ e. FailedAt Output e × WritesSome text.now (O.contents (device_inner output.old)) (O.contents (device_inner output.new))) }
+    ensures ok { OnOk result (Appends
+        (O.contents (device_inner output.old)) (O.contents (device_inner output.new)) text.now) }
+    ensures err { IfErr result (λ e. FailedAt Output e × WritesSome text.now
+        (O.contents (device_inner output.old)) (O.contents (device_inner output.new))) }
 {
     match write_all(output, text.as_bytes()) {
         Ok(()) => Ok(()),
@@ -47,7 +51,8 @@ pub fn put_text<O: Write>(output: &mut Device<O>, text: &str) -> Result<(), Prog
 /// # Errors
 /// `Device` where the output fails.
 pub fn flush<O: Write>(output: &mut Device<O>) -> Result<(), ProgramFault>
-    ensures kept { Keeps (O.contents (device_inner output.old)) (O.contents (device_inner output.new)) }
+    ensures kept { Keeps
+        (O.contents (device_inner output.old)) (O.contents (device_inner output.new)) }
     ensures err { IfErr result (FailedAt Output) }
 {
     match output.flush() {
@@ -66,8 +71,10 @@ pub fn write_lines<O: Write>(
     stream: &[u8],
     output: &mut Device<O>,
 ) -> Result<(), ProgramFault>
-    ensures ok { OnOk result (WritesLines stream.now (O.contents (device_inner output.old)) (O.contents (device_inner output.new))) }
-    ensures err { IfErr result (λ e. ((e ≡ OutOfMemory) ⊎ FailedAt Output e) × WritesSomeLines stream.now (O.contents (device_inner output.old)) (O.contents (device_inner output.new))) }
+    ensures ok { OnOk result (WritesLines stream.now
+        (O.contents (device_inner output.old)) (O.contents (device_inner output.new))) }
+    ensures err { IfErr result (λ e. ((e ≡ OutOfMemory) ⊎ FailedAt Output e) × WritesSomeLines
+        stream.now (O.contents (device_inner output.old)) (O.contents (device_inner output.new))) }
 {
     let messages = messages_of(alloc, stream)?;
     write_each(alloc, &messages, output)?;
@@ -92,8 +99,12 @@ fn write_each<O: Write>(
     messages: &[Bytes],
     output: &mut Device<O>,
 ) -> Result<(), ProgramFault>
-    ensures ok { OnOk result (Appends (O.contents (device_inner output.old)) (O.contents (device_inner output.new)) (lines_of messages.now)) }
-    ensures err { IfErr result (λ e. ((e ≡ OutOfMemory) ⊎ FailedAt Output e) × WritesSome (lines_of messages.now) (O.contents (device_inner output.old)) (O.contents (device_inner output.new))) }
+    ensures ok { OnOk result (Appends
+        (O.contents (device_inner output.old)) (O.contents (device_inner output.new))
+        (lines_of messages.now)) }
+    ensures err { IfErr result (λ e. ((e ≡ OutOfMemory) ⊎ FailedAt Output e)
+        × WritesSome (lines_of messages.now)
+        (O.contents (device_inner output.old)) (O.contents (device_inner output.new))) }
 {
     'messages: for message in messages {
         let line = hex_line(alloc, message.as_slice())?;

@@ -11,7 +11,8 @@ use std::io::Write;
 
 /// Says what was done with a whole stream. What can't be written is dropped.
 pub fn tell<E: Write>(report: OfflineReport, errors: &mut Device<E>)
-    ensures { Tells (Some (line_of_report report)) (device_failed errors.new) (E.contents (device_inner errors.old)) (E.contents (device_inner errors.new)) }
+    ensures { Tells (Some (line_of_report report)) (device_failed errors.new)
+        (E.contents (device_inner errors.old)) (E.contents (device_inner errors.new)) }
 {
     let OfflineReport {
         messages,

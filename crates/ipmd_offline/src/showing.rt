@@ -23,8 +23,10 @@ pub fn show<O: Write>(
     shown: &clap::Error,
     output: &mut Device<O>,
 ) -> Result<(), ProgramFault>
-    ensures ok { OnOk result (Shows (kind_of shown.now) (O.contents (device_inner output.old)) (O.contents (device_inner output.new))) }
-    ensures err { IfErr result (λ e. RefusesToShow (kind_of shown.now) e (O.contents (device_inner output.old)) (O.contents (device_inner output.new))) }
+    ensures ok { OnOk result (Shows (kind_of shown.now)
+        (O.contents (device_inner output.old)) (O.contents (device_inner output.new))) }
+    ensures err { IfErr result (λ e. RefusesToShow (kind_of shown.now) e
+        (O.contents (device_inner output.old)) (O.contents (device_inner output.new))) }
 {
     let text = match shown.kind() {
         ErrorKind::DisplayVersion => format!(in alloc; "ipmd {VERSION}\n")?,

@@ -57,7 +57,9 @@ pub fn refusal<S: Source>(
     source: &mut S,
     fault: VerifyFault,
 ) -> ProgramFault
-    ensures { (given : Option (List ℕ)) (h : List OneEntry) → IsReadTo given (S.remaining source.old) reader.old h → NamesFirstOfAny fault h → RefusesFile result given }
+    ensures { (given : Option (List ℕ)) (h : List OneEntry)
+        → IsReadTo given (S.remaining source.old) reader.old h → NamesFirstOfAny fault h
+        → RefusesFile result given }
 {
     match fault {
         VerifyFault::OutOfMemory => ProgramFault::OutOfMemory,
@@ -70,8 +72,11 @@ pub fn refusal<S: Source>(
 
 /// Reads the entries that are left.
 fn read_rest<S: Source>(reader: &mut JournalReader, source: &mut S) -> Result<(), ReadFault>
-    ensures ok { OnOk result ((given : Option (List ℕ)) (h : List OneEntry) → IsReadTo given (S.remaining source.old) reader.old h → SaysOn given h) }
-    ensures err { IfErr result (λ e. (given : Option (List ℕ)) (h : List OneEntry) → IsReadTo given (S.remaining source.old) reader.old h → RefusesFile (read_fault_of e) given) }
+    ensures ok { OnOk result ((given : Option (List ℕ)) (h : List OneEntry)
+        → IsReadTo given (S.remaining source.old) reader.old h → SaysOn given h) }
+    ensures err { IfErr result (λ e. (given : Option (List ℕ)) (h : List OneEntry)
+        → IsReadTo given (S.remaining source.old) reader.old h
+        → RefusesFile (read_fault_of e) given) }
 {
     'entries: loop {
         match reader.next(source)? {
@@ -90,8 +95,10 @@ ghost use Rattle.history_verify.specs.Standing.{IsFed, IsFedShort, keeps_audit};
 /// Those of `Verifier::feed`.
 fn feed(verifier: &mut Verifier, entry: Entry) -> Result<(), VerifyFault>
     requires short { IsFedShort verifier.old }
-    ensures ok { OnOk result ((h : List OneEntry) → IsFed verifier.old h → IsFed verifier.new (h ++ entry ∷ [])) }
-    ensures err { IfErr result (λ e. (h : List OneEntry) → IsFed verifier.old h → NamesFirstOfAny e (h ++ entry ∷ [])) }
+    ensures ok { OnOk result ((h : List OneEntry) → IsFed verifier.old h
+        → IsFed verifier.new (h ++ entry ∷ [])) }
+    ensures err { IfErr result (λ e. (h : List OneEntry) → IsFed verifier.old h
+        → NamesFirstOfAny e (h ++ entry ∷ [])) }
     ensures kept { keeps_audit verifier.new ≡ keeps_audit verifier.old }
 {
     verifier.feed(&entry)

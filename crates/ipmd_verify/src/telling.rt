@@ -8,7 +8,8 @@ use std::alloc::{AllocError, Global};
 
 /// A line for each subscription, and unless it is to be quiet the audit's lines behind them.
 pub(crate) fn text_of(alloc: Global, quiet: bool, verified: &Verified) -> Result<String, AllocError>
-    ensures { IfOk result (λ text. string_bytes text ≡ text_of quiet verified.now.subs.items verified.now.audit.items) }
+    ensures { IfOk result (λ text. string_bytes text
+        ≡ text_of quiet verified.now.subs.items verified.now.audit.items) }
 {
     let mut text = counts_text(alloc, verified.subs.as_slice())?;
     if !quiet {
@@ -41,7 +42,8 @@ fn count_line(alloc: Global, count: &Count) -> Result<String, AllocError>
 
 /// Adds the lines of the audit's entries, one after another.
 fn put_lines(text: &mut String, entries: &[AuditEntry]) -> Result<(), AllocError>
-    ensures { OnOk result (string_bytes text.new ≡ string_bytes text.old ++ audit_lines entries.now) }
+    ensures { OnOk result (string_bytes text.new ≡ string_bytes text.old
+        ++ audit_lines entries.now) }
 {
     'entries: for entry in entries {
         put_line(text, entry)?;

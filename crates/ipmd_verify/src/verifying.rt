@@ -28,8 +28,10 @@ pub fn verify<R: Files + AllocGlobal, O: Write, P: Progress>(
     output: &mut Device<O>,
     progress: &mut P,
 ) -> Result<(), ProgramFault>
-    ensures ok { OnOk result (VerifiesFile options.entry.now.quiet (O.contents (device_inner output.old)) (O.contents (device_inner output.new))) }
-    ensures err { IfErr result (λ e. RefusesToVerifyFile options.entry.now e (O.contents (device_inner output.old)) (O.contents (device_inner output.new))) }
+    ensures ok { OnOk result (VerifiesFile options.entry.now.quiet
+        (O.contents (device_inner output.old)) (O.contents (device_inner output.new))) }
+    ensures err { IfErr result (λ e. RefusesToVerifyFile options.entry.now e
+        (O.contents (device_inner output.old)) (O.contents (device_inner output.new))) }
 {
     let (alloc, path) = (rt.alloc(), options.journal);
     let file = of_file(alloc, path, fs::open(rt, path))?;
@@ -57,8 +59,10 @@ pub fn verify_input<I: Read + Drop, O: Write, P: Progress>(
     output: &mut Device<O>,
     progress: &mut P,
 ) -> Result<(), ProgramFault>
-    ensures ok { OnOk result (Verifies quiet (I.remaining input) (O.contents (device_inner output.old)) (O.contents (device_inner output.new))) }
-    ensures err { IfErr result (λ e. RefusesToVerify quiet path.now e (I.remaining input) (O.contents (device_inner output.old)) (O.contents (device_inner output.new))) }
+    ensures ok { OnOk result (Verifies quiet (I.remaining input)
+        (O.contents (device_inner output.old)) (O.contents (device_inner output.new))) }
+    ensures err { IfErr result (λ e. RefusesToVerify quiet path.now e (I.remaining input)
+        (O.contents (device_inner output.old)) (O.contents (device_inner output.new))) }
 {
     if quiet {
         progress.silence();

@@ -61,10 +61,15 @@ pub fn serve_admin<E: EntryLedger, H: RecordLedger, R: Source, W: Sink, C: Contr
 ) -> Result<u64, ServeFault>
     requires reader { R.has_failed reader.old ≡ false }
     requires writer { W.has_failed writer.old ≡ false }
-    ensures serves { IfOk result (λ count. ServesAdmin count (R.remaining reader.old) (R.remaining reader.new) (W.contents writer.old) (W.contents writer.new) handle.old handle.new) }
+    ensures serves { IfOk result (λ count.
+        ServesAdmin count (R.remaining reader.old) (R.remaining reader.new)
+        (W.contents writer.old) (W.contents writer.new) handle.old handle.new) }
     ensures sound_reader { OnOk result (R.has_failed reader.new ≡ false) }
     ensures sound_writer { OnOk result (W.has_failed writer.new ≡ false) }
-    ensures stops { IfErr result (λ e. (commands : List Exchange) × StopsAdmin e turns (R.remaining reader.old) (R.remaining reader.new) (W.contents writer.old) (W.contents writer.new) (W.has_failed writer.new) handle.old handle.new commands) }
+    ensures stops { IfErr result (λ e. (commands : List Exchange)
+        × StopsAdmin e turns (R.remaining reader.old) (R.remaining reader.new)
+        (W.contents writer.old) (W.contents writer.new)
+        (W.has_failed writer.new) handle.old handle.new commands) }
     ensures reader_fails { IfErr result (λ e. R.has_failed reader.new ≡ reader_after e) }
     ensures writer_fails { IfErr result (λ e. W.has_failed writer.new ≡ writer_after e) }
 {
@@ -104,11 +109,14 @@ fn hear<E: EntryLedger, H: RecordLedger, R: Source, C: Control>(
 ) -> Result<Option<Heard>, ServeFault>
     requires reader { R.has_failed reader.old ≡ false }
     ensures ok { IfOk result (λ found. MatchOption found
-        (EndsBehind input.old (R.remaining reader.old) (R.remaining reader.new) [] × (handle.new ≡ handle.old))
-        (λ heard. Hears heard.answer heard.stops input.old (R.remaining reader.old) (R.remaining reader.new) input.new handle.old handle.new)) }
+        (EndsBehind input.old (R.remaining reader.old) (R.remaining reader.new) []
+        × (handle.new ≡ handle.old))
+        (λ heard. Hears heard.answer heard.stops input.old
+        (R.remaining reader.old) (R.remaining reader.new) input.new handle.old handle.new)) }
     ensures sound { OnOk result (R.has_failed reader.new ≡ false) }
     ensures fails { IfErr result (λ e. R.has_failed reader.new ≡ reader_after e) }
-    ensures err { IfErr result (λ e. StopsHearing e input.old (R.remaining reader.old) (R.remaining reader.new) input.new) }
+    ensures err { IfErr result (λ e.
+        StopsHearing e input.old (R.remaining reader.old) (R.remaining reader.new) input.new) }
     ensures same { OnErr result (handle.new ≡ handle.old) }
 {
     let Some(line) = input.next_line(alloc, reader)? else {
@@ -135,11 +143,14 @@ fn answer_line<E: EntryLedger, H: RecordLedger, R: Source, C: Control>(
     control: &C,
 ) -> Result<Heard, ServeFault>
     requires reader { R.has_failed reader.old ≡ false }
-    ensures ok { IfOk result (λ heard. Performs (command_of line.now) heard.answer input.old (R.remaining reader.old) (R.remaining reader.new) input.new handle.old handle.new) }
-    ensures stops { IfOk result (λ heard. IsTrue heard.stops ↔ (command_of line.now ≡ Some to_stop)) }
+    ensures ok { IfOk result (λ heard. Performs (command_of line.now) heard.answer input.old
+        (R.remaining reader.old) (R.remaining reader.new) input.new handle.old handle.new) }
+    ensures stops { IfOk result (λ heard. IsTrue heard.stops
+        ↔ (command_of line.now ≡ Some to_stop)) }
     ensures sound { OnOk result (R.has_failed reader.new ≡ false) }
     ensures fails { IfErr result (λ e. R.has_failed reader.new ≡ reader_after e) }
-    ensures err { IfErr result (λ e. (octets : List ℕ) × StopsReading e input.old (R.remaining reader.old) (R.remaining reader.new) octets input.new) }
+    ensures err { IfErr result (λ e. (octets : List ℕ) × StopsReading e input.old
+        (R.remaining reader.old) (R.remaining reader.new) octets input.new) }
     ensures same { OnErr result (handle.new ≡ handle.old) }
 {
     match read_command(alloc, line) {
@@ -201,10 +212,12 @@ fn perform<E: EntryLedger, H: RecordLedger, R: Source, C: Control>(
     control: &C,
 ) -> Result<Answer, ServeFault>
     requires reader { R.has_failed reader.old ≡ false }
-    ensures ok { IfOk result (λ answer. Performs (Some (saying command)) answer input.old (R.remaining reader.old) (R.remaining reader.new) input.new handle.old handle.new) }
+    ensures ok { IfOk result (λ answer. Performs (Some (saying command)) answer input.old
+        (R.remaining reader.old) (R.remaining reader.new) input.new handle.old handle.new) }
     ensures sound { OnOk result (R.has_failed reader.new ≡ false) }
     ensures fails { IfErr result (λ e. R.has_failed reader.new ≡ reader_after e) }
-    ensures err { IfErr result (λ e. (octets : List ℕ) × StopsReading e input.old (R.remaining reader.old) (R.remaining reader.new) octets input.new) }
+    ensures err { IfErr result (λ e. (octets : List ℕ) × StopsReading e input.old
+        (R.remaining reader.old) (R.remaining reader.new) octets input.new) }
     ensures same { OnErr result (handle.new ≡ handle.old) }
 {
     match command {
@@ -418,9 +431,11 @@ fn reply<W: Sink>(
     sent: u64,
 ) -> Result<u64, ServeFault>
     requires writer { W.has_failed writer.old ≡ false }
-    ensures ok { IfOk result (λ n. WritesAnswer answer.now sent n (W.contents writer.old) (W.contents writer.new)) }
+    ensures ok { IfOk result (λ n.
+        WritesAnswer answer.now sent n (W.contents writer.old) (W.contents writer.new)) }
     ensures sound { OnOk result (W.has_failed writer.new ≡ false) }
-    ensures err { IfErr result (λ e. StopsReplying e answer.now sent (W.contents writer.old) (W.contents writer.new) (W.has_failed writer.new)) }
+    ensures err { IfErr result (λ e. StopsReplying e answer.now sent
+        (W.contents writer.old) (W.contents writer.new) (W.has_failed writer.new)) }
     ensures fails { IfErr result (λ e. W.has_failed writer.new ≡ writer_after e) }
 {
     match write_answer(alloc, buffer, writer, answer, sent) {

@@ -39,9 +39,12 @@ pub fn deliver<E: EntryLedger, H: RecordLedger, W: Sink, C: Clock>(
     clock: &C,
 ) -> Result<u64, (ServeFault, u64)>
     requires writer { W.has_failed writer.old ≡ false }
-    ensures delivers { IfOk result (λ sent. Delivers (C.shows clock.now) target sent handle.old handle.new (W.contents writer.old) (W.contents writer.new)) }
+    ensures delivers { IfOk result (λ sent. Delivers (C.shows clock.now) target sent
+        handle.old handle.new (W.contents writer.old) (W.contents writer.new)) }
     ensures sound { OnOk result (W.has_failed writer.new ≡ false) }
-    ensures stops { IfErr result (λ e. FailsToDeliver e.0 (C.shows clock.now) target handle.old handle.new (W.contents writer.old) (W.contents writer.new) (W.has_failed writer.new)) }
+    ensures stops { IfErr result (λ e.
+        FailsToDeliver e.0 (C.shows clock.now) target handle.old handle.new
+        (W.contents writer.old) (W.contents writer.new) (W.has_failed writer.new)) }
     ensures fails { IfErr result (λ e. W.has_failed writer.new ≡ writer_after e.0) }
     ensures same { OnOk result (admin.new ≡ admin.old) }
     ensures gone { IfErr result (λ e. EndsOnWrite e.0 handle.old.sub admin.old admin.new) }
@@ -97,9 +100,12 @@ fn send_messages<E: EntryLedger, H: RecordLedger, W: Sink, C: Clock>(
     clock: &C,
 ) -> Result<u64, ServeFault>
     requires writer { W.has_failed writer.old ≡ false }
-    ensures delivers { IfOk result (λ sent. Delivers (C.shows clock.now) target sent handle.old handle.new (W.contents writer.old) (W.contents writer.new)) }
+    ensures delivers { IfOk result (λ sent. Delivers (C.shows clock.now) target sent
+        handle.old handle.new (W.contents writer.old) (W.contents writer.new)) }
     ensures sound { OnOk result (W.has_failed writer.new ≡ false) }
-    ensures stops { IfErr result (λ e. FailsToDeliver e (C.shows clock.now) target handle.old handle.new (W.contents writer.old) (W.contents writer.new) (W.has_failed writer.new)) }
+    ensures stops { IfErr result (λ e.
+        FailsToDeliver e (C.shows clock.now) target handle.old handle.new
+        (W.contents writer.old) (W.contents writer.new) (W.has_failed writer.new)) }
     ensures fails { IfErr result (λ e. W.has_failed writer.new ≡ writer_after e) }
 {
     let mut sent = 0u64;
@@ -128,9 +134,11 @@ fn send_all<W: Sink>(
     sent: u64,
 ) -> Result<u64, ServeFault>
     requires fits { sent + length (octets_of messages.now) < 2 ^ 64 }
-    ensures ok { IfOk result (λ n. Sends (octets_of messages.now) sent n (W.contents writer.old) (W.contents writer.new)) }
+    ensures ok { IfOk result (λ n. Sends (octets_of messages.now) sent n
+        (W.contents writer.old) (W.contents writer.new)) }
     ensures stays { OnOk result (W.has_failed writer.new ≡ W.has_failed writer.old) }
-    ensures err { IfErr result (λ e. StopsSending e (octets_of messages.now) sent (W.contents writer.old) (W.contents writer.new) (W.has_failed writer.new)) }
+    ensures err { IfErr result (λ e. StopsSending e (octets_of messages.now) sent
+        (W.contents writer.old) (W.contents writer.new) (W.has_failed writer.new)) }
 {
     match joined(alloc, messages) {
         Ok(octets) => send(&octets, writer, sent),
@@ -158,9 +166,11 @@ fn joined(alloc: Global, messages: &[Handed]) -> Result<Vec<u8>, AllocError>
 /// The writer failed, after so many octets in all.
 fn send_each<W: Sink>(messages: &[Handed], writer: &mut W, mut sent: u64) -> Result<u64, ServeFault>
     requires fits { sent + length (octets_of messages.now) < 2 ^ 64 }
-    ensures ok { IfOk result (λ n. Sends (octets_of messages.now) sent n (W.contents writer.old) (W.contents writer.new)) }
+    ensures ok { IfOk result (λ n. Sends (octets_of messages.now) sent n
+        (W.contents writer.old) (W.contents writer.new)) }
     ensures stays { OnOk result (W.has_failed writer.new ≡ W.has_failed writer.old) }
-    ensures err { IfErr result (λ e. StopsSending e (octets_of messages.now) sent (W.contents writer.old) (W.contents writer.new) (W.has_failed writer.new)) }
+    ensures err { IfErr result (λ e. StopsSending e (octets_of messages.now) sent
+        (W.contents writer.old) (W.contents writer.new) (W.has_failed writer.new)) }
 {
     'sends: for handed in messages {
         sent = send(handed.message.as_slice(), writer, sent)?;
@@ -174,9 +184,11 @@ fn send_each<W: Sink>(messages: &[Handed], writer: &mut W, mut sent: u64) -> Res
 /// The writer failed, after so many octets in all.
 fn send<W: Sink>(message: &[u8], writer: &mut W, sent: u64) -> Result<u64, ServeFault>
     requires fits { sent + length message.now < 2 ^ 64 }
-    ensures ok { IfOk result (λ n. Sends message.now sent n (W.contents writer.old) (W.contents writer.new)) }
+    ensures ok { IfOk result (λ n.
+        Sends message.now sent n (W.contents writer.old) (W.contents writer.new)) }
     ensures stays { OnOk result (W.has_failed writer.new ≡ W.has_failed writer.old) }
-    ensures err { IfErr result (λ e. StopsSending e message.now sent (W.contents writer.old) (W.contents writer.new) (W.has_failed writer.new)) }
+    ensures err { IfErr result (λ e. StopsSending e message.now sent
+        (W.contents writer.old) (W.contents writer.new) (W.has_failed writer.new)) }
 {
     match write_all(writer, message) {
         Ok(()) => Ok(sent + message.len() as u64),

@@ -114,10 +114,13 @@ pub fn serve_exporter<
     reception: &O,
 ) -> Result<Served, (ServeFault, Served)>
     requires reader { R.has_failed reader.old ≡ false }
-    ensures serves { IfOk result (λ served. Serves turns served.messages (R.remaining reader.old) (R.remaining reader.new) handle.old handle.new) }
+    ensures serves { IfOk result (λ served. Serves turns served.messages
+        (R.remaining reader.old) (R.remaining reader.new) handle.old handle.new) }
     ensures sound { OnOk result (R.has_failed reader.new ≡ false) }
-    ensures stops { IfErr result (λ e. StopsServing e.0 turns (R.remaining reader.old) (R.remaining reader.new) handle.old handle.new) }
-    ensures counted { IfErr result (λ e. e.1.messages ≡ length handle.new.kept - length handle.old.kept) }
+    ensures stops { IfErr result (λ e. StopsServing e.0 turns
+        (R.remaining reader.old) (R.remaining reader.new) handle.old handle.new) }
+    ensures counted { IfErr result (λ e.
+        e.1.messages ≡ length handle.new.kept - length handle.old.kept) }
     ensures fails { IfErr result (λ e. R.has_failed reader.new ≡ reader_after e.0) }
 {
     let before = handle.kept().len();
@@ -159,9 +162,11 @@ fn offer_stream<E: EntryLedger, H: RecordLedger, R: Source, O: Reception, T: Thr
     reception: &O,
 ) -> Result<u64, ServeFault>
     requires reader { R.has_failed reader.old ≡ false }
-    ensures serves { IfOk result (λ offered. Serves pace.turns offered (R.remaining reader.old) (R.remaining reader.new) handle.old handle.new) }
+    ensures serves { IfOk result (λ offered. Serves pace.turns offered
+        (R.remaining reader.old) (R.remaining reader.new) handle.old handle.new) }
     ensures sound { OnOk result (R.has_failed reader.new ≡ false) }
-    ensures stops { IfErr result (λ e. StopsServing e pace.turns (R.remaining reader.old) (R.remaining reader.new) handle.old handle.new) }
+    ensures stops { IfErr result (λ e. StopsServing e pace.turns
+        (R.remaining reader.old) (R.remaining reader.new) handle.old handle.new) }
     ensures fails { IfErr result (λ e. R.has_failed reader.new ≡ reader_after e) }
 {
     let before = handle.kept().len();
@@ -275,8 +280,10 @@ fn offer_each<E: EntryLedger, H: RecordLedger, O: Reception>(
 
 /// The next message as it was prepared, if it was.
 fn next_prepared(answers: &mut IntoIter<Result<Prepared, PrepareFault>>) -> Option<Prepared>
-    ensures { (message : List ℕ) (messages : List (List ℕ)) → ArePreparations (message ∷ messages) (into_iter_items answers.old)
-        → IfSome result (λ p. p.message ≡ message) × ArePreparations messages (into_iter_items answers.new) }
+    ensures { (message : List ℕ) (messages : List (List ℕ))
+        → ArePreparations (message ∷ messages) (into_iter_items answers.old)
+        → IfSome result (λ p. p.message ≡ message)
+        × ArePreparations messages (into_iter_items answers.new) }
 {
     answers.next()?.ok()
 }
@@ -296,7 +303,11 @@ fn offer_one<E: EntryLedger, H: RecordLedger, P: Patience>(
     patience: &P,
 ) -> Result<Receipt, ServeFault>
     requires prepared { IfSome prepared (λ p. p.message ≡ message) }
-    ensures kept { IfOk result (λ receipt. handle.new.kept ≡ handle.old.kept ++ record { position = receipt.position; entry = Message handle.old.session (length handle.old.kept) message } ∷ []) }
+    ensures kept { IfOk result (λ receipt.
+        handle.new.kept ≡ handle.old.kept ++ record {
+          position = receipt.position;
+          entry = Message handle.old.session (length handle.old.kept) message;
+        } ∷ []) }
     ensures session { handle.new.session ≡ handle.old.session }
     ensures same { OnErr result (handle.new ≡ handle.old) }
     ensures refuses { IfErr result (λ e. IsRefusalOf e message) }
@@ -332,7 +343,11 @@ fn offer_judged<E: EntryLedger, H: RecordLedger, P: Patience>(
     patience: &P,
     waited: u64,
 ) -> Result<Receipt, ServeFault>
-    ensures kept { IfOk result (λ receipt. handle.new.kept ≡ handle.old.kept ++ record { position = receipt.position; entry = Message handle.old.session (length handle.old.kept) message } ∷ []) }
+    ensures kept { IfOk result (λ receipt.
+        handle.new.kept ≡ handle.old.kept ++ record {
+          position = receipt.position;
+          entry = Message handle.old.session (length handle.old.kept) message;
+        } ∷ []) }
     ensures session { handle.new.session ≡ handle.old.session }
     ensures same { OnErr result (handle.new ≡ handle.old) }
     ensures refuses { IfErr result (λ e. IsRefusalOf e message) }
@@ -389,7 +404,8 @@ fn judged_ahead(
 
 /// Whether too many records of a message count, by what was judged of it ahead. Not where nothing was.
 fn counts_too_many(ahead: &Option<JudgedAhead>) -> bool
-    ensures { (message : List ℕ) → IfSome ahead.now (IsAheadOf message) → IsTrue result → CountsTooMany message }
+    ensures { (message : List ℕ) → IfSome ahead.now (IsAheadOf message) → IsTrue result
+        → CountsTooMany message }
 {
     match ahead {
         Some(ahead) => ahead.counts_too_many(),

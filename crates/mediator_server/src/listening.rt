@@ -131,7 +131,8 @@ pub fn listen<
     R: Net<Listener = TcpListener, Stream = TcpStream> + Threads + Wait + Clock + Log + Sync,
 >(rt: &R, alloc: Global, plan: &Plan, mediator: Mediator) -> Result<Ended, ListenFault>
     requires fresh { handed_live mediator ≡ 0 }
-    ensures served { IfOk result (λ ended. IsServed plan.now mediator.history ended.closed.mediator.history ended.closed.accepted ended.closed.handed) }
+    ensures served { IfOk result (λ ended. IsServed plan.now mediator.history
+        ended.closed.mediator.history ended.closed.accepted ended.closed.handed) }
 {
     let handles = handles_for(plan);
     let (entries, handed) = (Blank::new(2 * handles + 1), Blank::new(handles + 1));
@@ -155,10 +156,12 @@ fn listen_with<
     requires fresh { handed_live mediator ≡ 0 }
     requires before { E.before ≡ mediator.history }
     requires entries_name { entries.name ≡ E.name }
-    requires entries_parts { (entries.parts ≡ E.parts) × (E.parts ≡ E.all) × (E.all ≡ 2 * handles + 1) }
+    requires entries_parts { (entries.parts ≡ E.parts) × (E.parts ≡ E.all)
+        × (E.all ≡ 2 * handles + 1) }
     requires handed_name { handed.name ≡ H.name }
     requires handed_parts { (handed.parts ≡ H.parts) × (H.parts ≡ H.all) × (H.all ≡ handles + 1) }
-    ensures served { IfOk result (λ ended. IsServed plan.now mediator.history ended.closed.mediator.history ended.closed.accepted ended.closed.handed) }
+    ensures served { IfOk result (λ ended. IsServed plan.now mediator.history
+        ended.closed.mediator.history ended.closed.accepted ended.closed.handed) }
 {
     let shared = SharedMediator::<E, H>::new(alloc, mediator, handles, entries, handed);
     let Handles {

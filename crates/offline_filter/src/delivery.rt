@@ -20,12 +20,15 @@ impl<'a> Run<'a> {
     /// The writer failed, after so many octets of the whole run; or memory ran out, and then nothing was written.
     pub(crate) fn deliver<W: Sink>(&mut self, writer: &mut W) -> Result<(), OfflineFault>
         requires delivering { IsDelivering self.old }
-        ensures ok { OnOk result (Delivers self.old self.new (W.contents writer.old) (W.contents writer.new)) }
+        ensures ok { OnOk result (Delivers self.old self.new
+            (W.contents writer.old) (W.contents writer.new)) }
         ensures below { self.old.job.target < 2 ^ 16 }
         ensures now_below { self.old.job.now < 2 ^ 32 }
         ensures stays { OnOk result (W.has_failed writer.new ≡ W.has_failed writer.old) }
-        ensures fails { IfErr result (λ e. W.has_failed writer.new ≡ writer_after e (W.has_failed writer.old)) }
-        ensures err { IfErr result (λ e. FailsDelivery e self.old (W.contents writer.old) (W.contents writer.new) (W.has_failed writer.new)) }
+        ensures fails { IfErr result (λ e. W.has_failed writer.new
+            ≡ writer_after e (W.has_failed writer.old)) }
+        ensures err { IfErr result (λ e. FailsDelivery e self.old
+            (W.contents writer.old) (W.contents writer.new) (W.has_failed writer.new)) }
     {
         let before = self.sent;
         let text = self.pull_all()?;

@@ -25,11 +25,19 @@ impl<'a> Run<'a> {
         audit_writer: &mut A,
     ) -> Result<(), OfflineFault>
         requires running { Runs self.old (W.contents writer.old) (A.contents audit_writer.old) }
-        ensures ok { OnOk result (HandlesAll self.old self.new messages.items (W.contents writer.old) (W.contents writer.new) (A.contents audit_writer.old) (A.contents audit_writer.new)) }
+        ensures ok { OnOk result (HandlesAll self.old self.new messages.items
+            (W.contents writer.old) (W.contents writer.new)
+            (A.contents audit_writer.old) (A.contents audit_writer.new)) }
         ensures stays { OnOk result (W.has_failed writer.new ≡ W.has_failed writer.old) }
-        ensures audit_stays { OnOk result (A.has_failed audit_writer.new ≡ A.has_failed audit_writer.old) }
-        ensures fails { IfErr result (λ e. FailsOnly e (W.has_failed writer.old) (A.has_failed audit_writer.old) false (W.has_failed writer.new) (A.has_failed audit_writer.new)) }
-        ensures err { IfErr result (λ e. StopsAmong e self.old messages.items (W.contents writer.old) (W.contents writer.new) (A.contents audit_writer.old) (A.contents audit_writer.new) (W.has_failed writer.new) (A.has_failed audit_writer.new)) }
+        ensures audit_stays { OnOk result (A.has_failed audit_writer.new
+            ≡ A.has_failed audit_writer.old) }
+        ensures fails { IfErr result (λ e.
+            FailsOnly e (W.has_failed writer.old) (A.has_failed audit_writer.old) false
+            (W.has_failed writer.new) (A.has_failed audit_writer.new)) }
+        ensures err { IfErr result (λ e.
+            StopsAmong e self.old messages.items (W.contents writer.old) (W.contents writer.new)
+            (A.contents audit_writer.old) (A.contents audit_writer.new)
+            (W.has_failed writer.new) (A.has_failed audit_writer.new)) }
     {
         'messages: for message in messages {
             self.handle(message, writer, audit_writer)?;
@@ -59,12 +67,22 @@ impl<'a> Run<'a> {
         requires opened { IsOpened self.old self.old.job }
         requires intake { intake.old ≡ nothing_read self.old.job.turns }
         requires reader { R.has_failed reader.old ≡ false }
-        ensures ok { OnOk result (ReachesEnd self.new self.old.job (R.remaining reader.old) (R.remaining reader.new) (W.contents writer.old) (W.contents writer.new) (A.contents audit_writer.old) (A.contents audit_writer.new)) }
+        ensures ok { OnOk result (ReachesEnd self.new self.old.job
+            (R.remaining reader.old) (R.remaining reader.new)
+            (W.contents writer.old) (W.contents writer.new)
+            (A.contents audit_writer.old) (A.contents audit_writer.new)) }
         ensures reads { OnOk result (R.has_failed reader.new ≡ false) }
         ensures stays { OnOk result (W.has_failed writer.new ≡ W.has_failed writer.old) }
-        ensures audit_stays { OnOk result (A.has_failed audit_writer.new ≡ A.has_failed audit_writer.old) }
-        ensures fails { IfErr result (λ e. FailsOnly e (W.has_failed writer.old) (A.has_failed audit_writer.old) (R.has_failed reader.new) (W.has_failed writer.new) (A.has_failed audit_writer.new)) }
-        ensures err { IfErr result (λ e. StopsReading e self.old.job (R.remaining reader.old) (R.remaining reader.new) (W.contents writer.old) (W.contents writer.new) (A.contents audit_writer.old) (A.contents audit_writer.new) (R.has_failed reader.new) (W.has_failed writer.new) (A.has_failed audit_writer.new)) }
+        ensures audit_stays { OnOk result (A.has_failed audit_writer.new
+            ≡ A.has_failed audit_writer.old) }
+        ensures fails { IfErr result (λ e.
+            FailsOnly e (W.has_failed writer.old) (A.has_failed audit_writer.old)
+            (R.has_failed reader.new) (W.has_failed writer.new) (A.has_failed audit_writer.new)) }
+        ensures err { IfErr result (λ e.
+            StopsReading e self.old.job (R.remaining reader.old) (R.remaining reader.new)
+            (W.contents writer.old) (W.contents writer.new)
+            (A.contents audit_writer.old) (A.contents audit_writer.new)
+            (R.has_failed reader.new) (W.has_failed writer.new) (A.has_failed audit_writer.new)) }
     {
         'reads: loop {
             let Some(messages) = intake.next(reader)? else {
@@ -87,7 +105,8 @@ impl<'a> Run<'a> {
         requires serving { IsServing self.now }
         ensures messages { result.messages ≡ self.now.messages }
         ensures records { result.records ≡ self.now.records }
-        ensures disclosed { (h : List Entry) (p : ℕ) → Stands self.now h p → result.disclosed ≡ length (records_in (take p (parts (disclosed 1 h)))) }
+        ensures disclosed { (h : List Entry) (p : ℕ) → Stands self.now h p
+            → result.disclosed ≡ length (records_in (take p (parts (disclosed 1 h)))) }
     {
         let disclosed = match self.state.status(SUBSCRIPTION) {
             Some(status) => status.handed,
@@ -115,10 +134,19 @@ fn run_through<R: Source, W: Sink, A: Sink>(
     requires reader { R.has_failed reader.old ≡ false }
     requires writer { W.has_failed writer.old ≡ false }
     requires audit { A.has_failed audit_writer.old ≡ false }
-    ensures ok { IfOk result (λ report. Finishes job.entry.now report (R.remaining reader.old) (R.remaining reader.new) (W.contents writer.old) (W.contents writer.new) (A.contents audit_writer.old) (A.contents audit_writer.new)) }
-    ensures sound { OnOk result ((R.has_failed reader.new ≡ false) × (W.has_failed writer.new ≡ false) × (A.has_failed audit_writer.new ≡ false)) }
-    ensures fails { IfErr result (λ e. FailsOnly e false false (R.has_failed reader.new) (W.has_failed writer.new) (A.has_failed audit_writer.new)) }
-    ensures err { IfErr result (λ e. Halts e job.entry.now (R.remaining reader.old) (R.remaining reader.new) (W.contents writer.old) (W.contents writer.new) (A.contents audit_writer.old) (A.contents audit_writer.new) (R.has_failed reader.new) (W.has_failed writer.new) (A.has_failed audit_writer.new)) }
+    ensures ok { IfOk result (λ report.
+        Finishes job.entry.now report (R.remaining reader.old) (R.remaining reader.new)
+        (W.contents writer.old) (W.contents writer.new)
+        (A.contents audit_writer.old) (A.contents audit_writer.new)) }
+    ensures sound { OnOk result ((R.has_failed reader.new ≡ false)
+        × (W.has_failed writer.new ≡ false) × (A.has_failed audit_writer.new ≡ false)) }
+    ensures fails { IfErr result (λ e. FailsOnly e false false
+        (R.has_failed reader.new) (W.has_failed writer.new) (A.has_failed audit_writer.new)) }
+    ensures err { IfErr result (λ e.
+        Halts e job.entry.now (R.remaining reader.old) (R.remaining reader.new)
+        (W.contents writer.old) (W.contents writer.new)
+        (A.contents audit_writer.old) (A.contents audit_writer.new)
+        (R.has_failed reader.new) (W.has_failed writer.new) (A.has_failed audit_writer.new)) }
 {
     let mut run = Run::open(alloc, *job)?;
     let Ok(mut intake) = Intake::new(alloc, job.turns) else {
@@ -153,12 +181,32 @@ pub fn offline<R: Source, W: Sink, A: Sink>(
     requires writer { W.has_failed writer.old ≡ false }
     requires audit { A.has_failed audit_writer.old ≡ false }
     // All was read and accepted, what is due was written, and it means what is disclosed.
-    ensures filters { IfOk result (λ report. FiltersAll job.entry.now report (unfailed (R.remaining reader.old) (W.contents writer.old) (A.contents audit_writer.old)) (record { left = R.remaining reader.new; written = W.contents writer.new; audited = A.contents audit_writer.new; reader_failed = R.has_failed reader.new; writer_failed = W.has_failed writer.new; audit_failed = A.has_failed audit_writer.new })) }
+    ensures filters { IfOk result (λ report. FiltersAll job.entry.now report
+        (unfailed (R.remaining reader.old) (W.contents writer.old) (A.contents audit_writer.old))
+        (record {
+          left = R.remaining reader.new;
+          written = W.contents writer.new;
+          audited = A.contents audit_writer.new;
+          reader_failed = R.has_failed reader.new;
+          writer_failed = W.has_failed writer.new;
+          audit_failed = A.has_failed audit_writer.new;
+        })) }
     // Where it stopped, by what cause, and what was written by then.
-    ensures stops { IfErr result (λ e. FailsToFilter e job.entry.now (unfailed (R.remaining reader.old) (W.contents writer.old) (A.contents audit_writer.old)) (record { left = R.remaining reader.new; written = W.contents writer.new; audited = A.contents audit_writer.new; reader_failed = R.has_failed reader.new; writer_failed = W.has_failed writer.new; audit_failed = A.has_failed audit_writer.new })) }
+    ensures stops { IfErr result (λ e. FailsToFilter e job.entry.now
+        (unfailed (R.remaining reader.old) (W.contents writer.old) (A.contents audit_writer.old))
+        (record {
+          left = R.remaining reader.new;
+          written = W.contents writer.new;
+          audited = A.contents audit_writer.new;
+          reader_failed = R.has_failed reader.new;
+          writer_failed = W.has_failed writer.new;
+          audit_failed = A.has_failed audit_writer.new;
+        })) }
     // No device has failed, but the one that the fault names.
-    ensures sound { OnOk result ((R.has_failed reader.new ≡ false) × (W.has_failed writer.new ≡ false) × (A.has_failed audit_writer.new ≡ false)) }
-    ensures fails { IfErr result (λ e. FailsOnly e false false (R.has_failed reader.new) (W.has_failed writer.new) (A.has_failed audit_writer.new)) }
+    ensures sound { OnOk result ((R.has_failed reader.new ≡ false)
+        × (W.has_failed writer.new ≡ false) × (A.has_failed audit_writer.new ≡ false)) }
+    ensures fails { IfErr result (λ e. FailsOnly e false false
+        (R.has_failed reader.new) (W.has_failed writer.new) (A.has_failed audit_writer.new)) }
 {
     run_through(alloc, job, reader, writer, audit_writer)
 }

@@ -21,11 +21,14 @@ pub(crate) fn write_lines<A: Sink>(
     entries: &[AuditEntry],
     writer: &mut A,
 ) -> Result<(), OfflineFault>
-    ensures ok { OnOk result (Appends (A.contents writer.old) (A.contents writer.new) (lines_of entries.now)) }
+    ensures ok { OnOk result (Appends (A.contents writer.old) (A.contents writer.new)
+        (lines_of entries.now)) }
     ensures stays { OnOk result (A.has_failed writer.new ≡ A.has_failed writer.old) }
     ensures cause { IfErr result (λ e. StopsLines e (A.has_failed writer.new)) }
-    ensures fails { IfErr result (λ e. A.has_failed writer.new ≡ audit_after e (A.has_failed writer.old)) }
-    ensures err { OnErr result (WritesSome (A.contents writer.old) (A.contents writer.new) (lines_of entries.now)) }
+    ensures fails { IfErr result (λ e. A.has_failed writer.new
+        ≡ audit_after e (A.has_failed writer.old)) }
+    ensures err { OnErr result (WritesSome (A.contents writer.old) (A.contents writer.new)
+        (lines_of entries.now)) }
 {
     let Ok(text) = lines(alloc, entries) else {
         return Err(OfflineFault::Core(Fault::OutOfMemory));
@@ -60,12 +63,15 @@ impl<'a> Run<'a> {
     pub(crate) fn record<A: Sink>(&mut self, writer: &mut A) -> Result<(), OfflineFault>
         requires known { HasHistory self.old }
         requires few { length (audit_waiting self.old) < 2 ^ 32 }
-        ensures written { OnOk result (Appends (A.contents writer.old) (A.contents writer.new) (lines_for self.old.job.audit (audit_waiting self.old))) }
+        ensures written { OnOk result (Appends (A.contents writer.old) (A.contents writer.new)
+            (lines_for self.old.job.audit (audit_waiting self.old))) }
         ensures drained { OnOk result (Records self.old self.new) }
         ensures stays { OnOk result (A.has_failed writer.new ≡ A.has_failed writer.old) }
         ensures cause { IfErr result (λ e. StopsLines e (A.has_failed writer.new)) }
-        ensures fails { IfErr result (λ e. A.has_failed writer.new ≡ audit_after e (A.has_failed writer.old)) }
-        ensures err { OnErr result (WritesSome (A.contents writer.old) (A.contents writer.new) (lines_for self.old.job.audit (audit_waiting self.old))) }
+        ensures fails { IfErr result (λ e. A.has_failed writer.new
+            ≡ audit_after e (A.has_failed writer.old)) }
+        ensures err { OnErr result (WritesSome (A.contents writer.old) (A.contents writer.new)
+            (lines_for self.old.job.audit (audit_waiting self.old))) }
     {
         let Ok(entries) = self.state.drain_audit(u32::MAX) else {
             return Err(OfflineFault::Core(Fault::OutOfMemory));

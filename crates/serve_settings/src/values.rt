@@ -46,7 +46,8 @@ pub(crate) fn text_or_none(
 
 /// A copy of the text that stands at a key.
 fn text_of(alloc: Global, value: &Value, key: Key) -> Result<Option<String>, SettingsFault>
-    ensures { Gives (option_map string_bytes) result (needed key (option_map Some (as_str (view value.now)))) }
+    ensures { Gives (option_map string_bytes) result
+        (needed key (option_map Some (as_str (view value.now)))) }
 {
     match value.as_str() {
         Some(text) => Ok(Some(String::from_str(alloc, text)?)),
@@ -55,7 +56,8 @@ fn text_of(alloc: Global, value: &Value, key: Key) -> Result<Option<String>, Set
 }
 
 fn value_at<'a>(table: &'a Table, key: Key) -> Option<&'a Value>
-    ensures { option_map (λ value. view value.now) result ≡ get_member (name_of key) (table_view table.now) }
+    ensures { option_map (λ value. view value.now) result
+        ≡ get_member (name_of key) (table_view table.now) }
 {
     table.get(key.name())
 }
@@ -181,7 +183,8 @@ pub(crate) fn collectors_at(alloc: Global, table: &Table) -> Result<Vec<Collecto
 
 /// A collector for each key of a table, whose value is its address.
 fn collectors_in(alloc: Global, addresses: &Table) -> Result<Vec<Collector>, SettingsFault>
-    ensures exact { Gives pairs result (needed key.Deliver (collectors_of (table_view addresses.now))) }
+    ensures exact { Gives pairs result
+        (needed key.Deliver (collectors_of (table_view addresses.now))) }
     ensures sorted { IfOk result (λ collectors. Ascend (pairs collectors)) }
 {
     let mut collectors = Vec::new(alloc);
@@ -193,7 +196,8 @@ fn collectors_in(alloc: Global, addresses: &Table) -> Result<Vec<Collector>, Set
 }
 
 fn collector_of(alloc: Global, subscriber: &str, value: &Value) -> Result<Collector, SettingsFault>
-    ensures { Gives pair result (needed key.Deliver (option_map (λ address. (subscriber.now, address)) (as_str (view value.now)))) }
+    ensures { Gives pair result (needed key.Deliver
+        (option_map (λ address. (subscriber.now, address)) (as_str (view value.now)))) }
 {
     match value.as_str() {
         Some(address) => Ok(Collector {
