@@ -7,21 +7,22 @@
 //! - `replay`: `ipmd replay`.
 //! - `system`: [`System`], what the program asks of the system.
 //!
-//! What may be asked for, and what words ask for, is `ipmd_command_line`'s. What is done for one stream, one policy or one
-//! text is `ipmd_offline`'s, with the texts and the exit statuses of faults; for a journal's file it is `ipmd_verify`'s and `ipmd_explain`'s.
+//! What may be asked for, and what words ask for, is `ipmd_command_line`'s. What is done for one stream, one policy or one text
+//! is `ipmd_offline`'s, with the texts and the exit statuses of faults; for a journal's file it is `ipmd_verify`'s and
+//! `ipmd_explain`'s.
 //!
 //! Proved of `program`: it is safe, and what it calls for all commands but `serve` returns. Its status is 0 only where it did
 //! what the words ask for (`done`): the whole input, as octets or as what its hexadecimal text spells, was filtered with the
-//! policy, the name, the time and the target that the words give, the output got exactly the octets that `offline_filter` says
-//! of these messages, with `--hex` a line of digits for each message that is due, and the report counts them; or the text is a
-//! policy, and its counts were written; or the calls of a list were made, and their answers written; or settings were read,
-//! the plan that they ask for was served to its end, and the counts of what was accepted and handed out were written, of a
-//! journal in which each entry has its receipt; or the text of a legal history was written, or what explains it; or help or the version was written. Every other status is that of a fault with
-//! its cause (`fails`): the words ask for nothing that there is, the text has this fault, the mediator or the server stopped so,
-//! or a device failed or memory ran out. What was written by then is said with it. The stream for errors grew by exactly the
-//! line of the report (`Tells`), or of the fault, behind at most one line that names the file or the stream that failed
-//! (`Blames`), unless it failed itself; a policy's counts, answers, the help and the version leave it alone (`Reports`). Of a
-//! server that was run these lines stand behind notes of which nothing is told.
+//! policy, the name, the time and the target that the words give, the output got exactly the octets that `offline_filter` says of
+//! these messages, with `--hex` a line of digits for each message that is due, and the report counts them; or the text is a
+//! policy, and its counts were written; or the calls of a list were made, and their answers written; or settings were read, the
+//! plan that they ask for was served to its end, and the counts of what was accepted and handed out were written, of a journal in
+//! which each entry has its receipt; or the text of a legal history was written, or what explains it; or help or the version was
+//! written. Every other status is that of a fault with its cause (`fails`): the words ask for nothing that there is, the text has
+//! this fault, the mediator or the server stopped so, or a device failed or memory ran out. What was written by then is said with
+//! it. The stream for errors grew by exactly the line of the report (`Tells`), or of the fault, behind at most one line that
+//! names the file or the stream that failed (`Blames`), unless it failed itself; a policy's counts, answers, the help and the
+//! version leave it alone (`Reports`). Of a server that was run these lines stand behind notes of which nothing is told.
 //!
 //! Shown by tests alone: a server's notes, the order of faults, and how far a journal's file was read, which `progress` is told.
 #![tactic(auto)]

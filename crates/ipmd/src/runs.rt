@@ -42,8 +42,8 @@ struct Keeping {
 /// each.
 ///
 /// # Errors
-/// `Device` for the journals' folder, or for want of random numbers; then of a run the refusals of `listen`; `Device` where the output fails, and, behind the
-/// run's line, where its journal can't be kept; `OutOfMemory`.
+/// `Device` for the journals' folder, or for want of random numbers; then of a run the refusals of `listen`; `Device` where the
+/// output fails, and, behind the run's line, where its journal can't be kept; `OutOfMemory`.
 #[tactic(auto, using(ipmd_offline::proofs::Lines::kept))]
 pub(crate) fn serve_runs<
     R: System,

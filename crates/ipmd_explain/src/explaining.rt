@@ -21,8 +21,8 @@ const FILE_BUFFER: usize = 65_536;
 /// anything is written, and then again as it is explained, so that no more is kept in memory than what the entries mean.
 ///
 /// # Errors
-/// `Device`, of the file, where it can't be opened, and what `explain_input` refuses. Only where the output fails, memory runs out or
-/// the file is another one when it is read again, a front of what was due may have been written.
+/// `Device`, of the file, where it can't be opened, and what `explain_input` refuses. Only where the output fails, memory runs
+/// out or the file is another one when it is read again, a front of what was due may have been written.
 #[tactic(auto, using(crate::proofs::ReadingLaws::refuses_open, ipmd_offline::proofs::Lines::kept))]
 pub fn explain<R: Files + AllocGlobal, O: Write, P: Progress>(
     rt: &R,

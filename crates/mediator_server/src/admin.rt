@@ -1,4 +1,4 @@
-//! An administrator's connection.
+//! Serves an administrator's connection: reads its commands, makes their calls, and writes the answers.
 ghost use Rattle.std.specs.Prelude.{◌≡◌, ◌↔◌, IsTrue, ℕ, List, [], Some, false, IfOk, IfErr, OnOk, OnErr, MatchOption};
 ghost use Rattle.admin_lines.specs.Sayings.{saying};
 ghost use Rattle.admin_lines.specs.Sayings.Saying.{to_stop};
@@ -38,17 +38,23 @@ struct Heard {
     stops: bool,
 }
 
-/// Serves an administrator's connection: reads its commands, one line each, by at most so many reads; makes each call by the
-/// handle, and then writes its answer. Answers how many commands were answered. The end of the input between two commands ends
-/// it, and so does a `stop`, of which the server is told by `control`, and a line that is no command: that is answered too, but not
-/// counted. What an answer is written with is made before the first command is read, so that no want of memory keeps back what a
-/// call handed out or did. Before an advance is made, `control` has it wait for room in the queues of those to whom it would give
-/// records, as long as that has patience with it.
+/// Serves an administrator's connection, and answers how many commands were answered. It reads commands from `reader`, one line
+/// each, by at most `turns` reads. It makes the call of each command on the mediator of `shared`, through `handle`, and then
+/// writes the answer to `writer`. It waits by `rt`, and takes memory from `alloc`.
+///
+/// Three things end the connection: the end of the input between two commands; a `stop`, of which the server is told by
+/// `control`; and a line that is no command. Such a line is answered too, but isn't counted.
+///
+/// What an answer is written with is made before the first command is read. So no want of memory keeps back what a call handed
+/// out or did. Before an advance is made, `control` has it wait for room in the queues of those to whom it would give records, as
+/// long as `control` has patience.
 ///
 /// # Errors
-/// The reader failed; or the input ends inside a command; or its end isn't read within `turns` reads; or memory ran out for what
-/// is read. Or the writer failed, after so many octets of all answers, or the octets sent can't be counted in 64 bits: then the
-/// call that was to be answered has been made. What the mediator refuses is an answer, and no error.
+/// `Read` where the reader failed; `Framing` where the input ends inside a command; `Turns` where its end isn't read within
+/// `turns` reads; or `Core` where memory ran out for what is read. Then no call was made for the command in hand, and those
+/// before it were answered. `Write` where the writer failed, which says how many octets of all answers were sent; or `Core` where
+/// the octets sent can't be counted in 64 bits. Then the call that was to be answered has been made. What the mediator refuses is
+/// an answer, and no error.
 pub fn serve_admin<E: EntryLedger, H: RecordLedger, R: Source, W: Sink, C: Control>(
     rt: &impl Wait,
     alloc: Global,
@@ -314,7 +320,7 @@ fn unsubscribe<E: EntryLedger, H: RecordLedger>(
     }
 }
 
-/// Advances the clock, to so many milliseconds since 1970, once there is room for what that closes.
+/// Advances the clock to `t`, in milliseconds since 1970, once there is room for what that closes.
 fn advance<E: EntryLedger, H: RecordLedger, P: Patience>(
     rt: &impl Wait,
     shared: &SharedMediator<E, H>,
@@ -356,7 +362,7 @@ fn tell<E: EntryLedger, C: Control>(handle: &AdminHandle<E>, topic: Topic, contr
     }
 }
 
-/// Hands out the oldest entries of the audit, at most so many, and no more than [`MOST_AUDIT_OCTETS`] have room for.
+/// Hands out the oldest entries of the audit: at most `most`, and no more than [`MOST_AUDIT_OCTETS`] have room for.
 fn drain_audit<E: EntryLedger, H: RecordLedger>(
     rt: &impl Wait,
     alloc: Global,
@@ -410,7 +416,7 @@ fn drain_one<E: EntryLedger, H: RecordLedger>(
     }
 }
 
-/// How many octets the answer with the last of these alone has.
+/// How many octets an answer has that hands out only the last of `drained`.
 fn last_length(buffer: &mut AnswerBuffer, drained: &[AuditEntry]) -> u64 {
     let last = drained.len().saturating_sub(1);
     match drained.get(last..) {
@@ -419,10 +425,11 @@ fn last_length(buffer: &mut AnswerBuffer, drained: &[AuditEntry]) -> u64 {
     }
 }
 
-/// Writes an answer behind so many octets, and answers how many were sent then.
+/// Writes an answer behind the `sent` octets of those before it, and answers how many octets were sent in all.
 ///
 /// # Errors
-/// The writer failed, after so many octets in all; or the octets sent can't be counted, and then none of the answer was written.
+/// The writer failed, and the fault says how many octets were sent in all; or the octets sent can't be counted, and then none of
+/// the answer was written.
 fn reply<W: Sink>(
     alloc: Global,
     buffer: &mut AnswerBuffer,

@@ -1,4 +1,4 @@
-//! The lines and texts of a connection.
+//! The octets of an administrator's connection, handed out as lines and as texts of a given length.
 ghost use Rattle.std.specs.Prelude.{◌≡◌, ℕ, ◌+◌, ◌≤◌, ◌<◌, List, [], ◌∷◌, true, false, length, take, IfOk, IfErr, OnOk, MatchOption};
 ghost use Rattle.std.specs.Io.KnownBytes.{Consumes, IsAtEnd, Keeps};
 ghost use Rattle.mediator_server.specs.declared.fault.ServeFault.TheVariants.{Read};
@@ -15,7 +15,7 @@ use std::marker::Model;
 /// The most octets of one read.
 const PIECE: usize = 65_536;
 
-/// The octets of a connection, which are read in pieces and handed out in lines and texts. It allows so many reads.
+/// The octets of a connection, which are read in pieces and handed out in lines and texts. The number of its reads is limited.
 #[derive(Drop)]
 pub(crate) struct CommandInput {
     /// Room for one piece.
@@ -41,7 +41,7 @@ impl Model for CommandInput {
 }
 
 impl CommandInput {
-    /// An input of which nothing is read, and that makes at most so many reads.
+    /// An input of which nothing is read yet, and that makes at most `turns` reads.
     ///
     /// # Errors
     /// Want of memory.
@@ -91,7 +91,7 @@ impl CommandInput {
         Ok(Some(line))
     }
 
-    /// The next so many octets.
+    /// The next `count` octets.
     ///
     /// # Errors
     /// The reader failed; or the input ends before them; or no read is left; or memory ran out.

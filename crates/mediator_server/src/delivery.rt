@@ -1,4 +1,4 @@
-//! A subscription's messages.
+//! Delivers a subscription: pulls its messages, and writes them.
 ghost use Rattle.std.specs.Prelude.{◌≡◌, ◌+◌, ◌<◌, ◌^◌, false, length, IfOk, IfErr, OnOk};
 ghost use Rattle.std.specs.Io.KnownBytes.{Appends};
 ghost use Rattle.mediator_server.specs.Faults.{writer_after};
@@ -20,15 +20,18 @@ const LONGEST_MESSAGE: u64 = ipfix_octets::message_format::LONGEST_MESSAGE as u6
 /// How many messages are pulled at once at most.
 const MOST_AT_ONCE: u64 = 32;
 
-/// Delivers a subscription: pulls its messages, several at once, of at most `target` octets where they can be so short, and
-/// writes them, until nothing is queued and nothing will be; and answers how many octets were sent. Where the writer fails, the subscription is
-/// ended by the administrator's handle; where the mediator refuses that, it stays.
+/// Delivers the subscription of `handle`, and answers how many octets were sent. It pulls the subscription's messages from the
+/// mediator of `shared`, several at once, and writes them to `writer`, until nothing is queued and nothing will be. A message has
+/// at most `target` octets where it can be so short, and the Export Time that `clock` shows when it is pulled (RFC 7011, section
+/// 3.1). It waits by `rt`.
+///
+/// Where the writer fails, the subscription is ended through `admin`. Where the mediator refuses that, it stays.
 ///
 /// # Errors
-/// The writer failed, after so many octets of all that was pulled, of which at most the messages of the last pull weren't all
-/// written; or the mediator refuses a pull, or the octets sent, and those
-/// of one message more, might not be counted in 64 bits. Beside the fault stands how many records waited for the subscription then,
-/// before it was ended; 0 where it is no longer live.
+/// `Write` where the writer failed: it says how many octets were sent of all that was pulled. Only messages of the last pull were
+/// not sent whole. `Core` where the mediator refuses a pull, or the octets sent, with those of one pull more, might not be
+/// counted in 64 bits: all that was pulled before is sent. Beside the fault stands how many records waited for the subscription
+/// then, before it was ended; 0 where it is no longer live.
 pub fn deliver<E: EntryLedger, H: RecordLedger, W: Sink, C: Clock>(
     rt: &impl Wait,
     shared: &SharedMediator<E, H>,
@@ -123,10 +126,11 @@ fn send_messages<E: EntryLedger, H: RecordLedger, W: Sink, C: Clock>(
     unreachable!()
 }
 
-/// Writes messages behind so many octets, in one piece where there is memory for it, and answers how many were sent then.
+/// Writes `messages` behind the `sent` octets of those before them, in one piece where there is memory for it, and answers how
+/// many octets were sent in all.
 ///
 /// # Errors
-/// The writer failed, after so many octets in all.
+/// The writer failed, and the fault says how many octets were sent in all.
 fn send_all<W: Sink>(
     alloc: Global,
     messages: &[Handed],
@@ -160,10 +164,11 @@ fn joined(alloc: Global, messages: &[Handed]) -> Result<Vec<u8>, AllocError>
     Ok(octets)
 }
 
-/// Writes messages one after another, behind so many octets, and answers how many were sent then.
+/// Writes `messages` one after another, behind the `sent` octets of those before them, and answers how many octets were sent in
+/// all.
 ///
 /// # Errors
-/// The writer failed, after so many octets in all.
+/// The writer failed, and the fault says how many octets were sent in all.
 fn send_each<W: Sink>(messages: &[Handed], writer: &mut W, mut sent: u64) -> Result<u64, ServeFault>
     requires fits { sent + length (octets_of messages.now) < 2 ^ 64 }
     ensures ok { IfOk result (λ n. Sends (octets_of messages.now) sent n
@@ -178,10 +183,10 @@ fn send_each<W: Sink>(messages: &[Handed], writer: &mut W, mut sent: u64) -> Res
     Ok(sent)
 }
 
-/// Writes a message behind so many octets, and answers how many were sent then.
+/// Writes `message` behind the `sent` octets of those before it, and answers how many octets were sent in all.
 ///
 /// # Errors
-/// The writer failed, after so many octets in all.
+/// The writer failed, and the fault says how many octets were sent in all.
 fn send<W: Sink>(message: &[u8], writer: &mut W, sent: u64) -> Result<u64, ServeFault>
     requires fits { sent + length message.now < 2 ^ 64 }
     ensures ok { IfOk result (λ n.

@@ -5,9 +5,9 @@
 //! - `folder`: [`first_free`], the same for a path.
 //! - `keeping`: [`keep_run`], which writes a run's journal to its file; [`put_journal`] writes one to any file.
 //!
-//! Proved of `next_number`: what it answers is above the number of each name that is the name of a run's file (`above`), so
-//! that none of these is written again. A fault names the file that failed (`err` of each). What happens in files, no contract can say: that a file has the whole journal under
-//! its name, or isn't there, is shown by tests alone.
+//! Proved of `next_number`: what it answers is above the number of each name that is the name of a run's file (`above`), so that
+//! none of these is written again. A fault names the file that failed (`err` of each). What happens in files, no contract can
+//! say: that a file has the whole journal under its name, or isn't there, is shown by tests alone.
 #![tactic(auto)]
 
 mod folder;
