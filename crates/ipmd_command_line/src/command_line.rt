@@ -1,4 +1,4 @@
-//! What words ask for.
+//! Reads the words of a command line: the commands with their options, and the task that words ask for.
 ghost use Rattle.std.specs.Prelude.{◌≡◌, ℕ, Option, codes, false, map, option_map, IfErr, IfOk, IfSome, IsSome};
 ghost use Rattle.ipmd_command_line.specs.declared.task.OfflineOptions.{OfflineOptions};
 ghost use Rattle.ipmd_command_line.specs.declared.task.ReplayOptions.{ReplayOptions};
@@ -22,6 +22,7 @@ use std::convert::AsStr;
 /// The version of this program.
 pub const VERSION: &str = "0.1.0";
 
+/// The names of the commands.
 const OFFLINE: &str = "offline";
 
 const CHECK_POLICY: &str = "check-policy";
@@ -34,6 +35,7 @@ const VERIFY: &str = "verify";
 
 const EXPLAIN: &str = "explain";
 
+/// The names of the options.
 const POLICY: &str = "policy";
 
 const POLICY_TEXT: &str = "policy-text";
@@ -62,10 +64,11 @@ const POSITION: &str = "position";
 
 const INDEX: &str = "index";
 
-/// What the words after the program's name ask for.
+/// The task that `words` ask for: the words behind the program's name. Texts of the answer are those words. What the parser makes
+/// takes memory from `alloc`.
 ///
 /// # Errors
-/// `Refused` where they ask for nothing that there is, `OutOfMemory`.
+/// `Refused` where they ask for nothing that there is, with the text for the standard error; or `OutOfMemory`.
 pub fn read_command_line<'a, S: AsStr>(
     alloc: Global,
     words: &'a [S],

@@ -1,4 +1,4 @@
-//! A whole stream is read, and each of its messages handled.
+//! Reads a whole stream, and handles each of its messages.
 ghost use Rattle.std.specs.Prelude.{◌≡◌, ◌<◌, ◌≤◌, false, None, length, IfOk, IfErr, OnOk};
 ghost use Rattle.offline_filter.specs.Reaching.{HandlesAll, StopsAmong};
 ghost use Rattle.offline_filter.specs.Reading.{Finishes, Halts};
@@ -14,7 +14,7 @@ use octet_devices::{Sink, Source};
 use std::alloc::Global;
 
 impl<'a> Run<'a> {
-    /// Handles messages, one after another.
+    /// Handles messages, one after another, with `writer` for the subscriber's messages and `audit_writer` for the audit.
     ///
     /// # Errors
     /// Those of the first that is not handled.
@@ -52,11 +52,11 @@ ghost use Rattle.offline_filter.specs.Reaching.{ReachesEnd};
 ghost use Rattle.offline_filter.specs.Reading.{StopsReading};
 
 impl<'a> Run<'a> {
-    /// Reads the stream to its end, and handles its messages.
+    /// Reads the stream to its end by `intake`, and handles its messages.
     ///
     /// # Errors
-    /// The reader failed, or the stream is faulty, does not end within the reads that are allowed, or ends inside a message;
-    /// or those of the first message that is not handled.
+    /// The reader failed, or the stream is faulty, does not end within the reads that are allowed, or ends inside a message; or
+    /// those of the first message that is not handled.
     fn read_stream<R: Source, W: Sink, A: Sink>(
         &mut self,
         intake: &mut Intake,
@@ -158,18 +158,20 @@ fn run_through<R: Source, W: Sink, A: Sink>(
 
 ghost use Rattle.offline_filter.specs.Filtering.{unfailed, FiltersAll, FailsToFilter};
 
-/// Filters one stream for one subscriber: reads the messages of an exporter to the end of the stream, and
-/// writes the subscriber's messages, message by message, with the audit of what was kept back.
+/// Filters one stream for one subscriber, and answers how much was read, accepted and written. It reads the messages of an
+/// exporter from `reader`, to the end of the stream. Message by message, it writes what `job` discloses to the subscriber to
+/// `writer`, and the audit of what was kept back, where the job asks for it, to `audit_writer`. Memory is taken from `alloc`.
 ///
-/// What is written are the messages built for the records that each message discloses, and they mean these
-/// records and no others to whoever reads them by RFC 7011. The limits are 65,536 records of one message and
-/// 65,280 templates for the subscriber, and a journal of 100,000,000 entries and 2^40 octets, though none is
-/// kept.
+/// What is written are the messages built for the records that each message discloses, and they mean these records and no others
+/// to whoever reads them by RFC 7011. The limits are 65,536 records of one message, 65,280 templates for the subscriber and
+/// 131,072 audit entries of one message, and a journal of 100,000,000 entries and 2^40 octets, though none is kept.
 ///
 /// # Errors
-/// The job is refused, and then nothing was read; or the run stops where a device fails, the stream is faulty
-/// or does not end within `turns` reads, or a message is refused or cuts the subscriber. What is due for all
-/// messages before that one was written, and what more of it may have been is said with each fault.
+/// `Core` where the policy or the name of the job is refused: then nothing was read. Else the run stops at `Read`, `Write` or
+/// `AuditWrite`, where that device fails; at `Framing`, where the stream is faulty or ends inside a message; at `Turns`, where it
+/// doesn't end within the job's reads; at `Core`, where a message is refused or memory runs out; or at `Cut`, where a message
+/// cuts the subscriber. What is due for all messages before that one was written, and what more of it may have been is said with
+/// each fault.
 pub fn offline<R: Source, W: Sink, A: Sink>(
     alloc: Global,
     job: &OfflineJob<'_>,

@@ -1,4 +1,4 @@
-//! A message is handled: accepted, delivered and recorded.
+//! Handles a message: accepts it, delivers what it discloses, and records what was kept back.
 ghost use Rattle.std.specs.Prelude.{◌≡◌, false, IfErr, OnOk};
 ghost use Rattle.offline_filter.specs.Failing.{FailsOnly};
 ghost use Rattle.offline_filter.specs.Running.{Runs, HandlesOn, StopsOn};
@@ -9,7 +9,7 @@ use bytes::Bytes;
 use octet_devices::Sink;
 
 impl<'a> Run<'a> {
-    /// Accepts a message, writes what it gives the subscriber, and then what the audit says of it.
+    /// Accepts `message`, writes what it gives the subscriber to `writer`, and then what the audit says of it to `audit_writer`.
     ///
     /// # Errors
     /// The message is refused, or cuts the subscription; or a writer failed, or memory ran out.

@@ -6,9 +6,9 @@ ghost use Rattle.offline_filter.specs.Due.{AreDue};
 ghost use Rattle.offline_filter.specs.Accepting.{AreAccepted};
 ghost use Rattle.offline_filter.specs.PlainHistory.{plain_history};
 
-/// What is due for messages that are read one after another is built so: after each of them, messages one
-/// after another, each the one that is built for the place where the one before ended, from the first place
-/// on, to the end of all records that are disclosed by then. No other messages are built so.
+/// What is due for messages that are read one after another can be built: after each of them, messages one after another, each
+/// the one that is built for the place where the one before ended, from the first place on, to the end of all records that are
+/// disclosed by then. No other messages are built in this way.
 pub fn due_is_built()
     ensures found { (job : OfflineJob) (messages : List (List ℕ))
         → AreDue job [] 0 messages (due job messages) }

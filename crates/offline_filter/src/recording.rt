@@ -1,4 +1,4 @@
-//! What the audit names is written, line by line.
+//! Writes what the audit names, line by line.
 ghost use Rattle.std.specs.Prelude.{◌≡◌, IfOk, IfErr, OnOk, OnErr, string_bytes};
 ghost use Rattle.std.specs.Io.KnownBytes.{Appends};
 ghost use Rattle.offline_filter.specs.Failing.{audit_after};
@@ -12,10 +12,10 @@ use mediator_state::Fault;
 use octet_devices::{Sink, write_all};
 use std::alloc::{AllocError, Global};
 
-/// Writes the lines of entries, in their order, in one piece.
+/// Writes the lines of `entries` to `writer`, in their order and in one piece.
 ///
 /// # Errors
-/// The writer failed, and a front of the lines was written; or memory ran out.
+/// The writer failed, and a front of the lines was written; or memory ran out, and nothing was.
 pub(crate) fn write_lines<A: Sink>(
     alloc: Global,
     entries: &[AuditEntry],
@@ -40,6 +40,9 @@ pub(crate) fn write_lines<A: Sink>(
 }
 
 /// The lines of entries, one after another.
+///
+/// # Errors
+/// Want of memory.
 fn lines(alloc: Global, entries: &[AuditEntry]) -> Result<String, AllocError>
     ensures { IfOk result (λ text. string_bytes text ≡ lines_of entries.now) }
 {
@@ -56,7 +59,7 @@ ghost use Rattle.offline_filter.specs.Runs.{HasHistory, audit_waiting};
 ghost use Rattle.offline_filter.specs.Recording.{Records};
 
 impl<'a> Run<'a> {
-    /// Drains the audit, and writes its lines where they are asked for.
+    /// Drains the audit, and writes its lines to `writer` where the job asks for them.
     ///
     /// # Errors
     /// The writer failed, or memory ran out: a front of the lines was written.
