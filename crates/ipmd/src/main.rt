@@ -92,11 +92,11 @@ fn words_after_name<R: Env + AllocGlobal>(rt: &R) -> Result<Vec<String>, Program
     }
 }
 
-/// Does what the words ask for, and answers the exit status: 0 where it is done, 1 where the input is
-/// refused, 2 for a refused command line, 3 where a device fails. `output` gets what was asked for, and
-/// `errors` the report or the fault, and a server's notes; what `errors` doesn't take is dropped.
-/// `descriptor` is that of `errors`, by which a server finds out whether a note would wait. `progress` is told how far
-/// a journal's file was read.
+/// Does what `words` ask for, those behind the program's name, and answers the exit status: 0 where it is done, 1 where the input
+/// is refused or memory runs out, 2 for a refused command line, 3 where a device fails. `input` is the stream that `ipmd offline`
+/// filters. `output` gets what was asked for, and `errors` the report or the fault, and a server's notes; what `errors` doesn't
+/// take is dropped. `descriptor` is that of `errors`, by which a server finds out whether a note would wait. `progress` is told
+/// how far a journal's file was read. All else that is asked of the system goes through `rt`.
 #[tactic(auto, using(crate::proofs::Statuses::no_fault_is_done))]
 pub fn program<
     R: System + Net<Listener = TcpListener, Stream = TcpStream>,
@@ -134,7 +134,10 @@ pub fn program<
     }
 }
 
-/// Does what the words ask for. The report is that of `ipmd offline`.
+/// Does what the words ask for. The report is that of `ipmd offline`; other commands have none.
+///
+/// # Errors
+/// Those of the command.
 #[tactic(auto, using(ipmd_offline::proofs::Lines::kept))]
 fn run<
     R: System + Net<Listener = TcpListener, Stream = TcpStream>,

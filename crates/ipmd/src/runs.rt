@@ -1,4 +1,4 @@
-//! Runs of a server that follow each other.
+//! Makes the runs of a server, which follow each other, and keeps their journals.
 
 ghost use Rattle.std.specs.Prelude.{◌≡◌, ℕ, List, [], IfErr, IfOk, OnOk, string_bytes};
 ghost use Rattle.std.specs.Io.KnownBytes.{Appends};
@@ -133,8 +133,11 @@ fn secret_keys<R: RandomSource>(rt: &R) -> Result<HashKeys, ProgramFault>
     }
 }
 
-/// Where the journals of so many runs are kept. Where several may follow each other, their numbers go on behind those of the
-/// folder's files.
+/// Where the journals of `runs` runs are kept, under `path`. Where several may follow each other, their numbers go on behind
+/// those of the folder's files.
+///
+/// # Errors
+/// `Device`, of the folder, where it can't be read; or `OutOfMemory`.
 #[tactic(auto, using(crate::proofs::Running::folder_begins))]
 fn keeping_of<R: Files + AllocGlobal>(
     rt: &R,

@@ -1,4 +1,4 @@
-//! `ipmd serve`.
+//! Does what `ipmd serve` is asked for.
 
 ghost use Rattle.std.specs.Prelude.{◌≡◌, IfErr, IfOk, OnOk, string_bytes};
 ghost use Rattle.octet_devices.specs.Device.{device_inner};
@@ -37,10 +37,11 @@ pub(crate) struct Service {
     pub(crate) runs: u64,
 }
 
-/// Serves exporters and collectors as the settings in a file say, and writes what was accepted and handed out when all of
-/// them have ended: a run. Where its journal was full and nobody stopped it, another run begins with the policy that was last in
-/// force, as often as the settings allow. Each run's journal is kept, where the settings have a path for it. `errors`, which has
-/// this descriptor, gets the notes of the runs, but for those that would wait there.
+/// Serves exporters and collectors as the settings in the file whose path is `path` say, and writes to `output` what was accepted
+/// and handed out when all of them have ended: a run. Where its journal was full and nobody stopped it, another run begins with
+/// the policy that was last in force, as often as the settings allow. Each run's journal is kept, where the settings have a path
+/// for it. `errors`, whose descriptor is `descriptor`, gets the notes of the runs, but for those that would wait there. All that
+/// is asked of the system goes through `rt`.
 ///
 /// # Errors
 /// In this order: `Device` where the settings' file can't be read or isn't UTF-8, `Settings`, and `Device` for the policy's file

@@ -1,4 +1,4 @@
-//! What is kept of the entries so far, and what is said of the next one.
+//! What is kept of the entries before, and what is said of the next one.
 ghost use Rattle.std.specs.Prelude.{◌≡◌, ◌++◌, ◌∷◌, ◌+◌, ◌<◌, ◌≤◌, ◌^◌, [], ℕ, List, length, IfOk, IfSome, IfNone, IsSomeAnd, string_bytes};
 ghost use Rattle.ipfix_template.specs.DataRecord.{DataRecord};
 ghost use Rattle.event_journal.specs.declared.entry.Entry.{Entry as OneEntry};
@@ -40,16 +40,18 @@ pub(crate) struct Explainer {
     exporters: Exporters,
     /// The name of the subscription.
     name: String,
-    /// Whether it began, and whether it is served.
+    /// Whether the subscription began.
     has_begun: bool,
+    /// Whether it is served.
     is_served: bool,
-    /// Whether a message was asked for, and whether it had a record that was.
+    /// Whether a message was met that is asked for.
     met_message: bool,
+    /// Whether it had a record that is asked for.
     met_record: bool,
 }
 
 impl Explainer {
-    /// Before any entry.
+    /// An explainer before any entry, for this question. Memory is taken from `alloc`.
     ///
     /// # Errors
     /// Want of memory.
@@ -90,7 +92,7 @@ impl Explainer {
         Some(Absent::Record { position, index })
     }
 
-    /// Takes the history's next entry, and answers what is said of it.
+    /// Takes the history's next entry, `entry`, and answers what is said of it.
     ///
     /// # Errors
     /// Want of memory.
@@ -113,6 +115,7 @@ impl Explainer {
         }
     }
 
+    /// A session opens.
     fn open(&mut self, session: u64) -> Result<String, AllocError>
         ensures { IfOk result (λ text. Takes self.old (Open session) self.new (string_bytes text)) }
     {
@@ -123,6 +126,7 @@ impl Explainer {
         Ok(self.silent())
     }
 
+    /// A session closes.
     fn close(&mut self, session: u64) -> Result<String, AllocError>
         ensures { IfOk result
             (λ text. Takes self.old (Close session) self.new (string_bytes text)) }
@@ -131,6 +135,7 @@ impl Explainer {
         Ok(self.silent())
     }
 
+    /// A policy takes force.
     fn edit(&mut self, text: &str) -> Result<String, AllocError>
         ensures { IfOk result
             (λ said. Takes self.old (Edit text.now) self.new (string_bytes said)) }
@@ -142,6 +147,7 @@ impl Explainer {
         Ok(self.silent())
     }
 
+    /// A subscription begins.
     fn subscribe(&mut self, sub: u64, name: &Name) -> Result<String, AllocError>
         ensures { IfOk result (λ text. Takes self.old (Subscribe sub name.now) self.new
             (string_bytes text)) }
@@ -168,6 +174,7 @@ impl Explainer {
         Ok(self.silent())
     }
 
+    /// The clock goes on.
     fn advance(&mut self, t: u64) -> Result<String, AllocError>
         ensures { IfOk result (λ text. Takes self.old (Advance t) self.new (string_bytes text)) }
     {
@@ -191,6 +198,7 @@ impl Explainer {
         self.position = self.position.saturating_add(1);
     }
 
+    /// A message is received, and its records are explained.
     fn message(&mut self, session: u64, number: u64, octets: &Bytes) -> Result<String, AllocError>
         ensures { IfOk result (λ text. Takes self.old (Message session number octets.now) self.new
             (string_bytes text)) }
@@ -233,7 +241,7 @@ impl Explainer {
         }
     }
 
-    /// Notes that a message of so many records stands at this position.
+    /// Notes that a message of `records` records stands at this position.
     fn meet(&mut self, records: usize)
         ensures { self.new ≡ met self.old records }
     {
@@ -286,6 +294,7 @@ impl Explainer {
         self.line(domain, place, flow_record)
     }
 
+    /// The line of a record at a place.
     fn line(&self, domain: u32, place: usize, flow_record: &Record) -> Result<String, AllocError>
         ensures { IfOk result (λ text. string_bytes text
             ≡ line_by self.now.policy (string_bytes self.now.name) domain self.now.clock

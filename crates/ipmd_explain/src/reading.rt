@@ -1,4 +1,4 @@
-//! The history of a journal's file, entry by entry: it is verified and explained as it comes.
+//! Reads the history of a journal's file, entry by entry; verifies and explains it as it comes.
 ghost use Rattle.std.specs.Prelude.{◌≡◌, ◌≤◌, List, length, string_bytes, IfOk, IfErr, OnOk};
 ghost use Rattle.octet_devices.specs.Device.{device_inner};
 ghost use Rattle.event_journal.specs.declared.entry.Entry.{Entry as OneEntry};

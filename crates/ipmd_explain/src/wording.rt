@@ -1,4 +1,4 @@
-//! What is said of a record.
+//! The words that explain what a subscriber sees of a record.
 ghost use Rattle.std.specs.Prelude.{◌≡◌, ◌<◌, length, IfOk, string_bytes};
 ghost use Rattle.ipfix_element.specs.Names.{element_name};
 ghost use Rattle.mediator_history.specs.Counting.{timing_at};
@@ -13,7 +13,8 @@ use policy_judge::{ElementAction, element_verdict, record_verdict};
 use policy_text::Policy;
 use std::alloc::{AllocError, Global};
 
-/// What the subscriber of a name sees of a record of this observation domain, and by which rules of a policy.
+/// What the subscriber called `name` sees of `flow_record`, a record of the observation domain `domain`, and by which rules of
+/// `policy`. `clock` is where the clock stands, in milliseconds since 1970. The text takes memory from `alloc`.
 ///
 /// # Errors
 /// Want of memory.

@@ -1,4 +1,4 @@
-//! `ipmd check-policy`.
+//! Does what `ipmd check-policy` is asked for.
 
 ghost use Rattle.std.specs.Prelude.{◌≡◌, IfErr, IfOk, OnOk, string_bytes};
 ghost use Rattle.octet_devices.specs.Device.{device_inner};
@@ -14,10 +14,12 @@ use std::alloc::{AllocError, Global};
 use std::io::Write;
 use std::rt::Files;
 
-/// Reads a policy, and writes how many rules and aggregates it has.
+/// Reads the policy of `source`, and writes how many rules and aggregates it has to `output`, as a line. `rt` reads the policy's
+/// file and gives memory.
 ///
 /// # Errors
-/// That of the policy's source, `Policy` where its text is none, `Device` where the output fails.
+/// That of the policy's source; `Policy` where its text is none; `Device`, of the output, where that fails; or `OutOfMemory`.
+/// Only where the output fails a front of the line may have been written.
 #[tactic(auto, using(crate::proofs::Lines::kept))]
 pub fn check_policy<R: Files + AllocGlobal, O: Write>(
     rt: &R,

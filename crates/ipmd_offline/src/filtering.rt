@@ -25,12 +25,14 @@ const AUDIT_BUFFER: usize = 65_536;
 /// An input ends, so no number of reads is too many.
 const ANY_NUMBER_OF_READS: u64 = u64::MAX;
 
-/// Filters `input` for one subscriber to `output`, and names what was withheld in the audit file.
+/// Does what `ipmd offline` is asked for by `options`, and answers how much was read, accepted and written. It filters `input`
+/// for one subscriber to `output`, and names what was kept back in the audit's file, where there is one. `rt` reads and writes
+/// files and gives memory.
 ///
 /// # Errors
-/// In this order: the policy's source, the audit file, which is made empty, an input that is not
-/// hexadecimal where it is to be, and what the mediator refuses. What was accepted before a fault is
-/// written.
+/// In this order: that of the policy's source; `Device`, of the audit's file, which is made empty; `Hex`, where the input is to
+/// be hexadecimal and isn't; and what stops `offline` ([`offline_filter::offline`]), where `Framing`, `Policy`, `Core`, `Cut` and
+/// `OutOfMemory` keep their names, and `Device` is that of what failed. What was accepted before a fault is written.
 #[tactic(auto, using(crate::proofs::Lines::kept))]
 pub fn filter<R: Files + AllocGlobal, I: Read + Drop, O: Write>(
     rt: &R,
@@ -61,7 +63,10 @@ pub fn filter<R: Files + AllocGlobal, I: Read + Drop, O: Write>(
     }
 }
 
-/// Filters `input` with an audit in the file at a path.
+/// Filters `input` with an audit in the file whose path is `path`.
+///
+/// # Errors
+/// Those of [`filter`] but for the policy's source.
 #[tactic(auto, using(crate::proofs::Lines::kept))]
 fn filter_to_file<R: Files + AllocGlobal, I: Read + Drop, O: Write>(
     rt: &R,
@@ -182,7 +187,7 @@ fn failed_one<O>(output: &Device<O>) -> ProgramFault
     }
 }
 
-/// What it makes of a stream that wasn't filtered to its end, where its input and its output failed so.
+/// What it makes of a stream that wasn't filtered to its end, where `input` and `output` are the errors of its devices.
 fn fault_of(fault: OfflineFault, input: io::Error, output: io::Error) -> ProgramFault
     ensures { result ≡ offline_fault_of input output fault }
 {

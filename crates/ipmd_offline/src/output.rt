@@ -1,4 +1,4 @@
-//! What the program writes: a text, or messages as lines of hexadecimal digits.
+//! Writes what the program answers: a text, or messages as lines of hexadecimal digits.
 
 ghost use Rattle.std.specs.Prelude.{◌≡◌, ◌⊎◌, OnOk, IfOk, IfErr, string_bytes};
 ghost use Rattle.std.specs.Io.KnownBytes.{Appends, Keeps};
@@ -15,10 +15,10 @@ use octet_devices::{Device, write_all};
 use std::alloc::{AllocError, Global};
 use std::io::Write;
 
-/// Writes a text, and sees that it has left.
+/// Writes `text` to `output`, and sees that it has left.
 ///
 /// # Errors
-/// `Device` where the output fails; a front of the text may have been written.
+/// `Device`, of the output, where that fails. A front of the text may have been written.
 #[tactic(auto, using(crate::proofs::Lines::all_written, crate::proofs::Lines::front_written))]
 pub fn write_text<O: Write>(output: &mut Device<O>, text: &str) -> Result<(), ProgramFault>
     ensures ok { OnOk result (Appends
@@ -30,10 +30,10 @@ pub fn write_text<O: Write>(output: &mut Device<O>, text: &str) -> Result<(), Pr
     flush(output)
 }
 
-/// Writes a text.
+/// Writes `text` to `output`. It may wait in a buffer there.
 ///
 /// # Errors
-/// `Device` where the output fails; a front of the text was written.
+/// `Device`, of the output, where that fails. A front of the text was written.
 pub fn put_text<O: Write>(output: &mut Device<O>, text: &str) -> Result<(), ProgramFault>
     ensures ok { OnOk result (Appends
         (O.contents (device_inner output.old)) (O.contents (device_inner output.new)) text.now) }
@@ -46,10 +46,10 @@ pub fn put_text<O: Write>(output: &mut Device<O>, text: &str) -> Result<(), Prog
     }
 }
 
-/// Sees that all that was written has left.
+/// Sees that all that was written to `output` has left.
 ///
 /// # Errors
-/// `Device` where the output fails.
+/// `Device`, of the output, where that fails.
 pub fn flush<O: Write>(output: &mut Device<O>) -> Result<(), ProgramFault>
     ensures kept { Keeps
         (O.contents (device_inner output.old)) (O.contents (device_inner output.new)) }
@@ -61,11 +61,11 @@ pub fn flush<O: Write>(output: &mut Device<O>) -> Result<(), ProgramFault>
     }
 }
 
-/// Writes each message of a stream as a line, and sees that all have left. Where a message ends its header
-/// says (RFC 7011, section 3.1).
+/// Writes each message of `stream` to `output` as a line, and sees that all have left. Where a message ends, its header says (RFC
+/// 7011, section 3.1). Lines take memory from `alloc`.
 ///
 /// # Errors
-/// `Device` where the output fails, `OutOfMemory`; a front of the lines may have been written.
+/// `Device`, of the output, where that fails, or `OutOfMemory`. A front of the lines may have been written.
 pub fn write_lines<O: Write>(
     alloc: Global,
     stream: &[u8],

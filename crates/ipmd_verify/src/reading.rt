@@ -1,4 +1,4 @@
-//! The history of a journal's file, entry by entry.
+//! Reads the history of a journal's file, entry by entry, and verifies it.
 ghost use Rattle.std.specs.Prelude.{◌≡◌, List, ℕ, Option, IfOk, IfErr, OnOk};
 ghost use Rattle.event_journal.specs.declared.entry.Entry.{Entry as OneEntry};
 ghost use Rattle.history_verify.specs.Answers.{NamesFirstOfAny};
@@ -49,9 +49,8 @@ pub(crate) fn read_history<S: Source, P: Progress>(
     }
 }
 
-/// Why a file is refused that is read so far, and whose history a verifier refuses: a fault of the file goes before.
-///
-/// It reads what is left of the file.
+/// Why a file is refused whose history a verifier has refused for `fault`: a fault of the file itself goes before. `reader` has
+/// read the file up to the entry that was refused; it reads what is left of it from `source`.
 pub fn refusal<S: Source>(
     reader: &mut JournalReader,
     source: &mut S,
@@ -104,7 +103,7 @@ fn feed(verifier: &mut Verifier, entry: Entry) -> Result<(), VerifyFault>
     verifier.feed(&entry)
 }
 
-/// The program's word for a verifier's fault.
+/// The program's name for a verifier's `fault`.
 pub fn fault_of(fault: VerifyFault) -> ProgramFault
     ensures { result ≡ verify_fault_of fault }
 {
