@@ -20,7 +20,7 @@ pub enum Answer {
     Subscribed(u64),
     /// The call was done, and there is nothing more to say: `ok`.
     Done,
-    /// How the subscription stands: `ok QUEUED HANDED live`, or the same with `cut`.
+    /// How the subscription stands: `ok QUEUED HANDED live`, or with `cut` in place of `live`.
     Stands(Status),
     /// The audit entries that were handed out, oldest first: `ok COUNT`, and a line for each.
     Drained(Vec<AuditEntry>),
@@ -34,11 +34,13 @@ pub enum Answer {
     BadText,
 }
 
-/// Writes the lines of an answer behind so many octets, and answers how many were sent then. What waited in the buffer is lost.
-/// Only the words of a refusal take memory. Where there is none, the refusal is said to be one for want of memory.
+/// Writes the lines of `answer` to `sink`, behind the `sent` octets of those before it, and answers how many octets were sent in
+/// all. What waited in `buffer` is lost. Only the words of a refusal take memory, from `alloc`. Where there is none, the refusal
+/// is said to be one for want of memory.
 ///
 /// # Errors
-/// The sink failed; or the octets can't be counted, and then none was written.
+/// The sink failed, and the fault says how many octets were sent in all; or they can't be counted in 64 bits, and then none of
+/// the answer was written.
 pub fn write_answer<S: Sink>(
     alloc: Global,
     buffer: &mut AnswerBuffer,
@@ -46,9 +48,12 @@ pub fn write_answer<S: Sink>(
     answer: &Answer,
     sent: u64,
 ) -> Result<u64, Stopped>
-    ensures ok { IfOk result (λ n. WritesAnswer answer.now sent n (S.contents sink.old) (S.contents sink.new)) }
+    ensures ok { IfOk result (λ n.
+        WritesAnswer answer.now sent n (S.contents sink.old) (S.contents sink.new)) }
     ensures stays { OnOk result (S.has_failed sink.new ≡ S.has_failed sink.old) }
-    ensures err { IfErr result (λ e. StopsAnswering e answer.now sent (S.contents sink.old) (S.contents sink.new) (S.has_failed sink.old) (S.has_failed sink.new)) }
+    ensures err { IfErr result (λ e.
+        StopsAnswering e answer.now sent (S.contents sink.old) (S.contents sink.new)
+        (S.has_failed sink.old) (S.has_failed sink.new)) }
 {
     match answer {
         Answer::Edited(revision) => write_number(buffer, sink, *revision, sent),
@@ -76,9 +81,12 @@ fn write_number<S: Sink>(
     number: u64,
     sent: u64,
 ) -> Result<u64, Stopped>
-    ensures ok { IfOk result (λ n. WritesAll (codes "ok " ++ decimal number ++ 10 ∷ []) sent n (S.contents sink.old) (S.contents sink.new)) }
+    ensures ok { IfOk result (λ n. WritesAll (codes "ok " ++ decimal number ++ 10 ∷ []) sent n
+        (S.contents sink.old) (S.contents sink.new)) }
     ensures stays { OnOk result (S.has_failed sink.new ≡ S.has_failed sink.old) }
-    ensures err { IfErr result (λ e. StopsWriting e (codes "ok " ++ decimal number ++ 10 ∷ []) sent (S.contents sink.old) (S.contents sink.new) (S.has_failed sink.old) (S.has_failed sink.new)) }
+    ensures err { IfErr result (λ e. StopsWriting e (codes "ok " ++ decimal number ++ 10 ∷ []) sent
+        (S.contents sink.old) (S.contents sink.new)
+        (S.has_failed sink.old) (S.has_failed sink.new)) }
 {
     buffer.clear();
     buffer.put(b"ok ");
@@ -97,9 +105,12 @@ fn write_page<S: Sink>(
     page: &[u8],
     sent: u64,
 ) -> Result<u64, Stopped>
-    ensures ok { IfOk result (λ n. WritesAll (page_text page.now) sent n (S.contents sink.old) (S.contents sink.new)) }
+    ensures ok { IfOk result (λ n. WritesAll (page_text page.now) sent n
+        (S.contents sink.old) (S.contents sink.new)) }
     ensures stays { OnOk result (S.has_failed sink.new ≡ S.has_failed sink.old) }
-    ensures err { IfErr result (λ e. StopsWriting e (page_text page.now) sent (S.contents sink.old) (S.contents sink.new) (S.has_failed sink.old) (S.has_failed sink.new)) }
+    ensures err { IfErr result (λ e.
+        StopsWriting e (page_text page.now) sent (S.contents sink.old) (S.contents sink.new)
+        (S.has_failed sink.old) (S.has_failed sink.new)) }
 {
     buffer.clear();
     buffer.put(b"ok ");
@@ -125,9 +136,12 @@ fn write_status<S: Sink>(
     status: &Status,
     sent: u64,
 ) -> Result<u64, Stopped>
-    ensures ok { IfOk result (λ n. WritesAll (status_text status.now) sent n (S.contents sink.old) (S.contents sink.new)) }
+    ensures ok { IfOk result (λ n. WritesAll (status_text status.now) sent n
+        (S.contents sink.old) (S.contents sink.new)) }
     ensures stays { OnOk result (S.has_failed sink.new ≡ S.has_failed sink.old) }
-    ensures err { IfErr result (λ e. StopsWriting e (status_text status.now) sent (S.contents sink.old) (S.contents sink.new) (S.has_failed sink.old) (S.has_failed sink.new)) }
+    ensures err { IfErr result (λ e.
+        StopsWriting e (status_text status.now) sent (S.contents sink.old) (S.contents sink.new)
+        (S.has_failed sink.old) (S.has_failed sink.new)) }
 {
     buffer.clear();
     buffer.put(b"ok ");

@@ -18,13 +18,14 @@ pub(crate) fn read_number(argument: &[u8], most: u64) -> Option<u64>
     }
 }
 
-/// Whether the argument is one word: some octets, none of them a space.
+/// Whether `argument` is one word: some octets, none of them a space.
 pub(crate) fn is_one_word(argument: &[u8]) -> bool
     ensures { result ≡ is_one_word argument.now }
 {
     !argument.is_empty() && has_no_space(argument)
 }
 
+/// Whether none of the octets is a space.
 fn has_no_space(octets: &[u8]) -> bool
     ensures { result ≡ list_all (λ c. not (c == 32)) octets.now }
 {

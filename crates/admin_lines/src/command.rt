@@ -43,7 +43,7 @@ pub enum Command {
     Subscribe { name: Vec<u8> },
     /// `unsubscribe SUB`: a subscription ends.
     Unsubscribe { sub: u64 },
-    /// `advance T`: the clock goes on to so many milliseconds since 1970.
+    /// `advance T`: the clock goes on to `t`, in milliseconds since 1970.
     Advance { t: u64 },
     /// `status SUB`: how does a subscription stand?
     Status { sub: u64 },
@@ -55,16 +55,18 @@ pub enum Command {
     Stop,
 }
 
-/// The command that a line asks for, given without its line feed; `None` where it asks for nothing, as a line of more than
-/// [`LONGEST_LINE`] octets does.
+/// The command that `line` asks for, which is given without its line feed. `None` where it asks for nothing, as a line of more
+/// than [`LONGEST_LINE`] octets does.
 ///
 /// # Errors
-/// Want of memory for the name behind `subscribe`; the other commands take none.
+/// Want of memory for the name behind `subscribe`, which is taken from `alloc`. The other commands take none.
 pub fn read_command(alloc: Global, line: &[u8]) -> Result<Option<Command>, AllocError>
     // What is read stands there.
-    ensures found { IfOk result (λ command. IfSome command (λ command. IsCommandLine (saying command) line.now)) }
+    ensures found { IfOk result (λ command.
+        IfSome command (λ command. IsCommandLine (saying command) line.now)) }
     // What stands there is read, unless memory runs out.
-    ensures only { (said : Saying) → IsCommandLine said line.now → IfOk result (λ command. option_map saying command ≡ Some said) }
+    ensures only { (said : Saying) → IsCommandLine said line.now
+        → IfOk result (λ command. option_map saying command ≡ Some said) }
     // Memory is wanted for a name alone.
     ensures memory { IfErr result (λ _. IsSubscription line.now) }
     // Which command it is.
@@ -108,6 +110,7 @@ fn read_alone(word: &[u8]) -> Option<Command>
     }
 }
 
+/// The command that asks for the page on `topic`.
 const fn tell(topic: Topic) -> Option<Command>
     ensures { option_map saying result ≡ Some (to_tell topic) }
 {
@@ -117,7 +120,8 @@ const fn tell(topic: Topic) -> Option<Command>
 /// The command that the first word names, with the argument behind it.
 #[tactic(auto, unfolding(crate::specs::Reading::command_by))]
 fn read_by(alloc: Global, word: &[u8], argument: &[u8]) -> Result<Option<Command>, AllocError>
-    ensures value { IfOk result (λ command. option_map saying command ≡ command_by word.now argument.now) }
+    ensures value { IfOk result (λ command. option_map saying command
+        ≡ command_by word.now argument.now) }
     ensures memory { IfErr result (λ _. NamesSubscriber (command_by word.now argument.now)) }
 {
     if is_word(word, b"edit") {
@@ -137,6 +141,7 @@ fn read_by(alloc: Global, word: &[u8], argument: &[u8]) -> Result<Option<Command
     }
 }
 
+/// Behind `edit`: how many octets the policy has.
 #[tactic(auto, unfolding(crate::specs::Reading::edit_of))]
 fn read_edit(argument: &[u8]) -> Option<Command>
     ensures { option_map saying result ≡ edit_of argument.now }
@@ -147,6 +152,7 @@ fn read_edit(argument: &[u8]) -> Option<Command>
     })
 }
 
+/// Behind `subscribe`: the name, one word.
 #[tactic(auto, unfolding(crate::specs::Reading::subscribe_of))]
 fn read_subscribe(alloc: Global, argument: &[u8]) -> Result<Option<Command>, AllocError>
     ensures value { IfOk result (λ command. option_map saying command ≡ subscribe_of argument.now) }
@@ -159,6 +165,7 @@ fn read_subscribe(alloc: Global, argument: &[u8]) -> Result<Option<Command>, All
     Ok(Some(Command::Subscribe { name }))
 }
 
+/// Behind `unsubscribe`: the subscription.
 #[tactic(auto, unfolding(crate::specs::Reading::unsubscribe_of))]
 fn read_unsubscribe(argument: &[u8]) -> Option<Command>
     ensures { option_map saying result ≡ unsubscribe_of argument.now }
@@ -167,6 +174,7 @@ fn read_unsubscribe(argument: &[u8]) -> Option<Command>
     Some(Command::Unsubscribe { sub })
 }
 
+/// Behind `advance`: the time, in milliseconds since 1970.
 #[tactic(auto, unfolding(crate::specs::Reading::advance_of))]
 fn read_advance(argument: &[u8]) -> Option<Command>
     ensures { option_map saying result ≡ advance_of argument.now }
@@ -175,6 +183,7 @@ fn read_advance(argument: &[u8]) -> Option<Command>
     Some(Command::Advance { t })
 }
 
+/// Behind `status`: the subscription.
 #[tactic(auto, unfolding(crate::specs::Reading::status_of))]
 fn read_status(argument: &[u8]) -> Option<Command>
     ensures { option_map saying result ≡ status_of argument.now }
@@ -183,7 +192,7 @@ fn read_status(argument: &[u8]) -> Option<Command>
     Some(Command::Status { sub })
 }
 
-/// How many audit entries are asked for: at least one.
+/// Behind `audit`: how many entries are asked for, at least one.
 #[tactic(auto, unfolding(crate::specs::Reading::audit_of))]
 fn read_audit(argument: &[u8]) -> Option<Command>
     ensures { option_map saying result ≡ audit_of argument.now }

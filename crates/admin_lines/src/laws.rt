@@ -1,4 +1,4 @@
-//! Laws over the definitions.
+//! The law that no line has two meanings.
 ghost use Rattle.admin_lines.specs.Grammar.{OneMeaning};
 
 /// No line asks for two things.

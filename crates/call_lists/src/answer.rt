@@ -1,4 +1,4 @@
-//! The lines of an answer.
+//! The texts of answers: the lines of each reply, and the parts that other formats share.
 ghost use Rattle.std.specs.Prelude.{◌≡◌, ◌++◌, ◌∷◌, [], codes, IfOk, OnOk, string_bytes};
 ghost use Rattle.std.specs.Fmt.{decimal};
 ghost use Rattle.std.specs.List.{flat_map};
@@ -15,7 +15,7 @@ use mediator_state::{Fault, Receipt, Status};
 use std::alloc::{AllocError, Global};
 use std::fmt::Write;
 
-/// The answers of replies, one after another.
+/// The answers of `replies`, one after another. The text takes memory from `alloc`.
 ///
 /// # Errors
 /// Want of memory.
@@ -30,8 +30,8 @@ pub fn answers_text(alloc: Global, replies: &[Reply]) -> Result<String, AllocErr
     Ok(text)
 }
 
-/// The lines of a reply: `ok` with what the call gave, or `err` with why it was refused, and behind the count of drained
-/// entries a line for each.
+/// The lines of `reply`: `ok` with what the call gave, or `err` with why it was refused, and behind the count of drained entries
+/// a line for each. The text takes memory from `alloc`.
 ///
 /// # Errors
 /// Want of memory.
@@ -52,6 +52,7 @@ pub fn answer_text(alloc: Global, reply: &Reply) -> Result<String, AllocError>
     }
 }
 
+/// The line `ok` with a number.
 fn number_text(alloc: Global, number: u64) -> Result<String, AllocError>
     ensures { IfOk result (λ text. string_bytes text ≡ codes "ok " ++ decimal number ++ 10 ∷ []) }
 {
@@ -60,12 +61,15 @@ fn number_text(alloc: Global, number: u64) -> Result<String, AllocError>
 
 /// A message in lower-case hexadecimal digits.
 fn message_text(alloc: Global, message: &Bytes) -> Result<String, AllocError>
-    ensures { IfOk result (λ text. string_bytes text ≡ codes "ok " ++ encode_lower message.now ++ 10 ∷ []) }
+    ensures { IfOk result (λ text. string_bytes text ≡ codes "ok " ++ encode_lower message.now
+        ++ 10 ∷ []) }
 {
     let digits = hex::encode(alloc, message.as_slice())?;
     format!(in alloc; "ok {digits}\n")
 }
 
+/// The line of an accepted message: its position, its records, the subscriptions that it cut, what it brought that gives no
+/// record, and the gap in the Sequence Numbers before it, where there is one.
 fn received_text(alloc: Global, receipt: &Receipt) -> Result<String, AllocError>
     ensures { IfOk result (λ text. string_bytes text ≡ receipt_text receipt.now ++ 10 ∷ []) }
 {
@@ -106,6 +110,7 @@ fn put_gap(text: &mut String, gap: Option<Gap>) -> Result<(), AllocError>
     }
 }
 
+/// The line of a subscription's status: the records that wait, those handed out, its templates, and whether it was cut.
 fn status_text(alloc: Global, status: &Status) -> Result<String, AllocError>
     ensures { IfOk result (λ text. string_bytes text ≡ status_text status.now ++ 10 ∷ []) }
 {
@@ -121,14 +126,15 @@ fn status_text(alloc: Global, status: &Status) -> Result<String, AllocError>
     Ok(text)
 }
 
-/// The last word of a status: `cut` where the subscription was cut, else `live`.
+/// The last word of a status: `cut` where the subscription was cut, as `cut` says; else `live`.
 pub fn cut_word(cut: bool) -> &'static str
     ensures { result.now ≡ cut_word cut }
 {
     if cut { "cut" } else { "live" }
 }
 
-/// The lines of an answer with audit entries: `ok` with their number, and a line for each.
+/// The lines of an answer with the audit entries `entries`: `ok` with their number, and a line for each. The text takes memory
+/// from `alloc`.
 ///
 /// # Errors
 /// Want of memory.
@@ -142,7 +148,8 @@ pub fn drained_text(alloc: Global, entries: &[AuditEntry]) -> Result<String, All
 }
 
 fn put_entries(alloc: Global, text: &mut String, entries: &[AuditEntry]) -> Result<(), AllocError>
-    ensures { OnOk result (string_bytes text.new ≡ string_bytes text.old ++ flat_map line_of entries.now) }
+    ensures { OnOk result (string_bytes text.new ≡ string_bytes text.old
+        ++ flat_map line_of entries.now) }
 {
     'entries: for entry in entries {
         let line = line(alloc, entry)?;
@@ -151,7 +158,8 @@ fn put_entries(alloc: Global, text: &mut String, entries: &[AuditEntry]) -> Resu
     Ok(())
 }
 
-/// The line of a refusal: `err`, the name of why, and the numbers or words that belong to it.
+/// The line of a refusal: `err`, the name of `why`, and the numbers or words that belong to it. The text takes memory from
+/// `alloc`.
 ///
 /// # Errors
 /// Want of memory.
@@ -202,6 +210,7 @@ fn read_word(why: ReadError) -> &'static str
     }
 }
 
+/// Why octets are no message.
 fn decode_word(why: DecodeError) -> &'static str
     ensures { result.now ≡ decode_word why }
 {

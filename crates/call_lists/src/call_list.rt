@@ -1,4 +1,4 @@
-//! A text of calls, read.
+//! Reads a list of calls from a text.
 ghost use Rattle.std.specs.Prelude.{◌≡◌, Ok, IfErr, IfOk};
 ghost use Rattle.std.specs.Option.{option_map};
 ghost use Rattle.call_lists.specs.Lists.{Asked, Reads, asked, nothing, list_of, line_step, step, call_step, is_skipped};
@@ -31,11 +31,11 @@ pub struct CallList {
     pub calls: Vec<Call>,
 }
 
-/// What a text asks for: a call a line, words parted by one space. Empty lines and lines that begin with `#` are skipped;
-/// the first other line may set the limits.
+/// What `text` asks for: a call a line, its words parted by one space. Empty lines and lines that begin with `#` are skipped; the
+/// first other line may set the limits. The list takes memory from `alloc`.
 ///
 /// # Errors
-/// `Line` with the first line that asks for nothing, `OutOfMemory`.
+/// `Line` with the number of the first line that asks for nothing, or `OutOfMemory`.
 pub fn read_call_list(alloc: Global, text: &str) -> Result<CallList, CallsFault>
     // What is read is listed so.
     ensures found { IfOk result (λ list. Lists text.now (asked list)) }
@@ -90,7 +90,8 @@ impl CallList {
         started: bool,
         line: &str,
     ) -> Result<Option<bool>, AllocError>
-        ensures { IfOk result (λ read. option_map (λ started. (started, asked self.new)) read ≡ line_step started (asked self.old) line.now) }
+        ensures { IfOk result (λ read. option_map (λ started. (started, asked self.new)) read
+            ≡ line_step started (asked self.old) line.now) }
     {
         if is_skipped(line) {
             return Ok(Some(started));
@@ -109,7 +110,8 @@ impl CallList {
         started: bool,
         line: &str,
     ) -> Result<Option<()>, AllocError>
-        ensures { IfOk result (λ read. option_map (λ _. asked self.new) read ≡ step started (asked self.old) line.now) }
+        ensures { IfOk result (λ read. option_map (λ _. asked self.new) read
+            ≡ step started (asked self.old) line.now) }
     {
         if started {
             return self.add_call(alloc, line);
@@ -123,9 +125,11 @@ impl CallList {
         }
     }
 
+    /// Adds the call that a line asks for. `None` where it asks for none.
     #[tactic(auto, unfolding(crate::specs::Lists::call_step))]
     fn add_call(&mut self, alloc: Global, line: &str) -> Result<Option<()>, AllocError>
-        ensures { IfOk result (λ read. option_map (λ _. asked self.new) read ≡ call_step (asked self.old) line.now) }
+        ensures { IfOk result (λ read. option_map (λ _. asked self.new) read
+            ≡ call_step (asked self.old) line.now) }
     {
         let Some(call) = read_call(alloc, line)? else {
             return Ok(None);

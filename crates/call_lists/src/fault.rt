@@ -4,7 +4,7 @@ use std::alloc::{AllocError, AllocFailed};
 use std::error::Error;
 use std::fmt::{self, Display, Formatter, Write};
 
-/// Why a text is no list of calls.
+/// Why a text is no list of calls. Its text is `calls line` with the number, or `OutOfMemory`.
 #[derive(Clone, Copy, Debug, PartialEq, Eq)]
 pub enum CallsFault {
     /// The line of this number, from 1, asks for nothing that there is.

@@ -57,6 +57,7 @@ fn read_by(alloc: Global, verb: Verb, words: &mut Words<'_>) -> Result<Option<Ca
     }
 }
 
+/// Behind `open`: nothing.
 #[tactic(auto, unfolding(crate::specs::Lines::call_by))]
 fn read_open(words: &mut Words<'_>) -> Option<Call>
     ensures { option_map saying result ≡ call_by Verb.Open words.old }
@@ -65,6 +66,7 @@ fn read_open(words: &mut Words<'_>) -> Option<Call>
     Some(Call::Open)
 }
 
+/// Behind `close`: the session.
 #[tactic(auto, unfolding(crate::specs::Lines::call_by))]
 fn read_close(words: &mut Words<'_>) -> Option<Call>
     ensures { option_map saying result ≡ call_by Verb.Close words.old }
@@ -122,6 +124,7 @@ fn read_edit(alloc: Global, words: &mut Words<'_>) -> Result<Option<Call>, Alloc
     Ok(Some(Call::Edit { text }))
 }
 
+/// Behind `subscribe`: the name, which may be empty.
 #[tactic(auto, unfolding(crate::specs::Lines::call_by))]
 fn read_subscribe(alloc: Global, words: &mut Words<'_>) -> Result<Option<Call>, AllocError>
     ensures { IfOk result (λ call. option_map saying call ≡ call_by Verb.Subscribe words.old) }
@@ -133,6 +136,7 @@ fn read_subscribe(alloc: Global, words: &mut Words<'_>) -> Result<Option<Call>, 
     Ok(Some(Call::Subscribe { name }))
 }
 
+/// Behind `unsubscribe`: the subscription.
 #[tactic(auto, unfolding(crate::specs::Lines::call_by))]
 fn read_unsubscribe(words: &mut Words<'_>) -> Option<Call>
     ensures { option_map saying result ≡ call_by Verb.Unsubscribe words.old }
@@ -141,6 +145,7 @@ fn read_unsubscribe(words: &mut Words<'_>) -> Option<Call>
     Some(Call::Unsubscribe { sub: SubId(sub) })
 }
 
+/// Behind `advance`: the time, in milliseconds since 1970.
 #[tactic(auto, unfolding(crate::specs::Lines::call_by))]
 fn read_advance(words: &mut Words<'_>) -> Option<Call>
     ensures { option_map saying result ≡ call_by Verb.Advance words.old }
@@ -164,6 +169,7 @@ fn read_pull(words: &mut Words<'_>) -> Option<Call>
     })
 }
 
+/// Behind `status`: the subscription.
 #[tactic(auto, unfolding(crate::specs::Lines::call_by))]
 fn read_status(words: &mut Words<'_>) -> Option<Call>
     ensures { option_map saying result ≡ call_by Verb.Status words.old }
@@ -172,6 +178,7 @@ fn read_status(words: &mut Words<'_>) -> Option<Call>
     Some(Call::Status { sub: SubId(sub) })
 }
 
+/// Behind `audit`: the most entries that are handed out.
 #[tactic(auto, unfolding(crate::specs::Lines::call_by))]
 fn read_audit(words: &mut Words<'_>) -> Option<Call>
     ensures { option_map saying result ≡ call_by Verb.Audit words.old }
@@ -194,6 +201,7 @@ pub(crate) fn read_limits(line: &str) -> Option<Limits>
     }
 }
 
+/// Behind `limits`: five numbers, in the order of [`Limits`].
 #[tactic(auto, unfolding(crate::specs::Lines::limits_behind))]
 fn limits_behind(words: &mut Words<'_>) -> Option<Limits>
     ensures { result ≡ limits_behind words.old }

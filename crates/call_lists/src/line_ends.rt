@@ -1,10 +1,10 @@
-//! A policy in one line.
+//! A policy that is written in one line, with semicolons for its line ends.
 ghost use Rattle.std.specs.Prelude.{◌≡◌, IfOk, string_bytes};
 ghost use Rattle.call_lists.specs.LineEnds.{with_line_ends};
 
 use std::alloc::{AllocError, Global};
 
-/// The text with a line feed for each semicolon.
+/// The text `text` with a line feed for each semicolon. It takes memory from `alloc`.
 ///
 /// # Errors
 /// Want of memory.

@@ -101,7 +101,7 @@ impl<'a> Words<'a> {
     }
 }
 
-/// What stands before the first such character, and behind it.
+/// What stands before the first `separator`, and what stands behind it; `None` where there is none.
 pub(crate) fn cut_at(text: &str, separator: char) -> Option<(&str, &str)>
     requires ascii { separator < 128 }
     ensures { option_map (λ sides. (sides.0.now, sides.1.now)) result ≡ cut_at separator text.now }
@@ -109,8 +109,8 @@ pub(crate) fn cut_at(text: &str, separator: char) -> Option<(&str, &str)>
     text.split_once(separator)
 }
 
-/// The number that a word writes, decimal and without leading zeros. `None` where it writes none, or more than `most`.
-/// The word may be of any length.
+/// The number that `word` writes, decimal and without leading zeros. `None` where it writes none, or one above `most`. The word
+/// may be of any length.
 pub fn read_number(word: &str, most: u64) -> Option<u64>
     ensures value { result ≡ number_of most word.now }
     ensures bound { IfSome result (λ n. n ≤ most) }
@@ -125,7 +125,8 @@ pub fn read_number(word: &str, most: u64) -> Option<u64>
 /// Whether a word that parses is a number as it is printed: it begins neither with a plus nor with a zero before others.
 #[tactic(auto, using(crate::proofs::NumberLaws::no_number_after_plus, crate::proofs::NumberLaws::no_number_after_zero))]
 fn is_plain(word: &[u8]) -> bool
-    ensures plain { result ≡ true → (has_leading_zero word.now ≡ false) × (slice_index word.now 0 ≢ 43) }
+    ensures plain { result ≡ true → (has_leading_zero word.now ≡ false)
+        × (slice_index word.now 0 ≢ 43) }
     ensures other { result ≡ false → (most : ℕ) → number_of most word.now ≡ None }
 {
     match word {

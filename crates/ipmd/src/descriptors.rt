@@ -1,4 +1,4 @@
-//! Whether the system lets the program have as many descriptors as a service may need.
+//! Warns where the system lets the program have fewer descriptors than a service may need.
 
 use log::{Log, warn};
 use mediator_server::Plan;
@@ -20,7 +20,7 @@ pub(crate) fn warn_of_few<R: Files + AllocGlobal>(rt: &R, noting: &impl Log, pla
     }
 }
 
-/// The same by the text of the limits.
+/// Warns by `limits`, the text of what the system allows, where the descriptors are too few.
 fn warn_within(noting: &impl Log, limits: &str, plan: &Plan) {
     let (connections, collectors) = (plan.connections, plan.deliver.len() as u64);
     let needed = connections

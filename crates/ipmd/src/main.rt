@@ -7,21 +7,22 @@
 //! - `replay`: `ipmd replay`.
 //! - `system`: [`System`], what the program asks of the system.
 //!
-//! What may be asked for, and what words ask for, is `ipmd_command_line`'s. What is done for one stream, one policy or one
-//! text is `ipmd_offline`'s, with the texts and the exit statuses of faults; for a journal's file it is `ipmd_verify`'s and `ipmd_explain`'s.
+//! What may be asked for, and what words ask for, is `ipmd_command_line`'s. What is done for one stream, one policy or one text
+//! is `ipmd_offline`'s, with the texts and the exit statuses of faults; for a journal's file it is `ipmd_verify`'s and
+//! `ipmd_explain`'s.
 //!
 //! Proved of `program`: it is safe, and what it calls for all commands but `serve` returns. Its status is 0 only where it did
 //! what the words ask for (`done`): the whole input, as octets or as what its hexadecimal text spells, was filtered with the
-//! policy, the name, the time and the target that the words give, the output got exactly the octets that `offline_filter` says
-//! of these messages, with `--hex` a line of digits for each message that is due, and the report counts them; or the text is a
-//! policy, and its counts were written; or the calls of a list were made, and their answers written; or settings were read,
-//! the plan that they ask for was served to its end, and the counts of what was accepted and handed out were written, of a
-//! journal in which each entry has its receipt; or the text of a legal history was written, or what explains it; or help or the version was written. Every other status is that of a fault with
-//! its cause (`fails`): the words ask for nothing that there is, the text has this fault, the mediator or the server stopped so,
-//! or a device failed or memory ran out. What was written by then is said with it. The stream for errors grew by exactly the
-//! line of the report (`Tells`), or of the fault, behind at most one line that names the file or the stream that failed
-//! (`Blames`), unless it failed itself; a policy's counts, answers, the help and the version leave it alone (`Reports`). Of a
-//! server that was run these lines stand behind notes of which nothing is told.
+//! policy, the name, the time and the target that the words give, the output got exactly the octets that `offline_filter` says of
+//! these messages, with `--hex` a line of digits for each message that is due, and the report counts them; or the text is a
+//! policy, and its counts were written; or the calls of a list were made, and their answers written; or settings were read, the
+//! plan that they ask for was served to its end, and the counts of what was accepted and handed out were written, of a journal in
+//! which each entry has its receipt; or the text of a legal history was written, or what explains it; or help or the version was
+//! written. Every other status is that of a fault with its cause (`fails`): the words ask for nothing that there is, the text has
+//! this fault, the mediator or the server stopped so, or a device failed or memory ran out. What was written by then is said with
+//! it. The stream for errors grew by exactly the line of the report (`Tells`), or of the fault, behind at most one line that
+//! names the file or the stream that failed (`Blames`), unless it failed itself; a policy's counts, answers, the help and the
+//! version leave it alone (`Reports`). Of a server that was run these lines stand behind notes of which nothing is told.
 //!
 //! Shown by tests alone: a server's notes, the order of faults, and how far a journal's file was read, which `progress` is told.
 #![tactic(auto)]
@@ -91,11 +92,11 @@ fn words_after_name<R: Env + AllocGlobal>(rt: &R) -> Result<Vec<String>, Program
     }
 }
 
-/// Does what the words ask for, and answers the exit status: 0 where it is done, 1 where the input is
-/// refused, 2 for a refused command line, 3 where a device fails. `output` gets what was asked for, and
-/// `errors` the report or the fault, and a server's notes; what `errors` doesn't take is dropped.
-/// `descriptor` is that of `errors`, by which a server finds out whether a note would wait. `progress` is told how far
-/// a journal's file was read.
+/// Does what `words` ask for, those behind the program's name, and answers the exit status: 0 where it is done, 1 where the input
+/// is refused or memory runs out, 2 for a refused command line, 3 where a device fails. `input` is the stream that `ipmd offline`
+/// filters. `output` gets what was asked for, and `errors` the report or the fault, and a server's notes; what `errors` doesn't
+/// take is dropped. `descriptor` is that of `errors`, by which a server finds out whether a note would wait. `progress` is told
+/// how far a journal's file was read. All else that is asked of the system goes through `rt`.
 #[tactic(auto, using(crate::proofs::Statuses::no_fault_is_done))]
 pub fn program<
     R: System + Net<Listener = TcpListener, Stream = TcpStream>,
@@ -113,8 +114,15 @@ pub fn program<
     descriptor: RawFd,
     progress: &mut P,
 ) -> u8
-    ensures done { result ≡ 0 → IsDone (map S.text words.now) (I.remaining input) (O.contents (device_inner output.old)) (O.contents (device_inner output.new)) (device_failed errors.new) (E.contents (device_inner errors.old)) (E.contents (device_inner errors.new)) }
-    ensures fails { result ≢ 0 → (e : ProgramFault) × (result ≡ status_of e) × IsFault (map S.text words.now) e (I.remaining input) (O.contents (device_inner output.old)) (O.contents (device_inner output.new)) (device_failed errors.new) (E.contents (device_inner errors.old)) (E.contents (device_inner errors.new)) }
+    ensures done { result ≡ 0 → IsDone (map S.text words.now) (I.remaining input)
+        (O.contents (device_inner output.old)) (O.contents (device_inner output.new))
+        (device_failed errors.new)
+        (E.contents (device_inner errors.old)) (E.contents (device_inner errors.new)) }
+    ensures fails { result ≢ 0 → (e : ProgramFault) × (result ≡ status_of e)
+        × IsFault (map S.text words.now) e (I.remaining input)
+        (O.contents (device_inner output.old)) (O.contents (device_inner output.new))
+        (device_failed errors.new)
+        (E.contents (device_inner errors.old)) (E.contents (device_inner errors.new)) }
 {
     match run(rt, words, input, output, errors, descriptor, progress) {
         Ok(Some(report)) => {
@@ -126,7 +134,10 @@ pub fn program<
     }
 }
 
-/// Does what the words ask for. The report is that of `ipmd offline`.
+/// Does what the words ask for. The report is that of `ipmd offline`; other commands have none.
+///
+/// # Errors
+/// Those of the command.
 #[tactic(auto, using(ipmd_offline::proofs::Lines::kept))]
 fn run<
     R: System + Net<Listener = TcpListener, Stream = TcpStream>,
@@ -144,8 +155,12 @@ fn run<
     descriptor: RawFd,
     progress: &mut P,
 ) -> Result<Option<OfflineReport>, ProgramFault>
-    ensures ok { IfOk result (λ report. Does (map S.text words.now) report (I.remaining input) (O.contents (device_inner output.old)) (O.contents (device_inner output.new)) errors.old errors.new) }
-    ensures err { IfErr result (λ e. FailsFor (map S.text words.now) e (I.remaining input) (O.contents (device_inner output.old)) (O.contents (device_inner output.new)) errors.old errors.new) }
+    ensures ok { IfOk result (λ report. Does (map S.text words.now) report (I.remaining input)
+        (O.contents (device_inner output.old)) (O.contents (device_inner output.new))
+        errors.old errors.new) }
+    ensures err { IfErr result (λ e. FailsFor (map S.text words.now) e (I.remaining input)
+        (O.contents (device_inner output.old)) (O.contents (device_inner output.new))
+        errors.old errors.new) }
 {
     match read_command_line(rt.alloc(), words)? {
         Task::Offline(options) => Ok(Some(filter(rt, &options, input, output)?)),

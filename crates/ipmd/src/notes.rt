@@ -16,7 +16,7 @@ use std::os::fd::RawFd;
 use std::sync::{Mutex, Wait};
 use std::time::{Clock, Duration};
 
-/// The most octets of a note, its line feed among them. So many a pipe takes without waiting, where it takes any.
+/// The most octets of a note, its line feed among them. A pipe takes this many without waiting, where it takes any.
 const LONGEST_NOTE: usize = 4096;
 
 /// What says whether a descriptor takes octets now.
@@ -28,8 +28,10 @@ struct Gate {
 }
 
 impl Gate {
+    /// The gate of `descriptor`.
+    ///
     /// # Errors
-    /// Nothing says so of this descriptor, as of a file, where no write waits; or memory ran out.
+    /// The system can't say this of the descriptor, as of a file, where no write waits; or memory ran out.
     fn before(rt: &impl Net, alloc: Global, descriptor: RawFd) -> io::Result<Gate> {
         let events = Events::with_capacity(alloc, 1)?;
         let poll = Poll::new(rt)?;
@@ -68,6 +70,7 @@ struct Stream<'e, E> {
 }
 
 impl<E: Write> Stream<'_, E> {
+    /// Whether a note can be written without waiting.
     fn is_open(&mut self) -> bool {
         match &mut self.gate {
             Some(gate) => gate.is_open(),
@@ -116,7 +119,8 @@ pub(crate) struct Notes<'r, 'e, R, E> {
 }
 
 impl<'r, 'e, R: Net + AllocGlobal, E> Notes<'r, 'e, R, E> {
-    /// Notes that are written to a device, which has this descriptor; each with the machine's time before it, where they are timed.
+    /// Notes that are written to `device`, whose descriptor is `descriptor`. Where `are_timed` is set, each has the machine's
+    /// time before it. `rt` tells the time, and has the lock under which threads note.
     pub(crate) fn over(
         rt: &'r R,
         device: &'e mut Device<E>,

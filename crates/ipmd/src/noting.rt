@@ -22,6 +22,7 @@ pub(crate) struct Noting<'a, R, L> {
 }
 
 impl<'a, R, L> Noting<'a, R, L> {
+    /// The runtime `rt`, with `log` beside it.
     pub(crate) fn new(rt: &'a R, log: &'a L) -> Noting<'a, R, L> {
         Noting { rt, log }
     }

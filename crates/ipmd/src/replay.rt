@@ -1,4 +1,4 @@
-//! `ipmd replay`.
+//! Does what `ipmd replay` is asked for.
 
 ghost use Rattle.std.specs.Prelude.{IfErr, IfOk, OnOk};
 ghost use Rattle.octet_devices.specs.Device.{device_inner};
@@ -20,21 +20,24 @@ use std::rt::Files;
 /// How many octets of a journal's file are written at once.
 const JOURNAL_BUFFER: usize = 65_536;
 
-/// Makes the calls that a file lists on a new mediator, one after another. Then it keeps the journal of what was accepted,
-/// where that is asked for, and writes the answer to each call.
+/// Makes the calls that a file lists, as `options` say, on a new mediator, one after another. Then it keeps the journal of what
+/// was accepted, where that is asked for, and writes the answer to each call to `output`. `rt` reads and writes files and gives
+/// memory.
 ///
 /// # Errors
 /// `Device`, of the list's file where that can't be read or isn't UTF-8, of the journal's where that can't be written, or of the
-/// output; `Calls` where the text is no list of calls; `BadLimits`; `OutOfMemory`. Only where the output fails a front of the
-/// answers may have been written.
+/// output; `Calls` where the text is no list of calls; `BadLimits` where the limits that it sets are out of their ranges; or
+/// `OutOfMemory`. Only where the output fails a front of the answers may have been written.
 #[tactic(auto, using(ipmd_offline::proofs::Lines::kept, crate::proofs::Replaying::no_calls, crate::proofs::Replaying::no_journal, crate::proofs::Replaying::no_answer))]
 pub fn replay<R: Files + AllocGlobal, O: Write>(
     rt: &R,
     options: &ReplayOptions<'_>,
     output: &mut Device<O>,
 ) -> Result<(), ProgramFault>
-    ensures ok { OnOk result (Replays (O.contents (device_inner output.old)) (O.contents (device_inner output.new))) }
-    ensures err { IfErr result (λ e. RefusesToReplay options.entry.now e (O.contents (device_inner output.old)) (O.contents (device_inner output.new))) }
+    ensures ok { OnOk result (Replays
+        (O.contents (device_inner output.old)) (O.contents (device_inner output.new))) }
+    ensures err { IfErr result (λ e. RefusesToReplay options.entry.now e
+        (O.contents (device_inner output.old)) (O.contents (device_inner output.new))) }
 {
     let text = read_text(rt, options.calls)?;
     let Transcript { replies, mediator } = run_text(rt.alloc(), text.as_str())?;

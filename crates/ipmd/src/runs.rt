@@ -1,4 +1,4 @@
-//! Runs of a server that follow each other.
+//! Makes the runs of a server, which follow each other, and keeps their journals.
 
 ghost use Rattle.std.specs.Prelude.{◌≡◌, ℕ, List, [], IfErr, IfOk, OnOk, string_bytes};
 ghost use Rattle.std.specs.Io.KnownBytes.{Appends};
@@ -42,8 +42,8 @@ struct Keeping {
 /// each.
 ///
 /// # Errors
-/// `Device` for the journals' folder, or for want of random numbers; then of a run the refusals of `listen`; `Device` where the output fails, and, behind the
-/// run's line, where its journal can't be kept; `OutOfMemory`.
+/// `Device` for the journals' folder, or for want of random numbers; then of a run the refusals of `listen`; `Device` where the
+/// output fails, and, behind the run's line, where its journal can't be kept; `OutOfMemory`.
 #[tactic(auto, using(ipmd_offline::proofs::Lines::kept))]
 pub(crate) fn serve_runs<
     R: System,
@@ -51,8 +51,10 @@ pub(crate) fn serve_runs<
     O: Write,
 >(rt: &R, noting: &N, service: Service, output: &mut Device<O>) -> Result<(), ProgramFault>
     requires asked { IsAskedFor service }
-    ensures ok { OnOk result (Serves (O.contents (device_inner output.old)) (O.contents (device_inner output.new))) }
-    ensures err { IfErr result (λ e. StopsServing e (O.contents (device_inner output.old)) (O.contents (device_inner output.new))) }
+    ensures ok { OnOk result (Serves
+        (O.contents (device_inner output.old)) (O.contents (device_inner output.new))) }
+    ensures err { IfErr result (λ e. StopsServing e
+        (O.contents (device_inner output.old)) (O.contents (device_inner output.new))) }
 {
     let Service {
         mut plan,
@@ -96,8 +98,10 @@ fn serve_run<
     output: &mut Device<O>,
 ) -> Result<bool, ProgramFault>
     requires allowed { AreAllowed limits }
-    ensures made { IfOk result (λ more. MakesRun more plan.old plan.new (O.contents (device_inner output.old)) (O.contents (device_inner output.new))) }
-    ensures err { IfErr result (λ e. StopsRun e plan.old (O.contents (device_inner output.old)) (O.contents (device_inner output.new))) }
+    ensures made { IfOk result (λ more. MakesRun more plan.old plan.new
+        (O.contents (device_inner output.old)) (O.contents (device_inner output.new))) }
+    ensures err { IfErr result (λ e. StopsRun e plan.old
+        (O.contents (device_inner output.old)) (O.contents (device_inner output.new))) }
 {
     let ended = make_run(noting, rt.alloc(), plan, limits, keys)?;
     let more = is_followed(&ended);
@@ -129,8 +133,11 @@ fn secret_keys<R: RandomSource>(rt: &R) -> Result<HashKeys, ProgramFault>
     }
 }
 
-/// Where the journals of so many runs are kept. Where several may follow each other, their numbers go on behind those of the
-/// folder's files.
+/// Where the journals of `runs` runs are kept, under `path`. Where several may follow each other, their numbers go on behind
+/// those of the folder's files.
+///
+/// # Errors
+/// `Device`, of the folder, where it can't be read; or `OutOfMemory`.
 #[tactic(auto, using(crate::proofs::Running::folder_begins))]
 fn keeping_of<R: Files + AllocGlobal>(
     rt: &R,
@@ -161,7 +168,8 @@ fn make_run<
     keys: HashKeys,
 ) -> Result<Ended, ProgramFault>
     requires allowed { AreAllowed limits }
-    ensures served { IfOk result (λ ended. IsServed plan.now [] ended.closed.mediator.history ended.closed.accepted ended.closed.handed) }
+    ensures served { IfOk result (λ ended. IsServed plan.now
+        [] ended.closed.mediator.history ended.closed.accepted ended.closed.handed) }
     ensures err { IfErr result IsListenFault }
 {
     let mut mediator = Mediator::new(alloc, limits)?;
@@ -200,9 +208,12 @@ fn end_run<R: Files + AllocGlobal, O: Write>(
     ended: Ended,
     output: &mut Device<O>,
 ) -> Result<Journal, ProgramFault>
-    ensures told { OnOk result (Appends (O.contents (device_inner output.old)) (O.contents (device_inner output.new)) (served (run_of ended))) }
+    ensures told { OnOk result (Appends
+        (O.contents (device_inner output.old)) (O.contents (device_inner output.new))
+        (served (run_of ended))) }
     ensures journal { IfOk result (λ journal. journal.entries ≡ ended.closed.mediator.history) }
-    ensures err { IfErr result (λ e. RefusesToTell e (run_of ended) (O.contents (device_inner output.old)) (O.contents (device_inner output.new))) }
+    ensures err { IfErr result (λ e. RefusesToTell e (run_of ended)
+        (O.contents (device_inner output.old)) (O.contents (device_inner output.new))) }
 {
     let line = line_of(rt.alloc(), &ended)?;
     let Ended { closed, stopped: _ } = ended;
@@ -239,7 +250,8 @@ fn keep<R: Files + AllocGlobal>(
 /// # Errors
 /// `OutOfMemory`.
 fn renew_policy(alloc: Global, plan: &mut Plan, journal: &Journal) -> Result<(), AllocError>
-    ensures { OnOk result ((asked : Asked) (policy : List ℕ) → IsPlanOf asked policy plan.old → IsPlanOf asked (policy_after policy journal.now.entries) plan.new) }
+    ensures { OnOk result ((asked : Asked) (policy : List ℕ) → IsPlanOf asked policy plan.old
+        → IsPlanOf asked (policy_after policy journal.now.entries) plan.new) }
 {
     if let Some(text) = journal.last_edit() {
         plan.policy = String::from_str(alloc, text)?;

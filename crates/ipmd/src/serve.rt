@@ -1,4 +1,4 @@
-//! `ipmd serve`.
+//! Does what `ipmd serve` is asked for.
 
 ghost use Rattle.std.specs.Prelude.{◌≡◌, IfErr, IfOk, OnOk, string_bytes};
 ghost use Rattle.octet_devices.specs.Device.{device_inner};
@@ -37,16 +37,17 @@ pub(crate) struct Service {
     pub(crate) runs: u64,
 }
 
-/// Serves exporters and collectors as the settings in a file say, and writes what was accepted and handed out when all of
-/// them have ended: a run. Where its journal was full and nobody stopped it, another run begins with the policy that was last in
-/// force, as often as the settings allow. Each run's journal is kept, where the settings have a path for it. `errors`, which has
-/// this descriptor, gets the notes of the runs, but for those that would wait there.
+/// Serves exporters and collectors as the settings in the file whose path is `path` say, and writes to `output` what was accepted
+/// and handed out when all of them have ended: a run. Where its journal was full and nobody stopped it, another run begins with
+/// the policy that was last in force, as often as the settings allow. Each run's journal is kept, where the settings have a path
+/// for it. `errors`, whose descriptor is `descriptor`, gets the notes of the runs, but for those that would wait there. All that
+/// is asked of the system goes through `rt`.
 ///
 /// # Errors
 /// In this order: `Device` where the settings' file can't be read or isn't UTF-8, `Settings`, and `Device` for the policy's file
-/// and the journals' folder, each with its path; then of a run the refusals of `listen`: `Policy` or `Core` where the mediator refuses the policy or
-/// a subscriber, `Device` where an address can't be listened on or connected to or a thread is refused, `Close`; `Device` where
-/// the output fails, and, behind the run's line, where its journal can't be kept; `OutOfMemory`.
+/// and the journals' folder, each with its path; then of a run the refusals of `listen`: `Policy` or `Core` where the mediator
+/// refuses the policy or a subscriber, `Device` where an address can't be listened on or connected to or a thread is refused,
+/// `Close`; `Device` where the output fails, and, behind the run's line, where its journal can't be kept; `OutOfMemory`.
 #[tactic(auto, using(ipmd_offline::proofs::Lines::kept))]
 pub(crate) fn serve<
     R: System + Net<Listener = TcpListener, Stream = TcpStream>,
@@ -59,8 +60,11 @@ pub(crate) fn serve<
     errors: &mut Device<E>,
     descriptor: RawFd,
 ) -> Result<(), ProgramFault>
-    ensures ok { OnOk result (Serves (O.contents (device_inner output.old)) (O.contents (device_inner output.new))) }
-    ensures err { IfErr result (λ e. FailsToServe path.now e (O.contents (device_inner output.old)) (O.contents (device_inner output.new)) errors.old errors.new) }
+    ensures ok { OnOk result (Serves
+        (O.contents (device_inner output.old)) (O.contents (device_inner output.new))) }
+    ensures err { IfErr result (λ e. FailsToServe path.now e
+        (O.contents (device_inner output.old)) (O.contents (device_inner output.new))
+        errors.old errors.new) }
 {
     let service = prepare(rt, path)?;
     let notes = Notes::over(rt, errors, descriptor, !is_journal(rt));
@@ -93,7 +97,8 @@ fn prepare<R: Files + AllocGlobal>(rt: &R, path: &str) -> Result<Service, Progra
 
 /// What settings ask for, with this policy.
 fn service_of(alloc: Global, settings: Settings, policy: String) -> Result<Service, ProgramFault>
-    ensures is { IfOk result (λ service. IsServiceOf (asked settings) (string_bytes policy) service) }
+    ensures is { IfOk result (λ service.
+        IsServiceOf (asked settings) (string_bytes policy) service) }
     ensures err { IfErr result (λ e. e ≡ OutOfMemory) }
 {
     let Settings {

@@ -1,4 +1,4 @@
-//! What the program asks of the system.
+//! The handles by which the program asks the system for anything, under one name.
 
 use std::env::Env;
 use std::random::RandomSource;

@@ -1,4 +1,4 @@
-//! What words ask for.
+//! Reads the words of a command line: the commands with their options, and the task that words ask for.
 ghost use Rattle.std.specs.Prelude.{◌≡◌, ℕ, Option, codes, false, map, option_map, IfErr, IfOk, IfSome, IsSome};
 ghost use Rattle.ipmd_command_line.specs.declared.task.OfflineOptions.{OfflineOptions};
 ghost use Rattle.ipmd_command_line.specs.declared.task.ReplayOptions.{ReplayOptions};
@@ -25,6 +25,7 @@ pub const VERSION: &str = "0.2.0";
 /// The kit with which this version was proved, as `rt version` names it.
 pub const KIT: &str = "rattle-kit-13f logic dac8208d650f15bf";
 
+/// The names of the commands.
 const OFFLINE: &str = "offline";
 
 const CHECK_POLICY: &str = "check-policy";
@@ -37,6 +38,7 @@ const VERIFY: &str = "verify";
 
 const EXPLAIN: &str = "explain";
 
+/// The names of the options.
 const POLICY: &str = "policy";
 
 const POLICY_TEXT: &str = "policy-text";
@@ -65,10 +67,11 @@ const POSITION: &str = "position";
 
 const INDEX: &str = "index";
 
-/// What the words after the program's name ask for.
+/// The task that `words` ask for: the words behind the program's name. Texts of the answer are those words. What the parser makes
+/// takes memory from `alloc`.
 ///
 /// # Errors
-/// `Refused` where they ask for nothing that there is, `OutOfMemory`.
+/// `Refused` where they ask for nothing that there is, with the text for the standard error; or `OutOfMemory`.
 pub fn read_command_line<'a, S: AsStr>(
     alloc: Global,
     words: &'a [S],
@@ -106,7 +109,8 @@ fn named_command<'a>(alloc: Global, matches: &ArgMatches<'_>) -> Result<Command<
 /// The task of a command line that the parser has accepted.
 fn task_of<'a>(matches: &ArgMatches<'a>) -> Option<Task<'a>>
     ensures found { IfSome result (λ task. IsCommandIn task (subcommand_rows_of matches.now)) }
-    ensures only { (task : Task) → IsCommandIn task (subcommand_rows_of matches.now) → IsSome result }
+    ensures only { (task : Task) → IsCommandIn task (subcommand_rows_of matches.now)
+        → IsSome result }
 {
     match matches.subcommand()? {
         (OFFLINE, chosen) => Some(Task::Offline(offline_options(chosen)?)),
@@ -122,7 +126,8 @@ fn task_of<'a>(matches: &ArgMatches<'a>) -> Option<Task<'a>>
 /// The options of `ipmd offline`.
 fn offline_options<'a>(chosen: &ArgMatches<'a>) -> Option<OfflineOptions<'a>>
     ensures found { IfSome result (λ options. AreOptions options (rows_of (found_of chosen.now))) }
-    ensures only { (options : OfflineOptions) → AreOptions options (rows_of (found_of chosen.now)) → IsSome result }
+    ensures only { (options : OfflineOptions) → AreOptions options (rows_of (found_of chosen.now))
+        → IsSome result }
 {
     Some(OfflineOptions {
         policy: policy_source(chosen)?,
@@ -136,8 +141,10 @@ fn offline_options<'a>(chosen: &ArgMatches<'a>) -> Option<OfflineOptions<'a>>
 
 /// The options of `ipmd replay`.
 fn replay_options<'a>(chosen: &ArgMatches<'a>) -> Option<ReplayOptions<'a>>
-    ensures found { IfSome result (λ options. AreReplayOptions options (rows_of (found_of chosen.now))) }
-    ensures only { (options : ReplayOptions) → AreReplayOptions options (rows_of (found_of chosen.now)) → IsSome result }
+    ensures found { IfSome result
+        (λ options. AreReplayOptions options (rows_of (found_of chosen.now))) }
+    ensures only { (options : ReplayOptions)
+        → AreReplayOptions options (rows_of (found_of chosen.now)) → IsSome result }
 {
     Some(ReplayOptions {
         calls: chosen.get_str(CALLS)?,
@@ -147,8 +154,10 @@ fn replay_options<'a>(chosen: &ArgMatches<'a>) -> Option<ReplayOptions<'a>>
 
 /// The options of `ipmd verify`.
 fn verify_options<'a>(chosen: &ArgMatches<'a>) -> Option<VerifyOptions<'a>>
-    ensures found { IfSome result (λ options. AreVerifyOptions options (rows_of (found_of chosen.now))) }
-    ensures only { (options : VerifyOptions) → AreVerifyOptions options (rows_of (found_of chosen.now)) → IsSome result }
+    ensures found { IfSome result
+        (λ options. AreVerifyOptions options (rows_of (found_of chosen.now))) }
+    ensures only { (options : VerifyOptions)
+        → AreVerifyOptions options (rows_of (found_of chosen.now)) → IsSome result }
 {
     Some(VerifyOptions {
         journal: chosen.get_str(JOURNAL)?,
@@ -158,8 +167,10 @@ fn verify_options<'a>(chosen: &ArgMatches<'a>) -> Option<VerifyOptions<'a>>
 
 /// The options of `ipmd explain`.
 fn explain_options<'a>(chosen: &ArgMatches<'a>) -> Option<ExplainOptions<'a>>
-    ensures found { IfSome result (λ options. AreExplainOptions options (rows_of (found_of chosen.now))) }
-    ensures only { (options : ExplainOptions) → AreExplainOptions options (rows_of (found_of chosen.now)) → IsSome result }
+    ensures found { IfSome result
+        (λ options. AreExplainOptions options (rows_of (found_of chosen.now))) }
+    ensures only { (options : ExplainOptions)
+        → AreExplainOptions options (rows_of (found_of chosen.now)) → IsSome result }
 {
     Some(ExplainOptions {
         journal: chosen.get_str(JOURNAL)?,
@@ -171,8 +182,11 @@ fn explain_options<'a>(chosen: &ArgMatches<'a>) -> Option<ExplainOptions<'a>>
 
 /// The position of the one message that is to be explained, if there is one.
 fn position_of(chosen: &ArgMatches<'_>) -> Option<Option<u64>>
-    ensures found { IfSome result (λ position. IsMaybeNumber 64 (codes "position") (rows_of (found_of chosen.now)) position) }
-    ensures only { (position : Option ℕ) → IsMaybeNumber 64 (codes "position") (rows_of (found_of chosen.now)) position → IsSome result }
+    ensures found { IfSome result (λ position.
+        IsMaybeNumber 64 (codes "position") (rows_of (found_of chosen.now)) position) }
+    ensures only { (position : Option ℕ)
+        → IsMaybeNumber 64 (codes "position") (rows_of (found_of chosen.now)) position
+        → IsSome result }
 {
     match chosen.get_str(POSITION) {
         Some(_) => Some(Some(chosen.get_one::<u64>(POSITION)?)),
@@ -182,8 +196,10 @@ fn position_of(chosen: &ArgMatches<'_>) -> Option<Option<u64>>
 
 /// The place in its message of the one record that is to be explained, if there is one.
 fn index_of(chosen: &ArgMatches<'_>) -> Option<Option<u32>>
-    ensures found { IfSome result (λ index. IsMaybeNumber 32 (codes "index") (rows_of (found_of chosen.now)) index) }
-    ensures only { (index : Option ℕ) → IsMaybeNumber 32 (codes "index") (rows_of (found_of chosen.now)) index → IsSome result }
+    ensures found { IfSome result (λ index.
+        IsMaybeNumber 32 (codes "index") (rows_of (found_of chosen.now)) index) }
+    ensures only { (index : Option ℕ)
+        → IsMaybeNumber 32 (codes "index") (rows_of (found_of chosen.now)) index → IsSome result }
 {
     match chosen.get_str(INDEX) {
         Some(_) => Some(Some(chosen.get_one::<u32>(INDEX)?)),
@@ -194,7 +210,8 @@ fn index_of(chosen: &ArgMatches<'_>) -> Option<Option<u32>>
 /// Where the policy comes from, where exactly one option names it.
 fn policy_source<'a>(chosen: &ArgMatches<'a>) -> Option<PolicySource<'a>>
     ensures found { IfSome result (λ source. IsSource source (rows_of (found_of chosen.now))) }
-    ensures only { (source : PolicySource) → IsSource source (rows_of (found_of chosen.now)) → IsSome result }
+    ensures only { (source : PolicySource) → IsSource source (rows_of (found_of chosen.now))
+        → IsSome result }
 {
     match (chosen.get_str(POLICY), chosen.get_str(POLICY_TEXT)) {
         (Some(path), None) => Some(PolicySource::File(path)),
@@ -206,7 +223,8 @@ fn policy_source<'a>(chosen: &ArgMatches<'a>) -> Option<PolicySource<'a>>
 
 /// The value of the option with this name.
 fn value_of<'a>(chosen: &ArgMatches<'a>, name: &str) -> Option<&'a str>
-    ensures { first_of name.now (rows_of (found_of chosen.now)) ≡ option_map (λ value. value.now) result }
+    ensures { first_of name.now (rows_of (found_of chosen.now))
+        ≡ option_map (λ value. value.now) result }
 {
     chosen.get_str(name)
 }

@@ -1,3 +1,4 @@
+//! What `ipmd` may be asked to do: a task for each command, with its options.
 /// Where the text of a policy comes from.
 #[derive(Clone, Copy, Debug)]
 pub enum PolicySource<'a> {
@@ -10,12 +11,13 @@ pub enum PolicySource<'a> {
 /// What `ipmd offline` is to do.
 #[derive(Clone, Copy, Debug)]
 pub struct OfflineOptions<'a> {
+    /// The policy.
     pub policy: PolicySource<'a>,
     /// The name of the subscriber.
     pub subscriber: &'a str,
     /// The Export Time of each written message, in seconds since 1970 (RFC 7011, section 3.1).
     pub now: u32,
-    /// How long a written message may be, in octets.
+    /// How long a written message may be, in octets. One with a single template or record may be longer.
     pub target: u16,
     /// The file that gets the audit lines; where there is none, none are made.
     pub audit: Option<&'a str>,
@@ -69,6 +71,6 @@ pub enum Task<'a> {
     Verify(VerifyOptions<'a>),
     /// To explain what a subscription saw, by a journal's file.
     Explain(ExplainOptions<'a>),
-    /// To show the help or the version.
+    /// To print the help or the version: the text is the parser's.
     Show(clap::Error),
 }

@@ -1,4 +1,4 @@
-//! What is kept of the entries so far, and what is said of the next one.
+//! What is kept of the entries before, and what is said of the next one.
 ghost use Rattle.std.specs.Prelude.{◌≡◌, ◌++◌, ◌∷◌, ◌+◌, ◌<◌, ◌≤◌, ◌^◌, [], ℕ, List, length, IfOk, IfSome, IfNone, IsSomeAnd, string_bytes};
 ghost use Rattle.ipfix_template.specs.DataRecord.{DataRecord};
 ghost use Rattle.event_journal.specs.declared.entry.Entry.{Entry as OneEntry};
@@ -40,16 +40,18 @@ pub(crate) struct Explainer {
     exporters: Exporters,
     /// The name of the subscription.
     name: String,
-    /// Whether it began, and whether it is served.
+    /// Whether the subscription began.
     has_begun: bool,
+    /// Whether it is served.
     is_served: bool,
-    /// Whether a message was asked for, and whether it had a record that was.
+    /// Whether a message was met that is asked for.
     met_message: bool,
+    /// Whether it had a record that is asked for.
     met_record: bool,
 }
 
 impl Explainer {
-    /// Before any entry.
+    /// An explainer before any entry, for this question. Memory is taken from `alloc`.
     ///
     /// # Errors
     /// Want of memory.
@@ -90,7 +92,7 @@ impl Explainer {
         Some(Absent::Record { position, index })
     }
 
-    /// Takes the history's next entry, and answers what is said of it.
+    /// Takes the history's next entry, `entry`, and answers what is said of it.
     ///
     /// # Errors
     /// Want of memory.
@@ -113,6 +115,7 @@ impl Explainer {
         }
     }
 
+    /// A session opens.
     fn open(&mut self, session: u64) -> Result<String, AllocError>
         ensures { IfOk result (λ text. Takes self.old (Open session) self.new (string_bytes text)) }
     {
@@ -123,15 +126,19 @@ impl Explainer {
         Ok(self.silent())
     }
 
+    /// A session closes.
     fn close(&mut self, session: u64) -> Result<String, AllocError>
-        ensures { IfOk result (λ text. Takes self.old (Close session) self.new (string_bytes text)) }
+        ensures { IfOk result
+            (λ text. Takes self.old (Close session) self.new (string_bytes text)) }
     {
         self.exporters.close(session);
         Ok(self.silent())
     }
 
+    /// A policy takes force.
     fn edit(&mut self, text: &str) -> Result<String, AllocError>
-        ensures { IfOk result (λ said. Takes self.old (Edit text.now) self.new (string_bytes said)) }
+        ensures { IfOk result
+            (λ said. Takes self.old (Edit text.now) self.new (string_bytes said)) }
     {
         let Some(policy) = policy_in(self.alloc, text)? else {
             return Ok(self.silent());
@@ -140,8 +147,10 @@ impl Explainer {
         Ok(self.silent())
     }
 
+    /// A subscription begins.
     fn subscribe(&mut self, sub: u64, name: &Name) -> Result<String, AllocError>
-        ensures { IfOk result (λ text. Takes self.old (Subscribe sub name.now) self.new (string_bytes text)) }
+        ensures { IfOk result (λ text. Takes self.old (Subscribe sub name.now) self.new
+            (string_bytes text)) }
     {
         if sub != self.question.sub {
             return Ok(self.silent());
@@ -154,7 +163,8 @@ impl Explainer {
 
     /// A subscription ends, or is cut.
     fn end(&mut self, sub: u64) -> Result<String, AllocError>
-        ensures ended { IfOk result (λ text. Takes self.old (Unsubscribe sub) self.new (string_bytes text)) }
+        ensures ended { IfOk result (λ text.
+            Takes self.old (Unsubscribe sub) self.new (string_bytes text)) }
         ensures cut { IfOk result (λ text. Takes self.old (Cut sub) self.new (string_bytes text)) }
     {
         if sub != self.question.sub {
@@ -164,6 +174,7 @@ impl Explainer {
         Ok(self.silent())
     }
 
+    /// The clock goes on.
     fn advance(&mut self, t: u64) -> Result<String, AllocError>
         ensures { IfOk result (λ text. Takes self.old (Advance t) self.new (string_bytes text)) }
     {
@@ -187,8 +198,10 @@ impl Explainer {
         self.position = self.position.saturating_add(1);
     }
 
+    /// A message is received, and its records are explained.
     fn message(&mut self, session: u64, number: u64, octets: &Bytes) -> Result<String, AllocError>
-        ensures { IfOk result (λ text. Takes self.old (Message session number octets.now) self.new (string_bytes text)) }
+        ensures { IfOk result (λ text. Takes self.old (Message session number octets.now) self.new
+            (string_bytes text)) }
     {
         let Some(reading) = self.read(session, number, octets)? else {
             return Ok(self.silent());
@@ -207,9 +220,13 @@ impl Explainer {
     /// # Errors
     /// Want of memory.
     fn read(&self, session: u64, number: u64, octets: &Bytes) -> Result<Option<Reading>, AllocError>
-        ensures some { IfOk result (λ found. IfSome found (λ reading. (h : List OneEntry) → AreExporters self.now.exporters h → IsReadOf h session number octets.now reading)) }
-        ensures room { IfOk result (λ found. IfSome found (λ reading. IsSomeAnd (at_key session self.now.exporters.sessions) (λ o. o.accepted + 1 < 2 ^ 64))) }
-        ensures none { IfOk result (λ found. IfNone found ((h : List OneEntry) → AreExporters self.now.exporters h → length h ≤ MOST_ENTRIES → IsAccepted h (Message session number octets.now) → ⊥)) }
+        ensures some { IfOk result (λ found. IfSome found (λ reading. (h : List OneEntry)
+            → AreExporters self.now.exporters h → IsReadOf h session number octets.now reading)) }
+        ensures room { IfOk result (λ found. IfSome found (λ reading. IsSomeAnd
+            (at_key session self.now.exporters.sessions) (λ o. o.accepted + 1 < 2 ^ 64))) }
+        ensures none { IfOk result (λ found. IfNone found ((h : List OneEntry)
+            → AreExporters self.now.exporters h → length h ≤ MOST_ENTRIES
+            → IsAccepted h (Message session number octets.now) → ⊥)) }
     {
         if number == u64::MAX {
             return Ok(None);
@@ -224,7 +241,7 @@ impl Explainer {
         }
     }
 
-    /// Notes that a message of so many records stands at this position.
+    /// Notes that a message of `records` records stands at this position.
     fn meet(&mut self, records: usize)
         ensures { self.new ≡ met self.old records }
     {
@@ -239,7 +256,8 @@ impl Explainer {
 
     /// What is said of the records of a message at this position.
     fn explained(&self, reading: &Reading) -> Result<String, AllocError>
-        ensures { IfOk result (λ text. string_bytes text ≡ said_of self.now reading.now.meaning.header.domain reading.now.meaning.records) }
+        ensures { IfOk result (λ text. string_bytes text
+            ≡ said_of self.now reading.now.meaning.header.domain reading.now.meaning.records) }
     {
         if !(self.question.asks_message(self.position) && self.is_served) {
             return Ok(String::new(self.alloc));
@@ -267,7 +285,8 @@ impl Explainer {
         place: usize,
         flow_record: &Record,
     ) -> Result<String, AllocError>
-        ensures { IfOk result (λ text. string_bytes text ≡ line_for self.now domain (place, flow_record.now)) }
+        ensures { IfOk result (λ text. string_bytes text
+            ≡ line_for self.now domain (place, flow_record.now)) }
     {
         if !self.question.asks_record(place) {
             return Ok(String::new(self.alloc));
@@ -275,8 +294,11 @@ impl Explainer {
         self.line(domain, place, flow_record)
     }
 
+    /// The line of a record at a place.
     fn line(&self, domain: u32, place: usize, flow_record: &Record) -> Result<String, AllocError>
-        ensures { IfOk result (λ text. string_bytes text ≡ line_by self.now.policy (string_bytes self.now.name) domain self.now.clock self.now.position place flow_record.now) }
+        ensures { IfOk result (λ text. string_bytes text
+            ≡ line_by self.now.policy (string_bytes self.now.name) domain self.now.clock
+            self.now.position place flow_record.now) }
     {
         let position = self.position;
         let name = self.name.as_str();

@@ -69,6 +69,7 @@ fn first_place(fields: &[FieldSpec], number: u16, other: u16) -> Option<usize>
         .position(|field| is_one_of(field.element, number, other))
 }
 
+/// Whether an element is one of IANA's registry with one of these numbers.
 fn is_one_of(element: ElementId, number: u16, other: u16) -> bool
     ensures { result ≡ is_one_of number other element }
 {
@@ -82,12 +83,14 @@ fn is_end(address: &[u8], port: &[u8]) -> bool
     is_address(address) && is_port(port)
 }
 
+/// Whether these octets are an address, by their number.
 fn is_address(octets: &[u8]) -> bool
     ensures { result ≡ is_address octets.now }
 {
     octets.len() == IPV4_OCTETS || octets.len() == IPV6_OCTETS
 }
 
+/// Whether these octets are a port, by their number.
 fn is_port(octets: &[u8]) -> bool
     ensures { result ≡ is_port octets.now }
 {

@@ -1,13 +1,13 @@
-//! What is asked of a journal.
+//! The question that is asked of a journal.
 
-/// Of which subscription, and of which of the journal's records it is to be said what that saw.
+/// What is asked of a journal: of which subscription, and of which records, it is to be said what the subscription saw.
 #[derive(Clone, Copy, Debug, PartialEq, Eq)]
 pub struct Question {
-    /// The number of the subscription.
+    /// The number of the subscription, from 1.
     pub sub: u64,
-    /// The position of the message; where there is none, of each.
+    /// The position of the message among the journal's entries, from 0. None: of each message.
     pub position: Option<u64>,
-    /// The place of the record in its message; where there is none, of each.
+    /// The place of the record in its message, from 0. None: of each record.
     pub index: Option<u32>,
 }
 
@@ -15,7 +15,7 @@ impl Question {
     ghost use Rattle.std.specs.Prelude.{◌≡◌};
     ghost use Rattle.ipmd_explain.specs.Explaining.{is_asked};
 
-    /// Whether the message at this position is asked for.
+    /// Whether the message at `position` is asked for.
     pub(crate) fn asks_message(&self, position: u64) -> bool
         ensures { result ≡ is_asked self.now.position position }
     {
@@ -25,7 +25,7 @@ impl Question {
         }
     }
 
-    /// Whether the record at this place of its message is asked for.
+    /// Whether the record at the place `index` of its message is asked for.
     pub(crate) fn asks_record(&self, index: usize) -> bool
         ensures { result ≡ is_asked self.now.index index }
     {
@@ -37,7 +37,7 @@ impl Question {
 
     ghost use Rattle.ipmd_explain.specs.Explaining.{is_within};
 
-    /// Whether a message of so many records has one that is asked for, or all are.
+    /// Whether a message of `records` records has one that is asked for, or all are.
     pub(crate) fn is_within(&self, records: usize) -> bool
         ensures { result ≡ is_within self.now.index records }
     {

@@ -1,4 +1,4 @@
-//! The history of a journal's file, entry by entry: it is verified and explained as it comes.
+//! Reads the history of a journal's file, entry by entry; verifies and explains it as it comes.
 ghost use Rattle.std.specs.Prelude.{◌≡◌, ◌≤◌, List, length, string_bytes, IfOk, IfErr, OnOk};
 ghost use Rattle.octet_devices.specs.Device.{device_inner};
 ghost use Rattle.event_journal.specs.declared.entry.Entry.{Entry as OneEntry};
@@ -36,8 +36,10 @@ pub(crate) fn explain_source<S: Source, O: Write, P: Progress>(
     output: &mut Device<O>,
     progress: &mut P,
 ) -> Result<(), ProgramFault>
-    ensures ok { OnOk result (Explains question (S.remaining source.old) (O.contents (device_inner output.old)) (O.contents (device_inner output.new))) }
-    ensures err { IfErr result (λ e. StopsExplaining question e (S.remaining source.old) (O.contents (device_inner output.old)) (O.contents (device_inner output.new))) }
+    ensures ok { OnOk result (Explains question (S.remaining source.old)
+        (O.contents (device_inner output.old)) (O.contents (device_inner output.new))) }
+    ensures err { IfErr result (λ e. StopsExplaining question e (S.remaining source.old)
+        (O.contents (device_inner output.old)) (O.contents (device_inner output.new))) }
 {
     let mut reader = JournalReader::start(alloc, source)?;
     let all = reader.left();
@@ -63,8 +65,10 @@ pub(crate) fn explain_source<S: Source, O: Write, P: Progress>(
 fn end(verifier: Verifier, explainer: &Explainer) -> Result<(), ProgramFault>
     requires short { IsFedShort verifier }
     ensures legal { OnOk result ((h : List OneEntry) → IsFed verifier h → IsLegal h) }
-    ensures there { OnOk result ((h : List OneEntry) → Stands explainer.now h → absent_of explainer.now.question h ≡ None) }
-    ensures err { IfErr result (λ e. (h : List OneEntry) → IsFed verifier h → Stands explainer.now h → NamesEnd explainer.now.question e h) }
+    ensures there { OnOk result ((h : List OneEntry) → Stands explainer.now h
+        → absent_of explainer.now.question h ≡ None) }
+    ensures err { IfErr result (λ e. (h : List OneEntry) → IsFed verifier h → Stands explainer.now h
+        → NamesEnd explainer.now.question e h) }
 {
     match verifier.finish() {
         Ok(_verified) => see_asked(explainer),
@@ -77,8 +81,10 @@ fn end(verifier: Verifier, explainer: &Explainer) -> Result<(), ProgramFault>
 /// # Errors
 /// `Absent`, what isn't.
 fn see_asked(explainer: &Explainer) -> Result<(), ProgramFault>
-    ensures there { OnOk result ((h : List OneEntry) → Stands explainer.now h → absent_of explainer.now.question h ≡ None) }
-    ensures err { IfErr result (λ e. (h : List OneEntry) → Stands explainer.now h → IsLacking explainer.now.question e h) }
+    ensures there { OnOk result ((h : List OneEntry) → Stands explainer.now h
+        → absent_of explainer.now.question h ≡ None) }
+    ensures err { IfErr result (λ e. (h : List OneEntry) → Stands explainer.now h
+        → IsLacking explainer.now.question e h) }
 {
     match explainer.absent() {
         Some(absent) => Err(ProgramFault::Absent(absent)),
@@ -96,8 +102,11 @@ fn take(
     entry: Entry,
 ) -> Result<String, VerifyFault>
     requires short { IsFedShort verifier.old }
-    ensures ok { IfOk result (λ text. (h : List OneEntry) → IsFed verifier.old h → Stands explainer.old h → length h ≤ MOST_ENTRIES → IsTakenBy verifier.new explainer.old explainer.new h entry (string_bytes text)) }
-    ensures err { IfErr result (λ e. (h : List OneEntry) → IsFed verifier.old h → NamesFirstOfAny e (h ++ entry ∷ [])) }
+    ensures ok { IfOk result (λ text. (h : List OneEntry) → IsFed verifier.old h
+        → Stands explainer.old h → length h ≤ MOST_ENTRIES
+        → IsTakenBy verifier.new explainer.old explainer.new h entry (string_bytes text)) }
+    ensures err { IfErr result (λ e. (h : List OneEntry) → IsFed verifier.old h
+        → NamesFirstOfAny e (h ++ entry ∷ [])) }
 {
     verifier.feed(&entry)?;
     Ok(explainer.take(&entry)?)

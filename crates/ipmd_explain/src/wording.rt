@@ -1,4 +1,4 @@
-//! What is said of a record.
+//! The words that explain what a subscriber sees of a record.
 ghost use Rattle.std.specs.Prelude.{◌≡◌, ◌<◌, length, IfOk, string_bytes};
 ghost use Rattle.ipfix_element.specs.Names.{element_name};
 ghost use Rattle.mediator_history.specs.Counting.{timing_at};
@@ -13,7 +13,8 @@ use policy_judge::{ElementAction, element_verdict, record_verdict};
 use policy_text::Policy;
 use std::alloc::{AllocError, Global};
 
-/// What the subscriber of a name sees of a record of this observation domain, and by which rules of a policy.
+/// What the subscriber called `name` sees of `flow_record`, a record of the observation domain `domain`, and by which rules of
+/// `policy`. `clock` is where the clock stands, in milliseconds since 1970. The text takes memory from `alloc`.
 ///
 /// # Errors
 /// Want of memory.
@@ -25,7 +26,8 @@ pub(crate) fn explanation(
     clock: u64,
     flow_record: &Record,
 ) -> Result<String, AllocError>
-    ensures { IfOk result (λ text. string_bytes text ≡ explanation policy.now name.now domain clock flow_record.now) }
+    ensures { IfOk result (λ text. string_bytes text
+        ≡ explanation policy.now name.now domain clock flow_record.now) }
 {
     match disclose(alloc, policy, name, domain, flow_record)? {
         Disclosure::Passed {
@@ -60,7 +62,8 @@ fn withheld_words(
     by: &str,
     reason: Reason,
 ) -> Result<String, AllocError>
-    ensures { IfOk result (λ text. string_bytes text ≡ withheld_words (passing_words policy.now.rules name.now domain flow_record.now) by.now reason) }
+    ensures { IfOk result (λ text. string_bytes text ≡ withheld_words
+        (passing_words policy.now.rules name.now domain flow_record.now) by.now reason) }
 {
     let why = match reason {
         Reason::Rule => return format!(in alloc; "withheld{by}"),
@@ -80,7 +83,8 @@ fn passing_words(
     domain: u32,
     flow_record: &Record,
 ) -> Result<String, AllocError>
-    ensures { IfOk result (λ text. string_bytes text ≡ passing_words policy.now.rules name.now domain flow_record.now) }
+    ensures { IfOk result (λ text. string_bytes text
+        ≡ passing_words policy.now.rules name.now domain flow_record.now) }
 {
     let rule = record_verdict(policy, name, domain, flow_record).rule;
     let fields = fields_words(alloc, policy, name, domain, flow_record)?;
@@ -96,7 +100,8 @@ fn fields_words(
     domain: u32,
     flow_record: &Record,
 ) -> Result<String, AllocError>
-    ensures { IfOk result (λ text. string_bytes text ≡ fields_words policy.now.rules name.now domain flow_record.now) }
+    ensures { IfOk result (λ text. string_bytes text
+        ≡ fields_words policy.now.rules name.now domain flow_record.now) }
 {
     let count = flow_record.template().fields.len();
     let mut text = String::new(alloc);
@@ -117,7 +122,8 @@ fn field_words(
     place: usize,
 ) -> Result<String, AllocError>
     requires { place < length flow_record.now.template.fields }
-    ensures { IfOk result (λ text. string_bytes text ≡ field_words policy.now.rules name.now domain flow_record.now place) }
+    ensures { IfOk result (λ text. string_bytes text
+        ≡ field_words policy.now.rules name.now domain flow_record.now place) }
 {
     let verdict = element_verdict(policy, name, domain, flow_record, place);
     let element = flow_record.template().fields.as_slice()[place].element;
@@ -164,7 +170,8 @@ fn aggregate_words(
     clock: u64,
     flow_record: &Record,
 ) -> Result<String, AllocError>
-    ensures { IfOk result (λ text. string_bytes text ≡ aggregate_words policy.now.aggregates rule place clock flow_record.now) }
+    ensures { IfOk result (λ text. string_bytes text
+        ≡ aggregate_words policy.now.aggregates rule place clock flow_record.now) }
 {
     let by = by_rule(alloc, rule)?;
     match policy.aggregates().get(place) {

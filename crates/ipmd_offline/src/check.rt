@@ -1,4 +1,4 @@
-//! `ipmd check-policy`.
+//! Does what `ipmd check-policy` is asked for.
 
 ghost use Rattle.std.specs.Prelude.{◌≡◌, IfErr, IfOk, OnOk, string_bytes};
 ghost use Rattle.octet_devices.specs.Device.{device_inner};
@@ -14,18 +14,22 @@ use std::alloc::{AllocError, Global};
 use std::io::Write;
 use std::rt::Files;
 
-/// Reads a policy, and writes how many rules and aggregates it has.
+/// Reads the policy of `source`, and writes how many rules and aggregates it has to `output`, as a line. `rt` reads the policy's
+/// file and gives memory.
 ///
 /// # Errors
-/// That of the policy's source, `Policy` where its text is none, `Device` where the output fails.
+/// That of the policy's source; `Policy` where its text is none; `Device`, of the output, where that fails; or `OutOfMemory`.
+/// Only where the output fails a front of the line may have been written.
 #[tactic(auto, using(crate::proofs::Lines::kept))]
 pub fn check_policy<R: Files + AllocGlobal, O: Write>(
     rt: &R,
     source: PolicySource<'_>,
     output: &mut Device<O>,
 ) -> Result<(), ProgramFault>
-    ensures ok { OnOk result (CountsPolicy source.entry (O.contents (device_inner output.old)) (O.contents (device_inner output.new))) }
-    ensures err { IfErr result (λ e. RefusesToCount source.entry e (O.contents (device_inner output.old)) (O.contents (device_inner output.new))) }
+    ensures ok { OnOk result (CountsPolicy source.entry
+        (O.contents (device_inner output.old)) (O.contents (device_inner output.new))) }
+    ensures err { IfErr result (λ e. RefusesToCount source.entry e
+        (O.contents (device_inner output.old)) (O.contents (device_inner output.new))) }
 {
     let text = policy_text_of(rt, source)?;
     let policy = Policy::parse(rt.alloc(), text.as_str())?;

@@ -6,15 +6,20 @@ use std::alloc::{AllocError, Global};
 use std::fmt::{self, Display, Formatter};
 use std::io;
 
-/// What failed, as the program names it.
+/// What failed, as the program names it. Its text is that name.
 #[derive(Debug, Drop, PartialEq, Eq)]
 pub enum Place {
+    /// The words of the command line.
     CommandLine,
+    /// Standard input.
     Input,
+    /// Standard output.
     Output,
     /// The file, or the folder, at this path.
     File(String),
+    /// The system's random numbers.
     RandomNumbers,
+    /// The system's threads.
     Threads,
 }
 
@@ -36,15 +41,20 @@ impl Display for Place {
     }
 }
 
-/// What failed, and why.
+/// What failed of the system, and why.
 #[derive(Debug, Drop)]
 pub struct Failure {
+    /// What failed.
     pub place: Place,
+    /// What the system said of it.
     pub why: io::Error,
 }
 
 impl Failure {
     /// What is said of it, as a line.
+    ///
+    /// # Errors
+    /// Want of memory.
     pub(crate) fn line(&self, alloc: Global) -> Result<String, AllocError>
         ensures { IfOk result (λ line. IsLineOf self.now (string_bytes line)) }
     {

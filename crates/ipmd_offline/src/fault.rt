@@ -1,4 +1,4 @@
-//! Why a run ends without having done what was asked.
+//! Why a run ends without having done what was asked, with the text and the exit status of each fault.
 ghost use Rattle.std.specs.Prelude.{◌≡◌};
 ghost use Rattle.octet_devices.specs.Device.{device_failed, device_inner};
 ghost use Rattle.ipmd_offline.specs.declared.failure.Place.TheVariants as placed;
@@ -58,7 +58,7 @@ impl Display for Absent {
 /// Why a run ends without having done what was asked. Its text is what the program says of it.
 #[derive(Debug, Drop)]
 pub enum ProgramFault {
-    /// The command line asks for nothing that there is; the text is the parser's, with its line feeds.
+    /// The command line asks for nothing that there is. The text is the parser's, with its line feeds.
     CommandLine(clap::Error),
     /// The text gives no settings.
     Settings(SettingsFault),
@@ -68,7 +68,7 @@ pub enum ProgramFault {
     Hex,
     /// The input is no stream of messages.
     Framing(FramingFault),
-    /// The mediator refused something else.
+    /// The mediator refused a call, and not for its policy or for want of memory, which have variants of their own.
     Core(Fault),
     /// The subscription was cut.
     Cut,
@@ -76,7 +76,7 @@ pub enum ProgramFault {
     Calls(usize),
     /// The limits of a list of calls are out of their ranges.
     BadLimits,
-    /// The octets are no journal's file.
+    /// The octets are no journal's file, and this is the first fault of it.
     Journal(JournalFault),
     /// A journal's entry at this position is none that a mediator may have accepted there. All entries before it are.
     History(u64),
@@ -126,11 +126,12 @@ impl ProgramFault {
     ghost use Rattle.ipmd_offline.specs.Status.{Blames, status_of};
 
     #[tactic(auto, using(crate::proofs::Telling::blames))]
-    /// Says the fault on `errors`, behind a line that names what failed where that is known and memory is left for it; and
-    /// answers the exit status. What can't be written is dropped.
+    /// Says the fault on `errors`, and answers the exit status. Where what failed is known, and `alloc` has memory for it, a line
+    /// that names it stands before. What can't be written is dropped.
     pub fn report<E: Write>(self, alloc: Global, errors: &mut Device<E>) -> u8
         ensures status { result ≡ status_of self }
-        ensures told { Blames self (device_failed errors.new) (E.contents (device_inner errors.old)) (E.contents (device_inner errors.new)) }
+        ensures told { Blames self (device_failed errors.new)
+            (E.contents (device_inner errors.old)) (E.contents (device_inner errors.new)) }
     {
         self.name_device(alloc, errors);
         self.say(errors);
@@ -142,7 +143,8 @@ impl ProgramFault {
 
     /// Says the fault.
     fn say<E: Write>(&self, errors: &mut Device<E>)
-        ensures told { Tells (line_of_fault self.now) (device_failed errors.new) (E.contents (device_inner errors.old)) (E.contents (device_inner errors.new)) }
+        ensures told { Tells (line_of_fault self.now) (device_failed errors.new)
+            (E.contents (device_inner errors.old)) (E.contents (device_inner errors.new)) }
         ensures stays { device_failed errors.new ≡ false → device_failed errors.old ≡ false }
     {
         let _ = match self {
@@ -155,7 +157,8 @@ impl ProgramFault {
 
     /// Says what failed, where that is known and memory is left for it.
     fn name_device<E: Write>(&self, alloc: Global, errors: &mut Device<E>)
-        ensures { NamesDevice self.now (device_failed errors.new) (E.contents (device_inner errors.old)) (E.contents (device_inner errors.new)) }
+        ensures { NamesDevice self.now (device_failed errors.new)
+            (E.contents (device_inner errors.old)) (E.contents (device_inner errors.new)) }
     {
         match self {
             ProgramFault::Device(Some(failure)) => tell_failure(failure, alloc, errors),
@@ -163,7 +166,7 @@ impl ProgramFault {
         }
     }
 
-    /// The exit status of a run that ends so.
+    /// The exit status of a run that ends with this fault.
     fn status(&self) -> u8
         ensures { result ≡ status_of self.now }
     {
@@ -192,16 +195,17 @@ impl ProgramFault {
     ghost use Rattle.ipmd_offline.specs.declared.fault.ProgramFault.TheVariants.{OutOfMemory};
     ghost use Rattle.ipmd_offline.specs.Failures.{FailedAt, IsFileFault, IsNamed, failed_at};
 
-    /// A place that has failed so.
+    /// The fault of `place`, which has failed with the error `why`.
     pub fn failed(place: Place, why: io::Error) -> ProgramFault
         ensures { result ≡ failed_at place why }
     {
         ProgramFault::Device(Some(Failure { place, why }))
     }
 
-    /// What the program makes of an error at a place.
+    /// What the program makes of the error `why` at `place`: `OutOfMemory` where it is want of memory, else `Device`.
     pub fn at(place: Place, why: io::Error) -> ProgramFault
-        ensures kind { ((error_kind why ≡ io_error.OutOfMemory) × (result ≡ OutOfMemory)) ⊎ ((error_kind why ≢ io_error.OutOfMemory) × (result ≡ failed_at place why)) }
+        ensures kind { ((error_kind why ≡ io_error.OutOfMemory) × (result ≡ OutOfMemory))
+            ⊎ ((error_kind why ≢ io_error.OutOfMemory) × (result ≡ failed_at place why)) }
         ensures either { (result ≡ OutOfMemory) ⊎ FailedAt place result }
     {
         match why.kind() {
@@ -210,7 +214,8 @@ impl ProgramFault {
         }
     }
 
-    /// What it makes of an error at the file of this path.
+    /// What the program makes of the error `why` at the file whose path is `path`: `OutOfMemory` where it is want of memory, or
+    /// `alloc` has none for the path; else `Device`.
     pub fn at_file(alloc: Global, path: &str, why: io::Error) -> ProgramFault
         ensures { IsFileFault path.now result }
     {
@@ -220,14 +225,15 @@ impl ProgramFault {
         }
     }
 
-    /// What it makes of standard output that has failed.
+    /// What the program makes of standard output, `output`, that has failed: `Device`, with why it failed first.
     pub fn at_output<O>(output: &Device<O>) -> ProgramFault
         ensures { FailedAt placed.Output result }
     {
         ProgramFault::failed(Place::Output, output.why())
     }
 
-    /// The same fault; a device that isn't known is the file at this path, which failed so.
+    /// This fault, where it isn't `Device` of something unknown. Else the fault of the file whose path is `path`, which failed
+    /// with the error `why`.
     pub fn named(self, alloc: Global, path: &str, why: io::Error) -> ProgramFault
         ensures { IsNamed path.now self result }
     {
@@ -240,7 +246,8 @@ impl ProgramFault {
 
 /// Says what failed, unless no memory is left for it.
 fn tell_failure<E: Write>(failure: &Failure, alloc: Global, errors: &mut Device<E>)
-    ensures { NamesFailure failure.now (device_failed errors.new) (E.contents (device_inner errors.old)) (E.contents (device_inner errors.new)) }
+    ensures { NamesFailure failure.now (device_failed errors.new)
+        (E.contents (device_inner errors.old)) (E.contents (device_inner errors.new)) }
 {
     if let Ok(line) = failure.line(alloc) {
         let _ = write_all(errors, line.as_bytes());

@@ -1,4 +1,4 @@
-//! The files that a command line names.
+//! Opens and reads the files that a command line names.
 ghost use Rattle.std.specs.Prelude.{IfErr};
 ghost use Rattle.ipmd_offline.specs.Failures.{IsFileFault};
 
@@ -8,10 +8,10 @@ use std::io::{self, ErrorKind};
 use std::rt::Files;
 use std::{fs, str};
 
-/// The answer of the system to a call on the file at a path.
+/// What the system answered to a call on the file whose path is `path`, given its `answer`.
 ///
 /// # Errors
-/// `Device`, of that file, or `OutOfMemory`.
+/// `Device`, of that file, or `OutOfMemory`, where the answer is an error or `alloc` has no memory for the path.
 pub fn of_file<T>(alloc: Global, path: &str, answer: io::Result<T>) -> Result<T, ProgramFault>
     ensures err { IfErr result (IsFileFault path.now) }
 {
@@ -21,10 +21,10 @@ pub fn of_file<T>(alloc: Global, path: &str, answer: io::Result<T>) -> Result<T,
     }
 }
 
-/// The text of the file at a path.
+/// The text of the file whose path is `path`, read by `rt`.
 ///
 /// # Errors
-/// `Device`, of that file, where it can't be opened or read, or isn't UTF-8; `OutOfMemory`.
+/// `Device`, of that file, where it can't be opened or read, or isn't UTF-8; or `OutOfMemory`.
 pub fn read_text<R: Files + AllocGlobal>(rt: &R, path: &str) -> Result<String, ProgramFault>
     ensures err { IfErr result (IsFileFault path.now) }
 {

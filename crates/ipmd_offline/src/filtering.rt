@@ -25,12 +25,14 @@ const AUDIT_BUFFER: usize = 65_536;
 /// An input ends, so no number of reads is too many.
 const ANY_NUMBER_OF_READS: u64 = u64::MAX;
 
-/// Filters `input` for one subscriber to `output`, and names what was withheld in the audit file.
+/// Does what `ipmd offline` is asked for by `options`, and answers how much was read, accepted and written. It filters `input`
+/// for one subscriber to `output`, and names what was kept back in the audit's file, where there is one. `rt` reads and writes
+/// files and gives memory.
 ///
 /// # Errors
-/// In this order: the policy's source, the audit file, which is made empty, an input that is not
-/// hexadecimal where it is to be, and what the mediator refuses. What was accepted before a fault is
-/// written.
+/// In this order: that of the policy's source; `Device`, of the audit's file, which is made empty; `Hex`, where the input is to
+/// be hexadecimal and isn't; and what stops `offline` ([`offline_filter::offline`]), where `Framing`, `Policy`, `Core`, `Cut` and
+/// `OutOfMemory` keep their names, and `Device` is that of what failed. What was accepted before a fault is written.
 #[tactic(auto, using(crate::proofs::Lines::kept))]
 pub fn filter<R: Files + AllocGlobal, I: Read + Drop, O: Write>(
     rt: &R,
@@ -38,8 +40,10 @@ pub fn filter<R: Files + AllocGlobal, I: Read + Drop, O: Write>(
     input: I,
     output: &mut Device<O>,
 ) -> Result<OfflineReport, ProgramFault>
-    ensures ok { IfOk result (λ report. Filters options.entry.now report (I.remaining input) (O.contents (device_inner output.old)) (O.contents (device_inner output.new))) }
-    ensures err { IfErr result (λ e. RefusesToFilter options.entry.now e (I.remaining input) (O.contents (device_inner output.old)) (O.contents (device_inner output.new))) }
+    ensures ok { IfOk result (λ report. Filters options.entry.now report (I.remaining input)
+        (O.contents (device_inner output.old)) (O.contents (device_inner output.new))) }
+    ensures err { IfErr result (λ e. RefusesToFilter options.entry.now e (I.remaining input)
+        (O.contents (device_inner output.old)) (O.contents (device_inner output.new))) }
 {
     let policy = policy_text_of(rt, options.policy)?;
     let job = OfflineJob {
@@ -59,7 +63,10 @@ pub fn filter<R: Files + AllocGlobal, I: Read + Drop, O: Write>(
     }
 }
 
-/// Filters `input` with an audit in the file at a path.
+/// Filters `input` with an audit in the file whose path is `path`.
+///
+/// # Errors
+/// Those of [`filter`] but for the policy's source.
 #[tactic(auto, using(crate::proofs::Lines::kept))]
 fn filter_to_file<R: Files + AllocGlobal, I: Read + Drop, O: Write>(
     rt: &R,
@@ -69,8 +76,12 @@ fn filter_to_file<R: Files + AllocGlobal, I: Read + Drop, O: Write>(
     output: &mut Device<O>,
     path: &str,
 ) -> Result<OfflineReport, ProgramFault>
-    ensures ok { IfOk result (λ report. FinishesWithAudit hex job.entry.now report (I.remaining input) (O.contents (device_inner output.old)) (O.contents (device_inner output.new))) }
-    ensures err { IfErr result (λ e. RefusesWithAudit path.now e hex job.entry.now (I.remaining input) (O.contents (device_inner output.old)) (O.contents (device_inner output.new))) }
+    ensures ok { IfOk result (λ report.
+        FinishesWithAudit hex job.entry.now report (I.remaining input)
+        (O.contents (device_inner output.old)) (O.contents (device_inner output.new))) }
+    ensures err { IfErr result (λ e.
+        RefusesWithAudit path.now e hex job.entry.now (I.remaining input)
+        (O.contents (device_inner output.old)) (O.contents (device_inner output.new))) }
 {
     let alloc = rt.alloc();
     let file = of_file(alloc, path, fs::create(rt, path))?;
@@ -96,8 +107,12 @@ fn filter_input<I: Read + Drop, O: Write, A: Write>(
     output: &mut Device<O>,
     audit: &mut Device<A>,
 ) -> Result<OfflineReport, ProgramFault>
-    ensures ok { IfOk result (λ report. FinishesInput hex job.entry.now report (I.remaining input) (O.contents (device_inner output.old)) (O.contents (device_inner output.new)) (A.contents (device_inner audit.old)) (A.contents (device_inner audit.new))) }
-    ensures err { IfErr result (λ e. RefusesInput e hex job.entry.now (I.remaining input) (O.contents (device_inner output.old)) (O.contents (device_inner output.new)) (A.contents (device_inner audit.old)) (A.contents (device_inner audit.new))) }
+    ensures ok { IfOk result (λ report. FinishesInput hex job.entry.now report (I.remaining input)
+        (O.contents (device_inner output.old)) (O.contents (device_inner output.new))
+        (A.contents (device_inner audit.old)) (A.contents (device_inner audit.new))) }
+    ensures err { IfErr result (λ e. RefusesInput e hex job.entry.now (I.remaining input)
+        (O.contents (device_inner output.old)) (O.contents (device_inner output.new))
+        (A.contents (device_inner audit.old)) (A.contents (device_inner audit.new))) }
 {
     if !hex {
         return filter_octets(alloc, job, input, output, audit);
@@ -114,8 +129,12 @@ fn filter_to_lines<O: Write, A: Write>(
     output: &mut Device<O>,
     audit: &mut Device<A>,
 ) -> Result<OfflineReport, ProgramFault>
-    ensures ok { IfOk result (λ report. FinishesLines job.entry.now report octets.now (O.contents (device_inner output.old)) (O.contents (device_inner output.new)) (A.contents (device_inner audit.old)) (A.contents (device_inner audit.new))) }
-    ensures err { IfErr result (λ e. FailsLines e job.entry.now octets.now (O.contents (device_inner output.old)) (O.contents (device_inner output.new)) (A.contents (device_inner audit.old)) (A.contents (device_inner audit.new))) }
+    ensures ok { IfOk result (λ report. FinishesLines job.entry.now report octets.now
+        (O.contents (device_inner output.old)) (O.contents (device_inner output.new))
+        (A.contents (device_inner audit.old)) (A.contents (device_inner audit.new))) }
+    ensures err { IfErr result (λ e. FailsLines e job.entry.now octets.now
+        (O.contents (device_inner output.old)) (O.contents (device_inner output.new))
+        (A.contents (device_inner audit.old)) (A.contents (device_inner audit.new))) }
 {
     let mut stream = Device::new(Vec::new(alloc));
     let report = filter_octets(alloc, job, octets, &mut stream, audit);
@@ -136,8 +155,12 @@ fn filter_octets<I: Read + Drop, O: Write, A: Write>(
     output: &mut Device<O>,
     audit: &mut Device<A>,
 ) -> Result<OfflineReport, ProgramFault>
-    ensures ok { IfOk result (λ report. FinishesOn job.entry.now report (I.remaining input) (O.contents (device_inner output.old)) (O.contents (device_inner output.new)) (A.contents (device_inner audit.old)) (A.contents (device_inner audit.new))) }
-    ensures err { IfErr result (λ e. FailsOn e job.entry.now (I.remaining input) (O.contents (device_inner output.old)) (O.contents (device_inner output.new)) (A.contents (device_inner audit.old)) (A.contents (device_inner audit.new))) }
+    ensures ok { IfOk result (λ report. FinishesOn job.entry.now report (I.remaining input)
+        (O.contents (device_inner output.old)) (O.contents (device_inner output.new))
+        (A.contents (device_inner audit.old)) (A.contents (device_inner audit.new))) }
+    ensures err { IfErr result (λ e. FailsOn e job.entry.now (I.remaining input)
+        (O.contents (device_inner output.old)) (O.contents (device_inner output.new))
+        (A.contents (device_inner audit.old)) (A.contents (device_inner audit.new))) }
 {
     if output.has_failed() || audit.has_failed() {
         return Err(failed_one(output));
@@ -164,7 +187,7 @@ fn failed_one<O>(output: &Device<O>) -> ProgramFault
     }
 }
 
-/// What it makes of a stream that wasn't filtered to its end, where its input and its output failed so.
+/// What it makes of a stream that wasn't filtered to its end, where `input` and `output` are the errors of its devices.
 fn fault_of(fault: OfflineFault, input: io::Error, output: io::Error) -> ProgramFault
     ensures { result ≡ offline_fault_of input output fault }
 {

@@ -1,3 +1,4 @@
+//! Reads a stream that is written as hexadecimal text.
 ghost use Rattle.std.specs.Prelude.{◌≡◌, ◌⊎◌, IfOk, IfErr, IfSome};
 ghost use Rattle.std.specs.List.{filter};
 ghost use Rattle.ipmd_offline.specs.HexText.{is_no_white_space, SpelledBy, SpellsNothing};
@@ -11,12 +12,14 @@ use hex::FromHexError;
 use std::alloc::Global;
 use std::io::Read;
 
-/// The octets that a whole input spells in hexadecimal, in either case. White space is skipped.
+/// The octets that all of `input` spells in hexadecimal digits, of either case. White space is skipped. The octets take memory
+/// from `alloc`.
 ///
 /// # Errors
-/// `Device` where a read fails, `Hex` where the text is not hexadecimal, `OutOfMemory`.
+/// `Device`, of the input, where a read fails; `Hex` where the text is not hexadecimal; or `OutOfMemory`.
 pub fn read_hex<I: Read + Drop>(alloc: Global, mut input: I) -> Result<Vec<u8>, ProgramFault>
-    ensures ok { IfOk result (λ octets. IfSome (I.remaining input) (λ text. SpelledBy text octets.items)) }
+    ensures ok { IfOk result (λ octets.
+        IfSome (I.remaining input) (λ text. SpelledBy text octets.items)) }
     ensures hex { IfErr result (λ e. e ≡ Hex → IfSome (I.remaining input) SpellsNothing) }
     ensures kinds { IfErr result (λ e. (e ≡ Hex) ⊎ ((e ≡ OutOfMemory) ⊎ FailedAt Input e)) }
 {

@@ -1,4 +1,4 @@
-//! What the program writes: a text, or messages as lines of hexadecimal digits.
+//! Writes what the program answers: a text, or messages as lines of hexadecimal digits.
 
 ghost use Rattle.std.specs.Prelude.{◌≡◌, ◌⊎◌, OnOk, IfOk, IfErr, string_bytes};
 ghost use Rattle.std.specs.Io.KnownBytes.{Appends, Keeps};
@@ -15,26 +15,30 @@ use octet_devices::{Device, write_all};
 use std::alloc::{AllocError, Global};
 use std::io::Write;
 
-/// Writes a text, and sees that it has left.
+/// Writes `text` to `output`, and sees that it has left.
 ///
 /// # Errors
-/// `Device` where the output fails; a front of the text may have been written.
+/// `Device`, of the output, where that fails. A front of the text may have been written.
 #[tactic(auto, using(crate::proofs::Lines::all_written, crate::proofs::Lines::front_written))]
 pub fn write_text<O: Write>(output: &mut Device<O>, text: &str) -> Result<(), ProgramFault>
-    ensures ok { OnOk result (Appends (O.contents (device_inner output.old)) (O.contents (device_inner output.new)) text.now) }
-    ensures err { IfErr result (λ e. FailedAt Output e × WritesSome text.now (O.contents (device_inner output.old)) (O.contents (device_inner output.new))) }
+    ensures ok { OnOk result (Appends
+        (O.contents (device_inner output.old)) (O.contents (device_inner output.new)) text.now) }
+    ensures err { IfErr result (λ e. FailedAt Output e × WritesSome text.now
+        (O.contents (device_inner output.old)) (O.contents (device_inner output.new))) }
 {
     put_text(output, text)?;
     flush(output)
 }
 
-/// Writes a text.
+/// Writes `text` to `output`. It may wait in a buffer there.
 ///
 /// # Errors
-/// `Device` where the output fails; a front of the text was written.
+/// `Device`, of the output, where that fails. A front of the text was written.
 pub fn put_text<O: Write>(output: &mut Device<O>, text: &str) -> Result<(), ProgramFault>
-    ensures ok { OnOk result (Appends (O.contents (device_inner output.old)) (O.contents (device_inner output.new)) text.now) }
-    ensures err { IfErr result (λ e. FailedAt Output e × WritesSome text.now (O.contents (device_inner output.old)) (O.contents (device_inner output.new))) }
+    ensures ok { OnOk result (Appends
+        (O.contents (device_inner output.old)) (O.contents (device_inner output.new)) text.now) }
+    ensures err { IfErr result (λ e. FailedAt Output e × WritesSome text.now
+        (O.contents (device_inner output.old)) (O.contents (device_inner output.new))) }
 {
     match write_all(output, text.as_bytes()) {
         Ok(()) => Ok(()),
@@ -42,12 +46,13 @@ pub fn put_text<O: Write>(output: &mut Device<O>, text: &str) -> Result<(), Prog
     }
 }
 
-/// Sees that all that was written has left.
+/// Sees that all that was written to `output` has left.
 ///
 /// # Errors
-/// `Device` where the output fails.
+/// `Device`, of the output, where that fails.
 pub fn flush<O: Write>(output: &mut Device<O>) -> Result<(), ProgramFault>
-    ensures kept { Keeps (O.contents (device_inner output.old)) (O.contents (device_inner output.new)) }
+    ensures kept { Keeps
+        (O.contents (device_inner output.old)) (O.contents (device_inner output.new)) }
     ensures err { IfErr result (FailedAt Output) }
 {
     match output.flush() {
@@ -56,18 +61,20 @@ pub fn flush<O: Write>(output: &mut Device<O>) -> Result<(), ProgramFault>
     }
 }
 
-/// Writes each message of a stream as a line, and sees that all have left. Where a message ends its header
-/// says (RFC 7011, section 3.1).
+/// Writes each message of `stream` to `output` as a line, and sees that all have left. Where a message ends, its header says (RFC
+/// 7011, section 3.1). Lines take memory from `alloc`.
 ///
 /// # Errors
-/// `Device` where the output fails, `OutOfMemory`; a front of the lines may have been written.
+/// `Device`, of the output, where that fails, or `OutOfMemory`. A front of the lines may have been written.
 pub fn write_lines<O: Write>(
     alloc: Global,
     stream: &[u8],
     output: &mut Device<O>,
 ) -> Result<(), ProgramFault>
-    ensures ok { OnOk result (WritesLines stream.now (O.contents (device_inner output.old)) (O.contents (device_inner output.new))) }
-    ensures err { IfErr result (λ e. ((e ≡ OutOfMemory) ⊎ FailedAt Output e) × WritesSomeLines stream.now (O.contents (device_inner output.old)) (O.contents (device_inner output.new))) }
+    ensures ok { OnOk result (WritesLines stream.now
+        (O.contents (device_inner output.old)) (O.contents (device_inner output.new))) }
+    ensures err { IfErr result (λ e. ((e ≡ OutOfMemory) ⊎ FailedAt Output e) × WritesSomeLines
+        stream.now (O.contents (device_inner output.old)) (O.contents (device_inner output.new))) }
 {
     let messages = messages_of(alloc, stream)?;
     write_each(alloc, &messages, output)?;
@@ -92,8 +99,12 @@ fn write_each<O: Write>(
     messages: &[Bytes],
     output: &mut Device<O>,
 ) -> Result<(), ProgramFault>
-    ensures ok { OnOk result (Appends (O.contents (device_inner output.old)) (O.contents (device_inner output.new)) (lines_of messages.now)) }
-    ensures err { IfErr result (λ e. ((e ≡ OutOfMemory) ⊎ FailedAt Output e) × WritesSome (lines_of messages.now) (O.contents (device_inner output.old)) (O.contents (device_inner output.new))) }
+    ensures ok { OnOk result (Appends
+        (O.contents (device_inner output.old)) (O.contents (device_inner output.new))
+        (lines_of messages.now)) }
+    ensures err { IfErr result (λ e. ((e ≡ OutOfMemory) ⊎ FailedAt Output e)
+        × WritesSome (lines_of messages.now)
+        (O.contents (device_inner output.old)) (O.contents (device_inner output.new))) }
 {
     'messages: for message in messages {
         let line = hex_line(alloc, message.as_slice())?;

@@ -1,3 +1,4 @@
+//! The text of a policy, from the file or the words that give it.
 ghost use Rattle.std.specs.Prelude.{IfOk, IfErr, string_bytes};
 ghost use Rattle.ipmd_offline.specs.Runs.{IsSourceFault, IsTextOf};
 
@@ -7,10 +8,11 @@ use call_lists::with_line_ends;
 use ipmd_command_line::PolicySource;
 use std::rt::Files;
 
-/// The text of the policy that comes from there.
+/// The text of the policy that `source` gives: that of a file, which `rt` reads, or words in which each `;` stands for a line
+/// end.
 ///
 /// # Errors
-/// `Device`, of the file, where it can't be opened or read, or isn't UTF-8; `OutOfMemory`.
+/// `Device`, of the file, where it can't be opened or read, or isn't UTF-8; or `OutOfMemory`.
 pub fn policy_text_of<R: Files + AllocGlobal>(
     rt: &R,
     source: PolicySource<'_>,

@@ -1,4 +1,4 @@
-//! What is said of a stream that was filtered.
+//! Says what was done with a stream that was filtered.
 
 ghost use Rattle.std.specs.Prelude.{Some};
 ghost use Rattle.octet_devices.specs.Device.{device_failed, device_inner};
@@ -9,9 +9,11 @@ use octet_devices::Device;
 use offline_filter::OfflineReport;
 use std::io::Write;
 
-/// Says what was done with a whole stream. What can't be written is dropped.
+/// Says on `errors`, as a line, how many messages were read, and how many records were accepted and disclosed, as `report` counts
+/// them. What can't be written is dropped.
 pub fn tell<E: Write>(report: OfflineReport, errors: &mut Device<E>)
-    ensures { Tells (Some (line_of_report report)) (device_failed errors.new) (E.contents (device_inner errors.old)) (E.contents (device_inner errors.new)) }
+    ensures { Tells (Some (line_of_report report)) (device_failed errors.new)
+        (E.contents (device_inner errors.old)) (E.contents (device_inner errors.new)) }
 {
     let OfflineReport {
         messages,

@@ -1,4 +1,4 @@
-//! What `--help`, `help` and `--version` write.
+//! Writes the help and the version.
 
 ghost use Rattle.std.specs.Prelude.{IfErr, OnOk};
 ghost use Rattle.clap.specs.Values.{kind_of};
@@ -13,18 +13,20 @@ use octet_devices::Device;
 use std::alloc::Global;
 use std::io::Write;
 
-/// Writes the version, or the help that the parser has made.
+/// Writes the version, or the help, to `output`: what `shown` is, which the parser has made. The text takes memory from `alloc`.
 ///
 /// # Errors
-/// `Device` where the output fails, `OutOfMemory`.
+/// `Device`, of the output, where that fails; or `OutOfMemory`.
 #[tactic(auto, using(crate::proofs::Lines::kept))]
 pub fn show<O: Write>(
     alloc: Global,
     shown: &clap::Error,
     output: &mut Device<O>,
 ) -> Result<(), ProgramFault>
-    ensures ok { OnOk result (Shows (kind_of shown.now) (O.contents (device_inner output.old)) (O.contents (device_inner output.new))) }
-    ensures err { IfErr result (λ e. RefusesToShow (kind_of shown.now) e (O.contents (device_inner output.old)) (O.contents (device_inner output.new))) }
+    ensures ok { OnOk result (Shows (kind_of shown.now)
+        (O.contents (device_inner output.old)) (O.contents (device_inner output.new))) }
+    ensures err { IfErr result (λ e. RefusesToShow (kind_of shown.now) e
+        (O.contents (device_inner output.old)) (O.contents (device_inner output.new))) }
 {
     let text = match shown.kind() {
         ErrorKind::DisplayVersion => format!(in alloc; "ipmd {VERSION}, proved with {KIT}\n")?,

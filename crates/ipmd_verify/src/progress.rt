@@ -3,7 +3,7 @@
 use octet_devices::Device;
 use std::io::Write;
 
-/// The line is written anew behind so many entries.
+/// The line is written anew each time that this many entries more were read.
 const ENTRIES: u64 = 16_384;
 
 /// As many blanks as the longest line has characters.
@@ -14,7 +14,7 @@ pub trait Progress {
     /// From here on nothing is to be told.
     fn silence(&mut self);
 
-    /// So many of all entries were read.
+    /// Of the `all` entries of the file, `read` were read.
     fn tell(&mut self, read: u64, all: u64);
 
     /// No more is read.
@@ -32,7 +32,7 @@ pub struct OnTerminal<E> {
 }
 
 impl<E: Write> OnTerminal<E> {
-    /// A line on `errors`, or none where that is no terminal.
+    /// A line on `errors`; or none, where `is_terminal` says that `errors` is no terminal.
     pub fn new(errors: Device<E>, is_terminal: bool) -> OnTerminal<E> {
         OnTerminal {
             errors,

@@ -1,4 +1,4 @@
-//! The history of a journal's file, entry by entry.
+//! Reads the history of a journal's file, entry by entry, and verifies it.
 ghost use Rattle.std.specs.Prelude.{◌≡◌, List, ℕ, Option, IfOk, IfErr, OnOk};
 ghost use Rattle.event_journal.specs.declared.entry.Entry.{Entry as OneEntry};
 ghost use Rattle.history_verify.specs.Answers.{NamesFirstOfAny};
@@ -49,15 +49,16 @@ pub(crate) fn read_history<S: Source, P: Progress>(
     }
 }
 
-/// Why a file is refused that is read so far, and whose history a verifier refuses: a fault of the file goes before.
-///
-/// It reads what is left of the file.
+/// Why a file is refused whose history a verifier has refused for `fault`: a fault of the file itself goes before. `reader` has
+/// read the file up to the entry that was refused; it reads what is left of it from `source`.
 pub fn refusal<S: Source>(
     reader: &mut JournalReader,
     source: &mut S,
     fault: VerifyFault,
 ) -> ProgramFault
-    ensures { (given : Option (List ℕ)) (h : List OneEntry) → IsReadTo given (S.remaining source.old) reader.old h → NamesFirstOfAny fault h → RefusesFile result given }
+    ensures { (given : Option (List ℕ)) (h : List OneEntry)
+        → IsReadTo given (S.remaining source.old) reader.old h → NamesFirstOfAny fault h
+        → RefusesFile result given }
 {
     match fault {
         VerifyFault::OutOfMemory => ProgramFault::OutOfMemory,
@@ -70,8 +71,11 @@ pub fn refusal<S: Source>(
 
 /// Reads the entries that are left.
 fn read_rest<S: Source>(reader: &mut JournalReader, source: &mut S) -> Result<(), ReadFault>
-    ensures ok { OnOk result ((given : Option (List ℕ)) (h : List OneEntry) → IsReadTo given (S.remaining source.old) reader.old h → SaysOn given h) }
-    ensures err { IfErr result (λ e. (given : Option (List ℕ)) (h : List OneEntry) → IsReadTo given (S.remaining source.old) reader.old h → RefusesFile (read_fault_of e) given) }
+    ensures ok { OnOk result ((given : Option (List ℕ)) (h : List OneEntry)
+        → IsReadTo given (S.remaining source.old) reader.old h → SaysOn given h) }
+    ensures err { IfErr result (λ e. (given : Option (List ℕ)) (h : List OneEntry)
+        → IsReadTo given (S.remaining source.old) reader.old h
+        → RefusesFile (read_fault_of e) given) }
 {
     'entries: loop {
         match reader.next(source)? {
@@ -90,14 +94,16 @@ ghost use Rattle.history_verify.specs.Standing.{IsFed, IsFedShort, keeps_audit};
 /// Those of `Verifier::feed`.
 fn feed(verifier: &mut Verifier, entry: Entry) -> Result<(), VerifyFault>
     requires short { IsFedShort verifier.old }
-    ensures ok { OnOk result ((h : List OneEntry) → IsFed verifier.old h → IsFed verifier.new (h ++ entry ∷ [])) }
-    ensures err { IfErr result (λ e. (h : List OneEntry) → IsFed verifier.old h → NamesFirstOfAny e (h ++ entry ∷ [])) }
+    ensures ok { OnOk result ((h : List OneEntry) → IsFed verifier.old h
+        → IsFed verifier.new (h ++ entry ∷ [])) }
+    ensures err { IfErr result (λ e. (h : List OneEntry) → IsFed verifier.old h
+        → NamesFirstOfAny e (h ++ entry ∷ [])) }
     ensures kept { keeps_audit verifier.new ≡ keeps_audit verifier.old }
 {
     verifier.feed(&entry)
 }
 
-/// The program's word for a verifier's fault.
+/// The program's name for a verifier's `fault`.
 pub fn fault_of(fault: VerifyFault) -> ProgramFault
     ensures { result ≡ verify_fault_of fault }
 {

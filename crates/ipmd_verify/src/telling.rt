@@ -1,4 +1,4 @@
-//! What is written of a legal history.
+//! The text that is written of a legal history.
 ghost use Rattle.std.specs.Prelude.{◌≡◌, ◌++◌, IfOk, OnOk, string_bytes};
 ghost use Rattle.ipmd_verify.specs.Verifying.{audit_lines, count_line, count_lines, text_of};
 
@@ -7,8 +7,12 @@ use history_verify::{Count, Verified};
 use std::alloc::{AllocError, Global};
 
 /// A line for each subscription, and unless it is to be quiet the audit's lines behind them.
+///
+/// # Errors
+/// Want of memory.
 pub(crate) fn text_of(alloc: Global, quiet: bool, verified: &Verified) -> Result<String, AllocError>
-    ensures { IfOk result (λ text. string_bytes text ≡ text_of quiet verified.now.subs.items verified.now.audit.items) }
+    ensures { IfOk result (λ text. string_bytes text
+        ≡ text_of quiet verified.now.subs.items verified.now.audit.items) }
 {
     let mut text = counts_text(alloc, verified.subs.as_slice())?;
     if !quiet {
@@ -41,7 +45,8 @@ fn count_line(alloc: Global, count: &Count) -> Result<String, AllocError>
 
 /// Adds the lines of the audit's entries, one after another.
 fn put_lines(text: &mut String, entries: &[AuditEntry]) -> Result<(), AllocError>
-    ensures { OnOk result (string_bytes text.new ≡ string_bytes text.old ++ audit_lines entries.now) }
+    ensures { OnOk result (string_bytes text.new ≡ string_bytes text.old
+        ++ audit_lines entries.now) }
 {
     'entries: for entry in entries {
         put_line(text, entry)?;

@@ -334,8 +334,8 @@ fn source(octets: &[u8], most: usize, calls: usize) -> Device<Sparing<'_>> {
     Device::new(Sparing::new(octets, most, calls, Interrupted))
 }
 
-/// Whether a file is read from a source as these entries, and ends behind them. How many of its parts were read is kept: what stands
-/// before the entries, and each of them.
+/// Whether a file is read from a source as these entries, and ends behind them. How many of its parts were read is kept: what
+/// stands before the entries, and each of them.
 fn reads(
     alloc: Global,
     source: &mut Device<Sparing<'_>>,
@@ -409,8 +409,8 @@ fn entries(alloc: Global) -> Result<[Entry; 4], AllocError> {
     ])
 }
 
-/// By one octet, by seven and by all, each call fails, and the file ends behind each of its octets. It has 202 of them, and one call
-/// more meets its end.
+/// By one octet, by seven and by all, each call fails, and the file ends behind each of its octets. It has 202 of them, and one
+/// call more meets its end.
 #[test]
 fn a_source_that_fails_or_ends_is_told(rt: HostRuntime) -> Result<(), Fail> {
     let file = file(rt.alloc())?;

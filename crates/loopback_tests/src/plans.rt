@@ -22,8 +22,8 @@ fn targets(rt: HostRuntime) -> Result<(), Fail> {
     Ok(())
 }
 
-/// How often a connection may be read, and how the exporter's and the administrator's end: a message comes by one read, and so does a
-/// command; the end of either by one more.
+/// How often a connection may be read, and how the exporter's and the administrator's end: a message comes by one read, and so
+/// does a command; the end of either by one more.
 const TURNS: &[(u64, &str, &str)] = &[
     (2, "ended: messages 1 records 1 gaps 0", "ended: commands 1"),
     (
@@ -56,8 +56,8 @@ fn turns(rt: HostRuntime) -> Result<(), Fail> {
     Ok(())
 }
 
-/// What is written to a collector leaves at once, and a write that waits comes back four times a second, as well as the system's clock
-/// tells that.
+/// What is written to a collector leaves at once, and a write that waits comes back four times a second, as well as the system's
+/// clock tells that.
 #[test]
 fn sockets(rt: HostRuntime) -> Result<(), Fail> {
     let played = play(&rt, rt.alloc(), USUAL, b"", ONE_RECORD, None)?;

@@ -1,4 +1,4 @@
-//! An administrator's connection.
+//! Serves an administrator's connection: reads its commands, makes their calls, and writes the answers.
 ghost use Rattle.std.specs.Prelude.{◌≡◌, ◌↔◌, IsTrue, ℕ, List, [], Some, false, IfOk, IfErr, OnOk, OnErr, MatchOption};
 ghost use Rattle.admin_lines.specs.Sayings.{saying};
 ghost use Rattle.admin_lines.specs.Sayings.Saying.{to_stop};
@@ -38,17 +38,23 @@ struct Heard {
     stops: bool,
 }
 
-/// Serves an administrator's connection: reads its commands, one line each, by at most so many reads; makes each call by the
-/// handle, and then writes its answer. Answers how many commands were answered. The end of the input between two commands ends
-/// it, and so does a `stop`, of which the server is told by `control`, and a line that is no command: that is answered too, but not
-/// counted. What an answer is written with is made before the first command is read, so that no want of memory keeps back what a
-/// call handed out or did. Before an advance is made, `control` has it wait for room in the queues of those to whom it would give
-/// records, as long as that has patience with it.
+/// Serves an administrator's connection, and answers how many commands were answered. It reads commands from `reader`, one line
+/// each, by at most `turns` reads. It makes the call of each command on the mediator of `shared`, through `handle`, and then
+/// writes the answer to `writer`. It waits by `rt`, and takes memory from `alloc`.
+///
+/// Three things end the connection: the end of the input between two commands; a `stop`, of which the server is told by
+/// `control`; and a line that is no command. Such a line is answered too, but isn't counted.
+///
+/// What an answer is written with is made before the first command is read. So no want of memory keeps back what a call handed
+/// out or did. Before an advance is made, `control` has it wait for room in the queues of those to whom it would give records, as
+/// long as `control` has patience.
 ///
 /// # Errors
-/// The reader failed; or the input ends inside a command; or its end isn't read within `turns` reads; or memory ran out for what
-/// is read. Or the writer failed, after so many octets of all answers, or the octets sent can't be counted in 64 bits: then the
-/// call that was to be answered has been made. What the mediator refuses is an answer, and no error.
+/// `Read` where the reader failed; `Framing` where the input ends inside a command; `Turns` where its end isn't read within
+/// `turns` reads; or `Core` where memory ran out for what is read. Then no call was made for the command in hand, and those
+/// before it were answered. `Write` where the writer failed, which says how many octets of all answers were sent; or `Core` where
+/// the octets sent can't be counted in 64 bits. Then the call that was to be answered has been made. What the mediator refuses is
+/// an answer, and no error.
 pub fn serve_admin<E: EntryLedger, H: RecordLedger, R: Source, W: Sink, C: Control>(
     rt: &impl Wait,
     alloc: Global,
@@ -61,10 +67,15 @@ pub fn serve_admin<E: EntryLedger, H: RecordLedger, R: Source, W: Sink, C: Contr
 ) -> Result<u64, ServeFault>
     requires reader { R.has_failed reader.old ≡ false }
     requires writer { W.has_failed writer.old ≡ false }
-    ensures serves { IfOk result (λ count. ServesAdmin count (R.remaining reader.old) (R.remaining reader.new) (W.contents writer.old) (W.contents writer.new) handle.old handle.new) }
+    ensures serves { IfOk result (λ count.
+        ServesAdmin count (R.remaining reader.old) (R.remaining reader.new)
+        (W.contents writer.old) (W.contents writer.new) handle.old handle.new) }
     ensures sound_reader { OnOk result (R.has_failed reader.new ≡ false) }
     ensures sound_writer { OnOk result (W.has_failed writer.new ≡ false) }
-    ensures stops { IfErr result (λ e. (commands : List Exchange) × StopsAdmin e turns (R.remaining reader.old) (R.remaining reader.new) (W.contents writer.old) (W.contents writer.new) (W.has_failed writer.new) handle.old handle.new commands) }
+    ensures stops { IfErr result (λ e. (commands : List Exchange)
+        × StopsAdmin e turns (R.remaining reader.old) (R.remaining reader.new)
+        (W.contents writer.old) (W.contents writer.new)
+        (W.has_failed writer.new) handle.old handle.new commands) }
     ensures reader_fails { IfErr result (λ e. R.has_failed reader.new ≡ reader_after e) }
     ensures writer_fails { IfErr result (λ e. W.has_failed writer.new ≡ writer_after e) }
 {
@@ -104,11 +115,14 @@ fn hear<E: EntryLedger, H: RecordLedger, R: Source, C: Control>(
 ) -> Result<Option<Heard>, ServeFault>
     requires reader { R.has_failed reader.old ≡ false }
     ensures ok { IfOk result (λ found. MatchOption found
-        (EndsBehind input.old (R.remaining reader.old) (R.remaining reader.new) [] × (handle.new ≡ handle.old))
-        (λ heard. Hears heard.answer heard.stops input.old (R.remaining reader.old) (R.remaining reader.new) input.new handle.old handle.new)) }
+        (EndsBehind input.old (R.remaining reader.old) (R.remaining reader.new) []
+        × (handle.new ≡ handle.old))
+        (λ heard. Hears heard.answer heard.stops input.old
+        (R.remaining reader.old) (R.remaining reader.new) input.new handle.old handle.new)) }
     ensures sound { OnOk result (R.has_failed reader.new ≡ false) }
     ensures fails { IfErr result (λ e. R.has_failed reader.new ≡ reader_after e) }
-    ensures err { IfErr result (λ e. StopsHearing e input.old (R.remaining reader.old) (R.remaining reader.new) input.new) }
+    ensures err { IfErr result (λ e.
+        StopsHearing e input.old (R.remaining reader.old) (R.remaining reader.new) input.new) }
     ensures same { OnErr result (handle.new ≡ handle.old) }
 {
     let Some(line) = input.next_line(alloc, reader)? else {
@@ -135,11 +149,14 @@ fn answer_line<E: EntryLedger, H: RecordLedger, R: Source, C: Control>(
     control: &C,
 ) -> Result<Heard, ServeFault>
     requires reader { R.has_failed reader.old ≡ false }
-    ensures ok { IfOk result (λ heard. Performs (command_of line.now) heard.answer input.old (R.remaining reader.old) (R.remaining reader.new) input.new handle.old handle.new) }
-    ensures stops { IfOk result (λ heard. IsTrue heard.stops ↔ (command_of line.now ≡ Some to_stop)) }
+    ensures ok { IfOk result (λ heard. Performs (command_of line.now) heard.answer input.old
+        (R.remaining reader.old) (R.remaining reader.new) input.new handle.old handle.new) }
+    ensures stops { IfOk result (λ heard. IsTrue heard.stops
+        ↔ (command_of line.now ≡ Some to_stop)) }
     ensures sound { OnOk result (R.has_failed reader.new ≡ false) }
     ensures fails { IfErr result (λ e. R.has_failed reader.new ≡ reader_after e) }
-    ensures err { IfErr result (λ e. (octets : List ℕ) × StopsReading e input.old (R.remaining reader.old) (R.remaining reader.new) octets input.new) }
+    ensures err { IfErr result (λ e. (octets : List ℕ) × StopsReading e input.old
+        (R.remaining reader.old) (R.remaining reader.new) octets input.new) }
     ensures same { OnErr result (handle.new ≡ handle.old) }
 {
     match read_command(alloc, line) {
@@ -201,10 +218,12 @@ fn perform<E: EntryLedger, H: RecordLedger, R: Source, C: Control>(
     control: &C,
 ) -> Result<Answer, ServeFault>
     requires reader { R.has_failed reader.old ≡ false }
-    ensures ok { IfOk result (λ answer. Performs (Some (saying command)) answer input.old (R.remaining reader.old) (R.remaining reader.new) input.new handle.old handle.new) }
+    ensures ok { IfOk result (λ answer. Performs (Some (saying command)) answer input.old
+        (R.remaining reader.old) (R.remaining reader.new) input.new handle.old handle.new) }
     ensures sound { OnOk result (R.has_failed reader.new ≡ false) }
     ensures fails { IfErr result (λ e. R.has_failed reader.new ≡ reader_after e) }
-    ensures err { IfErr result (λ e. (octets : List ℕ) × StopsReading e input.old (R.remaining reader.old) (R.remaining reader.new) octets input.new) }
+    ensures err { IfErr result (λ e. (octets : List ℕ) × StopsReading e input.old
+        (R.remaining reader.old) (R.remaining reader.new) octets input.new) }
     ensures same { OnErr result (handle.new ≡ handle.old) }
 {
     match command {
@@ -301,7 +320,7 @@ fn unsubscribe<E: EntryLedger, H: RecordLedger>(
     }
 }
 
-/// Advances the clock, to so many milliseconds since 1970, once there is room for what that closes.
+/// Advances the clock to `t`, in milliseconds since 1970, once there is room for what that closes.
 fn advance<E: EntryLedger, H: RecordLedger, P: Patience>(
     rt: &impl Wait,
     shared: &SharedMediator<E, H>,
@@ -343,7 +362,7 @@ fn tell<E: EntryLedger, C: Control>(handle: &AdminHandle<E>, topic: Topic, contr
     }
 }
 
-/// Hands out the oldest entries of the audit, at most so many, and no more than [`MOST_AUDIT_OCTETS`] have room for.
+/// Hands out the oldest entries of the audit: at most `most`, and no more than [`MOST_AUDIT_OCTETS`] have room for.
 fn drain_audit<E: EntryLedger, H: RecordLedger>(
     rt: &impl Wait,
     alloc: Global,
@@ -397,7 +416,7 @@ fn drain_one<E: EntryLedger, H: RecordLedger>(
     }
 }
 
-/// How many octets the answer with the last of these alone has.
+/// How many octets an answer has that hands out only the last of `drained`.
 fn last_length(buffer: &mut AnswerBuffer, drained: &[AuditEntry]) -> u64 {
     let last = drained.len().saturating_sub(1);
     match drained.get(last..) {
@@ -406,10 +425,11 @@ fn last_length(buffer: &mut AnswerBuffer, drained: &[AuditEntry]) -> u64 {
     }
 }
 
-/// Writes an answer behind so many octets, and answers how many were sent then.
+/// Writes an answer behind the `sent` octets of those before it, and answers how many octets were sent in all.
 ///
 /// # Errors
-/// The writer failed, after so many octets in all; or the octets sent can't be counted, and then none of the answer was written.
+/// The writer failed, and the fault says how many octets were sent in all; or the octets sent can't be counted, and then none of
+/// the answer was written.
 fn reply<W: Sink>(
     alloc: Global,
     buffer: &mut AnswerBuffer,
@@ -418,9 +438,11 @@ fn reply<W: Sink>(
     sent: u64,
 ) -> Result<u64, ServeFault>
     requires writer { W.has_failed writer.old ≡ false }
-    ensures ok { IfOk result (λ n. WritesAnswer answer.now sent n (W.contents writer.old) (W.contents writer.new)) }
+    ensures ok { IfOk result (λ n.
+        WritesAnswer answer.now sent n (W.contents writer.old) (W.contents writer.new)) }
     ensures sound { OnOk result (W.has_failed writer.new ≡ false) }
-    ensures err { IfErr result (λ e. StopsReplying e answer.now sent (W.contents writer.old) (W.contents writer.new) (W.has_failed writer.new)) }
+    ensures err { IfErr result (λ e. StopsReplying e answer.now sent
+        (W.contents writer.old) (W.contents writer.new) (W.has_failed writer.new)) }
     ensures fails { IfErr result (λ e. W.has_failed writer.new ≡ writer_after e) }
 {
     match write_answer(alloc, buffer, writer, answer, sent) {

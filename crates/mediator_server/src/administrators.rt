@@ -1,4 +1,4 @@
-//! The connections of administrators, one after another.
+//! The connections of administrators, which are served one after another.
 ghost use Rattle.std.specs.Prelude.{None};
 ghost use Rattle.std.specs.Io.{ReadsAtMost};
 
@@ -45,7 +45,7 @@ pub(crate) fn admit<E: EntryLedger, H: RecordLedger, R: Wait + Log>(
     }
 }
 
-/// Serves administrators, one after another, until none is to be served any more.
+/// Serves administrators with the handle `admin`, one after another, until none is to be served any more.
 pub(crate) fn serve_all<E: EntryLedger, H: RecordLedger, R: Wait + Clock + Log>(
     rt: &R,
     service: &Service<'_, E, H>,

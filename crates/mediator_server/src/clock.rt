@@ -1,4 +1,4 @@
-//! What tells the time.
+//! The clock by which messages to collectors are stamped.
 ghost use Rattle.std.specs.Prelude.{ℕ};
 
 /// What tells the Export Times of messages.

@@ -1,4 +1,4 @@
-//! The connections to collectors.
+//! The connections to collectors: how each is made, delivered over, ended and made again.
 
 use crate::connections::Connection;
 use crate::delivery::deliver;
@@ -23,13 +23,13 @@ use std::net::{Net, SocketAddr, TcpListener, TcpStream, ToSocketAddrs};
 use std::sync::Wait;
 use std::time::{Clock, Duration};
 
-/// How long it is waited for the system of a collector to take the last octets, in seconds,
+/// For this many seconds at most it is waited until the system of a collector has taken the last octets.
 const FAREWELL: u64 = 5;
 
-/// and how many milliseconds pass before it is looked again.
+/// In milliseconds: how long it is slept between two looks at what the system of a collector has taken.
 const LOOK_EACH: u64 = 20;
 
-/// A collector that hasn't answered after so many seconds is one that refuses.
+/// A collector that hasn't answered after this many seconds counts as one that refuses.
 const PATIENCE: u64 = 10;
 
 /// The handles of the deliveries to one collector, of which the last is that of the subscription it has now.
@@ -190,8 +190,8 @@ fn deliver_anew<E: EntryLedger, H: RecordLedger, R: Wait + Clock + Log>(
     deliver_over(rt, service, collector, handles, connection)
 }
 
-/// Begins a new subscription, unless the one that there is has handed out nothing yet and isn't cut. Answers what was missed, where it is
-/// a new one.
+/// Begins a new subscription, unless the one that there is has handed out nothing yet and isn't cut. Answers what was missed,
+/// where it is a new one.
 ///
 /// # Errors
 /// The subscription was refused, or memory ran out: what was missed by now.
@@ -309,8 +309,8 @@ fn deliver_over<E: EntryLedger, H: RecordLedger, R: Wait + Clock + Log>(
     }
 }
 
-/// Ends the connection of a subscription that was cut: when the collector's system has all that was written, by a reset, so that the
-/// collector can tell this from the end of its stream. Where the system doesn't tell how much it has, by such an end.
+/// Ends the connection of a subscription that was cut: when the collector's system has all that was written, by a reset, so that
+/// the collector can tell this from the end of its stream. Where the system doesn't tell how much it has, by such an end.
 fn break_off<R: Wait + Clock>(rt: &R, alloc: Global, connection: &Connection) {
     let begun = now(rt);
     for _ in rt.forever() {

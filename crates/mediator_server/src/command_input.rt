@@ -1,4 +1,4 @@
-//! The lines and texts of a connection.
+//! The octets of an administrator's connection, handed out as lines and as texts of a given length.
 ghost use Rattle.std.specs.Prelude.{◌≡◌, ℕ, ◌+◌, ◌≤◌, ◌<◌, List, [], ◌∷◌, true, false, length, take, IfOk, IfErr, OnOk, MatchOption};
 ghost use Rattle.std.specs.Io.KnownBytes.{Consumes, IsAtEnd, Keeps};
 ghost use Rattle.mediator_server.specs.declared.fault.ServeFault.TheVariants.{Read};
@@ -15,7 +15,7 @@ use std::marker::Model;
 /// The most octets of one read.
 const PIECE: usize = 65_536;
 
-/// The octets of a connection, which are read in pieces and handed out in lines and texts. It allows so many reads.
+/// The octets of a connection, which are read in pieces and handed out in lines and texts. The number of its reads is limited.
 #[derive(Drop)]
 pub(crate) struct CommandInput {
     /// Room for one piece.
@@ -36,11 +36,12 @@ impl Model for CommandInput {
 
     ghost view = { λ i. record { pending = drop i.from (take i.to i.piece.items); turns = i.turns } };
 
-    ghost invariant = { λ i. (i.from ≤ i.to) × (i.to ≤ length i.piece.items) × (0 < length i.piece.items) };
+    ghost invariant = { λ i. (i.from ≤ i.to) × (i.to ≤ length i.piece.items)
+        × (0 < length i.piece.items) };
 }
 
 impl CommandInput {
-    /// An input of which nothing is read, and that makes at most so many reads.
+    /// An input of which nothing is read yet, and that makes at most `turns` reads.
     ///
     /// # Errors
     /// Want of memory.
@@ -68,10 +69,12 @@ impl CommandInput {
         requires reader { R.has_failed reader.old ≡ false }
         ensures ok { IfOk result (λ found. MatchOption found
             (EndsBehind self.old (R.remaining reader.old) (R.remaining reader.new) [])
-            (λ line. (octets : List ℕ) × IsLine line.items octets × HandsOut self.old (R.remaining reader.old) (R.remaining reader.new) octets self.new)) }
+            (λ line. (octets : List ℕ) × IsLine line.items octets × HandsOut self.old
+            (R.remaining reader.old) (R.remaining reader.new) octets self.new)) }
         ensures sound { OnOk result (R.has_failed reader.new ≡ false) }
         ensures fails { IfErr result (λ e. R.has_failed reader.new ≡ reader_after e) }
-        ensures err { IfErr result (λ e. (octets : List ℕ) × StopsReading e self.old (R.remaining reader.old) (R.remaining reader.new) octets self.new × IsBegun e octets) }
+        ensures err { IfErr result (λ e. (octets : List ℕ) × StopsReading e self.old
+            (R.remaining reader.old) (R.remaining reader.new) octets self.new × IsBegun e octets) }
     {
         let mut line = Vec::new(alloc);
         'octets: while line.len() <= LONGEST_LINE {
@@ -88,7 +91,7 @@ impl CommandInput {
         Ok(Some(line))
     }
 
-    /// The next so many octets.
+    /// The next `count` octets.
     ///
     /// # Errors
     /// The reader failed; or the input ends before them; or no read is left; or memory ran out.
@@ -99,11 +102,13 @@ impl CommandInput {
         count: u32,
     ) -> Result<Vec<u8>, ServeFault>
         requires reader { R.has_failed reader.old ≡ false }
-        ensures ok { IfOk result (λ text. HandsOut self.old (R.remaining reader.old) (R.remaining reader.new) text.items self.new) }
+        ensures ok { IfOk result (λ text. HandsOut self.old
+            (R.remaining reader.old) (R.remaining reader.new) text.items self.new) }
         ensures count { IfOk result (λ text. length text.items ≡ count) }
         ensures sound { OnOk result (R.has_failed reader.new ≡ false) }
         ensures fails { IfErr result (λ e. R.has_failed reader.new ≡ reader_after e) }
-        ensures err { IfErr result (λ e. (octets : List ℕ) × StopsReading e self.old (R.remaining reader.old) (R.remaining reader.new) octets self.new) }
+        ensures err { IfErr result (λ e. (octets : List ℕ) × StopsReading e self.old
+            (R.remaining reader.old) (R.remaining reader.new) octets self.new) }
     {
         let mut text = Vec::new(alloc);
         'octets: for _ in 0..count {
@@ -126,10 +131,12 @@ impl CommandInput {
         requires reader { R.has_failed reader.old ≡ false }
         ensures ok { IfOk result (λ found. MatchOption found
             (EndsBehind self.old (R.remaining reader.old) (R.remaining reader.new) [])
-            (λ octet. HandsOut self.old (R.remaining reader.old) (R.remaining reader.new) (octet ∷ []) self.new)) }
+            (λ octet. HandsOut self.old (R.remaining reader.old) (R.remaining reader.new)
+            (octet ∷ []) self.new)) }
         ensures sound { OnOk result (R.has_failed reader.new ≡ false) }
         ensures fails { IfErr result (λ e. R.has_failed reader.new ≡ reader_after e) }
-        ensures err { IfErr result (λ e. StopsReading e self.old (R.remaining reader.old) (R.remaining reader.new) [] self.new × IsBegun e []) }
+        ensures err { IfErr result (λ e. StopsReading e self.old
+            (R.remaining reader.old) (R.remaining reader.new) [] self.new × IsBegun e []) }
     {
         self.fill(reader)?;
         Ok(self.pop())
@@ -141,10 +148,12 @@ impl CommandInput {
     /// The reader failed; or no read is left.
     fn fill<R: Source>(&mut self, reader: &mut R) -> Result<(), ServeFault>
         requires reader { R.has_failed reader.old ≡ false }
-        ensures ok { OnOk result (Fills self.old (R.remaining reader.old) (R.remaining reader.new) self.new) }
+        ensures ok { OnOk result (Fills self.old
+            (R.remaining reader.old) (R.remaining reader.new) self.new) }
         ensures sound { OnOk result (R.has_failed reader.new ≡ false) }
         ensures fails { IfErr result (λ e. R.has_failed reader.new ≡ reader_after e) }
-        ensures err { IfErr result (λ e. StopsReading e self.old (R.remaining reader.old) (R.remaining reader.new) [] self.new × IsBegun e []) }
+        ensures err { IfErr result (λ e. StopsReading e self.old
+            (R.remaining reader.old) (R.remaining reader.new) [] self.new × IsBegun e []) }
     {
         if self.from != self.to {
             return Ok(());
@@ -161,7 +170,9 @@ impl CommandInput {
 
     /// Hands out the first octet that is pending.
     fn pop(&mut self) -> Option<u8>
-        ensures { MatchOption result ((self.old.pending ≡ []) × (self.new ≡ self.old)) (λ octet. (self.old.pending ≡ octet ∷ self.new.pending) × (self.new.turns ≡ self.old.turns)) }
+        ensures { MatchOption result ((self.old.pending ≡ []) × (self.new ≡ self.old))
+            (λ octet. (self.old.pending ≡ octet ∷ self.new.pending)
+            × (self.new.turns ≡ self.old.turns)) }
     {
         if self.from == self.to {
             return None;
@@ -179,10 +190,13 @@ impl CommandInput {
 fn read_piece<R: Source>(reader: &mut R, piece: &mut Vec<u8>) -> Result<usize, ServeFault>
     requires { 0 < length piece.old.items }
     ensures length { length piece.new.items ≡ length piece.old.items }
-    ensures ok { IfOk result (λ n. (n ≤ length piece.new.items) × Consumes (R.remaining reader.old) (R.remaining reader.new) (take n piece.new.items)) }
+    ensures ok { IfOk result (λ n. (n ≤ length piece.new.items)
+        × Consumes (R.remaining reader.old) (R.remaining reader.new) (take n piece.new.items)) }
     ensures end { IfOk result (λ n. n ≡ 0 → IsAtEnd (R.remaining reader.new)) }
     ensures stays { OnOk result (R.has_failed reader.new ≡ R.has_failed reader.old) }
-    ensures err { IfErr result (λ e. (e ≡ Read) × Keeps (R.remaining reader.old) (R.remaining reader.new) × (R.has_failed reader.new ≡ true)) }
+    ensures err { IfErr result (λ e. (e ≡ Read)
+        × Keeps (R.remaining reader.old) (R.remaining reader.new)
+        × (R.has_failed reader.new ≡ true)) }
 {
     match reader.read(piece.as_mut_slice()) {
         Ok(count) => Ok(count),

@@ -13,10 +13,12 @@ pub(crate) struct Connection {
 }
 
 impl Connection {
+    /// The number of the connection among those of its kind, by which [`Connections::forget`] lets go of it.
     pub(crate) fn number(&self) -> u64 {
         self.number
     }
 
+    /// The socket on which it is read and written.
     pub(crate) fn stream(&self) -> &TcpStream {
         &self.stream
     }
@@ -29,6 +31,7 @@ pub(crate) struct Connections {
     open: Mutex<Open>,
 }
 
+/// What a lock guards: the connections that are open, and how many there ever were.
 #[derive(Drop)]
 struct Open {
     /// How many were ever added.
@@ -37,6 +40,7 @@ struct Open {
 }
 
 impl Connections {
+    /// No connection. What it comes to keep is taken from `alloc`.
     pub(crate) fn new(alloc: Global) -> Connections {
         let connections = Vec::new(alloc);
         Connections {

@@ -1,4 +1,4 @@
-//! A subscription's messages.
+//! Delivers a subscription: pulls its messages, and writes them.
 ghost use Rattle.std.specs.Prelude.{◌≡◌, ◌+◌, ◌<◌, ◌^◌, false, length, IfOk, IfErr, OnOk};
 ghost use Rattle.std.specs.Io.KnownBytes.{Appends};
 ghost use Rattle.mediator_server.specs.Faults.{writer_after};
@@ -20,15 +20,18 @@ const LONGEST_MESSAGE: u64 = ipfix_octets::message_format::LONGEST_MESSAGE as u6
 /// How many messages are pulled at once at most.
 const MOST_AT_ONCE: u64 = 32;
 
-/// Delivers a subscription: pulls its messages, several at once, of at most `target` octets where they can be so short, and
-/// writes them, until nothing is queued and nothing will be; and answers how many octets were sent. Where the writer fails, the subscription is
-/// ended by the administrator's handle; where the mediator refuses that, it stays.
+/// Delivers the subscription of `handle`, and answers how many octets were sent. It pulls the subscription's messages from the
+/// mediator of `shared`, several at once, and writes them to `writer`, until nothing is queued and nothing will be. A message has
+/// at most `target` octets where it can be so short, and the Export Time that `clock` shows when it is pulled (RFC 7011, section
+/// 3.1). It waits by `rt`.
+///
+/// Where the writer fails, the subscription is ended through `admin`. Where the mediator refuses that, it stays.
 ///
 /// # Errors
-/// The writer failed, after so many octets of all that was pulled, of which at most the messages of the last pull weren't all
-/// written; or the mediator refuses a pull, or the octets sent, and those
-/// of one message more, might not be counted in 64 bits. Beside the fault stands how many records waited for the subscription then,
-/// before it was ended; 0 where it is no longer live.
+/// `Write` where the writer failed: it says how many octets were sent of all that was pulled. Only messages of the last pull were
+/// not sent whole. `Core` where the mediator refuses a pull, or the octets sent, with those of one pull more, might not be
+/// counted in 64 bits: all that was pulled before is sent. Beside the fault stands how many records waited for the subscription
+/// then, before it was ended; 0 where it is no longer live.
 pub fn deliver<E: EntryLedger, H: RecordLedger, W: Sink, C: Clock>(
     rt: &impl Wait,
     shared: &SharedMediator<E, H>,
@@ -39,9 +42,12 @@ pub fn deliver<E: EntryLedger, H: RecordLedger, W: Sink, C: Clock>(
     clock: &C,
 ) -> Result<u64, (ServeFault, u64)>
     requires writer { W.has_failed writer.old ≡ false }
-    ensures delivers { IfOk result (λ sent. Delivers (C.shows clock.now) target sent handle.old handle.new (W.contents writer.old) (W.contents writer.new)) }
+    ensures delivers { IfOk result (λ sent. Delivers (C.shows clock.now) target sent
+        handle.old handle.new (W.contents writer.old) (W.contents writer.new)) }
     ensures sound { OnOk result (W.has_failed writer.new ≡ false) }
-    ensures stops { IfErr result (λ e. FailsToDeliver e.0 (C.shows clock.now) target handle.old handle.new (W.contents writer.old) (W.contents writer.new) (W.has_failed writer.new)) }
+    ensures stops { IfErr result (λ e.
+        FailsToDeliver e.0 (C.shows clock.now) target handle.old handle.new
+        (W.contents writer.old) (W.contents writer.new) (W.has_failed writer.new)) }
     ensures fails { IfErr result (λ e. W.has_failed writer.new ≡ writer_after e.0) }
     ensures same { OnOk result (admin.new ≡ admin.old) }
     ensures gone { IfErr result (λ e. EndsOnWrite e.0 handle.old.sub admin.old admin.new) }
@@ -97,9 +103,12 @@ fn send_messages<E: EntryLedger, H: RecordLedger, W: Sink, C: Clock>(
     clock: &C,
 ) -> Result<u64, ServeFault>
     requires writer { W.has_failed writer.old ≡ false }
-    ensures delivers { IfOk result (λ sent. Delivers (C.shows clock.now) target sent handle.old handle.new (W.contents writer.old) (W.contents writer.new)) }
+    ensures delivers { IfOk result (λ sent. Delivers (C.shows clock.now) target sent
+        handle.old handle.new (W.contents writer.old) (W.contents writer.new)) }
     ensures sound { OnOk result (W.has_failed writer.new ≡ false) }
-    ensures stops { IfErr result (λ e. FailsToDeliver e (C.shows clock.now) target handle.old handle.new (W.contents writer.old) (W.contents writer.new) (W.has_failed writer.new)) }
+    ensures stops { IfErr result (λ e.
+        FailsToDeliver e (C.shows clock.now) target handle.old handle.new
+        (W.contents writer.old) (W.contents writer.new) (W.has_failed writer.new)) }
     ensures fails { IfErr result (λ e. W.has_failed writer.new ≡ writer_after e) }
 {
     let mut sent = 0u64;
@@ -117,10 +126,11 @@ fn send_messages<E: EntryLedger, H: RecordLedger, W: Sink, C: Clock>(
     unreachable!()
 }
 
-/// Writes messages behind so many octets, in one piece where there is memory for it, and answers how many were sent then.
+/// Writes `messages` behind the `sent` octets of those before them, in one piece where there is memory for it, and answers how
+/// many octets were sent in all.
 ///
 /// # Errors
-/// The writer failed, after so many octets in all.
+/// The writer failed, and the fault says how many octets were sent in all.
 fn send_all<W: Sink>(
     alloc: Global,
     messages: &[Handed],
@@ -128,9 +138,11 @@ fn send_all<W: Sink>(
     sent: u64,
 ) -> Result<u64, ServeFault>
     requires fits { sent + length (octets_of messages.now) < 2 ^ 64 }
-    ensures ok { IfOk result (λ n. Sends (octets_of messages.now) sent n (W.contents writer.old) (W.contents writer.new)) }
+    ensures ok { IfOk result (λ n. Sends (octets_of messages.now) sent n
+        (W.contents writer.old) (W.contents writer.new)) }
     ensures stays { OnOk result (W.has_failed writer.new ≡ W.has_failed writer.old) }
-    ensures err { IfErr result (λ e. StopsSending e (octets_of messages.now) sent (W.contents writer.old) (W.contents writer.new) (W.has_failed writer.new)) }
+    ensures err { IfErr result (λ e. StopsSending e (octets_of messages.now) sent
+        (W.contents writer.old) (W.contents writer.new) (W.has_failed writer.new)) }
 {
     match joined(alloc, messages) {
         Ok(octets) => send(&octets, writer, sent),
@@ -152,15 +164,18 @@ fn joined(alloc: Global, messages: &[Handed]) -> Result<Vec<u8>, AllocError>
     Ok(octets)
 }
 
-/// Writes messages one after another, behind so many octets, and answers how many were sent then.
+/// Writes `messages` one after another, behind the `sent` octets of those before them, and answers how many octets were sent in
+/// all.
 ///
 /// # Errors
-/// The writer failed, after so many octets in all.
+/// The writer failed, and the fault says how many octets were sent in all.
 fn send_each<W: Sink>(messages: &[Handed], writer: &mut W, mut sent: u64) -> Result<u64, ServeFault>
     requires fits { sent + length (octets_of messages.now) < 2 ^ 64 }
-    ensures ok { IfOk result (λ n. Sends (octets_of messages.now) sent n (W.contents writer.old) (W.contents writer.new)) }
+    ensures ok { IfOk result (λ n. Sends (octets_of messages.now) sent n
+        (W.contents writer.old) (W.contents writer.new)) }
     ensures stays { OnOk result (W.has_failed writer.new ≡ W.has_failed writer.old) }
-    ensures err { IfErr result (λ e. StopsSending e (octets_of messages.now) sent (W.contents writer.old) (W.contents writer.new) (W.has_failed writer.new)) }
+    ensures err { IfErr result (λ e. StopsSending e (octets_of messages.now) sent
+        (W.contents writer.old) (W.contents writer.new) (W.has_failed writer.new)) }
 {
     'sends: for handed in messages {
         sent = send(handed.message.as_slice(), writer, sent)?;
@@ -168,15 +183,17 @@ fn send_each<W: Sink>(messages: &[Handed], writer: &mut W, mut sent: u64) -> Res
     Ok(sent)
 }
 
-/// Writes a message behind so many octets, and answers how many were sent then.
+/// Writes `message` behind the `sent` octets of those before it, and answers how many octets were sent in all.
 ///
 /// # Errors
-/// The writer failed, after so many octets in all.
+/// The writer failed, and the fault says how many octets were sent in all.
 fn send<W: Sink>(message: &[u8], writer: &mut W, sent: u64) -> Result<u64, ServeFault>
     requires fits { sent + length message.now < 2 ^ 64 }
-    ensures ok { IfOk result (λ n. Sends message.now sent n (W.contents writer.old) (W.contents writer.new)) }
+    ensures ok { IfOk result (λ n.
+        Sends message.now sent n (W.contents writer.old) (W.contents writer.new)) }
     ensures stays { OnOk result (W.has_failed writer.new ≡ W.has_failed writer.old) }
-    ensures err { IfErr result (λ e. StopsSending e message.now sent (W.contents writer.old) (W.contents writer.new) (W.has_failed writer.new)) }
+    ensures err { IfErr result (λ e. StopsSending e message.now sent
+        (W.contents writer.old) (W.contents writer.new) (W.has_failed writer.new)) }
 {
     match write_all(writer, message) {
         Ok(()) => Ok(sent + message.len() as u64),

@@ -1,4 +1,4 @@
-//! An exporter's stream.
+//! Serves an exporter's stream: reads its messages, prepares them without the lock, and offers them to the mediator.
 ghost use Rattle.std.specs.Prelude.{◌≡◌, ◌-◌, ◌++◌, ◌∷◌, [], ℕ, List, false, length, IfOk, IfErr, IfSome, OnOk, OnErr, IsTrue};
 ghost use Rattle.std.specs.Vec.Iter.{into_iter_items};
 ghost use Rattle.event_journal.specs.declared.entry.Entry.TheVariants.{Message};
@@ -23,12 +23,12 @@ use std::sync::Wait;
 use std::thread::Threads;
 use std::vec::IntoIter;
 
-/// How a stream is read.
+/// How a stream is read: by how many reads, and what each brings by how many threads.
 #[derive(Clone, Copy, Debug, PartialEq, Eq)]
 struct Pace {
-    /// By so many reads at most.
+    /// The most reads.
     turns: u64,
-    /// What one read brought by so many threads.
+    /// The threads that prepare what one read brought.
     workers: u64,
 }
 
@@ -52,6 +52,7 @@ struct Progress {
 }
 
 impl Progress {
+    /// No message yet.
     const fn none() -> Progress {
         Progress {
             records: 0,
@@ -60,7 +61,7 @@ impl Progress {
         }
     }
 
-    /// One message more, with this receipt.
+    /// Adds one message more, which has this receipt.
     fn add(&mut self, receipt: &Receipt) {
         self.records = self.records.saturating_add(receipt.records as u64);
         if receipt.gap.is_some() {
@@ -68,7 +69,7 @@ impl Progress {
         }
     }
 
-    /// What a stream of so many messages brought.
+    /// What a stream brought in which this many messages were accepted.
     const fn of(&self, messages: u64) -> Served
         ensures { result.messages ≡ messages }
     {
@@ -80,23 +81,27 @@ impl Progress {
     }
 }
 
-/// Serves an exporter's connection: reads its stream (RFC 7011, section 10.4) to its end by at most so many reads, offers each
-/// message of it, and answers what it brought. The messages that one read made whole are prepared by so many workers, 1 to 64,
-/// without the lock; those that can't be are read under it, and judged before. Whatever comes, the handle's session is closed then; where the
-/// mediator refuses that, it stays open.
+/// Serves an exporter's connection, and answers what it brought. It reads the stream from `reader` (RFC 7011, section 10.4) to
+/// its end, by at most `turns` reads, and offers each of its messages to the mediator of `shared`, through `handle`. Whatever
+/// comes, the handle's session is closed then; where the mediator refuses that, it stays open.
 ///
-/// # Errors
-/// The reader failed; the stream is faulty, or ends inside a message; or its end isn't read within `turns` reads; or a message
-/// is refused, or too wide to be offered ([`Snapshot::is_too_wide`](prepared_message::Snapshot::is_too_wide)), or too many of its
-/// records count in aggregates ([`JudgedAhead::counts_too_many`]); or memory ran out. The messages before that were offered, and
-/// what they brought is answered too.
+/// The messages that one read made whole are prepared without the lock, by as many threads as `workers` says, 1 to 64, which `rt`
+/// starts. Those that can't be prepared are judged without the lock and read under it. Where `workers` is another number, all
+/// are. Memory is taken from `alloc`.
+///
+/// Before a message is offered, `reception` has it wait for room in the queues of those to whom it would give records, as long as
+/// `reception` has patience. Behind each message that was accepted, `reception` is told of it.
 ///
 /// How many records count is found out without the lock. So a message of which nothing was judged for want of memory, or whose
 /// judgement is stale when the lock is taken, since there was an edit, an advance or another subscription meanwhile, is taken in
 /// whatever counts.
 ///
-/// Before a message is offered, `reception` has it wait for room in the queues of those to whom it would give records, as long as
-/// that has patience with it; and behind each that was accepted it's told of it.
+/// # Errors
+/// `Read` where the reader failed; `Framing` where the stream is faulty, or ends inside a message; `Turns` where its end isn't
+/// read within `turns` reads; `TooWide` where a message is too wide to be offered
+/// ([`Snapshot::is_too_wide`](prepared_message::Snapshot::is_too_wide)); `TooManyCounts` where too many of its records count in
+/// aggregates ([`JudgedAhead::counts_too_many`]); or `Core` where the mediator refuses a message, or memory ran out. The messages
+/// before that were accepted, and what they brought stands beside the fault.
 pub fn serve_exporter<
     E: EntryLedger,
     H: RecordLedger,
@@ -114,10 +119,13 @@ pub fn serve_exporter<
     reception: &O,
 ) -> Result<Served, (ServeFault, Served)>
     requires reader { R.has_failed reader.old ≡ false }
-    ensures serves { IfOk result (λ served. Serves turns served.messages (R.remaining reader.old) (R.remaining reader.new) handle.old handle.new) }
+    ensures serves { IfOk result (λ served. Serves turns served.messages
+        (R.remaining reader.old) (R.remaining reader.new) handle.old handle.new) }
     ensures sound { OnOk result (R.has_failed reader.new ≡ false) }
-    ensures stops { IfErr result (λ e. StopsServing e.0 turns (R.remaining reader.old) (R.remaining reader.new) handle.old handle.new) }
-    ensures counted { IfErr result (λ e. e.1.messages ≡ length handle.new.kept - length handle.old.kept) }
+    ensures stops { IfErr result (λ e. StopsServing e.0 turns
+        (R.remaining reader.old) (R.remaining reader.new) handle.old handle.new) }
+    ensures counted { IfErr result (λ e.
+        e.1.messages ≡ length handle.new.kept - length handle.old.kept) }
     ensures fails { IfErr result (λ e. R.has_failed reader.new ≡ reader_after e.0) }
 {
     let before = handle.kept().len();
@@ -159,9 +167,11 @@ fn offer_stream<E: EntryLedger, H: RecordLedger, R: Source, O: Reception, T: Thr
     reception: &O,
 ) -> Result<u64, ServeFault>
     requires reader { R.has_failed reader.old ≡ false }
-    ensures serves { IfOk result (λ offered. Serves pace.turns offered (R.remaining reader.old) (R.remaining reader.new) handle.old handle.new) }
+    ensures serves { IfOk result (λ offered. Serves pace.turns offered
+        (R.remaining reader.old) (R.remaining reader.new) handle.old handle.new) }
     ensures sound { OnOk result (R.has_failed reader.new ≡ false) }
-    ensures stops { IfErr result (λ e. StopsServing e pace.turns (R.remaining reader.old) (R.remaining reader.new) handle.old handle.new) }
+    ensures stops { IfErr result (λ e. StopsServing e pace.turns
+        (R.remaining reader.old) (R.remaining reader.new) handle.old handle.new) }
     ensures fails { IfErr result (λ e. R.has_failed reader.new ≡ reader_after e) }
 {
     let before = handle.kept().len();
@@ -192,7 +202,8 @@ fn prepare_piece<E: EntryLedger, H: RecordLedger, T: Threads + Wait + Sync>(
     }
 }
 
-/// The same; nothing where the session has no snapshot to give, or the workers are refused.
+/// Prepares the messages of one piece by the workers. `None` where there are no workers, the session has no snapshot to give, or
+/// the workers are refused.
 fn prepare_by_workers<E: EntryLedger, H: RecordLedger, T: Threads + Wait + Sync>(
     rt: &T,
     shared: &SharedMediator<E, H>,
@@ -208,8 +219,8 @@ fn prepare_by_workers<E: EntryLedger, H: RecordLedger, T: Threads + Wait + Sync>
     workers.prepare_all(rt, &snapshot, copies, &NoGate).ok()
 }
 
-/// Copies of the messages before the first that is too wide, or whose width can't be told for want of memory. Nothing where there is no
-/// memory for them.
+/// Copies of the messages before the first that is too wide, or whose width can't be told for want of memory. Nothing where there
+/// is no memory for them.
 fn narrow_front(snapshot: &Snapshot, messages: &Vec<Bytes>) -> Option<Vec<Bytes>>
     ensures { IfSome result (λ copies. IsFrontOf messages.now.items copies.items) }
 {
@@ -275,8 +286,10 @@ fn offer_each<E: EntryLedger, H: RecordLedger, O: Reception>(
 
 /// The next message as it was prepared, if it was.
 fn next_prepared(answers: &mut IntoIter<Result<Prepared, PrepareFault>>) -> Option<Prepared>
-    ensures { (message : List ℕ) (messages : List (List ℕ)) → ArePreparations (message ∷ messages) (into_iter_items answers.old)
-        → IfSome result (λ p. p.message ≡ message) × ArePreparations messages (into_iter_items answers.new) }
+    ensures { (message : List ℕ) (messages : List (List ℕ))
+        → ArePreparations (message ∷ messages) (into_iter_items answers.old)
+        → IfSome result (λ p. p.message ≡ message)
+        × ArePreparations messages (into_iter_items answers.new) }
 {
     answers.next()?.ok()
 }
@@ -296,7 +309,11 @@ fn offer_one<E: EntryLedger, H: RecordLedger, P: Patience>(
     patience: &P,
 ) -> Result<Receipt, ServeFault>
     requires prepared { IfSome prepared (λ p. p.message ≡ message) }
-    ensures kept { IfOk result (λ receipt. handle.new.kept ≡ handle.old.kept ++ record { position = receipt.position; entry = Message handle.old.session (length handle.old.kept) message } ∷ []) }
+    ensures kept { IfOk result (λ receipt.
+        handle.new.kept ≡ handle.old.kept ++ record {
+          position = receipt.position;
+          entry = Message handle.old.session (length handle.old.kept) message;
+        } ∷ []) }
     ensures session { handle.new.session ≡ handle.old.session }
     ensures same { OnErr result (handle.new ≡ handle.old) }
     ensures refuses { IfErr result (λ e. IsRefusalOf e message) }
@@ -318,8 +335,8 @@ fn offer_one<E: EntryLedger, H: RecordLedger, P: Patience>(
     }
 }
 
-/// Judges a message without the lock, by the session's templates as they are now, and offers it with what was judged, once there is
-/// room for what it gives; it has waited so often before. Where it can't be judged, the offer tells why.
+/// Judges a message without the lock, by the session's templates as they are now, and offers it with what was judged, once there
+/// is room for what it gives. `waited` is how often it has waited for that before. Where it can't be judged, the offer tells why.
 ///
 /// # Errors
 /// Those of [`offer_one`].
@@ -332,7 +349,11 @@ fn offer_judged<E: EntryLedger, H: RecordLedger, P: Patience>(
     patience: &P,
     waited: u64,
 ) -> Result<Receipt, ServeFault>
-    ensures kept { IfOk result (λ receipt. handle.new.kept ≡ handle.old.kept ++ record { position = receipt.position; entry = Message handle.old.session (length handle.old.kept) message } ∷ []) }
+    ensures kept { IfOk result (λ receipt.
+        handle.new.kept ≡ handle.old.kept ++ record {
+          position = receipt.position;
+          entry = Message handle.old.session (length handle.old.kept) message;
+        } ∷ []) }
     ensures session { handle.new.session ≡ handle.old.session }
     ensures same { OnErr result (handle.new ≡ handle.old) }
     ensures refuses { IfErr result (λ e. IsRefusalOf e message) }
@@ -349,7 +370,8 @@ fn offer_judged<E: EntryLedger, H: RecordLedger, P: Patience>(
     Ok(handle.offer_judged_silently(rt, shared, message, ahead)?)
 }
 
-/// Waits for room for what was judged of a message ahead, where anything was; it has waited so often before.
+/// Waits for room for what was judged of a message ahead, where anything was. `waited` is how often it has waited for that
+/// before.
 fn wait_for_judged<E: EntryLedger, H: RecordLedger, P: Patience>(
     rt: &impl Wait,
     shared: &SharedMediator<E, H>,
@@ -389,7 +411,8 @@ fn judged_ahead(
 
 /// Whether too many records of a message count, by what was judged of it ahead. Not where nothing was.
 fn counts_too_many(ahead: &Option<JudgedAhead>) -> bool
-    ensures { (message : List ℕ) → IfSome ahead.now (IsAheadOf message) → IsTrue result → CountsTooMany message }
+    ensures { (message : List ℕ) → IfSome ahead.now (IsAheadOf message) → IsTrue result
+        → CountsTooMany message }
 {
     match ahead {
         Some(ahead) => ahead.counts_too_many(),

@@ -1,4 +1,4 @@
-//! The connections of exporters.
+//! The connections of exporters: a session and a thread for each, and what is kept of them.
 ghost use Rattle.std.specs.Prelude.{None};
 
 use crate::connections::Connection;
@@ -29,7 +29,7 @@ use std::time::{Clock, Duration};
 /// How many milliseconds a message waits for room before it is looked again.
 const LOOK_EACH: u64 = 2;
 
-/// The journal's fill is looked up once for so many entries.
+/// How full the journal is, is looked up once for this many entries of it.
 const LOOK_EACH_ENTRIES: u64 = 64;
 
 /// The handles of exporters: of those whose threads are about to start, and of those that have ended.
@@ -40,6 +40,7 @@ pub(crate) struct ExporterHandles<E: EntryLedger> {
 }
 
 impl<E: EntryLedger> ExporterHandles<E> {
+    /// No handle. What it comes to keep is taken from `alloc`.
     pub(crate) fn new(alloc: Global) -> ExporterHandles<E> {
         ExporterHandles {
             starting: Mutex::new(Vec::new(alloc)),
@@ -47,7 +48,10 @@ impl<E: EntryLedger> ExporterHandles<E> {
         }
     }
 
-    /// Keeps a handle for a thread that is about to start; hands it back where there is no memory.
+    /// Keeps a handle for a thread that is about to start.
+    ///
+    /// # Errors
+    /// There is no memory: the handle is handed back.
     fn keep(&self, rt: &impl Wait, handle: ExporterHandle<E>) -> Result<(), ExporterHandle<E>> {
         let mut starting = self.starting.lock(rt);
         if starting.reserve(1).is_err() {
@@ -64,7 +68,10 @@ impl<E: EntryLedger> ExporterHandles<E> {
         Some(starting.remove(place))
     }
 
-    /// Makes room for the handles of so many exporters that are served.
+    /// Makes room for the handles of `served` exporters that are served, beside those that have ended.
+    ///
+    /// # Errors
+    /// Want of memory.
     fn make_room(&self, rt: &impl Wait, served: usize) -> Result<(), AllocError> {
         self.ended.lock(rt).reserve(served)
     }
@@ -330,8 +337,8 @@ impl<R: Wait + Clock + Log, E: EntryLedger, H: RecordLedger> Reception
     }
 }
 
-/// Waits a moment for room in a queue, and answers whether to look for it again: not when the wait that began with turn 0 has lasted
-/// as long as the plan allows, or the run ends.
+/// Waits a moment for room in a queue, and answers whether to look for it again: not when the wait that began with turn 0 has
+/// lasted as long as the plan allows, or the run ends.
 pub(crate) fn wait_a_moment<R: Wait + Clock, E: EntryLedger, H: RecordLedger>(
     rt: &R,
     service: &Service<'_, E, H>,

@@ -1,4 +1,4 @@
-//! Why a connection is served no more.
+//! Why a connection is served no more, for exporters, collectors and administrators alike.
 
 use mediator_calls::PullFault;
 use mediator_state::Fault;
@@ -12,11 +12,11 @@ use std::fmt::{self, Display, Formatter, Write};
 pub enum ServeFault {
     /// The reader failed.
     Read,
-    /// The writer failed, after so many octets.
+    /// The writer failed, when `sent` octets in all had been written.
     Write { sent: u64 },
-    /// What was read is no stream of messages.
+    /// What was read is no stream of messages, or ends inside a message or inside a command (`CutOff`).
     Framing(FramingFault),
-    /// So many reads were made as are allowed, and the end was not read.
+    /// As many reads were made as are allowed, and the end was not read.
     Turns,
     /// The Data Sets of a message may have more than [`VALUES_AN_OCTET`](prepared_message::VALUES_AN_OCTET) values for each of its
     /// octets: it isn't offered.
@@ -24,7 +24,7 @@ pub enum ServeFault {
     /// More records of a message count in aggregates than [`MOST_COUNTS`](prepared_message::MOST_COUNTS), added up over all
     /// subscriptions: it isn't offered.
     TooManyCounts,
-    /// The mediator refused a call; or memory ran out, or the octets that were sent can't be counted any further.
+    /// The mediator refused a call; or memory ran out; or the octets that were sent can't be counted any further.
     Core(PullFault),
 }
 

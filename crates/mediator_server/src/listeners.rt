@@ -1,4 +1,4 @@
-//! The two addresses at which a server is reached.
+//! The two addresses at which a server is reached, and who comes in there.
 
 use crate::notes;
 use crate::plan::Plan;
@@ -58,6 +58,7 @@ impl Listener {
         opened
     }
 
+    /// Listens on an address, and notes nothing.
     fn listen<R: Net<Listener = TcpListener, Stream = TcpStream>>(
         rt: &R,
         poll: &Poll,
@@ -91,8 +92,8 @@ impl Listener {
         unreachable!()
     }
 
-    /// Lets the spare descriptor go, and takes a connection by it: the system says that there is no descriptor left also where nobody
-    /// waits. The connection is closed, but where a spare descriptor can be had again.
+    /// Lets the spare descriptor go, and takes a connection by it: the system says that there is no descriptor left also where
+    /// nobody waits. The connection is closed, but where a spare descriptor can be had again.
     fn accept_by_spare(&mut self, rt: &(impl Clock + Log), why: &io::Error) -> BySpare {
         self.spare = None;
         let taken = match self.listener.accept() {
@@ -261,6 +262,7 @@ fn is_at(listening: Option<SocketAddr>, local: SocketAddr, peer: SocketAddr) -> 
             || ip.is_unspecified() && (same_ip(local.ip(), peer.ip()) || peer.ip().is_loopback()))
 }
 
+/// Whether two addresses are the same one.
 fn same_ip(some: IpAddr, other: IpAddr) -> bool {
     some == other
 }

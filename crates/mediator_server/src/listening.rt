@@ -1,4 +1,4 @@
-//! A server on sockets.
+//! Serves a mediator on sockets, from its first policy until it is given back.
 ghost use Rattle.std.specs.Prelude.{◌≡◌, ◌+◌, ◌*◌, ◌≤◌, IfOk};
 ghost use Rattle.mediator_calls.specs.Counted.{handed_live};
 ghost use Rattle.mediator_server.specs.Listening.{IsServed};
@@ -26,13 +26,13 @@ use std::time::Clock;
 pub enum ListenFault {
     /// One of its two addresses can't be listened on, or a connection couldn't be accepted.
     Bind,
-    /// The collector at this place of the plan's list can't be connected to.
+    /// The collector at this place of the plan's list, from 0, can't be connected to.
     Connect { collector: usize },
-    /// A thread was refused.
+    /// The system refused to start a thread.
     NoThread,
     /// The policy, or a subscription, was refused; or memory ran out.
     Core(Fault),
-    /// The mediator isn't given back.
+    /// The run has ended, but the mediator isn't given back.
     Close(CloseFault),
 }
 
@@ -96,7 +96,7 @@ impl From<HandleFault> for ListenFault {
     }
 }
 
-/// No plan needs more handles of a kind: there is no memory for so many.
+/// The most handles of a kind: no plan needs more, since there is no memory for them.
 const MOST_HANDLES: u64 = 0xffff_ffff;
 
 /// How many handles of each kind a plan needs: for its exporters; or for its deliveries, the administrator, and what sets it up.
@@ -111,34 +111,42 @@ fn handles_for(plan: &Plan) -> u64
     plan.connections.max(admins).min(MOST_HANDLES)
 }
 
-/// Serves a mediator on sockets as the plan says: puts the policy in force, subscribes each collector, connects to it and
-/// delivers to it, serves the exporters that connect, each in a thread of its own, and administrators one after another; and gives
-/// the mediator back when those have ended and what was queued is sent. An administrator may stop the run: then no more exporters
-/// come in, those that are there end behind the message in hand, and so it is when the journal is full. Where all exporters have
-/// come and gone, administrators are served for ten seconds more.
+/// Serves `mediator` on sockets as `plan` says, and gives it back when all has ended. It puts the plan's policy in force,
+/// subscribes each collector, connects to it and delivers to it. It serves the exporters that connect, each in a thread of its
+/// own, and administrators one after another. Sockets, threads, clocks and the log are those of `rt`, and memory is taken from
+/// `alloc`.
+///
+/// It ends when exporters and administrators have ended, and what was queued is sent. An administrator may stop the run: then no
+/// more exporters come in, and those that are there end behind the message in hand. So it is too when the journal is full. Where
+/// all exporters have come and gone, administrators are served for ten seconds more.
 ///
 /// A fault of a connection ends that connection alone: one that sends nonsense, an exporter whose session can't be opened, or one
-/// for which descriptors, threads or memory are short. A collector that takes nothing holds up nobody, unless the plan has messages
-/// wait for room: its subscription is cut when its queue is full, and its writes fail after a while. One that has gone is connected
-/// to again, and subscribed anew, where the plan has that. A subscription that an administrator begins is delivered to nobody. Who
-/// comes and goes is noted in the log.
+/// for which descriptors, threads or memory are short. A collector that takes nothing holds up nobody, unless the plan has
+/// messages wait for room: its subscription is cut when its queue is full, and its writes fail after a while. One that has gone
+/// is connected to again, and subscribed anew, where the plan has that. A subscription that an administrator begins is delivered
+/// to nobody. Who comes and goes is noted in the log.
 ///
 /// # Errors
-/// The policy or a subscription was refused; an address can't be listened on, or a connection couldn't be accepted; a collector
-/// can't be connected to; a thread was refused; memory ran out; or the mediator isn't given back. What runs is ended first: all who
-/// came in are hung up, and what is queued is sent.
+/// `Core` where the policy or a subscription was refused, or memory ran out; `Bind` where an address can't be listened on, or a
+/// connection couldn't be accepted; `Connect` where a collector can't be connected to; `NoThread` where a thread was refused; or
+/// `Close` where the mediator isn't given back. What runs is ended first: all who came in are hung up, and what is queued is
+/// sent. The mediator is lost.
 pub fn listen<
     R: Net<Listener = TcpListener, Stream = TcpStream> + Threads + Wait + Clock + Log + Sync,
 >(rt: &R, alloc: Global, plan: &Plan, mediator: Mediator) -> Result<Ended, ListenFault>
     requires fresh { handed_live mediator ≡ 0 }
-    ensures served { IfOk result (λ ended. IsServed plan.now mediator.history ended.closed.mediator.history ended.closed.accepted ended.closed.handed) }
+    ensures served { IfOk result (λ ended. IsServed plan.now mediator.history
+        ended.closed.mediator.history ended.closed.accepted ended.closed.handed) }
 {
     let handles = handles_for(plan);
     let (entries, handed) = (Blank::new(2 * handles + 1), Blank::new(handles + 1));
     listen_with::<Brand, Brand, R>(rt, alloc, plan, mediator, handles, entries, handed)
 }
 
-/// The same with these ledgers, for so many handles of each kind.
+/// Serves a mediator as [`listen`] does, with the ledgers `entries` and `handed`, and at most `handles` handles of each kind.
+///
+/// # Errors
+/// Those of [`listen`].
 fn listen_with<
     E: EntryLedger + Send + Sync,
     H: RecordLedger + Send + Sync,
@@ -155,10 +163,12 @@ fn listen_with<
     requires fresh { handed_live mediator ≡ 0 }
     requires before { E.before ≡ mediator.history }
     requires entries_name { entries.name ≡ E.name }
-    requires entries_parts { (entries.parts ≡ E.parts) × (E.parts ≡ E.all) × (E.all ≡ 2 * handles + 1) }
+    requires entries_parts { (entries.parts ≡ E.parts) × (E.parts ≡ E.all)
+        × (E.all ≡ 2 * handles + 1) }
     requires handed_name { handed.name ≡ H.name }
     requires handed_parts { (handed.parts ≡ H.parts) × (H.parts ≡ H.all) × (H.all ≡ handles + 1) }
-    ensures served { IfOk result (λ ended. IsServed plan.now mediator.history ended.closed.mediator.history ended.closed.accepted ended.closed.handed) }
+    ensures served { IfOk result (λ ended. IsServed plan.now mediator.history
+        ended.closed.mediator.history ended.closed.accepted ended.closed.handed) }
 {
     let shared = SharedMediator::<E, H>::new(alloc, mediator, handles, entries, handed);
     let Handles {

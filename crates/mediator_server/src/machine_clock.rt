@@ -1,4 +1,4 @@
-//! The machine's clock.
+//! The machine's clock, as the one by which messages to collectors are stamped.
 ghost use Rattle.std.specs.Prelude.{⊤};
 
 use crate::clock::Clock;
@@ -11,6 +11,7 @@ pub(crate) struct MachineClock<'a, R: time::Clock> {
 }
 
 impl<'a, R: time::Clock> MachineClock<'a, R> {
+    /// The clock of `machine`.
     pub(crate) fn of(machine: &'a R) -> MachineClock<'a, R> {
         MachineClock { machine }
     }

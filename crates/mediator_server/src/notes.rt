@@ -1,4 +1,4 @@
-//! The notes of a run, a line each: who came and went, and the totals.
+//! The notes of a run, a line of the log each: who came and went, and the totals.
 
 use crate::exporter::Served;
 use crate::exporters::WhyEnded;
@@ -177,12 +177,12 @@ pub(crate) fn first_policy(rt: &impl Log, position: u64) {
     info!(rt; "edit 1 at {position}");
 }
 
-/// So many groups of aggregates were open when the run ended, and are lost.
+/// Some groups of aggregates, `count` of them, were open when the run ended, and are lost.
 pub(crate) fn groups_left(rt: &impl Log, count: u64) {
     warn!(rt; "groups not closed: {count}");
 }
 
-/// The administrator's connection has ended, after so many commands.
+/// The administrator's connection has ended: `answered` says how many commands were answered, or why it ended.
 pub(crate) fn admin_ends(
     rt: &impl Log,
     peer: SocketAddr,
@@ -208,7 +208,8 @@ pub(crate) fn collector_begins(rt: &impl Log, collector: &Collector) {
     info!(rt; "collector {name} {address} connected");
 }
 
-/// A collector is connected to again: so many records waited and were dropped, and so many were accepted while it had no subscription.
+/// A collector is connected to again: `dropped` records had waited for it and were dropped, and `accepted` came while it had no
+/// subscription.
 pub(crate) fn collector_again(rt: &impl Log, collector: &Collector, dropped: u64, accepted: u64) {
     let (name, address) = (collector.name.as_str(), collector.address.as_str());
     info!(rt; "collector {name} {address} connected again: dropped {dropped} accepted meanwhile {accepted}");
@@ -220,7 +221,7 @@ pub(crate) fn cannot_subscribe(rt: &impl Log, collector: &Collector, why: Handle
     warn!(rt; "collector {name} {address} not subscribed: {why}");
 }
 
-/// A collector isn't there when the run ends, and so many records wait for it.
+/// A collector isn't there when the run ends, and `waited` records wait for it.
 pub(crate) fn collector_absent(rt: &impl Log, collector: &Collector, waited: u64) {
     let (name, address) = (collector.name.as_str(), collector.address.as_str());
     warn!(rt; "collector {name} {address} absent at the end: dropped {waited}");

@@ -1,4 +1,4 @@
-//! How a server is to run.
+//! The plan of a server: where it is reached, what it begins with, and to whom it delivers.
 
 use mediator_calls::Limits;
 
@@ -15,11 +15,12 @@ pub struct Plan {
     pub policy: String,
     /// How many connections of exporters are accepted in a run; or, where it is endless, how many may be open at a time.
     pub connections: u64,
-    /// Whether the run goes on when so many exporters have come: until it is stopped, or its journal is full.
+    /// Whether the run goes on when as many exporters have come as `connections` says: until it is stopped, or its journal is
+    /// full.
     pub endless: bool,
     /// The most octets of a message to a collector, where messages can be so short.
     pub target: u16,
-    /// How often a connection is read at most.
+    /// The most reads of one connection.
     pub turns: u64,
     /// How many threads read an exporter's messages, 1 to 64.
     pub workers: u64,

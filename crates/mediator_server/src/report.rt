@@ -1,4 +1,4 @@
-//! What an administrator is told of a run.
+//! The pages that an administrator is told of a run: how it stands, the policy in force, and the commands.
 
 use crate::run_state::Tally;
 use crate::service::Service;

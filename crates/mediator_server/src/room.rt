@@ -1,4 +1,4 @@
-//! Waiting for room in the queues.
+//! Has a call wait for room in the queues, before it takes the lock.
 
 use crate::control::Patience;
 use mediator_tables::Share;
@@ -32,7 +32,9 @@ pub(crate) fn wait_for_room<E: EntryLedger, H: RecordLedger, P: Patience>(
     u64::MAX
 }
 
-/// The same for what an advance of the clock to `t` would close.
+/// Waits while a queue has no room for what an advance of the clock to `t`, in milliseconds since 1970, would close, as long as
+/// the server has patience with that call. Deliveries that wait themselves are woken before the first time. No lock is held
+/// meanwhile.
 pub(crate) fn wait_for_advance<E: EntryLedger, H: RecordLedger, P: Patience>(
     rt: &impl Wait,
     shared: &SharedMediator<E, H>,

@@ -18,6 +18,7 @@ pub(crate) enum Reach {
 }
 
 impl Reach {
+    /// The word for it in a page.
     fn word(self) -> &'static str {
         match self {
             Reach::Connected => "connected",
@@ -43,6 +44,7 @@ pub(crate) struct Roster {
 }
 
 impl Roster {
+    /// No subscription. What it comes to keep is taken from `alloc`.
     pub(crate) fn new(alloc: Global) -> Roster {
         let listed = Vec::new(alloc);
         Roster {
@@ -73,8 +75,8 @@ impl Roster {
         }
     }
 
-    /// A line for each subscription that is live: its number and name, how many records wait and how many were handed out, whether it
-    /// was cut, and whether its collector is connected.
+    /// A line for each subscription that is live: its number and name, how many records wait and how many were handed out,
+    /// whether it was cut, and whether its collector is connected.
     ///
     /// # Errors
     /// Want of memory.

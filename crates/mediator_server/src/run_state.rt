@@ -11,10 +11,10 @@ use std::time::{Clock, Duration};
 /// How many administrators may wait for their turn.
 const MOST_WAITING: usize = 8;
 
-/// An administrator is silent after so many seconds.
+/// An administrator from which nothing came for this many seconds is silent.
 const SILENCE: u64 = 10;
 
-/// For so many seconds at most an administrator is served, or waited for, when no exporter is there and none may come.
+/// For this many seconds at most an administrator is served, or waited for, when no exporter is there and none may come.
 const LAST_WORDS: u64 = 10;
 
 /// How many milliseconds a wait lasts at most before it is looked again.
@@ -28,6 +28,7 @@ pub(crate) struct RunState {
     waker: Waker,
 }
 
+/// What a lock guards: how far the run is, and what came.
 #[derive(Drop)]
 struct Standing {
     /// Whether an administrator has stopped the run.
@@ -53,11 +54,11 @@ struct Standing {
 /// What came in a run.
 #[derive(Clone, Copy)]
 pub(crate) struct Tally {
-    /// The messages that were accepted,
+    /// The messages that were accepted.
     pub(crate) messages: u64,
-    /// the records in them,
+    /// The records in them.
     pub(crate) records: u64,
-    /// and the gaps in their sequence numbers.
+    /// The gaps in their Sequence Numbers.
     pub(crate) gaps: u64,
     /// The messages that were not accepted.
     pub(crate) refused: u64,
@@ -167,7 +168,7 @@ impl RunState {
         self.standing.lock(rt).is_draining
     }
 
-    /// Waits so long, or until nothing more comes.
+    /// Waits until nothing more comes, and no longer than `duration`.
     pub(crate) fn wait_until_draining<R: Wait + Clock>(&self, rt: &R, duration: Duration) {
         let begun = now(rt);
         let mut standing = self.standing.lock(rt);
@@ -210,7 +211,7 @@ impl RunState {
         standing.tally.edits
     }
 
-    /// The clock stands at so many milliseconds since 1970.
+    /// The clock stands at `t`, in milliseconds since 1970.
     pub(crate) fn set_clock(&self, rt: &impl Wait, t: u64) {
         self.standing.lock(rt).tally.clock = t;
     }
@@ -220,7 +221,7 @@ impl RunState {
         self.standing.lock(rt).tally
     }
 
-    /// How many records were accepted; or how many were so before the last message that cut somebody.
+    /// How many records were accepted in all; or, with `before_cut`, how many before the last message that cut a subscription.
     pub(crate) fn records(&self, rt: &impl Wait, before_cut: bool) -> u64 {
         let standing = self.standing.lock(rt);
         if before_cut {
@@ -248,8 +249,8 @@ impl RunState {
         Ok(())
     }
 
-    /// The next administrator, when one is there; none when none is to be served any more: the exporters have gone, and one was served,
-    /// or none came for a while.
+    /// The next administrator, when one is there; none when none is to be served any more: the exporters have gone, and one was
+    /// served, or none came for a while.
     pub(crate) fn next_administrator<R: Wait + Clock>(&self, rt: &R) -> Option<Connection> {
         let mut standing = self.standing.lock(rt);
         for _ in rt.forever() {

@@ -39,6 +39,7 @@ fn read_list(alloc: Global, path: &[u8]) -> Option<Vec<u8>> {
     list
 }
 
+/// All that can be read of a descriptor; `None` where that fails, or there is no memory for it.
 fn read_to_end(alloc: Global, descriptor: i32) -> Option<Vec<u8>> {
     let mut octets = Vec::new(alloc);
     let mut piece = [0u8; PIECE];

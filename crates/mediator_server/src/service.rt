@@ -58,6 +58,8 @@ pub(crate) struct Service<'m, E: EntryLedger, H: RecordLedger> {
 }
 
 impl<'m, E: EntryLedger, H: RecordLedger> Service<'m, E, H> {
+    /// What the threads of a run that begins at `started` share, in milliseconds since 1970. `waker` ends the wait for somebody
+    /// to come.
     fn new(
         alloc: Global,
         shared: &'m SharedMediator<E, H>,
@@ -346,8 +348,8 @@ fn start_deliveries<
     Ok(())
 }
 
-/// Where the plan has a limit on that, waits until all collectors have taken what was queued, or until the limit, and then ends their
-/// connections.
+/// Where the plan has a limit on that, waits until all collectors have taken what was queued, or until the limit, and then ends
+/// their connections.
 fn end_slow_collectors<E: EntryLedger, H: RecordLedger, R: Wait + Clock + Log>(
     rt: &R,
     service: &Service<'_, E, H>,
@@ -457,8 +459,8 @@ fn take_callers<
     unreachable!()
 }
 
-/// Takes no more exporters where as many have come as the plan has, or where the run is stopped or its journal is full; then those that
-/// are there end too. Notes it when none is left.
+/// Takes no more exporters where as many have come as the plan has, or where the run is stopped or its journal is full; then
+/// those that are there end too. Notes it when none is left.
 fn close_in_time<E: EntryLedger, H: RecordLedger, R: Wait + Clock + Log>(
     rt: &R,
     service: &Service<'_, E, H>,

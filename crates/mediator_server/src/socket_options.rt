@@ -1,4 +1,4 @@
-//! Options of a connection. One that the system refuses is left as it is.
+//! Options of a connection's socket. An option that the system refuses is left as it is.
 
 use libc::net::{
     IPPROTO_TCP, SO_KEEPALIVE, SOL_SOCKET, TCP_KEEPCNT, TCP_KEEPIDLE, TCP_KEEPINTVL, connect,
@@ -8,16 +8,16 @@ use std::net::TcpStream;
 use std::os::fd::AsRawFd;
 use std::time::Duration;
 
-/// A call on a connection waits so long at most, in milliseconds, before it is looked whether it is to go on.
+/// A call on a connection waits for this many milliseconds at most. Then it is looked whether it is to go on.
 const LOOK_EACH: u64 = 250;
 
-/// A peer that has sent nothing for so many seconds is asked whether it is still there,
+/// A peer that has sent nothing for this many seconds is asked whether it is still there.
 const SILENCE: i32 = 60;
 
-/// again and again after so many seconds,
+/// It is asked again after this many seconds.
 const ASK_EACH: i32 = 10;
 
-/// and is gone when it hasn't answered so often.
+/// It is gone when it was asked this often and hasn't answered.
 const ASK_TIMES: i32 = 6;
 
 /// Has what is written leave at once, and the system find out when the peer's machine is gone. A write that waits comes back from

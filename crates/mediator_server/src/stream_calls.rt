@@ -1,4 +1,4 @@
-//! Calls on a connection, made again where a signal interrupted them.
+//! Reads and writes on a connection: made again where a signal interrupted them, and given up where a peer takes nothing.
 ghost use Rattle.std.specs.Prelude.{◌≡◌, ◌<◌, None, false, IfOk};
 ghost use Rattle.std.specs.Io.{ReadsAtMost, WritesAtMost};
 
@@ -9,13 +9,13 @@ use std::net::{Shutdown, TcpStream};
 use std::sync::Wait;
 use std::time::{Clock, Duration};
 
-/// In so many seconds a peer takes all that is written at once, or
+/// In this many seconds a peer takes all that is written at once, or [`LEAST_TAKEN`] octets of it. Else a write fails.
 const PATIENCE: u64 = 12;
 
-/// at least so many octets of it.
+/// A peer that has taken this many octets has its time anew.
 const LEAST_TAKEN: usize = 65536;
 
-/// For so many seconds at most it is waited for a peer that is told the end to close its connection.
+/// For this many seconds at most it is waited for a peer that is told the end to close its connection.
 const FAREWELL: u64 = 5;
 
 /// Whether a call waited for as long as it was to wait.
@@ -85,6 +85,7 @@ pub(crate) struct PatientWriter<'r, 'c, R> {
 }
 
 impl<'r, 'c, R: Wait + Clock> PatientWriter<'r, 'c, R> {
+    /// What is written to `stream`, of which nothing is written yet.
     pub(crate) fn new(rt: &'r R, stream: &'c TcpStream) -> PatientWriter<'r, 'c, R>
         ensures { result.has_failed ≡ false }
     {
@@ -96,7 +97,7 @@ impl<'r, 'c, R: Wait + Clock> PatientWriter<'r, 'c, R> {
         }
     }
 
-    /// So many octets were taken, and not all.
+    /// Notes that `count` octets were taken, and that others of the same write were not.
     fn go_on(&mut self, pace: Pace, count: usize)
         ensures { self.new.has_failed ≡ self.old.has_failed }
     {

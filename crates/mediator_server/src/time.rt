@@ -1,4 +1,4 @@
-//! Time that only goes on.
+//! The machine's time that only goes on, by which waits are measured.
 
 use std::time::{Clock, Duration};
 
@@ -10,7 +10,7 @@ pub(crate) fn now(rt: &impl Clock) -> Duration {
     }
 }
 
-/// Whether so long has passed since then.
+/// Whether `duration` has passed since the moment `since`.
 pub(crate) fn has_passed(rt: &impl Clock, since: Duration, duration: Duration) -> bool {
     now(rt).saturating_sub(since) >= duration
 }

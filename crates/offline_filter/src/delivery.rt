@@ -1,4 +1,4 @@
-//! What waits is written.
+//! Writes what waits for the subscriber.
 ghost use Rattle.std.specs.Prelude.{◌≡◌, ◌≤◌, ◌<◌, ◌+◌, ◌^◌, ◌++◌, [], Some, length, IfOk, IfErr, OnOk};
 ghost use Rattle.mediator_state.specs.declared.fault.Fault.TheVariants.{OutOfMemory};
 ghost use Rattle.offline_filter.specs.declared.job.OfflineFault.TheVariants.{Core};
@@ -14,18 +14,22 @@ use octet_devices::{Sink, write_all};
 use std::alloc::AllocError;
 
 impl<'a> Run<'a> {
-    /// Pulls the messages of what waits for the subscriber, until nothing waits, and writes them in one piece.
+    /// Pulls the messages of what waits for the subscriber, until nothing waits, and writes them to `writer` in one piece.
     ///
     /// # Errors
-    /// The writer failed, after so many octets of the whole run; or memory ran out, and then nothing was written.
+    /// The writer failed, and the fault says how many octets of the whole run were written; or memory ran out, and then nothing
+    /// was written.
     pub(crate) fn deliver<W: Sink>(&mut self, writer: &mut W) -> Result<(), OfflineFault>
         requires delivering { IsDelivering self.old }
-        ensures ok { OnOk result (Delivers self.old self.new (W.contents writer.old) (W.contents writer.new)) }
+        ensures ok { OnOk result (Delivers self.old self.new
+            (W.contents writer.old) (W.contents writer.new)) }
         ensures below { self.old.job.target < 2 ^ 16 }
         ensures now_below { self.old.job.now < 2 ^ 32 }
         ensures stays { OnOk result (W.has_failed writer.new ≡ W.has_failed writer.old) }
-        ensures fails { IfErr result (λ e. W.has_failed writer.new ≡ writer_after e (W.has_failed writer.old)) }
-        ensures err { IfErr result (λ e. FailsDelivery e self.old (W.contents writer.old) (W.contents writer.new) (W.has_failed writer.new)) }
+        ensures fails { IfErr result (λ e. W.has_failed writer.new
+            ≡ writer_after e (W.has_failed writer.old)) }
+        ensures err { IfErr result (λ e. FailsDelivery e self.old
+            (W.contents writer.old) (W.contents writer.new) (W.has_failed writer.new)) }
     {
         let before = self.sent;
         let text = self.pull_all()?;
@@ -37,7 +41,10 @@ impl<'a> Run<'a> {
         }
     }
 
-    /// The messages of what waits for the subscriber, one after another; their octets are counted.
+    /// The messages of what waits for the subscriber, one after another. Their octets are counted.
+    ///
+    /// # Errors
+    /// Want of memory.
     fn pull_all(&mut self) -> Result<Vec<u8>, OfflineFault>
         requires delivering { IsDelivering self.old }
         ensures ok { IfOk result (λ text. Delivers self.old self.new (Some []) (Some text.items)) }
@@ -54,7 +61,10 @@ impl<'a> Run<'a> {
         }
     }
 
-    /// The next message.
+    /// The next message; `None` where nothing waits.
+    ///
+    /// # Errors
+    /// Want of memory.
     fn pull(&mut self) -> Result<Option<Bytes>, OfflineFault>
         requires serving { IsServing self.old }
         ensures same { SameButState self.old self.new }
@@ -71,7 +81,10 @@ impl<'a> Run<'a> {
         )
     }
 
-    /// Appends a message, and counts its octets.
+    /// Appends `message` to `text`, and counts its octets.
+    ///
+    /// # Errors
+    /// Want of memory.
     fn gather(&mut self, message: &[u8], text: &mut Vec<u8>) -> Result<(), OfflineFault>
         requires fits { self.old.sent + length message.now < 2 ^ 64 }
         ensures same { SameButState self.old self.new }
@@ -88,7 +101,7 @@ impl<'a> Run<'a> {
     }
 }
 
-/// How many octets a text has room for from its second message on: as many as a message may have that is received, and few messages
+/// The octets that a text has room for from its second message on: as many as a message may have that is received. Few messages
 /// give more.
 const ROOM: usize = 65_536;
 

@@ -1,4 +1,4 @@
-//! A whole stream is read, and each of its messages handled.
+//! Reads a whole stream, and handles each of its messages.
 ghost use Rattle.std.specs.Prelude.{◌≡◌, ◌<◌, ◌≤◌, false, None, length, IfOk, IfErr, OnOk};
 ghost use Rattle.offline_filter.specs.Reaching.{HandlesAll, StopsAmong};
 ghost use Rattle.offline_filter.specs.Reading.{Finishes, Halts};
@@ -14,7 +14,7 @@ use octet_devices::{Sink, Source};
 use std::alloc::Global;
 
 impl<'a> Run<'a> {
-    /// Handles messages, one after another.
+    /// Handles messages, one after another, with `writer` for the subscriber's messages and `audit_writer` for the audit.
     ///
     /// # Errors
     /// Those of the first that is not handled.
@@ -25,11 +25,19 @@ impl<'a> Run<'a> {
         audit_writer: &mut A,
     ) -> Result<(), OfflineFault>
         requires running { Runs self.old (W.contents writer.old) (A.contents audit_writer.old) }
-        ensures ok { OnOk result (HandlesAll self.old self.new messages.items (W.contents writer.old) (W.contents writer.new) (A.contents audit_writer.old) (A.contents audit_writer.new)) }
+        ensures ok { OnOk result (HandlesAll self.old self.new messages.items
+            (W.contents writer.old) (W.contents writer.new)
+            (A.contents audit_writer.old) (A.contents audit_writer.new)) }
         ensures stays { OnOk result (W.has_failed writer.new ≡ W.has_failed writer.old) }
-        ensures audit_stays { OnOk result (A.has_failed audit_writer.new ≡ A.has_failed audit_writer.old) }
-        ensures fails { IfErr result (λ e. FailsOnly e (W.has_failed writer.old) (A.has_failed audit_writer.old) false (W.has_failed writer.new) (A.has_failed audit_writer.new)) }
-        ensures err { IfErr result (λ e. StopsAmong e self.old messages.items (W.contents writer.old) (W.contents writer.new) (A.contents audit_writer.old) (A.contents audit_writer.new) (W.has_failed writer.new) (A.has_failed audit_writer.new)) }
+        ensures audit_stays { OnOk result (A.has_failed audit_writer.new
+            ≡ A.has_failed audit_writer.old) }
+        ensures fails { IfErr result (λ e.
+            FailsOnly e (W.has_failed writer.old) (A.has_failed audit_writer.old) false
+            (W.has_failed writer.new) (A.has_failed audit_writer.new)) }
+        ensures err { IfErr result (λ e.
+            StopsAmong e self.old messages.items (W.contents writer.old) (W.contents writer.new)
+            (A.contents audit_writer.old) (A.contents audit_writer.new)
+            (W.has_failed writer.new) (A.has_failed audit_writer.new)) }
     {
         'messages: for message in messages {
             self.handle(message, writer, audit_writer)?;
@@ -44,11 +52,11 @@ ghost use Rattle.offline_filter.specs.Reaching.{ReachesEnd};
 ghost use Rattle.offline_filter.specs.Reading.{StopsReading};
 
 impl<'a> Run<'a> {
-    /// Reads the stream to its end, and handles its messages.
+    /// Reads the stream to its end by `intake`, and handles its messages.
     ///
     /// # Errors
-    /// The reader failed, or the stream is faulty, does not end within the reads that are allowed, or ends inside a message;
-    /// or those of the first message that is not handled.
+    /// The reader failed, or the stream is faulty, does not end within the reads that are allowed, or ends inside a message; or
+    /// those of the first message that is not handled.
     fn read_stream<R: Source, W: Sink, A: Sink>(
         &mut self,
         intake: &mut Intake,
@@ -59,12 +67,22 @@ impl<'a> Run<'a> {
         requires opened { IsOpened self.old self.old.job }
         requires intake { intake.old ≡ nothing_read self.old.job.turns }
         requires reader { R.has_failed reader.old ≡ false }
-        ensures ok { OnOk result (ReachesEnd self.new self.old.job (R.remaining reader.old) (R.remaining reader.new) (W.contents writer.old) (W.contents writer.new) (A.contents audit_writer.old) (A.contents audit_writer.new)) }
+        ensures ok { OnOk result (ReachesEnd self.new self.old.job
+            (R.remaining reader.old) (R.remaining reader.new)
+            (W.contents writer.old) (W.contents writer.new)
+            (A.contents audit_writer.old) (A.contents audit_writer.new)) }
         ensures reads { OnOk result (R.has_failed reader.new ≡ false) }
         ensures stays { OnOk result (W.has_failed writer.new ≡ W.has_failed writer.old) }
-        ensures audit_stays { OnOk result (A.has_failed audit_writer.new ≡ A.has_failed audit_writer.old) }
-        ensures fails { IfErr result (λ e. FailsOnly e (W.has_failed writer.old) (A.has_failed audit_writer.old) (R.has_failed reader.new) (W.has_failed writer.new) (A.has_failed audit_writer.new)) }
-        ensures err { IfErr result (λ e. StopsReading e self.old.job (R.remaining reader.old) (R.remaining reader.new) (W.contents writer.old) (W.contents writer.new) (A.contents audit_writer.old) (A.contents audit_writer.new) (R.has_failed reader.new) (W.has_failed writer.new) (A.has_failed audit_writer.new)) }
+        ensures audit_stays { OnOk result (A.has_failed audit_writer.new
+            ≡ A.has_failed audit_writer.old) }
+        ensures fails { IfErr result (λ e.
+            FailsOnly e (W.has_failed writer.old) (A.has_failed audit_writer.old)
+            (R.has_failed reader.new) (W.has_failed writer.new) (A.has_failed audit_writer.new)) }
+        ensures err { IfErr result (λ e.
+            StopsReading e self.old.job (R.remaining reader.old) (R.remaining reader.new)
+            (W.contents writer.old) (W.contents writer.new)
+            (A.contents audit_writer.old) (A.contents audit_writer.new)
+            (R.has_failed reader.new) (W.has_failed writer.new) (A.has_failed audit_writer.new)) }
     {
         'reads: loop {
             let Some(messages) = intake.next(reader)? else {
@@ -87,7 +105,8 @@ impl<'a> Run<'a> {
         requires serving { IsServing self.now }
         ensures messages { result.messages ≡ self.now.messages }
         ensures records { result.records ≡ self.now.records }
-        ensures disclosed { (h : List Entry) (p : ℕ) → Stands self.now h p → result.disclosed ≡ length (records_in (take p (parts (disclosed 1 h)))) }
+        ensures disclosed { (h : List Entry) (p : ℕ) → Stands self.now h p
+            → result.disclosed ≡ length (records_in (take p (parts (disclosed 1 h)))) }
     {
         let disclosed = match self.state.status(SUBSCRIPTION) {
             Some(status) => status.handed,
@@ -115,10 +134,19 @@ fn run_through<R: Source, W: Sink, A: Sink>(
     requires reader { R.has_failed reader.old ≡ false }
     requires writer { W.has_failed writer.old ≡ false }
     requires audit { A.has_failed audit_writer.old ≡ false }
-    ensures ok { IfOk result (λ report. Finishes job.entry.now report (R.remaining reader.old) (R.remaining reader.new) (W.contents writer.old) (W.contents writer.new) (A.contents audit_writer.old) (A.contents audit_writer.new)) }
-    ensures sound { OnOk result ((R.has_failed reader.new ≡ false) × (W.has_failed writer.new ≡ false) × (A.has_failed audit_writer.new ≡ false)) }
-    ensures fails { IfErr result (λ e. FailsOnly e false false (R.has_failed reader.new) (W.has_failed writer.new) (A.has_failed audit_writer.new)) }
-    ensures err { IfErr result (λ e. Halts e job.entry.now (R.remaining reader.old) (R.remaining reader.new) (W.contents writer.old) (W.contents writer.new) (A.contents audit_writer.old) (A.contents audit_writer.new) (R.has_failed reader.new) (W.has_failed writer.new) (A.has_failed audit_writer.new)) }
+    ensures ok { IfOk result (λ report.
+        Finishes job.entry.now report (R.remaining reader.old) (R.remaining reader.new)
+        (W.contents writer.old) (W.contents writer.new)
+        (A.contents audit_writer.old) (A.contents audit_writer.new)) }
+    ensures sound { OnOk result ((R.has_failed reader.new ≡ false)
+        × (W.has_failed writer.new ≡ false) × (A.has_failed audit_writer.new ≡ false)) }
+    ensures fails { IfErr result (λ e. FailsOnly e false false
+        (R.has_failed reader.new) (W.has_failed writer.new) (A.has_failed audit_writer.new)) }
+    ensures err { IfErr result (λ e.
+        Halts e job.entry.now (R.remaining reader.old) (R.remaining reader.new)
+        (W.contents writer.old) (W.contents writer.new)
+        (A.contents audit_writer.old) (A.contents audit_writer.new)
+        (R.has_failed reader.new) (W.has_failed writer.new) (A.has_failed audit_writer.new)) }
 {
     let mut run = Run::open(alloc, *job)?;
     let Ok(mut intake) = Intake::new(alloc, job.turns) else {
@@ -130,18 +158,20 @@ fn run_through<R: Source, W: Sink, A: Sink>(
 
 ghost use Rattle.offline_filter.specs.Filtering.{unfailed, FiltersAll, FailsToFilter};
 
-/// Filters one stream for one subscriber: reads the messages of an exporter to the end of the stream, and
-/// writes the subscriber's messages, message by message, with the audit of what was kept back.
+/// Filters one stream for one subscriber, and answers how much was read, accepted and written. It reads the messages of an
+/// exporter from `reader`, to the end of the stream. Message by message, it writes what `job` discloses to the subscriber to
+/// `writer`, and the audit of what was kept back, where the job asks for it, to `audit_writer`. Memory is taken from `alloc`.
 ///
-/// What is written are the messages built for the records that each message discloses, and they mean these
-/// records and no others to whoever reads them by RFC 7011. The limits are 65,536 records of one message and
-/// 65,280 templates for the subscriber, and a journal of 100,000,000 entries and 2^40 octets, though none is
-/// kept.
+/// What is written are the messages built for the records that each message discloses, and they mean these records and no others
+/// to whoever reads them by RFC 7011. The limits are 65,536 records of one message, 65,280 templates for the subscriber and
+/// 131,072 audit entries of one message, and a journal of 100,000,000 entries and 2^40 octets, though none is kept.
 ///
 /// # Errors
-/// The job is refused, and then nothing was read; or the run stops where a device fails, the stream is faulty
-/// or does not end within `turns` reads, or a message is refused or cuts the subscriber. What is due for all
-/// messages before that one was written, and what more of it may have been is said with each fault.
+/// `Core` where the policy or the name of the job is refused: then nothing was read. Else the run stops at `Read`, `Write` or
+/// `AuditWrite`, where that device fails; at `Framing`, where the stream is faulty or ends inside a message; at `Turns`, where it
+/// doesn't end within the job's reads; at `Core`, where a message is refused or memory runs out; or at `Cut`, where a message
+/// cuts the subscriber. What is due for all messages before that one was written, and what more of it may have been is said with
+/// each fault.
 pub fn offline<R: Source, W: Sink, A: Sink>(
     alloc: Global,
     job: &OfflineJob<'_>,
@@ -153,12 +183,32 @@ pub fn offline<R: Source, W: Sink, A: Sink>(
     requires writer { W.has_failed writer.old ≡ false }
     requires audit { A.has_failed audit_writer.old ≡ false }
     // All was read and accepted, what is due was written, and it means what is disclosed.
-    ensures filters { IfOk result (λ report. FiltersAll job.entry.now report (unfailed (R.remaining reader.old) (W.contents writer.old) (A.contents audit_writer.old)) (record { left = R.remaining reader.new; written = W.contents writer.new; audited = A.contents audit_writer.new; reader_failed = R.has_failed reader.new; writer_failed = W.has_failed writer.new; audit_failed = A.has_failed audit_writer.new })) }
+    ensures filters { IfOk result (λ report. FiltersAll job.entry.now report
+        (unfailed (R.remaining reader.old) (W.contents writer.old) (A.contents audit_writer.old))
+        (record {
+          left = R.remaining reader.new;
+          written = W.contents writer.new;
+          audited = A.contents audit_writer.new;
+          reader_failed = R.has_failed reader.new;
+          writer_failed = W.has_failed writer.new;
+          audit_failed = A.has_failed audit_writer.new;
+        })) }
     // Where it stopped, by what cause, and what was written by then.
-    ensures stops { IfErr result (λ e. FailsToFilter e job.entry.now (unfailed (R.remaining reader.old) (W.contents writer.old) (A.contents audit_writer.old)) (record { left = R.remaining reader.new; written = W.contents writer.new; audited = A.contents audit_writer.new; reader_failed = R.has_failed reader.new; writer_failed = W.has_failed writer.new; audit_failed = A.has_failed audit_writer.new })) }
+    ensures stops { IfErr result (λ e. FailsToFilter e job.entry.now
+        (unfailed (R.remaining reader.old) (W.contents writer.old) (A.contents audit_writer.old))
+        (record {
+          left = R.remaining reader.new;
+          written = W.contents writer.new;
+          audited = A.contents audit_writer.new;
+          reader_failed = R.has_failed reader.new;
+          writer_failed = W.has_failed writer.new;
+          audit_failed = A.has_failed audit_writer.new;
+        })) }
     // No device has failed, but the one that the fault names.
-    ensures sound { OnOk result ((R.has_failed reader.new ≡ false) × (W.has_failed writer.new ≡ false) × (A.has_failed audit_writer.new ≡ false)) }
-    ensures fails { IfErr result (λ e. FailsOnly e false false (R.has_failed reader.new) (W.has_failed writer.new) (A.has_failed audit_writer.new)) }
+    ensures sound { OnOk result ((R.has_failed reader.new ≡ false)
+        × (W.has_failed writer.new ≡ false) × (A.has_failed audit_writer.new ≡ false)) }
+    ensures fails { IfErr result (λ e. FailsOnly e false false
+        (R.has_failed reader.new) (W.has_failed writer.new) (A.has_failed audit_writer.new)) }
 {
     run_through(alloc, job, reader, writer, audit_writer)
 }

@@ -1,4 +1,4 @@
-//! A message is handled: accepted, delivered and recorded.
+//! Handles a message: accepts it, delivers what it discloses, and records what was kept back.
 ghost use Rattle.std.specs.Prelude.{◌≡◌, false, IfErr, OnOk};
 ghost use Rattle.offline_filter.specs.Failing.{FailsOnly};
 ghost use Rattle.offline_filter.specs.Running.{Runs, HandlesOn, StopsOn};
@@ -9,7 +9,7 @@ use bytes::Bytes;
 use octet_devices::Sink;
 
 impl<'a> Run<'a> {
-    /// Accepts a message, writes what it gives the subscriber, and then what the audit says of it.
+    /// Accepts `message`, writes what it gives the subscriber to `writer`, and then what the audit says of it to `audit_writer`.
     ///
     /// # Errors
     /// The message is refused, or cuts the subscription; or a writer failed, or memory ran out.
@@ -20,11 +20,19 @@ impl<'a> Run<'a> {
         audit_writer: &mut A,
     ) -> Result<(), OfflineFault>
         requires running { Runs self.old (W.contents writer.old) (A.contents audit_writer.old) }
-        ensures ok { OnOk result (HandlesOn self.old self.new message (W.contents writer.old) (W.contents writer.new) (A.contents audit_writer.old) (A.contents audit_writer.new)) }
+        ensures ok { OnOk result (HandlesOn self.old self.new message
+            (W.contents writer.old) (W.contents writer.new)
+            (A.contents audit_writer.old) (A.contents audit_writer.new)) }
         ensures stays { OnOk result (W.has_failed writer.new ≡ W.has_failed writer.old) }
-        ensures audit_stays { OnOk result (A.has_failed audit_writer.new ≡ A.has_failed audit_writer.old) }
-        ensures fails { IfErr result (λ e. FailsOnly e (W.has_failed writer.old) (A.has_failed audit_writer.old) false (W.has_failed writer.new) (A.has_failed audit_writer.new)) }
-        ensures err { IfErr result (λ e. StopsOn e self.old message (W.contents writer.old) (W.contents writer.new) (A.contents audit_writer.old) (A.contents audit_writer.new) (W.has_failed writer.new) (A.has_failed audit_writer.new)) }
+        ensures audit_stays { OnOk result (A.has_failed audit_writer.new
+            ≡ A.has_failed audit_writer.old) }
+        ensures fails { IfErr result (λ e.
+            FailsOnly e (W.has_failed writer.old) (A.has_failed audit_writer.old) false
+            (W.has_failed writer.new) (A.has_failed audit_writer.new)) }
+        ensures err { IfErr result (λ e.
+            StopsOn e self.old message (W.contents writer.old) (W.contents writer.new)
+            (A.contents audit_writer.old) (A.contents audit_writer.new)
+            (W.has_failed writer.new) (A.has_failed audit_writer.new)) }
     {
         if self.receive(message)? {
             self.record(audit_writer)?;

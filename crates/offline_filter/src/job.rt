@@ -1,4 +1,4 @@
-//! What `offline` is asked for, and what it answers.
+//! What `offline` is asked for, and what it answers: a report or a fault.
 
 use mediator_state::Fault;
 use message_intake::{FramingFault, IntakeFault};
@@ -38,17 +38,17 @@ pub struct OfflineReport {
 pub enum OfflineFault {
     /// The reader failed.
     Read,
-    /// The writer failed, after so many octets.
+    /// The writer failed, when `sent` octets of the whole run had been written.
     Write { sent: u64 },
-    /// What was read is no stream of messages.
+    /// What was read is no stream of messages, or ends inside a message.
     Framing(FramingFault),
-    /// So many reads were made as are allowed, and the end was not read.
+    /// As many reads were made as the job allows, and the end was not read.
     Turns,
-    /// The core refused the job, or a message.
+    /// The mediator refused the job, or a message; or memory ran out.
     Core(Fault),
-    /// The subscription was cut: a message would have given it records of more shapes than it may use.
+    /// The subscription was cut: a message would have given it records with more templates than it may use.
     Cut,
-    /// The writer of the audit failed.
+    /// The writer of the audit failed. A front of the lines that were due was written.
     AuditWrite,
 }
 

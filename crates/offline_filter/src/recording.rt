@@ -1,4 +1,4 @@
-//! What the audit names is written, line by line.
+//! Writes what the audit names, line by line.
 ghost use Rattle.std.specs.Prelude.{◌≡◌, IfOk, IfErr, OnOk, OnErr, string_bytes};
 ghost use Rattle.std.specs.Io.KnownBytes.{Appends};
 ghost use Rattle.offline_filter.specs.Failing.{audit_after};
@@ -12,20 +12,23 @@ use mediator_state::Fault;
 use octet_devices::{Sink, write_all};
 use std::alloc::{AllocError, Global};
 
-/// Writes the lines of entries, in their order, in one piece.
+/// Writes the lines of `entries` to `writer`, in their order and in one piece.
 ///
 /// # Errors
-/// The writer failed, and a front of the lines was written; or memory ran out.
+/// The writer failed, and a front of the lines was written; or memory ran out, and nothing was.
 pub(crate) fn write_lines<A: Sink>(
     alloc: Global,
     entries: &[AuditEntry],
     writer: &mut A,
 ) -> Result<(), OfflineFault>
-    ensures ok { OnOk result (Appends (A.contents writer.old) (A.contents writer.new) (lines_of entries.now)) }
+    ensures ok { OnOk result (Appends (A.contents writer.old) (A.contents writer.new)
+        (lines_of entries.now)) }
     ensures stays { OnOk result (A.has_failed writer.new ≡ A.has_failed writer.old) }
     ensures cause { IfErr result (λ e. StopsLines e (A.has_failed writer.new)) }
-    ensures fails { IfErr result (λ e. A.has_failed writer.new ≡ audit_after e (A.has_failed writer.old)) }
-    ensures err { OnErr result (WritesSome (A.contents writer.old) (A.contents writer.new) (lines_of entries.now)) }
+    ensures fails { IfErr result (λ e. A.has_failed writer.new
+        ≡ audit_after e (A.has_failed writer.old)) }
+    ensures err { OnErr result (WritesSome (A.contents writer.old) (A.contents writer.new)
+        (lines_of entries.now)) }
 {
     let Ok(text) = lines(alloc, entries) else {
         return Err(OfflineFault::Core(Fault::OutOfMemory));
@@ -37,6 +40,9 @@ pub(crate) fn write_lines<A: Sink>(
 }
 
 /// The lines of entries, one after another.
+///
+/// # Errors
+/// Want of memory.
 fn lines(alloc: Global, entries: &[AuditEntry]) -> Result<String, AllocError>
     ensures { IfOk result (λ text. string_bytes text ≡ lines_of entries.now) }
 {
@@ -53,19 +59,22 @@ ghost use Rattle.offline_filter.specs.Runs.{HasHistory, audit_waiting};
 ghost use Rattle.offline_filter.specs.Recording.{Records};
 
 impl<'a> Run<'a> {
-    /// Drains the audit, and writes its lines where they are asked for.
+    /// Drains the audit, and writes its lines to `writer` where the job asks for them.
     ///
     /// # Errors
     /// The writer failed, or memory ran out: a front of the lines was written.
     pub(crate) fn record<A: Sink>(&mut self, writer: &mut A) -> Result<(), OfflineFault>
         requires known { HasHistory self.old }
         requires few { length (audit_waiting self.old) < 2 ^ 32 }
-        ensures written { OnOk result (Appends (A.contents writer.old) (A.contents writer.new) (lines_for self.old.job.audit (audit_waiting self.old))) }
+        ensures written { OnOk result (Appends (A.contents writer.old) (A.contents writer.new)
+            (lines_for self.old.job.audit (audit_waiting self.old))) }
         ensures drained { OnOk result (Records self.old self.new) }
         ensures stays { OnOk result (A.has_failed writer.new ≡ A.has_failed writer.old) }
         ensures cause { IfErr result (λ e. StopsLines e (A.has_failed writer.new)) }
-        ensures fails { IfErr result (λ e. A.has_failed writer.new ≡ audit_after e (A.has_failed writer.old)) }
-        ensures err { OnErr result (WritesSome (A.contents writer.old) (A.contents writer.new) (lines_for self.old.job.audit (audit_waiting self.old))) }
+        ensures fails { IfErr result (λ e. A.has_failed writer.new
+            ≡ audit_after e (A.has_failed writer.old)) }
+        ensures err { OnErr result (WritesSome (A.contents writer.old) (A.contents writer.new)
+            (lines_for self.old.job.audit (audit_waiting self.old))) }
     {
         let Ok(entries) = self.state.drain_audit(u32::MAX) else {
             return Err(OfflineFault::Core(Fault::OutOfMemory));

@@ -1,4 +1,4 @@
-//! One session and one subscription of a mediator, under one policy.
+//! A mediator with one session and one subscription, under one policy, as `offline` uses it.
 ghost use Rattle.std.specs.Prelude.{◌≡◌, ◌≤◌, ◌<◌, ◌+◌, ◌^◌, [], length, IfOk, IfErr, OnOk};
 ghost use Rattle.event_journal.specs.Room.{Limits as Journaled};
 

@@ -320,8 +320,8 @@ fn tells(alloc: Global, calls: usize, told: &[u8]) -> Result<bool, AllocError> {
     Ok(errors.into_inner().octets.as_slice() == told)
 }
 
-/// Whether these octets of a fault of the output are taken, two a call, where the call behind so many fails: the line that names the
-/// output ends there, and the fault's own line comes.
+/// Whether these octets of a fault of the output are taken, two a call, where the call behind so many fails: the line that names
+/// the output ends there, and the fault's own line comes.
 fn blames(alloc: Global, calls: usize, told: &[u8]) -> Result<bool, AllocError> {
     let mut errors = Device::new(narrow(alloc, 2, calls)?);
     let fault = ProgramFault::failed(Place::Output, io::Error::from(BrokenPipe));

@@ -142,8 +142,8 @@ const BOTH_WITHOUT_OCTETS: &[u8] =
 /// What the audit says of both: 18 octets each.
 const BOTH_LINES: &[u8] = b"3 0 1 removed 2:2\n4 0 1 removed 2:2\n";
 
-/// How many reads of seven octets come before one that fails; how much a write takes, and how many come before one that fails; and the
-/// same of the audit's writes.
+/// How many reads of seven octets come before one that fails; how much a write takes, and how many come before one that fails;
+/// and the same of the audit's writes.
 type Devices = (usize, (usize, usize), (usize, usize));
 
 /// More than any run makes or writes here.
@@ -173,8 +173,8 @@ fn run_by(
     })
 }
 
-/// That a run answers this, and leaves so many octets of what is due, and of the audit. Where it is refused memory, it leaves fronts
-/// of them, and is made again.
+/// That a run answers this, and leaves so many octets of what is due, and of the audit. Where it is refused memory, it leaves
+/// fronts of them, and is made again.
 fn expect_run(
     rt: &impl Abort,
     alloc: Global,
@@ -196,8 +196,8 @@ fn expect_run(
     Ok(())
 }
 
-/// Of each message: the first read with which it isn't whole, and the first one behind it; and where what is written of it begins and
-/// ends, and what the audit says of it. The thirteenth read meets the end.
+/// Of each message: the first read with which it isn't whole, and the first one behind it; and where what is written of it begins
+/// and ends, and what the audit says of it. The thirteenth read meets the end.
 const MESSAGES: &[(usize, usize, usize, usize, usize, usize)] = &[
     (0, 8, 0, 42, 0, 18),
     (8, 12, 42, 68, 18, 36),

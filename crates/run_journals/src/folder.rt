@@ -1,4 +1,4 @@
-//! The names in a folder.
+//! The number that is free for the next journal in a folder.
 ghost use Rattle.std.specs.Prelude.{IfErr};
 ghost use Rattle.run_journals.specs.Keeping.{IsSomeFileFault};
 
@@ -11,10 +11,11 @@ use std::rt::Files;
 /// How many octets of a folder are read at once.
 const PIECE: usize = 8192;
 
-/// The number with which the files of runs go on under a path: one more than the greatest that its folder has, or 1.
+/// The number with which the files of runs go on under `path`: one more than the greatest that its folder has, or 1. `rt` reads
+/// the folder and gives memory.
 ///
 /// # Errors
-/// `Device`, of the folder, where it can't be read; `OutOfMemory`.
+/// `Device`, of the folder, where it can't be read; or `OutOfMemory`.
 pub fn first_free<R: Files + AllocGlobal>(rt: &R, path: &str) -> Result<u64, ProgramFault>
     ensures err { IfErr result IsSomeFileFault }
 {

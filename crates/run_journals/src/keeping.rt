@@ -1,4 +1,4 @@
-//! Writing a run's journal to its file.
+//! Writes the journal of a run to its file.
 ghost use Rattle.std.specs.Prelude.{◌≡◌, IfErr, IfOk, string_bytes};
 ghost use Rattle.ipmd_offline.specs.Failures.{IsFileFault};
 ghost use Rattle.run_journals.specs.Keeping.{IsKeepingFault, part_name};
@@ -18,12 +18,13 @@ use std::rt::Files;
 /// How many octets of a journal's file are written at once.
 const BUFFER: usize = 65_536;
 
-/// Writes a run's journal to the file `PATH.K`, and answers its path. It is written to `PATH.K.part`, has reached the disk, and
-/// then gets its name: so under its name it is whole. A file that had the name before is replaced.
+/// Writes `journal`, that of run `number`, to the file `PATH.NUMBER`, where PATH is `path`, and answers the file's path. It is
+/// first written to `PATH.NUMBER.part`; when it has reached the disk, it gets its name. So under its name it is whole. A file
+/// that had the name before is replaced. `rt` writes files and gives memory.
 ///
 /// # Errors
-/// `Device`, of `PATH.K.part` where that can't be written, or of `PATH.K` where it can't get this name: then `PATH.K.part` may be
-/// there; `OutOfMemory`.
+/// `Device`, of `PATH.NUMBER.part` where that can't be written, or of `PATH.NUMBER` where it can't get this name; or
+/// `OutOfMemory`. Then `PATH.NUMBER.part` may be there.
 pub fn keep_run<R: Files + AllocGlobal>(
     rt: &R,
     path: &str,
@@ -73,10 +74,11 @@ fn write_file<R: Files + AllocGlobal>(
     of_file(alloc, path, sink.into_inner().get_ref().sync_all())
 }
 
-/// Writes a journal to the file at a path, which a sink is, and sees that it has left.
+/// Writes `journal` to `sink`, and sees that it has left. The sink writes the file whose path is `path`, by which a fault names
+/// it. Memory is taken from `alloc`.
 ///
 /// # Errors
-/// `Device`, of the file, where it can't be written; `OutOfMemory`.
+/// `Device`, of the file, where it can't be written; or `OutOfMemory`. A front of the file may have been written.
 pub fn put_journal<W: Write>(
     alloc: Global,
     path: &str,

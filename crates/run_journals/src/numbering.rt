@@ -1,11 +1,12 @@
-//! The numbers in the names of files.
+//! The numbers in the names of journals' files.
 ghost use Rattle.std.specs.Prelude.{◌≡◌, ◌<◌, ◌^◌, ℕ, Some};
 ghost use Rattle.run_journals.specs.Numbering.{file_name, IsAbove};
 
 use numerals::{is_word, read_number};
 
-/// The number with which the files of runs go on in a folder with these names: 1, or one more than the greatest that there
-/// is. `base` is the last name of the path under which journals are kept. A number is below 2^32, without leading zeros.
+/// The number with which the files of runs go on in a folder whose names are `names`: 1, or one more than the greatest that there
+/// is. `base` is the last name of the path under which journals are kept: the file of run K has the name `BASE.K`. A number is
+/// below 2^32, without leading zeros.
 pub fn next_number(names: &[Vec<u8>], base: &[u8]) -> u64
     ensures above { IsAbove base.now names.now result }
 {

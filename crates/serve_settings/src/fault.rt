@@ -5,10 +5,10 @@ use std::alloc::{AllocError, AllocFailed};
 use std::error::Error;
 use std::fmt::{self, Display, Formatter, Write};
 
-/// Why a text gives no settings. Its text is the key at fault, `toml`, or `length`.
+/// Why a text gives no settings. Its text is the key at fault, or `toml`, `length` or `OutOfMemory`.
 #[derive(Clone, Copy, Debug, PartialEq, Eq)]
 pub enum SettingsFault {
-    /// The text has more octets than settings may have.
+    /// The text has more octets than settings may have: more than [`LONGEST_TEXT`](crate::LONGEST_TEXT).
     TooLong,
     /// The text is no TOML.
     Toml,

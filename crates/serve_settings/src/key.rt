@@ -12,7 +12,7 @@ pub enum Key {
     Admin,
     /// The file with the first policy.
     Policy,
-    /// How many connections of exporters are accepted.
+    /// How many connections of exporters are accepted, or may be open at a time where a run is endless.
     Connections,
     /// How long a message to a collector may be.
     Target,
@@ -26,7 +26,7 @@ pub enum Key {
     Audit,
     /// The entries of the journal.
     JournalEntries,
-    /// The octets that they count for.
+    /// The octets that the journal's entries count for.
     JournalOctets,
     /// The reads of a connection.
     Turns,

@@ -1,4 +1,4 @@
-//! A law over the definitions.
+//! The law that limits are read as a mediator takes them.
 ghost use Rattle.serve_settings.specs.Laws.{AllowedLimitsAreRead};
 
 /// A table in which the five limits stand has no fault at their keys, where a mediator takes them, and they are what is read:

@@ -10,11 +10,11 @@
 //! Proved: `read_settings` answers `TooLong` exactly where the text has more than [`LONGEST_TEXT`] octets, and then needs no
 //! memory; else what the definitions say of the parsed table: `Toml` exactly where the text is no TOML, else the first key, in
 //! the order of the format, that must be there and isn't, or whose value is of another type or out of its range, else the
-//! settings (`exact`). That it is the first such key is said once more without the order of reading (`first`). Seven keys may be absent:
-//! without `journal` none is written, without `runs` there is one, without `idle`, `reconnect`, `hold` and `drain` there is no
-//! number of them, and without `endless` a run isn't endless. The limits that come out are ones that a mediator takes
-//! (`allowed`), and each that it takes comes out (`allowed_limits_are_read`). The
-//! collectors' subscribers ascend by their octets, so that none stands twice (`sorted`). Want of memory says nothing.
+//! settings (`exact`). That it is the first such key is said once more without the order of reading (`first`). Seven keys may be
+//! absent: without `journal` none is written, without `runs` there is one, without `idle`, `reconnect`, `hold` and `drain` there
+//! is no number of them, and without `endless` a run isn't endless. The limits that come out are ones that a mediator takes
+//! (`allowed`), and each that it takes comes out (`allowed_limits_are_read`). The collectors' subscribers ascend by their octets,
+//! so that none stands twice (`sorted`). Want of memory says nothing.
 #![tactic(auto)]
 
 mod fault;

@@ -1,4 +1,4 @@
-//! Settings, read.
+//! Reads settings from a text, and judges the value at each key.
 ghost use Rattle.std.specs.Prelude.{◌≡◌, ◌≤◌, IfErr, IfOk};
 ghost use Rattle.toml.specs.View.{table_view};
 ghost use Rattle.mediator_calls.specs.Limited.{AreAllowed};
@@ -59,12 +59,13 @@ const MOST_HOLD: u64 = 60_000;
 /// The most seconds that the end of a run waits for collectors: a day.
 const MOST_DRAIN: u64 = 86_400;
 
-/// Reads settings from a TOML document, whose keys are those that [`Key`] names. Other keys are ignored.
+/// Reads settings from `text`, a TOML document whose keys are those that [`Key`] names. Other keys are ignored. What is read
+/// takes memory from `alloc`.
 ///
 /// # Errors
-/// `TooLong` where the text has more than [`LONGEST_TEXT`] octets, which takes no memory to say; else `Toml` where the text is no
-/// TOML, `Key` with the first key that must be there and isn't, or whose value is of another type or out of its range,
-/// `OutOfMemory`.
+/// `TooLong` where the text has more than [`LONGEST_TEXT`] octets, which takes no memory to say. Else `Toml` where the text is no
+/// TOML; `Key` with the first key, in the order of [`Key`], that must be there and isn't, or whose value is of another type or
+/// out of its range; or `OutOfMemory`.
 pub fn read_settings(alloc: Global, text: &str) -> Result<Settings, SettingsFault>
     // What the text gives, or its first fault.
     ensures exact { Gives asked result (settings_of text.now) }
@@ -85,6 +86,10 @@ pub fn read_settings(alloc: Global, text: &str) -> Result<Settings, SettingsFaul
     settings_in(alloc, &table)
 }
 
+/// The settings that a table gives.
+///
+/// # Errors
+/// Those of [`read_settings`] but for `TooLong` and `Toml`.
 #[tactic(auto, unfolding(crate::specs::Reading::settings_in))]
 fn settings_in(alloc: Global, table: &Table) -> Result<Settings, SettingsFault>
     ensures exact { Gives asked result (settings_in (table_view table.now)) }
@@ -112,6 +117,10 @@ fn settings_in(alloc: Global, table: &Table) -> Result<Settings, SettingsFault>
     })
 }
 
+/// The five limits of the mediator in a table.
+///
+/// # Errors
+/// `Key` with the first that is missing, of another type or out of its range.
 #[tactic(auto, unfolding(crate::specs::Reading::limits_in))]
 fn limits_in(table: &Table) -> Result<Limits, SettingsFault>
     ensures exact { result ≡ limits_in (table_view table.now) }

@@ -1,4 +1,4 @@
-//! What settings say.
+//! The settings of `ipmd serve`, as values.
 
 use mediator_calls::Limits;
 
@@ -19,7 +19,7 @@ pub struct Settings {
     pub workers: u64,
     /// What the mediator may hold.
     pub limits: Limits,
-    /// How often a connection is read at most, 1 to 1,000,000,000.
+    /// The most reads of a connection, 1 to 1,000,000,000.
     pub turns: u64,
     /// The collectors, in the order of their subscribers' octets.
     pub collectors: Vec<Collector>,
@@ -43,7 +43,7 @@ pub struct Settings {
 /// Where a subscriber's messages are sent.
 #[derive(Debug, Drop)]
 pub struct Collector {
-    /// The subscriber's name. That it is one that a policy may have is for `subscribe` to judge.
+    /// The subscriber's name. Whether a policy may have it, is for `subscribe` to judge.
     pub subscriber: String,
     /// The address and the port at which the collector listens.
     pub address: String,

@@ -115,8 +115,8 @@ pub(crate) fn administer<E: EntryLedger, H: RecordLedger, R: Wait + Abort>(
     hands(alloc, exporter, admin, delivery)
 }
 
-/// Behind four records that wait for `acme`: three of them are handed out, behind their template. Then `beta` is subscribed too, and
-/// six records more come.
+/// Behind four records that wait for `acme`: three of them are handed out, behind their template. Then `beta` is subscribed too,
+/// and six records more come.
 fn begin_beta<E: EntryLedger, H: RecordLedger, R: Wait + Abort>(
     rt: &R,
     alloc: Global,
@@ -165,9 +165,9 @@ fn expect_row(
     Ok(())
 }
 
-/// The octets of a read, how many reads come before one that fails, and how many are allowed; the octets that a write takes, and how
-/// many writes come before one that fails; what the session ends in then, how many octets of its answers are written, and how many
-/// entries it adds.
+/// The octets of a read, how many reads come before one that fails, and how many are allowed; the octets that a write takes, and
+/// how many writes come before one that fails; what the session ends in then, how many octets of its answers are written, and how
+/// many entries it adds.
 type Devices = (
     usize,
     usize,
@@ -239,8 +239,8 @@ fn stopped(sent: usize) -> Result<u64, ServeFault> {
     Err(ServeFault::Write { sent: sent as u64 })
 }
 
-/// Each read of a line fails: nothing is done of it. Each write of its answer fails, by one octet and by all: its call was made, and
-/// nothing is done behind it.
+/// Each read of a line fails: nothing is done of it. Each write of its answer fails, by one octet and by all: its call was made,
+/// and nothing is done behind it.
 fn expect_line(
     rt: &(impl Threads + Wait + Abort + Sync),
     alloc: Global,
@@ -326,8 +326,8 @@ const CONNECTIONS: &[(&[u8], Result<u64, ServeFault>, &[u8], u64)] = &[
     (b"policy 1\n", Ok(0), b"err Line\n", 0),
 ];
 
-/// Connections with a `stop`, or nearly one; how many writes come before one that fails; what they end in, what is answered, and how
-/// often the server is told to stop. Nothing behind a `stop` is read.
+/// Connections with a `stop`, or nearly one; how many writes come before one that fails; what they end in, what is answered, and
+/// how often the server is told to stop. Nothing behind a `stop` is read.
 const STOPS: &[(&[u8], usize, Result<u64, ServeFault>, &[u8], u64)] = &[
     (b"stop\n", ENOUGH, Ok(1), b"ok\n", 1),
     (
@@ -434,12 +434,13 @@ ok\nerr UnknownSub\nok 5 3 cut\nok 4\nok 0 0 live\n";
     Ok(())
 }
 
-/// The octets that a write takes, and how many writes come before one that fails; what a connection ends in then, and how many octets
-/// are written.
+/// The octets that a write takes, and how many writes come before one that fails; what a connection ends in then, and how many
+/// octets are written.
 type Writes = (usize, usize, Result<u64, ServeFault>, usize);
 
 /// The answers have 19,005 octets: 682, and then 18,323, which are more than wait at once. Octet by octet the writer fails in the
-/// first one, behind it, and in the other before the octets that wait of it at first have ended, behind them, and at the last octet.
+/// first one, behind it, and in the other before the octets that wait of it at first have ended, behind them, and at the last
+/// octet.
 const WRITES: &[Writes] = &[
     (65_536, ENOUGH, Ok(2), 65_536),
     (1000, ENOUGH, Ok(2), 65_536),

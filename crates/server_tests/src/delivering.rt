@@ -181,10 +181,11 @@ fn all_is_sent(rt: HostRuntime) -> Result<(), Fail> {
 /// A journal that has no room for more.
 const FULL: Bounds = (4, 100, 100);
 
-/// What is offered, the most octets of a message, and what is due; how much a write takes, how many of them come to be made, and what
-/// is left where one of them fails. Whichever that is, the octets that were taken before it are told, and are a front of what is due.
-/// Messages that are pulled at once are written in one piece: those of two records have 36, 30 and 30 octets. A write that takes
-/// nothing is one that fails. Where the journal has no room for its end, the subscription stays, and both records were handed out.
+/// What is offered, the most octets of a message, and what is due; how much a write takes, how many of them come to be made, and
+/// what is left where one of them fails. Whichever that is, the octets that were taken before it are told, and are a front of
+/// what is due. Messages that are pulled at once are written in one piece: those of two records have 36, 30 and 30 octets. A
+/// write that takes nothing is one that fails. Where the journal has no room for its end, the subscription stays, and both
+/// records were handed out.
 const FAILING: &[(
     &[&[u8]],
     u16,

@@ -1,4 +1,5 @@
-//! Messages and advances that a queue holds up: they wait as long as the server has patience, and only then the subscription is cut.
+//! Messages and advances that a queue holds up: they wait as long as the server has patience, and only then the subscription is
+//! cut.
 use crate::delivering::{Stands, give_way};
 use crate::hands::{ENOUGH, PASS, SMALL, begin, hands, limits_of, offer_all};
 use crate::octets::{FLOW_TO_80, FLOW_TO_443, NOW, ONE_AND_TWO, ONE_RECORD, TWO_MORE, TWO_RECORDS};

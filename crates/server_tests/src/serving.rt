@@ -1,5 +1,5 @@
-//! Exporters' streams: in pieces, to each fault, and by too few reads. Each time the session is closed then, and no other, behind the
-//! messages that were offered, unless the journal is full.
+//! Exporters' streams: in pieces, to each fault, and by too few reads. Each time the session is closed then, and no other, behind
+//! the messages that were offered, unless the journal is full.
 use crate::hands::{Bounds, ENOUGH, NOTHING, PASS, ROOMY, begin, hands, limits_of};
 use crate::octets::{
     CUT_OFF, EIGHT_EMPTY, LENGTH_15, LONG_TEMPLATE, ONE_RECORD, SET_OF_3, STREAM, TWO_RECORDS,
@@ -62,9 +62,9 @@ const BAD_LENGTH: Result<(), ServeFault> = Err(ServeFault::Framing(FramingFault:
 
 const ENDS_INSIDE: Result<(), ServeFault> = Err(ServeFault::Framing(FramingFault::CutOff));
 
-/// Streams with the most octets of a read, how many reads come before one that fails, and how many are allowed; how each ends, and
-/// how many messages, records and gaps it brought by then. The stream of 116 octets takes 17 reads of 7 octets, and one more for its
-/// end; its messages end at 50, 100 and 116 octets, and the last one has no record, and a Sequence Number that isn't due.
+/// Streams with the most octets of a read, how many reads come before one that fails, and how many are allowed; how each ends,
+/// and how many messages, records and gaps it brought by then. The stream of 116 octets takes 17 reads of 7 octets, and one more
+/// for its end; its messages end at 50, 100 and 116 octets, and the last one has no record, and a Sequence Number that isn't due.
 const ROWS: &[(
     &[u8],
     usize,
