@@ -1,5 +1,5 @@
 pub mod PlaceSteps
-pub mod ShelfSteps
+pub mod MapSteps
 pub mod TableSteps
 pub mod DomainSteps
 pub mod Soundness

@@ -6,13 +6,13 @@ use Rattle.std.specs.Option.{option_or}
 use Rattle.std.specs.BTreeMap.{is_at}
 use Rattle.ipfix_template.specs.declared.template.Template.{Template}
 use Rattle.ipfix_template.specs.Template.{is_options}
-use Rattle.ipfix_session.specs.declared.shelf.Shelf.{Shelf}
+use Rattle.ipfix_session.specs.declared.template_map.TemplateMap.{TemplateMap}
 use Rattle.ipfix_session.specs.InForce.{same_kind, unless_of_kind}
 use Rattle.ipfix_session.specs.Keeping.{at_key, IsKeepable}
 use Rattle.ipfix_session.specs.Places.{Tabled, HasPlaces}
-use Rattle.ipfix_session.specs.Shelves.{shown_on, on_shelf, has_place, places_on}
+use Rattle.ipfix_session.specs.TemplateMaps.{shown_on, in_map, has_place, places_on}
 use Rattle.ipfix_session.specs.Tables.{IsOfKind, IsOneOfKind, unless_withdrawn, template_after}
-use Rattle.ipfix_session.proofs.ShelfSteps.{shelf-at, places_are, places_there}
+use Rattle.ipfix_session.proofs.MapSteps.{map-at, places_are, places_there}
 
 -- ---- the plain template of an ID, or else its options template
 
@@ -24,14 +24,14 @@ at_append : (q : ℕ) (xs ys : List (ℕ × Template)) → at_key q (xs ++ ys) �
 at_append q [] ys = refl
 at_append q (x ∷ xs) ys = ap (cond (is_at (nat_cmp q) x.0) (Some x.1)) (at_append q xs ys) ∙ sym (or-plain (is_at (nat_cmp q) x.0) x.1 (at_key q xs) (at_key q ys))
 
-pub table-at : (plain options : Shelf) (q : ℕ) → at_key q (shown_on plain ++ shown_on options) ≡ option_or (on_shelf plain q) (on_shelf options q)
-table-at plain options q = at_append q (shown_on plain) (shown_on options) ∙ (λ i. option_or (shelf-at plain q i) (shelf-at options q i))
+pub table-at : (plain options : TemplateMap) (q : ℕ) → at_key q (shown_on plain ++ shown_on options) ≡ option_or (in_map plain q) (in_map options q)
+table-at plain options q = at_append q (shown_on plain) (shown_on options) ∙ (λ i. option_or (map-at plain q i) (map-at options q i))
 
 -- the same by what a table was seen as
-abbrev pub tabled : Shelf → Shelf → Tabled
+abbrev pub tabled : TemplateMap → TemplateMap → Tabled
 tabled plain options = record { templates = shown_on plain ++ shown_on options; places = record { plain = places_on plain; options = places_on options } }
 
-pub table-now : (plain options : Shelf) (now : Tabled) → tabled plain options ≡ now → (q : ℕ) → option_or (on_shelf plain q) (on_shelf options q) ≡ at_key q now.templates
+pub table-now : (plain options : TemplateMap) (now : Tabled) → tabled plain options ≡ now → (q : ℕ) → option_or (in_map plain q) (in_map options q) ≡ at_key q now.templates
 table-now plain options now is q = sym (table-at plain options q) ∙ ap (λ (t : Tabled). at_key q t.templates) is
 
 pub keepable_of : (plain options : Option Template) → IsOneOfKind plain options → IfSome (option_or plain options) IsKeepable
@@ -42,19 +42,19 @@ keepable_of (Some t) (Some u) one = absurd one
 
 -- ---- room that is made
 
-abbrev pub HavePlaces : Shelf → Shelf → Type 0
+abbrev pub HavePlaces : TemplateMap → TemplateMap → Type 0
 HavePlaces there need = (q : ℕ) → has_place need q ≡ true → has_place there q ≡ true
 
-pub room_made : (plain options need_plain need_options : Shelf) (need : Tabled) → tabled need_plain need_options ≡ need → HavePlaces plain need_plain → HavePlaces options need_options → HasPlaces (tabled plain options).places need.places
+pub room_made : (plain options need_plain need_options : TemplateMap) (need : Tabled) → tabled need_plain need_options ≡ need → HavePlaces plain need_plain → HavePlaces options need_options → HasPlaces (tabled plain options).places need.places
 room_made plain options need_plain need_options need is p o =
     subst (λ (t : Tabled). HasPlaces (tabled plain options).places t.places) is (record { plain = places_are need_plain plain p; options = places_are need_options options o })
 
--- room of a table, by its shelves
-pub record HasShelves (plain options need_plain need_options : Shelf) : Type 0 where
+-- room of a table, by its maps
+pub record HasMaps (plain options need_plain need_options : TemplateMap) : Type 0 where
   pub plains : HavePlaces plain need_plain
   pub optional : HavePlaces options need_options
 
-pub room_there : (plain options need_plain need_options : Shelf) (now need : Tabled) → tabled plain options ≡ now → tabled need_plain need_options ≡ need → HasPlaces now.places need.places → HasShelves plain options need_plain need_options
+pub room_there : (plain options need_plain need_options : TemplateMap) (now need : Tabled) → tabled plain options ≡ now → tabled need_plain need_options ≡ need → HasPlaces now.places need.places → HasMaps plain options need_plain need_options
 room_there plain options need_plain need_options now need now_is need_is room =
     let there : HasPlaces (tabled plain options).places (tabled need_plain need_options).places =
     subst (λ (t : Tabled). HasPlaces (tabled plain options).places t.places) (sym need_is) (subst (λ (t : Tabled). HasPlaces t.places need.places) (sym now_is) room) in

@@ -19,7 +19,7 @@ pub mod Meaning
 pub mod LastMessage
 pub mod Keeping
 pub mod Places
-pub mod Shelves
+pub mod TemplateMaps
 pub mod Tables
 pub mod Change
 pub mod Changing

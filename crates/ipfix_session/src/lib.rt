@@ -44,9 +44,9 @@ pub mod read;
 pub mod read_error;
 pub mod reading;
 pub mod session;
-mod shelf;
 mod table;
 mod tables;
+mod template_map;
 pub mod templates;
 mod walk;
 

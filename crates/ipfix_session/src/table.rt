@@ -9,7 +9,7 @@ ghost use Rattle.ipfix_session.specs.Keeping.{at_key, IsKeepable};
 ghost use Rattle.ipfix_session.specs.Tables.{template_after};
 ghost use Rattle.ipfix_session.specs.Places.{HasPlaces};
 
-use crate::shelf::Shelf;
+use crate::template_map::TemplateMap;
 use ipfix_template::Template;
 use std::alloc::{AllocError, Global};
 use std::collections::BTreeSet;
@@ -21,8 +21,8 @@ use std::sync::Arc;
 /// list of IDs and templates, and the IDs that have a place.
 #[derive(Drop)]
 pub(crate) struct Table {
-    plain: Shelf,
-    options: Shelf,
+    plain: TemplateMap,
+    options: TemplateMap,
 }
 
 impl Model for Table {
@@ -32,12 +32,12 @@ impl Model for Table {
 
     ghost use Rattle.std.specs.Prelude.{◌++◌};
     ghost use Rattle.std.specs.Prelude.{ℕ};
-    ghost use Rattle.ipfix_session.specs.Shelves.{shown_on, on_shelf, places_on};
+    ghost use Rattle.ipfix_session.specs.TemplateMaps.{shown_on, in_map, places_on};
     ghost use Rattle.ipfix_session.specs.Tables.{IsOneOfKind};
 
     ghost view = { λ t. record { templates = shown_on t.plain ++ shown_on t.options; places = record { plain = places_on t.plain; options = places_on t.options } } };
 
-    ghost invariant = { λ t. (id : ℕ) → IsOneOfKind (on_shelf t.plain id) (on_shelf t.options id) };
+    ghost invariant = { λ t. (id : ℕ) → IsOneOfKind (in_map t.plain id) (in_map t.options id) };
 }
 
 impl Clone for Table {
@@ -59,8 +59,8 @@ impl Table {
         ensures { result.templates ≡ [] }
     {
         Table {
-            plain: Shelf::new(alloc),
-            options: Shelf::new(alloc),
+            plain: TemplateMap::new(alloc),
+            options: TemplateMap::new(alloc),
         }
     }
 
@@ -127,9 +127,9 @@ impl Table {
             → at_key q self.new.templates ≡ unless_of_kind options (at_key q self.old.templates) }
     {
         if options {
-            self.options = Shelf::new(alloc);
+            self.options = TemplateMap::new(alloc);
         } else {
-            self.plain = Shelf::new(alloc);
+            self.plain = TemplateMap::new(alloc);
         }
     }
 

@@ -1,27 +1,27 @@
 use Rattle.std.proofs.Common.{Option, sym, subst}
 use Rattle.ipfix_template.specs.declared.template.Template.{Template}
-use Rattle.ipfix_session.specs.Shelves.{on_shelf}
+use Rattle.ipfix_session.specs.TemplateMaps.{in_map}
 use Rattle.ipfix_session.specs.Tables.{IsOneOfKind}
-use Rattle.ipfix_session.proofs.ShelfSteps.{same_shown}
+use Rattle.ipfix_session.proofs.MapSteps.{same_shown}
 use Rattle.ipfix_session.proofs.TableSteps.{room_made}
 use Rattle.ipfix_session.proofs.table.Table.make_room.Goals as goal
 
 pub invariant_of-self : goal.invariant_of-self
 invariant_of-self c = λ q.
     let s = c.self.inside in
-    subst (λ (p : Option Template). IsOneOfKind p (on_shelf s.options q)) (sym (same_shown c.make_room.new.self s.plain c.make_room.ensures.same q)) (c.self.invariant q)
+    subst (λ (p : Option Template). IsOneOfKind p (in_map s.options q)) (sym (same_shown c.make_room.new.self s.plain c.make_room.ensures.same q)) (c.self.invariant q)
 
 pub invariant_of-self-in_err-make_room-2 : goal.invariant_of-self-in_err-make_room-2
 invariant_of-self-in_err-make_room-2 c = λ q.
     let s = c.self.inside in
-    subst (λ (p : Option Template). IsOneOfKind p (on_shelf c.make_room-2.new.self q)) (sym (same_shown c.make_room.new.self s.plain c.make_room.ensures.same q))
-    (subst (λ (o : Option Template). IsOneOfKind (on_shelf s.plain q) o) (sym (same_shown c.make_room-2.new.self s.options c.make_room-2.ensures.same q)) (c.self.invariant q))
+    subst (λ (p : Option Template). IsOneOfKind p (in_map c.make_room-2.new.self q)) (sym (same_shown c.make_room.new.self s.plain c.make_room.ensures.same q))
+    (subst (λ (o : Option Template). IsOneOfKind (in_map s.plain q) o) (sym (same_shown c.make_room-2.new.self s.options c.make_room-2.ensures.same q)) (c.self.invariant q))
 
 pub invariant_of-self-2 : goal.invariant_of-self-2
 invariant_of-self-2 c = λ q.
     let s = c.self.inside in
-    subst (λ (p : Option Template). IsOneOfKind p (on_shelf c.make_room-2.new.self q)) (sym (same_shown c.make_room.new.self s.plain c.make_room.ensures.same q))
-    (subst (λ (o : Option Template). IsOneOfKind (on_shelf s.plain q) o) (sym (same_shown c.make_room-2.new.self s.options c.make_room-2.ensures.same q)) (c.self.invariant q))
+    subst (λ (p : Option Template). IsOneOfKind p (in_map c.make_room-2.new.self q)) (sym (same_shown c.make_room.new.self s.plain c.make_room.ensures.same q))
+    (subst (λ (o : Option Template). IsOneOfKind (in_map s.plain q) o) (sym (same_shown c.make_room-2.new.self s.options c.make_room-2.ensures.same q)) (c.self.invariant q))
 
 pub returns-clause-room : goal.returns-clause-room
 returns-clause-room c =

@@ -1,4 +1,4 @@
--- What stands under each ID of a shelf.
+-- What stands under each ID of a map of templates.
 use Rattle.std.proofs.Common.{Global, ◌≡◌, ℕ, Bool, true, false, cond, eqb, List, [], ◌∷◌, Option, Some, None, refl, sym, ap, ◌∙◌}
 use Rattle.std.specs.Prelude.{◌||◌}
 use Rattle.std.specs.Cmp.{unsigned_tied}
@@ -15,32 +15,32 @@ use Rattle.std.specs.List.Sorted.{IsStrictlySortedBy}
 use Rattle.std.proofs.lemmas.Bool.{eqb-true}
 use Rattle.std.proofs.lemmas.Map.Keys.{IsDistinct-from_sorted, sorted_head}
 use Rattle.ipfix_template.specs.declared.template.Template.{Template}
-use Rattle.ipfix_session.specs.declared.shelf.Shelf.{Shelf}
+use Rattle.ipfix_session.specs.declared.template_map.TemplateMap.{TemplateMap}
 use Rattle.ipfix_session.specs.Keeping.{at_key}
 use Rattle.ipfix_session.specs.Places.{with_shown, shown_in, shown_of, AreAmong}
-use Rattle.ipfix_session.specs.Shelves.{shown_on, on_shelf, has_place, places_on}
+use Rattle.ipfix_session.specs.TemplateMaps.{shown_on, in_map, has_place, places_on}
 use Rattle.ipfix_session.proofs.PlaceSteps.{shown-at, among-keys}
 
 -- ---- what is shown under an ID stands there
 
-pub shelf-at : (s : Shelf) (q : ℕ) → at_key q (shown_on s) ≡ on_shelf s q
-shelf-at s q = shown-at (option_map arc_value) q s.places.entries (IsDistinct-from_sorted nat_cmp (keys_of s.places.entries) s.ordered)
+pub map-at : (s : TemplateMap) (q : ℕ) → at_key q (shown_on s) ≡ in_map s q
+map-at s q = shown-at (option_map arc_value) q s.places.entries (IsDistinct-from_sorted nat_cmp (keys_of s.places.entries) s.ordered)
 
--- shelves that show the same have the same template under each ID
-pub same_shown : (s t : Shelf) → shown_on s ≡ shown_on t → (q : ℕ) → on_shelf s q ≡ on_shelf t q
-same_shown s t same q = sym (shelf-at s q) ∙ ap (at_key q) same ∙ shelf-at t q
+-- maps that show the same have the same template under each ID
+pub same_shown : (s t : TemplateMap) → shown_on s ≡ shown_on t → (q : ℕ) → in_map s q ≡ in_map t q
+same_shown s t same q = sym (map-at s q) ∙ ap (at_key q) same ∙ map-at t q
 
--- a shelf without a place
-pub on_shelf-none : (s : Shelf) → s.places.entries ≡ [] → (q : ℕ) → on_shelf s q ≡ None
-on_shelf-none s none q = ap (λ (es : List (ℕ × Option (Arc Template Global))). shown_of (option_map arc_value) (at_key q es)) none
+-- a map without a place
+pub in_map-none : (s : TemplateMap) → s.places.entries ≡ [] → (q : ℕ) → in_map s q ≡ None
+in_map-none s none q = ap (λ (es : List (ℕ × Option (Arc Template Global))). shown_of (option_map arc_value) (at_key q es)) none
 
 -- ---- room that is made
 
 -- what has a place on the one has a place on the other
-pub places_are : (s t : Shelf) → ((q : ℕ) → has_place s q ≡ true → has_place t q ≡ true) → AreAmong (places_on s) (places_on t)
+pub places_are : (s t : TemplateMap) → ((q : ℕ) → has_place s q ≡ true → has_place t q ≡ true) → AreAmong (places_on s) (places_on t)
 places_are s t there q is = sym (among-keys q t.places.entries) ∙ there q (among-keys q s.places.entries ∙ is)
 
-pub places_there : (s t : Shelf) → AreAmong (places_on s) (places_on t) → (q : ℕ) → has_place s q ≡ true → has_place t q ≡ true
+pub places_there : (s t : TemplateMap) → AreAmong (places_on s) (places_on t) → (q : ℕ) → has_place s q ≡ true → has_place t q ≡ true
 places_there s t there q is = among-keys q t.places.entries ∙ there q (sym (among-keys q s.places.entries) ∙ is)
 
 -- an ID that had a place or is still to come has a place then or is still to come

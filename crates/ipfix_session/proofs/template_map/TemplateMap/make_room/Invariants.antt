@@ -3,8 +3,8 @@ use Rattle.std.specs.Prelude.{◌||◌}
 use Rattle.std.specs.Ordering.{nat_cmp}
 use Rattle.std.specs.List.{list_any}
 use Rattle.std.specs.BTreeMap.{is_at}
-use Rattle.ipfix_session.specs.Shelves.{shown_on, has_place}
-use Rattle.ipfix_session.proofs.shelf.Shelf.make_room.Given as goal
+use Rattle.ipfix_session.specs.TemplateMaps.{shown_on, has_place}
+use Rattle.ipfix_session.proofs.template_map.TemplateMap.make_room.Given as goal
 
 abbrev pub invariant-loop-id : goal.invariant-loop-id
 invariant-loop-id l = record {

@@ -1,7 +1,7 @@
 use Rattle.std.proofs.Common.{rules}
 use Rattle.std.specs.Arc.{arc_value}
-use Rattle.ipfix_session.proofs.ShelfSteps.{shown_clone, keys_clone}
-use Rattle.ipfix_session.proofs.shelf.ShelfClone.clone.Goals as goal
+use Rattle.ipfix_session.proofs.MapSteps.{shown_clone, keys_clone}
+use Rattle.ipfix_session.proofs.template_map.TemplateMapClone.clone.Goals as goal
 
 pub returns : goal.returns
 returns c = record {

@@ -4,7 +4,7 @@ use Rattle.std.specs.Arc.{arc_value}
 use Rattle.ipfix_session.specs.Keeping.{at_key}
 use Rattle.ipfix_session.specs.Places.{shown_in}
 use Rattle.ipfix_session.proofs.PlaceSteps.{shown-room}
-use Rattle.ipfix_session.proofs.shelf.Shelf.make_place.Goals as goal
+use Rattle.ipfix_session.proofs.template_map.TemplateMap.make_place.Goals as goal
 
 pub returns-in_ok-insert-clause-same : goal.returns-in_ok-insert-clause-same
 returns-in_ok-insert-clause-same c =
