@@ -72,10 +72,13 @@ impl<'a> Run<'a> {
     /// The message is malformed; or the journal is full, or the audit, or memory.
     pub(crate) fn receive(&mut self, message: Bytes) -> Result<bool, Fault>
         requires delivered { HasDelivered self.old }
+        // The job, and what was written, stay as they are.
         ensures job { self.new.job ≡ self.old.job }
         ensures sent { self.new.sent ≡ self.old.sent }
+        // The message was accepted, or cut the subscription.
         ensures few { OnOk result (length (audit_waiting self.new) < 2 ^ 32) }
         ensures ok { IfOk result (λ is_cut. Receives self.old message is_cut self.new) }
+        // Why it was refused.
         ensures err { IfErr result (λ e. Refuses e self.old message) }
     {
         let receipt = self.state.receive(SESSION, self.messages, message)?;
