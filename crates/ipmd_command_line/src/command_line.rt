@@ -245,6 +245,7 @@ fn whole_command<'a>(alloc: Global) -> Result<Command<'a>, AllocError>
         .subcommand(explain_command(alloc)?)
 }
 
+/// The command `offline` with its options.
 fn offline_command<'a>(alloc: Global) -> Result<Command<'a>, AllocError>
     ensures { IfOk result (λ command. app_of command ≡ offline_command) }
 {
@@ -282,6 +283,7 @@ fn offline_command<'a>(alloc: Global) -> Result<Command<'a>, AllocError>
         )
 }
 
+/// The command `check-policy` with its options.
 fn check_policy_command<'a>(alloc: Global) -> Result<Command<'a>, AllocError>
     ensures { IfOk result (λ command. app_of command ≡ check_policy_command) }
 {
@@ -293,6 +295,7 @@ fn check_policy_command<'a>(alloc: Global) -> Result<Command<'a>, AllocError>
     )
 }
 
+/// The command `replay` with its options.
 fn replay_command<'a>(alloc: Global) -> Result<Command<'a>, AllocError>
     ensures { IfOk result (λ command. app_of command ≡ replay_command) }
 {
@@ -310,6 +313,7 @@ fn replay_command<'a>(alloc: Global) -> Result<Command<'a>, AllocError>
         ))
 }
 
+/// The command `serve` with its option.
 fn serve_command<'a>(alloc: Global) -> Result<Command<'a>, AllocError>
     ensures { IfOk result (λ command. app_of command ≡ serve_command) }
 {
@@ -326,6 +330,7 @@ fn serve_command<'a>(alloc: Global) -> Result<Command<'a>, AllocError>
         )
 }
 
+/// The command `verify` with its options.
 fn verify_command<'a>(alloc: Global) -> Result<Command<'a>, AllocError>
     ensures { IfOk result (λ command. app_of command ≡ verify_command) }
 {
@@ -346,6 +351,7 @@ fn verify_command<'a>(alloc: Global) -> Result<Command<'a>, AllocError>
         )
 }
 
+/// The command `explain` with its options.
 fn explain_command<'a>(alloc: Global) -> Result<Command<'a>, AllocError>
     ensures { IfOk result (λ command. app_of command ≡ explain_command) }
 {

@@ -27,7 +27,9 @@ pub(crate) const SUBSCRIPTION: u64 = 1;
 #[derive(Drop)]
 pub(crate) struct Run<'a> {
     pub(crate) alloc: Global,
+    /// What is asked for.
     pub(crate) job: OfflineJob<'a>,
+    /// The mediator, of whose journal the sizes alone are kept.
     pub(crate) state: State<Tally>,
     /// The messages that were accepted.
     pub(crate) messages: u64,
