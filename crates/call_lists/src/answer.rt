@@ -87,6 +87,8 @@ fn received_text(alloc: Global, receipt: &Receipt) -> Result<String, AllocError>
     Ok(text)
 }
 
+/// Adds what a message brought that gives no record: Data Sets without a template, Sets with a reserved ID, and Template Records
+/// that are refused.
 fn put_skips(text: &mut String, skips: Skips) -> Result<(), AllocError>
     ensures { OnOk result (string_bytes text.new ≡ string_bytes text.old ++ skips_text skips) }
 {
@@ -101,6 +103,7 @@ fn put_skips(text: &mut String, skips: Skips) -> Result<(), AllocError>
     )
 }
 
+/// Adds the Sequence Numbers that were expected and got, where these differ.
 fn put_gap(text: &mut String, gap: Option<Gap>) -> Result<(), AllocError>
     ensures { OnOk result (string_bytes text.new ≡ string_bytes text.old ++ gap_text gap) }
 {
@@ -147,6 +150,7 @@ pub fn drained_text(alloc: Global, entries: &[AuditEntry]) -> Result<String, All
     Ok(text)
 }
 
+/// Adds the lines of audit entries.
 fn put_entries(alloc: Global, text: &mut String, entries: &[AuditEntry]) -> Result<(), AllocError>
     ensures { OnOk result (string_bytes text.new ≡ string_bytes text.old
         ++ flat_map line_of entries.now) }

@@ -248,6 +248,7 @@ fn whole_command<'a>(alloc: Global) -> Result<Command<'a>, AllocError>
         .subcommand(explain_command(alloc)?)
 }
 
+/// The command `offline` with its options.
 fn offline_command<'a>(alloc: Global) -> Result<Command<'a>, AllocError>
     ensures { IfOk result (λ command. app_of command ≡ offline_command) }
 {
@@ -285,6 +286,7 @@ fn offline_command<'a>(alloc: Global) -> Result<Command<'a>, AllocError>
         )
 }
 
+/// The command `check-policy` with its options.
 fn check_policy_command<'a>(alloc: Global) -> Result<Command<'a>, AllocError>
     ensures { IfOk result (λ command. app_of command ≡ check_policy_command) }
 {
@@ -296,6 +298,7 @@ fn check_policy_command<'a>(alloc: Global) -> Result<Command<'a>, AllocError>
     )
 }
 
+/// The command `replay` with its options.
 fn replay_command<'a>(alloc: Global) -> Result<Command<'a>, AllocError>
     ensures { IfOk result (λ command. app_of command ≡ replay_command) }
 {
@@ -313,6 +316,7 @@ fn replay_command<'a>(alloc: Global) -> Result<Command<'a>, AllocError>
         ))
 }
 
+/// The command `serve` with its option.
 fn serve_command<'a>(alloc: Global) -> Result<Command<'a>, AllocError>
     ensures { IfOk result (λ command. app_of command ≡ serve_command) }
 {
@@ -329,6 +333,7 @@ fn serve_command<'a>(alloc: Global) -> Result<Command<'a>, AllocError>
         )
 }
 
+/// The command `verify` with its options.
 fn verify_command<'a>(alloc: Global) -> Result<Command<'a>, AllocError>
     ensures { IfOk result (λ command. app_of command ≡ verify_command) }
 {
@@ -349,6 +354,7 @@ fn verify_command<'a>(alloc: Global) -> Result<Command<'a>, AllocError>
         )
 }
 
+/// The command `explain` with its options.
 fn explain_command<'a>(alloc: Global) -> Result<Command<'a>, AllocError>
     ensures { IfOk result (λ command. app_of command ≡ explain_command) }
 {

@@ -5,7 +5,7 @@ use thiserror::Error;
 /// Why a command line asks for nothing.
 #[derive(Debug, Drop, Error)]
 pub enum CommandLineFault {
-    /// It asks for nothing that there is. The text is the parser's, with its line feeds.
+    /// It asks for nothing that there is; the text is the parser's, with its line feeds.
     #[error("{0}")]
     Refused(clap::Error),
     /// Want of memory.

@@ -67,15 +67,18 @@ pub fn serve_admin<E: EntryLedger, H: RecordLedger, R: Source, W: Sink, C: Contr
 ) -> Result<u64, ServeFault>
     requires reader { R.has_failed reader.old ≡ false }
     requires writer { W.has_failed writer.old ≡ false }
+    // All commands were read, their calls made, and their answers written.
     ensures serves { IfOk result (λ count.
         ServesAdmin count (R.remaining reader.old) (R.remaining reader.new)
         (W.contents writer.old) (W.contents writer.new) handle.old handle.new) }
     ensures sound_reader { OnOk result (R.has_failed reader.new ≡ false) }
     ensures sound_writer { OnOk result (W.has_failed writer.new ≡ false) }
+    // Where it stopped, what was read, done and written by then.
     ensures stops { IfErr result (λ e. (commands : List Exchange)
         × StopsAdmin e turns (R.remaining reader.old) (R.remaining reader.new)
         (W.contents writer.old) (W.contents writer.new)
         (W.has_failed writer.new) handle.old handle.new commands) }
+    // A device has failed only where the fault names it.
     ensures reader_fails { IfErr result (λ e. R.has_failed reader.new ≡ reader_after e) }
     ensures writer_fails { IfErr result (λ e. W.has_failed writer.new ≡ writer_after e) }
 {
@@ -114,6 +117,7 @@ fn hear<E: EntryLedger, H: RecordLedger, R: Source, C: Control>(
     control: &C,
 ) -> Result<Option<Heard>, ServeFault>
     requires reader { R.has_failed reader.old ≡ false }
+    // What came of the line, or that the input ended before it.
     ensures ok { IfOk result (λ found. MatchOption found
         (EndsBehind input.old (R.remaining reader.old) (R.remaining reader.new) []
         × (handle.new ≡ handle.old))
@@ -121,6 +125,7 @@ fn hear<E: EntryLedger, H: RecordLedger, R: Source, C: Control>(
         (R.remaining reader.old) (R.remaining reader.new) input.new handle.old handle.new)) }
     ensures sound { OnOk result (R.has_failed reader.new ≡ false) }
     ensures fails { IfErr result (λ e. R.has_failed reader.new ≡ reader_after e) }
+    // Behind which octets of the command it stopped. No call was made.
     ensures err { IfErr result (λ e.
         StopsHearing e input.old (R.remaining reader.old) (R.remaining reader.new) input.new) }
     ensures same { OnErr result (handle.new ≡ handle.old) }
@@ -149,12 +154,15 @@ fn answer_line<E: EntryLedger, H: RecordLedger, R: Source, C: Control>(
     control: &C,
 ) -> Result<Heard, ServeFault>
     requires reader { R.has_failed reader.old ≡ false }
+    // What came of the line.
     ensures ok { IfOk result (λ heard. Performs (command_of line.now) heard.answer input.old
         (R.remaining reader.old) (R.remaining reader.new) input.new handle.old handle.new) }
     ensures stops { IfOk result (λ heard. IsTrue heard.stops
         ↔ (command_of line.now ≡ Some to_stop)) }
+    // The reader has failed only where the fault is `Read`.
     ensures sound { OnOk result (R.has_failed reader.new ≡ false) }
     ensures fails { IfErr result (λ e. R.has_failed reader.new ≡ reader_after e) }
+    // Behind which octets of the command's text it stopped. No call was made.
     ensures err { IfErr result (λ e. (octets : List ℕ) × StopsReading e input.old
         (R.remaining reader.old) (R.remaining reader.new) octets input.new) }
     ensures same { OnErr result (handle.new ≡ handle.old) }
@@ -218,10 +226,13 @@ fn perform<E: EntryLedger, H: RecordLedger, R: Source, C: Control>(
     control: &C,
 ) -> Result<Answer, ServeFault>
     requires reader { R.has_failed reader.old ≡ false }
+    // What came of the command.
     ensures ok { IfOk result (λ answer. Performs (Some (saying command)) answer input.old
         (R.remaining reader.old) (R.remaining reader.new) input.new handle.old handle.new) }
+    // The reader has failed only where the fault is `Read`.
     ensures sound { OnOk result (R.has_failed reader.new ≡ false) }
     ensures fails { IfErr result (λ e. R.has_failed reader.new ≡ reader_after e) }
+    // Behind which octets of the command's text it stopped. No call was made.
     ensures err { IfErr result (λ e. (octets : List ℕ) × StopsReading e input.old
         (R.remaining reader.old) (R.remaining reader.new) octets input.new) }
     ensures same { OnErr result (handle.new ≡ handle.old) }
@@ -438,9 +449,11 @@ fn reply<W: Sink>(
     sent: u64,
 ) -> Result<u64, ServeFault>
     requires writer { W.has_failed writer.old ≡ false }
+    // The whole answer was written.
     ensures ok { IfOk result (λ n.
         WritesAnswer answer.now sent n (W.contents writer.old) (W.contents writer.new)) }
     ensures sound { OnOk result (W.has_failed writer.new ≡ false) }
+    // How much of it was, where the writer failed or the octets can't be counted.
     ensures err { IfErr result (λ e. StopsReplying e answer.now sent
         (W.contents writer.old) (W.contents writer.new) (W.has_failed writer.new)) }
     ensures fails { IfErr result (λ e. W.has_failed writer.new ≡ writer_after e) }

@@ -35,7 +35,9 @@ const PATIENCE: u64 = 10;
 /// The handles of the deliveries to one collector, of which the last is that of the subscription it has now.
 #[derive(Drop)]
 pub(crate) struct CollectorHandles<E: EntryLedger, H: RecordLedger> {
+    /// Those of its deliveries, in the order of their subscriptions.
     pub(crate) deliveries: Vec<DeliveryHandle<H>>,
+    /// That by which it is subscribed.
     pub(crate) admin: AdminHandle<E>,
 }
 

@@ -67,11 +67,13 @@ impl CommandInput {
         reader: &mut R,
     ) -> Result<Option<Vec<u8>>, ServeFault>
         requires reader { R.has_failed reader.old ≡ false }
+        // The line, or that the input ended before it.
         ensures ok { IfOk result (λ found. MatchOption found
             (EndsBehind self.old (R.remaining reader.old) (R.remaining reader.new) [])
             (λ line. (octets : List ℕ) × IsLine line.items octets × HandsOut self.old
             (R.remaining reader.old) (R.remaining reader.new) octets self.new)) }
         ensures sound { OnOk result (R.has_failed reader.new ≡ false) }
+        // The reader has failed only where the fault is `Read`; and behind which octets of the line it stopped.
         ensures fails { IfErr result (λ e. R.has_failed reader.new ≡ reader_after e) }
         ensures err { IfErr result (λ e. (octets : List ℕ) × StopsReading e self.old
             (R.remaining reader.old) (R.remaining reader.new) octets self.new × IsBegun e octets) }
@@ -102,9 +104,11 @@ impl CommandInput {
         count: u32,
     ) -> Result<Vec<u8>, ServeFault>
         requires reader { R.has_failed reader.old ≡ false }
+        // The next octets, and just as many as are wanted.
         ensures ok { IfOk result (λ text. HandsOut self.old
             (R.remaining reader.old) (R.remaining reader.new) text.items self.new) }
         ensures count { IfOk result (λ text. length text.items ≡ count) }
+        // The reader has failed only where the fault is `Read`; and behind which octets of the text it stopped.
         ensures sound { OnOk result (R.has_failed reader.new ≡ false) }
         ensures fails { IfErr result (λ e. R.has_failed reader.new ≡ reader_after e) }
         ensures err { IfErr result (λ e. (octets : List ℕ) × StopsReading e self.old
@@ -129,11 +133,13 @@ impl CommandInput {
     /// The reader failed; or no read is left.
     fn next_octet<R: Source>(&mut self, reader: &mut R) -> Result<Option<u8>, ServeFault>
         requires reader { R.has_failed reader.old ≡ false }
+        // The next octet, or that the input ended before it.
         ensures ok { IfOk result (λ found. MatchOption found
             (EndsBehind self.old (R.remaining reader.old) (R.remaining reader.new) [])
             (λ octet. HandsOut self.old (R.remaining reader.old) (R.remaining reader.new)
             (octet ∷ []) self.new)) }
         ensures sound { OnOk result (R.has_failed reader.new ≡ false) }
+        // The reader has failed only where the fault is `Read`. No octet was handed out.
         ensures fails { IfErr result (λ e. R.has_failed reader.new ≡ reader_after e) }
         ensures err { IfErr result (λ e. StopsReading e self.old
             (R.remaining reader.old) (R.remaining reader.new) [] self.new × IsBegun e []) }
@@ -148,9 +154,11 @@ impl CommandInput {
     /// The reader failed; or no read is left.
     fn fill<R: Source>(&mut self, reader: &mut R) -> Result<(), ServeFault>
         requires reader { R.has_failed reader.old ≡ false }
+        // An octet is pending, or the input has ended.
         ensures ok { OnOk result (Fills self.old
             (R.remaining reader.old) (R.remaining reader.new) self.new) }
         ensures sound { OnOk result (R.has_failed reader.new ≡ false) }
+        // The reader has failed only where the fault is `Read`. No octet was handed out.
         ensures fails { IfErr result (λ e. R.has_failed reader.new ≡ reader_after e) }
         ensures err { IfErr result (λ e. StopsReading e self.old
             (R.remaining reader.old) (R.remaining reader.new) [] self.new × IsBegun e []) }
@@ -189,10 +197,12 @@ impl CommandInput {
 /// The reader failed.
 fn read_piece<R: Source>(reader: &mut R, piece: &mut Vec<u8>) -> Result<usize, ServeFault>
     requires { 0 < length piece.old.items }
+    // What was read stands in the front of the piece; nothing, only at the end.
     ensures length { length piece.new.items ≡ length piece.old.items }
     ensures ok { IfOk result (λ n. (n ≤ length piece.new.items)
         × Consumes (R.remaining reader.old) (R.remaining reader.new) (take n piece.new.items)) }
     ensures end { IfOk result (λ n. n ≡ 0 → IsAtEnd (R.remaining reader.new)) }
+    // At a fault nothing was read.
     ensures stays { OnOk result (R.has_failed reader.new ≡ R.has_failed reader.old) }
     ensures err { IfErr result (λ e. (e ≡ Read)
         × Keeps (R.remaining reader.old) (R.remaining reader.new)

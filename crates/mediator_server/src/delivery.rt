@@ -42,13 +42,16 @@ pub fn deliver<E: EntryLedger, H: RecordLedger, W: Sink, C: Clock>(
     clock: &C,
 ) -> Result<u64, (ServeFault, u64)>
     requires writer { W.has_failed writer.old ≡ false }
+    // All that was pulled was written.
     ensures delivers { IfOk result (λ sent. Delivers (C.shows clock.now) target sent
         handle.old handle.new (W.contents writer.old) (W.contents writer.new)) }
     ensures sound { OnOk result (W.has_failed writer.new ≡ false) }
+    // Where it stopped, and what was written by then.
     ensures stops { IfErr result (λ e.
         FailsToDeliver e.0 (C.shows clock.now) target handle.old handle.new
         (W.contents writer.old) (W.contents writer.new) (W.has_failed writer.new)) }
     ensures fails { IfErr result (λ e. W.has_failed writer.new ≡ writer_after e.0) }
+    // The administrator's handle ends the subscription where the writer failed, and does nothing else.
     ensures same { OnOk result (admin.new ≡ admin.old) }
     ensures gone { IfErr result (λ e. EndsOnWrite e.0 handle.old.sub admin.old admin.new) }
 {
@@ -103,9 +106,11 @@ fn send_messages<E: EntryLedger, H: RecordLedger, W: Sink, C: Clock>(
     clock: &C,
 ) -> Result<u64, ServeFault>
     requires writer { W.has_failed writer.old ≡ false }
+    // All that was pulled was written.
     ensures delivers { IfOk result (λ sent. Delivers (C.shows clock.now) target sent
         handle.old handle.new (W.contents writer.old) (W.contents writer.new)) }
     ensures sound { OnOk result (W.has_failed writer.new ≡ false) }
+    // Where it stopped, and what was written by then.
     ensures stops { IfErr result (λ e.
         FailsToDeliver e (C.shows clock.now) target handle.old handle.new
         (W.contents writer.old) (W.contents writer.new) (W.has_failed writer.new)) }

@@ -119,9 +119,11 @@ pub fn serve_exporter<
     reception: &O,
 ) -> Result<Served, (ServeFault, Served)>
     requires reader { R.has_failed reader.old ≡ false }
+    // All of the stream was read, and each of its messages was accepted.
     ensures serves { IfOk result (λ served. Serves turns served.messages
         (R.remaining reader.old) (R.remaining reader.new) handle.old handle.new) }
     ensures sound { OnOk result (R.has_failed reader.new ≡ false) }
+    // Where it stopped, and which messages were accepted before.
     ensures stops { IfErr result (λ e. StopsServing e.0 turns
         (R.remaining reader.old) (R.remaining reader.new) handle.old handle.new) }
     ensures counted { IfErr result (λ e.
@@ -167,9 +169,11 @@ fn offer_stream<E: EntryLedger, H: RecordLedger, R: Source, O: Reception, T: Thr
     reception: &O,
 ) -> Result<u64, ServeFault>
     requires reader { R.has_failed reader.old ≡ false }
+    // All of the stream was read, and each of its messages was accepted.
     ensures serves { IfOk result (λ offered. Serves pace.turns offered
         (R.remaining reader.old) (R.remaining reader.new) handle.old handle.new) }
     ensures sound { OnOk result (R.has_failed reader.new ≡ false) }
+    // Where it stopped, and which messages were accepted before.
     ensures stops { IfErr result (λ e. StopsServing e pace.turns
         (R.remaining reader.old) (R.remaining reader.new) handle.old handle.new) }
     ensures fails { IfErr result (λ e. R.has_failed reader.new ≡ reader_after e) }
@@ -309,12 +313,14 @@ fn offer_one<E: EntryLedger, H: RecordLedger, P: Patience>(
     patience: &P,
 ) -> Result<Receipt, ServeFault>
     requires prepared { IfSome prepared (λ p. p.message ≡ message) }
+    // The message was accepted, and the handle keeps its receipt.
     ensures kept { IfOk result (λ receipt.
         handle.new.kept ≡ handle.old.kept ++ record {
           position = receipt.position;
           entry = Message handle.old.session (length handle.old.kept) message;
         } ∷ []) }
     ensures session { handle.new.session ≡ handle.old.session }
+    // It was refused, and nothing has changed.
     ensures same { OnErr result (handle.new ≡ handle.old) }
     ensures refuses { IfErr result (λ e. IsRefusalOf e message) }
 {

@@ -162,11 +162,14 @@ fn listen_with<
 ) -> Result<Ended, ListenFault>
     requires fresh { handed_live mediator ≡ 0 }
     requires before { E.before ≡ mediator.history }
+    // The ledger of entries is whole: a share for each handle of an exporter or an administrator, and one more.
     requires entries_name { entries.name ≡ E.name }
     requires entries_parts { (entries.parts ≡ E.parts) × (E.parts ≡ E.all)
         × (E.all ≡ 2 * handles + 1) }
+    // The ledger of records is whole: a share for each delivery, and one more.
     requires handed_name { handed.name ≡ H.name }
     requires handed_parts { (handed.parts ≡ H.parts) × (H.parts ≡ H.all) × (H.all ≡ handles + 1) }
+    // Each entry since the beginning has its receipt.
     ensures served { IfOk result (λ ended. IsServed plan.now mediator.history
         ended.closed.mediator.history ended.closed.accepted ended.closed.handed) }
 {

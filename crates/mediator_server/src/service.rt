@@ -31,8 +31,11 @@ const LOOK_EACH: u64 = 20;
 /// All handles of a run that has ended, and how it ended.
 #[derive(Drop)]
 pub(crate) struct Handles<E: EntryLedger, H: RecordLedger> {
+    /// Those of all exporters.
     pub(crate) exporters: Vec<ExporterHandle<E>>,
+    /// Those of all deliveries.
     pub(crate) deliveries: Vec<DeliveryHandle<H>>,
+    /// Those by which administrators' calls were made, and the collectors' subscriptions.
     pub(crate) admins: Vec<AdminHandle<E>>,
     /// Whether an administrator stopped the run.
     pub(crate) stopped: bool,
@@ -44,14 +47,21 @@ pub(crate) struct Service<'m, E: EntryLedger, H: RecordLedger> {
     pub(crate) alloc: Global,
     pub(crate) shared: &'m SharedMediator<E, H>,
     pub(crate) plan: &'m Plan,
+    /// The addresses at which the server is reached.
     pub(crate) own: OwnAddresses,
     /// When the run began, in milliseconds since 1970; 0 where the machine's time can't be read.
     pub(crate) started: u64,
+    /// How far the run is.
     pub(crate) state: RunState,
+    /// The subscriptions, with their collectors.
     pub(crate) roster: Roster,
+    /// The connections of exporters that are open.
     pub(crate) exporters: Connections,
+    /// The connections of administrators that are open.
     pub(crate) administrators: Connections,
+    /// The connections to collectors that are open, and have something to take.
     pub(crate) collectors: Connections,
+    /// The handles of exporters.
     pub(crate) handles: ExporterHandles<E>,
     /// Whether it was warned that the journal is nearly full.
     is_warned: Mutex<bool>,

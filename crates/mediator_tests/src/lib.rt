@@ -3,10 +3,10 @@
 //!
 //! - `cases`, `aggregates`: the calls of each worked case, with what they must answer; `octets`: the messages in them.
 //! - `calls`: each call, made again where memory is refused.
-//! - `worked`: the cases, carried out; `runs`: the same as lists of calls on a mediator.
+//! - `worked`: the cases, carried out; `runs`: these cases as lists of calls on a mediator.
 //! - `prepared`: messages that are prepared before another message of their session comes. `twins`: two mediators that get the
-//!   same calls, one of them prepared messages; `changes`: what changes between preparing and receiving; `flows`: the
-//!   messages; `steps`: all of it, many times.
+//!   same calls, one of them prepared messages; `changes`: what changes between preparing and receiving; `flows`: the messages;
+//!   `steps`: all of it, many times.
 //! - `retried`: each call of a mediator, made again where memory is refused.
 #![tactic(auto)]
 

@@ -21,11 +21,14 @@ impl<'a> Run<'a> {
     /// was written.
     pub(crate) fn deliver<W: Sink>(&mut self, writer: &mut W) -> Result<(), OfflineFault>
         requires delivering { IsDelivering self.old }
+        // What waited was written.
         ensures ok { OnOk result (Delivers self.old self.new
             (W.contents writer.old) (W.contents writer.new)) }
+        // The job's numbers fit their types, also where it fails.
         ensures below { self.old.job.target < 2 ^ 16 }
         ensures now_below { self.old.job.now < 2 ^ 32 }
         ensures stays { OnOk result (W.has_failed writer.new ≡ W.has_failed writer.old) }
+        // What was written where it fails, and by which cause.
         ensures fails { IfErr result (λ e. W.has_failed writer.new
             ≡ writer_after e (W.has_failed writer.old)) }
         ensures err { IfErr result (λ e. FailsDelivery e self.old
@@ -47,7 +50,9 @@ impl<'a> Run<'a> {
     /// Want of memory.
     fn pull_all(&mut self) -> Result<Vec<u8>, OfflineFault>
         requires delivering { IsDelivering self.old }
+        // The text is what is due for what waited.
         ensures ok { IfOk result (λ text. Delivers self.old self.new (Some []) (Some text.items)) }
+        // The job's numbers fit their types, also where it fails.
         ensures below { self.old.job.target < 2 ^ 16 }
         ensures now_below { self.old.job.now < 2 ^ 32 }
         ensures err { IfErr result (λ e. e ≡ Core OutOfMemory) }
@@ -67,10 +72,13 @@ impl<'a> Run<'a> {
     /// Want of memory.
     fn pull(&mut self) -> Result<Option<Bytes>, OfflineFault>
         requires serving { IsServing self.old }
+        // The mediator's state alone changes, and its audit doesn't.
         ensures same { SameButState self.old self.new }
         ensures sent { self.new.sent ≡ self.old.sent }
         ensures audit { OnOk result (KeepsAudit self.old self.new) }
+        // It is the next message of what waits.
         ensures ok { IfOk result (λ m. Pulls self.old m self.new) }
+        // The job's numbers fit their types, also where it fails.
         ensures below { self.old.job.target < 2 ^ 16 }
         ensures now_below { self.old.job.now < 2 ^ 32 }
         ensures err { IfErr result (λ e. e ≡ Core OutOfMemory) }
@@ -87,8 +95,10 @@ impl<'a> Run<'a> {
     /// Want of memory.
     fn gather(&mut self, message: &[u8], text: &mut Vec<u8>) -> Result<(), OfflineFault>
         requires fits { self.old.sent + length message.now < 2 ^ 64 }
+        // The count of octets alone changes.
         ensures same { SameButState self.old self.new }
         ensures state { self.new.state ≡ self.old.state }
+        // The text and the count grow by the message.
         ensures ok { OnOk result (text.new.items ≡ text.old.items ++ message.now) }
         ensures sent { OnOk result (self.new.sent ≡ self.old.sent + length message.now) }
         ensures err { IfErr result (λ e. e ≡ Core OutOfMemory) }

@@ -25,12 +25,14 @@ impl<'a> Run<'a> {
         audit_writer: &mut A,
     ) -> Result<(), OfflineFault>
         requires running { Runs self.old (W.contents writer.old) (A.contents audit_writer.old) }
+        // Each message was handled.
         ensures ok { OnOk result (HandlesAll self.old self.new messages.items
             (W.contents writer.old) (W.contents writer.new)
             (A.contents audit_writer.old) (A.contents audit_writer.new)) }
         ensures stays { OnOk result (W.has_failed writer.new ≡ W.has_failed writer.old) }
         ensures audit_stays { OnOk result (A.has_failed audit_writer.new
             ≡ A.has_failed audit_writer.old) }
+        // Which device has failed; and which messages were handled before.
         ensures fails { IfErr result (λ e.
             FailsOnly e (W.has_failed writer.old) (A.has_failed audit_writer.old) false
             (W.has_failed writer.new) (A.has_failed audit_writer.new)) }
@@ -67,6 +69,7 @@ impl<'a> Run<'a> {
         requires opened { IsOpened self.old self.old.job }
         requires intake { intake.old ≡ nothing_read self.old.job.turns }
         requires reader { R.has_failed reader.old ≡ false }
+        // The stream was read to its end, and each message was handled.
         ensures ok { OnOk result (ReachesEnd self.new self.old.job
             (R.remaining reader.old) (R.remaining reader.new)
             (W.contents writer.old) (W.contents writer.new)
@@ -75,6 +78,7 @@ impl<'a> Run<'a> {
         ensures stays { OnOk result (W.has_failed writer.new ≡ W.has_failed writer.old) }
         ensures audit_stays { OnOk result (A.has_failed audit_writer.new
             ≡ A.has_failed audit_writer.old) }
+        // Which device has failed; and what was read and written by then.
         ensures fails { IfErr result (λ e.
             FailsOnly e (W.has_failed writer.old) (A.has_failed audit_writer.old)
             (R.has_failed reader.new) (W.has_failed writer.new) (A.has_failed audit_writer.new)) }
@@ -134,12 +138,14 @@ fn run_through<R: Source, W: Sink, A: Sink>(
     requires reader { R.has_failed reader.old ≡ false }
     requires writer { W.has_failed writer.old ≡ false }
     requires audit { A.has_failed audit_writer.old ≡ false }
+    // All was read and accepted, and what is due was written.
     ensures ok { IfOk result (λ report.
         Finishes job.entry.now report (R.remaining reader.old) (R.remaining reader.new)
         (W.contents writer.old) (W.contents writer.new)
         (A.contents audit_writer.old) (A.contents audit_writer.new)) }
     ensures sound { OnOk result ((R.has_failed reader.new ≡ false)
         × (W.has_failed writer.new ≡ false) × (A.has_failed audit_writer.new ≡ false)) }
+    // Which device has failed; and what was read and written by then.
     ensures fails { IfErr result (λ e. FailsOnly e false false
         (R.has_failed reader.new) (W.has_failed writer.new) (A.has_failed audit_writer.new)) }
     ensures err { IfErr result (λ e.

@@ -20,12 +20,14 @@ impl<'a> Run<'a> {
         audit_writer: &mut A,
     ) -> Result<(), OfflineFault>
         requires running { Runs self.old (W.contents writer.old) (A.contents audit_writer.old) }
+        // The message was accepted, and what is due for it was written.
         ensures ok { OnOk result (HandlesOn self.old self.new message
             (W.contents writer.old) (W.contents writer.new)
             (A.contents audit_writer.old) (A.contents audit_writer.new)) }
         ensures stays { OnOk result (W.has_failed writer.new ≡ W.has_failed writer.old) }
         ensures audit_stays { OnOk result (A.has_failed audit_writer.new
             ≡ A.has_failed audit_writer.old) }
+        // Which device has failed; and what was written by then.
         ensures fails { IfErr result (λ e.
             FailsOnly e (W.has_failed writer.old) (A.has_failed audit_writer.old) false
             (W.has_failed writer.new) (A.has_failed audit_writer.new)) }

@@ -21,9 +21,11 @@ pub(crate) fn write_lines<A: Sink>(
     entries: &[AuditEntry],
     writer: &mut A,
 ) -> Result<(), OfflineFault>
+    // All lines were written.
     ensures ok { OnOk result (Appends (A.contents writer.old) (A.contents writer.new)
         (lines_of entries.now)) }
     ensures stays { OnOk result (A.has_failed writer.new ≡ A.has_failed writer.old) }
+    // By which cause it stopped, and that a front of the lines was written.
     ensures cause { IfErr result (λ e. StopsLines e (A.has_failed writer.new)) }
     ensures fails { IfErr result (λ e. A.has_failed writer.new
         ≡ audit_after e (A.has_failed writer.old)) }
@@ -66,10 +68,12 @@ impl<'a> Run<'a> {
     pub(crate) fn record<A: Sink>(&mut self, writer: &mut A) -> Result<(), OfflineFault>
         requires known { HasHistory self.old }
         requires few { length (audit_waiting self.old) < 2 ^ 32 }
+        // The lines were written, where they are asked for, and the audit is empty.
         ensures written { OnOk result (Appends (A.contents writer.old) (A.contents writer.new)
             (lines_for self.old.job.audit (audit_waiting self.old))) }
         ensures drained { OnOk result (Records self.old self.new) }
         ensures stays { OnOk result (A.has_failed writer.new ≡ A.has_failed writer.old) }
+        // By which cause it stopped, and that a front of the lines was written.
         ensures cause { IfErr result (λ e. StopsLines e (A.has_failed writer.new)) }
         ensures fails { IfErr result (λ e. A.has_failed writer.new
             ≡ audit_after e (A.has_failed writer.old)) }

@@ -27,7 +27,9 @@ pub(crate) const SUBSCRIPTION: u64 = 1;
 #[derive(Drop)]
 pub(crate) struct Run<'a> {
     pub(crate) alloc: Global,
+    /// What is asked for.
     pub(crate) job: OfflineJob<'a>,
+    /// The mediator, of whose journal the sizes alone are kept.
     pub(crate) state: State<Tally>,
     /// The messages that were accepted.
     pub(crate) messages: u64,
@@ -72,10 +74,13 @@ impl<'a> Run<'a> {
     /// The message is malformed; or the journal is full, or the audit, or memory.
     pub(crate) fn receive(&mut self, message: Bytes) -> Result<bool, Fault>
         requires delivered { HasDelivered self.old }
+        // The job, and what was written, stay as they are.
         ensures job { self.new.job ≡ self.old.job }
         ensures sent { self.new.sent ≡ self.old.sent }
+        // The message was accepted, or cut the subscription.
         ensures few { OnOk result (length (audit_waiting self.new) < 2 ^ 32) }
         ensures ok { IfOk result (λ is_cut. Receives self.old message is_cut self.new) }
+        // Why it was refused.
         ensures err { IfErr result (λ e. Refuses e self.old message) }
     {
         let receipt = self.state.receive(SESSION, self.messages, message)?;

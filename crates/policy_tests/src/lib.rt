@@ -1,11 +1,11 @@
-//! Tests of the crates that policies are read, judged and applied by. Nothing else is here, and no crate stands on it. A
-//! crate with tests is proved twice, so the crates below have none of their own.
+//! Tests of the crates that policies are read, judged and applied by. Nothing else is here, and no crate stands on it. A crate
+//! with tests is proved twice, so the crates below have none of their own.
 //!
 //! - `records`: records of fields, for the others.
 //! - `prefixes`: of `flow_prefix`.
 //! - `policies`: of `policy_text`.
 //! - `tables`: of `rule_table`, by worked rows. `random`: of its table, against the walk over all rules.
-//! - `disclosures`: of `flow_anonymize`. `times`: of the same, where times are degraded, and of where such records count.
+//! - `disclosures`: of `flow_anonymize`. `times`: of that crate too, where times are degraded, and of where such records count.
 //! - `audits`: of `disclosure_audit`.
 //! - `sharing`: of `record_sharing`.
 //! - `groups`: of the groups of `mediator_tables`. `second_opinion`: on what they add up to, by a plain list of records.
