@@ -44,9 +44,10 @@ pub(crate) fn put_count(buffer: &mut AnswerBuffer, count: usize)
 /// Puts the next piece, and answers what is then still to be put; `None` where nothing was.
 pub(crate) fn put_next<'e>(buffer: &mut AnswerBuffer, rest: Rest<'e>) -> Option<Rest<'e>>
     requires room { length buffer.old + longest_piece ≤ most_octets }
-    ensures { MatchOption result
-        ((buffer.new ≡ buffer.old) × (rest_of_lines rest.entry.fields.now rest.entry.entries.now ≡ []))
-        (λ after. (buffer.new ++ rest_of_lines after.fields.now after.entries.now ≡ buffer.old ++ rest_of_lines rest.entry.fields.now rest.entry.entries.now)
+    ensures { MatchOption result ((buffer.new ≡ buffer.old)
+        × (rest_of_lines rest.entry.fields.now rest.entry.entries.now ≡ []))
+        (λ after. (buffer.new ++ rest_of_lines after.fields.now after.entries.now
+        ≡ buffer.old ++ rest_of_lines rest.entry.fields.now rest.entry.entries.now)
         × (length buffer.old < length buffer.new)) }
 {
     match rest.fields.split_first() {
@@ -64,10 +65,9 @@ pub(crate) fn put_next<'e>(buffer: &mut AnswerBuffer, rest: Rest<'e>) -> Option<
 /// Puts the first piece of the next entry's line.
 fn put_next_entry<'e>(buffer: &mut AnswerBuffer, entries: &'e [AuditEntry]) -> Option<Rest<'e>>
     requires room { length buffer.old + longest_piece ≤ most_octets }
-    ensures { MatchOption result
-        ((buffer.new ≡ buffer.old) × (entries.now ≡ []))
-        (λ after. (buffer.new ++ rest_of_lines after.fields.now after.entries.now ≡ buffer.old ++ rest_of_lines [] entries.now)
-        × (length buffer.old < length buffer.new)) }
+    ensures { MatchOption result ((buffer.new ≡ buffer.old) × (entries.now ≡ []))
+        (λ after. (buffer.new ++ rest_of_lines after.fields.now after.entries.now
+        ≡ buffer.old ++ rest_of_lines [] entries.now) × (length buffer.old < length buffer.new)) }
 {
     match entries.split_first() {
         Some((entry, entries)) => {
@@ -96,7 +96,8 @@ fn put_entry<'e>(buffer: &mut AnswerBuffer, entry: &'e AuditEntry) -> &'e [Remov
 /// Puts what was kept back, up to the fields that it lists; and answers these. Where it lists none the line is whole.
 fn put_what<'e>(buffer: &mut AnswerBuffer, what: &'e What) -> &'e [RemovedField]
     requires room { length buffer.old + 64 ≤ most_octets }
-    ensures put { buffer.new ++ rest_of_line result.now ≡ buffer.old ++ (join_with_byte 32 (what_words what.now) ++ 10 ∷ []) }
+    ensures put { buffer.new ++ rest_of_line result.now
+        ≡ buffer.old ++ (join_with_byte 32 (what_words what.now) ++ 10 ∷ []) }
     ensures some { length buffer.old ≤ length buffer.new }
 {
     match what {
@@ -131,7 +132,8 @@ fn put_what<'e>(buffer: &mut AnswerBuffer, what: &'e What) -> &'e [RemovedField]
 /// Puts the place of a removed field, a colon and its rule, and behind the last one a line feed, behind another a comma.
 fn put_field(buffer: &mut AnswerBuffer, field: RemovedField, is_last: bool)
     requires room { length buffer.old + longest_piece ≤ most_octets }
-    ensures put { buffer.new ≡ buffer.old ++ (field_text field ++ (if is_last then 10 else 44) ∷ []) }
+    ensures put { buffer.new
+        ≡ buffer.old ++ (field_text field ++ (if is_last then 10 else 44) ∷ []) }
     ensures some { length buffer.old < length buffer.new }
 {
     buffer.put_number(u64::from(field.place));

@@ -24,9 +24,12 @@ pub enum Stopped {
 /// # Errors
 /// The sink failed; or the octets can't be counted, and then none was written.
 pub fn write_octets<S: Sink>(sink: &mut S, octets: &[u8], sent: u64) -> Result<u64, Stopped>
-    ensures ok { IfOk result (λ n. WritesAll octets.now sent n (S.contents sink.old) (S.contents sink.new)) }
+    ensures ok { IfOk result (λ n.
+        WritesAll octets.now sent n (S.contents sink.old) (S.contents sink.new)) }
     ensures stays { OnOk result (S.has_failed sink.new ≡ S.has_failed sink.old) }
-    ensures err { IfErr result (λ e. StopsWriting e octets.now sent (S.contents sink.old) (S.contents sink.new) (S.has_failed sink.old) (S.has_failed sink.new)) }
+    ensures err { IfErr result (λ e.
+        StopsWriting e octets.now sent (S.contents sink.old) (S.contents sink.new)
+        (S.has_failed sink.old) (S.has_failed sink.new)) }
 {
     let length = octets.len() as u64;
     if length > u64::MAX - sent {
@@ -50,9 +53,12 @@ pub fn write_both<S: Sink>(
     second: &[u8],
     sent: u64,
 ) -> Result<u64, Stopped>
-    ensures ok { IfOk result (λ n. WritesAll (first.now ++ second.now) sent n (S.contents sink.old) (S.contents sink.new)) }
+    ensures ok { IfOk result (λ n.
+        WritesAll (first.now ++ second.now) sent n (S.contents sink.old) (S.contents sink.new)) }
     ensures stays { OnOk result (S.has_failed sink.new ≡ S.has_failed sink.old) }
-    ensures err { IfErr result (λ e. StopsWriting e (first.now ++ second.now) sent (S.contents sink.old) (S.contents sink.new) (S.has_failed sink.old) (S.has_failed sink.new)) }
+    ensures err { IfErr result (λ e.
+        StopsWriting e (first.now ++ second.now) sent (S.contents sink.old) (S.contents sink.new)
+        (S.has_failed sink.old) (S.has_failed sink.new)) }
 {
     let length = first.len() as u64 + second.len() as u64;
     if length > u64::MAX - sent {
@@ -65,7 +71,8 @@ pub fn write_both<S: Sink>(
 /// How many octets the answer with these entries has: `ok COUNT`, and a line for each entry. `None` where they can't be counted in
 /// 64 bits. What waited in the buffer is lost.
 pub fn drained_length(buffer: &mut AnswerBuffer, entries: &[AuditEntry]) -> Option<u64>
-    ensures { MatchOption result (2 ^ 64 ≤ length (drained_octets entries.now)) (λ n. n ≡ length (drained_octets entries.now)) }
+    ensures { MatchOption result (2 ^ 64 ≤ length (drained_octets entries.now))
+        (λ n. n ≡ length (drained_octets entries.now)) }
 {
     count_drained(buffer, entries, 0)
 }
@@ -81,9 +88,12 @@ pub fn write_drained<S: Sink>(
     entries: &[AuditEntry],
     sent: u64,
 ) -> Result<u64, Stopped>
-    ensures ok { IfOk result (λ n. WritesAll (drained_octets entries.now) sent n (S.contents sink.old) (S.contents sink.new)) }
+    ensures ok { IfOk result (λ n.
+        WritesAll (drained_octets entries.now) sent n (S.contents sink.old) (S.contents sink.new)) }
     ensures stays { OnOk result (S.has_failed sink.new ≡ S.has_failed sink.old) }
-    ensures err { IfErr result (λ e. StopsWriting e (drained_octets entries.now) sent (S.contents sink.old) (S.contents sink.new) (S.has_failed sink.old) (S.has_failed sink.new)) }
+    ensures err { IfErr result (λ e.
+        StopsWriting e (drained_octets entries.now) sent (S.contents sink.old) (S.contents sink.new)
+        (S.has_failed sink.old) (S.has_failed sink.new)) }
 {
     match count_drained(buffer, entries, sent) {
         Some(_) => write_counted(buffer, sink, entries, sent),
@@ -93,7 +103,8 @@ pub fn write_drained<S: Sink>(
 
 /// How many octets will have been sent behind the answer; `None` where they can't be counted.
 fn count_drained(buffer: &mut AnswerBuffer, entries: &[AuditEntry], sent: u64) -> Option<u64>
-    ensures { MatchOption result (2 ^ 64 ≤ sent + length (drained_octets entries.now)) (λ n. n ≡ sent + length (drained_octets entries.now)) }
+    ensures { MatchOption result (2 ^ 64 ≤ sent + length (drained_octets entries.now))
+        (λ n. n ≡ sent + length (drained_octets entries.now)) }
 {
     buffer.clear();
     put_count(buffer, entries.len());
@@ -108,7 +119,8 @@ fn count_drained(buffer: &mut AnswerBuffer, entries: &[AuditEntry], sent: u64) -
 
 /// Adds what waits to a count, and forgets it.
 fn count_waiting(buffer: &mut AnswerBuffer, count: u64) -> Option<u64>
-    ensures counts { MatchOption result (2 ^ 64 ≤ count + length buffer.old) (λ n. n ≡ count + length buffer.old) }
+    ensures counts { MatchOption result (2 ^ 64 ≤ count + length buffer.old)
+        (λ n. n ≡ count + length buffer.old) }
     ensures cleared { buffer.new ≡ [] }
 {
     let octets = buffer.as_slice().len() as u64;
@@ -127,9 +139,12 @@ fn write_counted<S: Sink>(
     mut sent: u64,
 ) -> Result<u64, Stopped>
     requires fits { sent + length (drained_octets entries.now) < 2 ^ 64 }
-    ensures ok { IfOk result (λ n. WritesAll (drained_octets entries.now) sent n (S.contents sink.old) (S.contents sink.new)) }
+    ensures ok { IfOk result (λ n.
+        WritesAll (drained_octets entries.now) sent n (S.contents sink.old) (S.contents sink.new)) }
     ensures stays { OnOk result (S.has_failed sink.new ≡ S.has_failed sink.old) }
-    ensures err { IfErr result (λ e. StopsWriting e (drained_octets entries.now) sent (S.contents sink.old) (S.contents sink.new) (S.has_failed sink.old) (S.has_failed sink.new)) }
+    ensures err { IfErr result (λ e.
+        StopsWriting e (drained_octets entries.now) sent (S.contents sink.old) (S.contents sink.new)
+        (S.has_failed sink.old) (S.has_failed sink.new)) }
 {
     buffer.clear();
     put_count(buffer, entries.len());
@@ -148,10 +163,13 @@ fn write_counted<S: Sink>(
 /// # Errors
 /// Those of [`write_octets`].
 fn send<S: Sink>(buffer: &mut AnswerBuffer, sink: &mut S, sent: u64) -> Result<u64, Stopped>
-    ensures ok { IfOk result (λ n. WritesAll buffer.old sent n (S.contents sink.old) (S.contents sink.new)) }
+    ensures ok { IfOk result (λ n.
+        WritesAll buffer.old sent n (S.contents sink.old) (S.contents sink.new)) }
     ensures cleared { OnOk result (buffer.new ≡ []) }
     ensures stays { OnOk result (S.has_failed sink.new ≡ S.has_failed sink.old) }
-    ensures err { IfErr result (λ e. StopsWriting e buffer.old sent (S.contents sink.old) (S.contents sink.new) (S.has_failed sink.old) (S.has_failed sink.new)) }
+    ensures err { IfErr result (λ e.
+        StopsWriting e buffer.old sent (S.contents sink.old) (S.contents sink.new)
+        (S.has_failed sink.old) (S.has_failed sink.new)) }
 {
     let sent = write_octets(sink, buffer.as_slice(), sent)?;
     buffer.clear();

@@ -41,7 +41,8 @@ pub fn prepare_all<R: Threads + Wait + Sync, G: Gate + Sync>(
 ) -> Result<Vec<Result<Prepared, PrepareFault>>, WorkersFault>
     // Each message has the answer that `Prepared::prepare` gives it, in the order of the messages.
     ensures answers { IfOk result (λ v. AreAnswers snapshot.now messages.items v.items) }
-    ensures workers { MatchBool (may_work workers) (IfErr result (λ why. why ≢ BadWorkers)) (result ≡ Err BadWorkers) }
+    ensures workers { MatchBool (may_work workers) (IfErr result (λ why. why ≢ BadWorkers))
+        (result ≡ Err BadWorkers) }
 {
     let mut workers = Workers::new(*messages.allocator(), workers)?;
     workers.prepare_all(rt, snapshot, messages, gate)
@@ -172,7 +173,8 @@ fn start<'s, 't: 's, 'g: 's, X: 's, G: Gate + Sync>(
     workspace: Workspace,
 ) -> Result<Worker, WorkersFault>
     requires places { first + vec_len run < 2 ^ 64 }
-    ensures owed { IfOk result (λ h. (h.promise.snapshot.value ≡ snapshot.now) × (h.promise.messages.value ≡ run)) }
+    ensures owed { IfOk result (λ h. (h.promise.snapshot.value ≡ snapshot.now)
+        × (h.promise.messages.value ≡ run)) }
     ensures err { IfErr result (λ why. why ≢ BadWorkers) }
 {
     let owed = Owed {
@@ -196,7 +198,8 @@ fn join_all<R: Threads>(
     idle: &mut Vec<Workspace>,
 ) -> Result<(), AllocError>
     ensures { OnOk result ((known : Tables) (before : List (List ℕ)) → KnowAll known working.items
-        → AreAnswers known before answers.old.items → AreAnswers known (before ++ owed_by working.items) answers.new.items) }
+        → AreAnswers known before answers.old.items
+        → AreAnswers known (before ++ owed_by working.items) answers.new.items) }
 {
     while let Some(worker) = working.pop() {
         let mut more = answers_of(worker.join(rt)?, idle);

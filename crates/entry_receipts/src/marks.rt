@@ -50,9 +50,15 @@ impl Marks {
     /// one of the same handle, or was marked before. Some marks of the handle may be set then.
     pub fn mark(&mut self, journal: &Journal, kept: &[KeptEntry]) -> Result<(), u64>
         ensures from { self.new.from ≡ self.old.from }
-        ensures ok { OnOk result ((handles : List (List KeptEntry)) → AreMarked self.old journal.now.entries handles → AreMarked self.new journal.now.entries (handles ++ kept.now ∷ [])) }
-        ensures err { IfErr result (λ position. (is_in position (positions kept.now) ≡ true) × ((handles : List (List KeptEntry)) → AreMarked self.old journal.now.entries handles → AreReceipts self.old.from journal.now.entries (handles ++ kept.now ∷ []) → ⊥)) }
-        ensures first { IfErr result (λ position. (handles : List (List KeptEntry)) → AreMarked self.old journal.now.entries handles → IsFirstRefused self.old.from journal.now.entries handles kept.now position) }
+        ensures ok { OnOk result ((handles : List (List KeptEntry))
+            → AreMarked self.old journal.now.entries handles
+            → AreMarked self.new journal.now.entries (handles ++ kept.now ∷ [])) }
+        ensures err { IfErr result (λ position. (is_in position (positions kept.now) ≡ true)
+            × ((handles : List (List KeptEntry)) → AreMarked self.old journal.now.entries handles
+            → AreReceipts self.old.from journal.now.entries (handles ++ kept.now ∷ []) → ⊥)) }
+        ensures first { IfErr result (λ position.
+            (handles : List (List KeptEntry)) → AreMarked self.old journal.now.entries handles
+            → IsFirstRefused self.old.from journal.now.entries handles kept.now position) }
     {
         let mut floor = self.from;
         for receipt in kept {
@@ -69,8 +75,10 @@ impl Marks {
     fn set(&mut self, position: u64) -> bool
         requires behind { self.old.from ≤ position }
         ensures from { self.new.from ≡ self.old.from }
-        ensures free { IsTrue result ↔ (slice_get self.old.marks (position - self.old.from) ≡ Some false) }
-        ensures set { IsTrue result → self.new.marks ≡ slice_set self.old.marks (position - self.old.from) true }
+        ensures free { IsTrue result
+            ↔ (slice_get self.old.marks (position - self.old.from) ≡ Some false) }
+        ensures set { IsTrue result
+            → self.new.marks ≡ slice_set self.old.marks (position - self.old.from) true }
     {
         let place = (position - self.from) as usize;
         let free = place < self.marks.len() && !self.marks[place];
@@ -83,7 +91,8 @@ impl Marks {
     /// How many marks are set: as many as there were receipts.
     pub fn count(&self) -> u64
         ensures value { result ≡ count_of self.now }
-        ensures receipts { (h : List Entry) (handles : List (List KeptEntry)) → AreMarked self.now h handles → result ≡ length (all_kept handles) }
+        ensures receipts { (h : List Entry) (handles : List (List KeptEntry))
+            → AreMarked self.now h handles → result ≡ length (all_kept handles) }
     {
         self.marks.iter().filter(|mark| **mark).count() as u64
     }
@@ -91,7 +100,8 @@ impl Marks {
 
 /// Whether the entry stands in the journal at its position.
 fn stands(journal: &Journal, receipt: &KeptEntry) -> bool
-    ensures there { IsTrue result ↔ (slice_get journal.now.entries receipt.now.position ≡ Some receipt.now.entry) }
+    ensures there { IsTrue result
+        ↔ (slice_get journal.now.entries receipt.now.position ≡ Some receipt.now.entry) }
     ensures below { IsTrue result → receipt.now.position < MOST_ENTRIES }
 {
     if receipt.position >= journal.len() {

@@ -30,7 +30,8 @@ pub trait Chronicle {
 
     /// Whether both limits leave room for all these entries, and a journal file can spell each of them. It takes no memory.
     fn room(&self, more: &[Entry]) -> bool
-        ensures { IsTrue result ↔ HasRoom (limits self.now) (count self.now) (octets self.now) more.now };
+        ensures { IsTrue result
+            ↔ HasRoom (limits self.now) (count self.now) (octets self.now) more.now };
 
     /// Makes room in memory for so many more entries, whatever the limits.
     ///

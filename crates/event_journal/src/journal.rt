@@ -53,7 +53,11 @@ impl Journal {
         requires most_entries { entries ≤ MOST_ENTRIES }
         requires some_octets { 1 ≤ octets }
         requires most_octets { octets ≤ MOST_OCTETS }
-        ensures { result ≡ record { entries = []; limits = record { entries = entries; octets = octets }; spare = 0 } }
+        ensures { result ≡ record {
+          entries = [];
+          limits = record { entries = entries; octets = octets };
+          spare = 0;
+        } }
     {
         Journal {
             entries: Vec::new(alloc),

@@ -24,7 +24,12 @@ impl Model for Tally {
 
     ghost view = { λ t. record { count = t.entries; octets = t.octets; limits = record { entries = t.most_entries; octets = t.most_octets }; spare = t.spare } };
 
-    ghost invariant = { λ t. IsWithin (record { count = t.entries; octets = t.octets; limits = record { entries = t.most_entries; octets = t.most_octets }; spare = t.spare }) };
+    ghost invariant = { λ t. IsWithin (record {
+      count = t.entries;
+      octets = t.octets;
+      limits = record { entries = t.most_entries; octets = t.most_octets };
+      spare = t.spare;
+    }) };
 }
 
 impl Tally {
@@ -37,7 +42,12 @@ impl Tally {
         requires most_entries { entries ≤ MOST_ENTRIES }
         requires some_octets { 1 ≤ octets }
         requires most_octets { octets ≤ MOST_OCTETS }
-        ensures { result ≡ record { count = 0; octets = 0; limits = record { entries = entries; octets = octets }; spare = 0 } }
+        ensures { result ≡ record {
+          count = 0;
+          octets = 0;
+          limits = record { entries = entries; octets = octets };
+          spare = 0;
+        } }
     {
         Tally {
             entries: 0,

@@ -30,7 +30,8 @@ impl Narrow {
     ) -> Result<Narrow, AllocError>
         ensures empty { IfOk result (λ writer. writer.octets.items ≡ []) }
         ensures room { IfOk result (λ writer. room ≤ vec_capacity writer.octets) }
-        ensures schedule { IfOk result (λ writer. writer.schedule ≡ record { most = most; until_failure = until_failure; failure = failure }) }
+        ensures schedule { IfOk result (λ writer. writer.schedule
+            ≡ record { most = most; until_failure = until_failure; failure = failure }) }
     {
         Ok(Narrow {
             octets: Vec::with_capacity(alloc, room)?,
@@ -48,12 +49,17 @@ impl Write for Narrow {
 
     fn write(&mut self, octets: &[u8]) -> io::Result<usize>
         ensures bound { WritesAtMost result octets.now }
-        ensures bytes { WriteAppends (Some self.old.octets.items) (Some self.new.octets.items) result octets.now }
-        ensures takes { IfOk result (λ count. count ≡ min (length octets.now) self.old.schedule.most) }
+        ensures bytes { WriteAppends (Some self.old.octets.items) (Some self.new.octets.items)
+            result octets.now }
+        ensures takes { IfOk result (λ count.
+            count ≡ min (length octets.now) self.old.schedule.most) }
         ensures due { FailsWhenDue self.old.schedule self.new.schedule result }
         // Each other call fails only for want of memory, and room that is there takes none.
-        ensures memory { self.old.schedule.until_failure ≢ 0 → IfErr result (λ e. error_kind e ≡ ErrorKind.OutOfMemory) }
-        ensures there { self.old.schedule.until_failure ≢ 0 → vec_len self.old.octets + min (length octets.now) self.old.schedule.most ≤ vec_capacity self.old.octets → IsOk result }
+        ensures memory { self.old.schedule.until_failure ≢ 0
+            → IfErr result (λ e. error_kind e ≡ ErrorKind.OutOfMemory) }
+        ensures there { self.old.schedule.until_failure ≢ 0
+            → vec_len self.old.octets + min (length octets.now) self.old.schedule.most
+            ≤ vec_capacity self.old.octets → IsOk result }
     {
         let count = octets.len().min(self.schedule.next_call()?);
         self.octets.extend_from_slice(&octets[..count])?;

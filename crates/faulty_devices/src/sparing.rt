@@ -20,7 +20,8 @@ impl<'a> Sparing<'a> {
     /// A reader of these octets.
     pub fn new(rest: &'a [u8], most: usize, until_failure: usize, failure: ErrorKind) -> Sparing<'a>
         ensures rest { result.rest.now ≡ rest.now }
-        ensures schedule { result.schedule ≡ record { most = most; until_failure = until_failure; failure = failure } }
+        ensures schedule { result.schedule
+            ≡ record { most = most; until_failure = until_failure; failure = failure } }
     {
         Sparing {
             rest,
@@ -38,8 +39,11 @@ impl Read for Sparing<'_> {
 
     fn read(&mut self, buffer: &mut [u8]) -> io::Result<usize>
         ensures bound { ReadsAtMost result buffer.new }
-        ensures bytes { ReadConsumes (Some self.old.rest.now) (Some self.new.rest.now) result buffer.new }
-        ensures gives { self.old.schedule.until_failure ≢ 0 → result ≡ Ok (min (length self.old.rest.now) (min (length buffer.old) (max self.old.schedule.most 1))) }
+        ensures bytes { ReadConsumes (Some self.old.rest.now) (Some self.new.rest.now) result
+            buffer.new }
+        ensures gives { self.old.schedule.until_failure ≢ 0
+            → result ≡ Ok (min (length self.old.rest.now) (min (length buffer.old)
+            (max self.old.schedule.most 1))) }
         ensures due { FailsWhenDue self.old.schedule self.new.schedule result }
     {
         let count = buffer.len().min(self.schedule.next_call()?.max(1));

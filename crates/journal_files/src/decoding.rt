@@ -20,11 +20,13 @@ use std::slice::from_ref;
 /// The file's first fault, or want of memory.
 pub fn decode(alloc: Global, octets: &[u8]) -> Result<Journal, JournalFault>
     ensures exact { Gives (λ j. j.entries) result (file_of octets.now) }
-    ensures limits { IfOk result (λ j. j.limits ≡ record { entries = MOST_ENTRIES; octets = MOST_OCTETS }) }
+    ensures limits { IfOk result (λ j.
+        j.limits ≡ record { entries = MOST_ENTRIES; octets = MOST_OCTETS }) }
     // The octets are those by which the journal is written, so there is no other file of it.
     ensures same { IfOk result (λ j. octets.now ≡ file_octets j.entries) }
     // The file of a history is read, unless memory runs out.
-    ensures only { (h : List Entry) → IsFile h → octets.now ≡ file_octets h → Gives (λ j. j.entries) result (Ok h) }
+    ensures only { (h : List Entry) → IsFile h → octets.now ≡ file_octets h
+        → Gives (λ j. j.entries) result (Ok h) }
 {
     read_file(alloc, octets)
 }
@@ -32,7 +34,8 @@ pub fn decode(alloc: Global, octets: &[u8]) -> Result<Journal, JournalFault>
 #[tactic(auto, unfolding(crate::specs::Reading::file_of))]
 fn read_file(alloc: Global, octets: &[u8]) -> Result<Journal, JournalFault>
     ensures exact { Gives (λ j. j.entries) result (file_of octets.now) }
-    ensures limits { IfOk result (λ j. j.limits ≡ record { entries = MOST_ENTRIES; octets = MOST_OCTETS }) }
+    ensures limits { IfOk result (λ j.
+        j.limits ≡ record { entries = MOST_ENTRIES; octets = MOST_OCTETS }) }
 {
     let (count, rest) = read_head(octets)?;
     let mut journal = Journal::new(alloc, MOST_ENTRIES, MOST_OCTETS);
@@ -48,7 +51,8 @@ fn put_entries(
     journal: &mut Journal,
 ) -> Result<(), JournalFault>
     requires limits { journal.old.limits ≡ record { entries = MOST_ENTRIES; octets = MOST_OCTETS } }
-    ensures read { Gives (λ _. journal.new.entries) result (entries_behind journal.old.entries count octets.now) }
+    ensures read { Gives (λ _. journal.new.entries) result
+        (entries_behind journal.old.entries count octets.now) }
     ensures limits { journal.new.limits ≡ journal.old.limits }
 {
     let mut rest = octets;

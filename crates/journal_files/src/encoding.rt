@@ -97,7 +97,8 @@ fn put_message(
     out: &mut Vec<u8>,
 ) -> Result<(), AllocError>
     requires { length message.now < 2 ^ 32 }
-    ensures { OnOk result (out.new.items ≡ out.old.items ++ octets_of (Message session number message.now)) }
+    ensures { OnOk result (out.new.items
+        ≡ out.old.items ++ octets_of (Message session number message.now)) }
 {
     put_numbered(MESSAGE, session, out)?;
     put_number(number, out)?;

@@ -160,7 +160,8 @@ fn read_edit(alloc: Global, octets: &[u8]) -> Result<(Entry, &[u8]), JournalFaul
 /// They are not UTF-8.
 #[tactic(auto, using(crate::proofs::TextLaws::is_text, crate::proofs::TextLaws::is_no_text))]
 fn text_in(octets: &[u8]) -> Result<&str, JournalFault>
-    ensures { MatchResult result (λ text. (text.now ≡ octets.now) × (is_utf8 octets.now ≡ true)) (λ e. (e ≡ BadEntry) × (is_utf8 octets.now ≡ false)) }
+    ensures { MatchResult result (λ text. (text.now ≡ octets.now) × (is_utf8 octets.now ≡ true))
+        (λ e. (e ≡ BadEntry) × (is_utf8 octets.now ≡ false)) }
 {
     match from_utf8(octets) {
         Ok(text) => Ok(text),

@@ -26,11 +26,14 @@ pub(crate) fn fill<R: Source>(
     held: &mut Vec<u8>,
 ) -> Result<bool, ReadFault>
     requires { vec_len held.old ≤ wanted }
-    ensures gathers { OnOk result (Gathers (R.remaining source.old) (R.remaining source.new) held.old.items held.new.items) }
-    ensures filled { IfOk result (λ whole. IsFilled whole wanted held.new.items (R.remaining source.new)) }
+    ensures gathers { OnOk result
+        (Gathers (R.remaining source.old) (R.remaining source.new) held.old.items held.new.items) }
+    ensures filled { IfOk result (λ whole.
+        IsFilled whole wanted held.new.items (R.remaining source.new)) }
     ensures stays { OnOk result (R.has_failed source.new ≡ R.has_failed source.old) }
     ensures loses { OnErr result (Loses (R.remaining source.old) (R.remaining source.new)) }
-    ensures err { IfErr result (λ e. FailsToGather e (R.has_failed source.old) (R.has_failed source.new)) }
+    ensures err { IfErr result (λ e.
+        FailsToGather e (R.has_failed source.old) (R.has_failed source.new)) }
 {
     'reads: while held.len() < wanted {
         let room = (wanted - held.len()).min(PIECE);
@@ -53,12 +56,14 @@ fn read_piece<R: Source>(
     held: &mut Vec<u8>,
 ) -> Result<usize, ReadFault>
     requires some { 0 < room }
-    ensures gathers { OnOk result (Gathers (R.remaining source.old) (R.remaining source.new) held.old.items held.new.items) }
+    ensures gathers { OnOk result
+        (Gathers (R.remaining source.old) (R.remaining source.new) held.old.items held.new.items) }
     ensures count { IfOk result (λ n. (vec_len held.new ≡ vec_len held.old + n) × (n ≤ room)) }
     ensures end { IfOk result (λ n. n ≡ 0 → IsAtEnd (R.remaining source.new)) }
     ensures stays { OnOk result (R.has_failed source.new ≡ R.has_failed source.old) }
     ensures loses { OnErr result (Loses (R.remaining source.old) (R.remaining source.new)) }
-    ensures err { IfErr result (λ e. FailsToGather e (R.has_failed source.old) (R.has_failed source.new)) }
+    ensures err { IfErr result (λ e.
+        FailsToGather e (R.has_failed source.old) (R.has_failed source.new)) }
 {
     piece.resize(room, 0)?;
     match source.read(piece.as_mut_slice()) {
@@ -85,10 +90,13 @@ pub(crate) fn gather<R: Source>(
     held: &mut Vec<u8>,
 ) -> Result<(), ReadFault>
     requires { held.old.items ≡ [] }
-    ensures gathers { OnOk result (Gathers (R.remaining source.old) (R.remaining source.new) [] held.new.items) }
+    ensures gathers { OnOk result
+        (Gathers (R.remaining source.old) (R.remaining source.new) [] held.new.items) }
     ensures gathered { OnOk result (IsGathered held.new.items (R.remaining source.new)) }
     ensures stays { OnOk result (R.has_failed source.new ≡ R.has_failed source.old) }
-    ensures err { IfErr result (λ e. (place : Place) → StopsReading e (next_of place) (R.remaining source.old) (R.remaining source.new) (R.has_failed source.old) (R.has_failed source.new)) }
+    ensures err { IfErr result (λ e. (place : Place)
+        → StopsReading e (next_of place) (R.remaining source.old) (R.remaining source.new)
+        (R.has_failed source.old) (R.has_failed source.new)) }
 {
     if !fill(source, 1, piece, held)? {
         return Ok(());
@@ -148,10 +156,12 @@ fn skip<R: Source>(
     count: u64,
     piece: &mut Vec<u8>,
 ) -> Result<JournalFault, ReadFault>
-    ensures skips { IfOk result (λ fault. Skips fault count (R.remaining source.old) (R.remaining source.new)) }
+    ensures skips { IfOk result (λ fault.
+        Skips fault count (R.remaining source.old) (R.remaining source.new)) }
     ensures stays { OnOk result (R.has_failed source.new ≡ R.has_failed source.old) }
     ensures loses { OnErr result (Loses (R.remaining source.old) (R.remaining source.new)) }
-    ensures err { IfErr result (λ e. FailsToGather e (R.has_failed source.old) (R.has_failed source.new)) }
+    ensures err { IfErr result (λ e.
+        FailsToGather e (R.has_failed source.old) (R.has_failed source.new)) }
 {
     let mut left = count;
     'pieces: while left > 0 {

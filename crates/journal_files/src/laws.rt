@@ -28,7 +28,8 @@ pub fn file_written_back()
 /// The octets of a history with one entry more are those of the history, and then those of the entry: so what was written
 /// entry by entry is the file.
 pub fn file_grows()
-    ensures { (h : List Entry) (entry : Entry) → history_in_octets (h ++ entry ∷ []) ≡ history_in_octets h ++ octets_of entry }
+    ensures { (h : List Entry) (entry : Entry)
+        → history_in_octets (h ++ entry ∷ []) ≡ history_in_octets h ++ octets_of entry }
 {}
 
 /// A file is read by one step after another, each with the entry, the end or the fault that reading the whole file finds

@@ -49,10 +49,13 @@ impl JournalReader {
     /// # Errors
     /// The source failed, the file has a fault there, or memory ran out.
     pub fn start<R: Source>(alloc: Global, source: &mut R) -> Result<JournalReader, ReadFault>
-        ensures ok { IfOk result (λ r. (r.count ≡ 0) × (r.octets ≡ 0) × Consumes (R.remaining source.old) (R.remaining source.new) (head_octets r.left)) }
+        ensures ok { IfOk result (λ r. (r.count ≡ 0) × (r.octets ≡ 0)
+            × Consumes (R.remaining source.old) (R.remaining source.new) (head_octets r.left)) }
         ensures few { IfOk result (λ r. r.left < 2 ^ 64) }
         ensures stays { OnOk result (R.has_failed source.new ≡ R.has_failed source.old) }
-        ensures err { IfErr result (λ e. StopsReading e head_of (R.remaining source.old) (R.remaining source.new) (R.has_failed source.old) (R.has_failed source.new)) }
+        ensures err { IfErr result (λ e.
+            StopsReading e head_of (R.remaining source.old) (R.remaining source.new)
+            (R.has_failed source.old) (R.has_failed source.new)) }
     {
         let mut piece = Vec::new(alloc);
         let mut held = Vec::new(alloc);
@@ -81,10 +84,12 @@ impl JournalReader {
     /// The source failed, the file has a fault there, or memory ran out.
     pub fn next<R: Source>(&mut self, source: &mut R) -> Result<Option<Entry>, ReadFault>
         ensures ok { IfOk result (λ found. MatchOption found
-            (EndsFile self.old (R.remaining source.old) (R.remaining source.new) self.new)
-            (λ entry. TakesEntry self.old (R.remaining source.old) (R.remaining source.new) entry self.new)) }
+            (EndsFile self.old (R.remaining source.old) (R.remaining source.new) self.new) (λ entry.
+            TakesEntry self.old (R.remaining source.old) (R.remaining source.new) entry self.new)) }
         ensures stays { OnOk result (R.has_failed source.new ≡ R.has_failed source.old) }
-        ensures err { IfErr result (λ e. StopsReading e (step_of self.old) (R.remaining source.old) (R.remaining source.new) (R.has_failed source.old) (R.has_failed source.new)) }
+        ensures err { IfErr result (λ e.
+            StopsReading e (step_of self.old) (R.remaining source.old) (R.remaining source.new)
+            (R.has_failed source.old) (R.has_failed source.new)) }
     {
         self.held.clear();
         if self.left == 0 {

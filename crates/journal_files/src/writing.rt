@@ -59,9 +59,11 @@ impl JournalWriter {
         sink: &mut S,
     ) -> Result<JournalWriter, WriteFault>
         ensures ok { IfOk result (λ w. w ≡ entries) }
-        ensures written { OnOk result (Appends (S.contents sink.old) (S.contents sink.new) (head_octets entries)) }
+        ensures written { OnOk result (Appends (S.contents sink.old) (S.contents sink.new)
+            (head_octets entries)) }
         ensures stays { OnOk result (S.has_failed sink.new ≡ S.has_failed sink.old) }
-        ensures err { IfErr result (λ e. Stops e (S.contents sink.old) (S.contents sink.new) (head_octets entries) (S.has_failed sink.old) (S.has_failed sink.new)) }
+        ensures err { IfErr result (λ e. Stops e (S.contents sink.old) (S.contents sink.new)
+            (head_octets entries) (S.has_failed sink.old) (S.has_failed sink.new)) }
     {
         let mut entry = Vec::new(alloc);
         put_head(entries, &mut entry)?;
@@ -88,9 +90,11 @@ impl JournalWriter {
         requires spelled { IsSpelled entry.now }
         ensures left { OnOk result (self.new + 1 ≡ self.old) }
         ensures same { OnErr result (self.new ≡ self.old) }
-        ensures written { OnOk result (Appends (S.contents sink.old) (S.contents sink.new) (octets_of entry.now)) }
+        ensures written { OnOk result (Appends (S.contents sink.old) (S.contents sink.new)
+            (octets_of entry.now)) }
         ensures stays { OnOk result (S.has_failed sink.new ≡ S.has_failed sink.old) }
-        ensures err { IfErr result (λ e. Stops e (S.contents sink.old) (S.contents sink.new) (octets_of entry.now) (S.has_failed sink.old) (S.has_failed sink.new)) }
+        ensures err { IfErr result (λ e. Stops e (S.contents sink.old) (S.contents sink.new)
+            (octets_of entry.now) (S.has_failed sink.old) (S.has_failed sink.new)) }
     {
         self.entry.clear();
         put_entry(entry, &mut self.entry)?;
@@ -110,9 +114,11 @@ pub fn write_journal<S: Sink>(
     journal: &Journal,
     sink: &mut S,
 ) -> Result<(), WriteFault>
-    ensures written { OnOk result (Appends (S.contents sink.old) (S.contents sink.new) (file_octets journal.now.entries)) }
+    ensures written { OnOk result (Appends (S.contents sink.old) (S.contents sink.new)
+        (file_octets journal.now.entries)) }
     ensures stays { OnOk result (S.has_failed sink.new ≡ S.has_failed sink.old) }
-    ensures err { OnErr result (WritesSome (S.contents sink.old) (S.contents sink.new) (file_octets journal.now.entries)) }
+    ensures err { OnErr result (WritesSome (S.contents sink.old) (S.contents sink.new)
+        (file_octets journal.now.entries)) }
 {
     let mut writer = JournalWriter::start(alloc, journal.len(), sink)?;
     let mut position = 0;
@@ -127,7 +133,8 @@ pub fn write_journal<S: Sink>(
 fn send<S: Sink>(octets: &[u8], sink: &mut S) -> Result<(), WriteFault>
     ensures written { OnOk result (Appends (S.contents sink.old) (S.contents sink.new) octets.now) }
     ensures stays { OnOk result (S.has_failed sink.new ≡ S.has_failed sink.old) }
-    ensures err { IfErr result (λ e. Stops e (S.contents sink.old) (S.contents sink.new) octets.now (S.has_failed sink.old) (S.has_failed sink.new)) }
+    ensures err { IfErr result (λ e. Stops e (S.contents sink.old) (S.contents sink.new) octets.now
+        (S.has_failed sink.old) (S.has_failed sink.new)) }
 {
     match write_all(sink, octets) {
         Ok(()) => Ok(()),

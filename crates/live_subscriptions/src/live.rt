@@ -48,7 +48,8 @@ impl Live {
         alloc: Global,
         numbers: &[u64],
     ) -> Result<Vec<Served<'a>>, AllocError>
-        ensures { IfOk result (λ v. map told v.items ≡ map (told_among self.now.by_number.entries) numbers.now) }
+        ensures { IfOk result (λ v.
+            map told v.items ≡ map (told_among self.now.by_number.entries) numbers.now) }
     {
         let mut found = Vec::new(alloc);
         'numbers: for sub in numbers {
@@ -86,7 +87,8 @@ impl Live {
     /// Want of memory. Nothing else changes, whatever the answer.
     pub(crate) fn reserve(&mut self, shares: &[Share]) -> Result<(), AllocError>
         ensures same { SameLive self.old.by_number.entries self.new.by_number.entries }
-        ensures ok { OnOk result (AllByRecursion (HasSpare self.new.by_number.entries) (map shown shares.now)) }
+        ensures ok { OnOk result (AllByRecursion (HasSpare self.new.by_number.entries)
+            (map shown shares.now)) }
     {
         'shares: for share in shares {
             self.reserve_one(share)?;
@@ -109,7 +111,8 @@ impl Live {
     /// Hands each subscription its records, in room that was reserved. It takes no memory.
     pub(crate) fn give(&mut self, shares: Vec<Share>)
         requires ready { AreReadyAmong self.old.by_number.entries (map shown shares.items) }
-        ensures each { (q : ℕ) → Related (TakesGiven (given_to q (map shown shares.items))) (at_key q self.old.by_number.entries) (at_key q self.new.by_number.entries) }
+        ensures each { (q : ℕ) → Related (TakesGiven (given_to q (map shown shares.items)))
+            (at_key q self.old.by_number.entries) (at_key q self.new.by_number.entries) }
     {
         'shares: for share in shares {
             self.give_one(share);
@@ -118,9 +121,12 @@ impl Live {
 
     /// Hands a subscription its records.
     fn give_one(&mut self, share: Share)
-        requires ready { IfSome (at_key share.sub self.old.by_number.entries) (λ x. IsReady x.stream share.given) }
-        ensures each { (q : ℕ) → Related (TakesGiven (given_to q (shown share ∷ []))) (at_key q self.old.by_number.entries) (at_key q self.new.by_number.entries) }
-        ensures others { (q : ℕ) → q ≢ share.sub → at_key q self.new.by_number.entries ≡ at_key q self.old.by_number.entries }
+        requires ready { IfSome (at_key share.sub self.old.by_number.entries)
+            (λ x. IsReady x.stream share.given) }
+        ensures each { (q : ℕ) → Related (TakesGiven (given_to q (shown share ∷ [])))
+            (at_key q self.old.by_number.entries) (at_key q self.new.by_number.entries) }
+        ensures others { (q : ℕ) → q ≢ share.sub
+            → at_key q self.new.by_number.entries ≡ at_key q self.old.by_number.entries }
     {
         let Share { sub, given } = share;
         if given.is_empty() {
@@ -133,7 +139,9 @@ impl Live {
 
     /// Cuts a subscription. It takes no memory.
     pub(crate) fn cut(&mut self, sub: u64)
-        ensures { (q : ℕ) → at_key q self.new.by_number.entries ≡ (if q == sub then option_map cut_off (at_key q self.old.by_number.entries) else at_key q self.old.by_number.entries) }
+        ensures { (q : ℕ) → at_key q self.new.by_number.entries
+            ≡ (if q == sub then option_map cut_off (at_key q self.old.by_number.entries)
+            else at_key q self.old.by_number.entries) }
     {
         if let Some(kept) = self.by_number.get_mut(&sub) {
             kept.is_cut = true;
@@ -145,7 +153,8 @@ impl Live {
     /// # Errors
     /// Want of memory, and then nothing has changed.
     pub(crate) fn insert(&mut self, sub: u64, added: Subscription) -> Result<(), AllocError>
-        ensures ok { OnOk result ((q : ℕ) → at_key q self.new.by_number.entries ≡ (if q == sub then Some added else at_key q self.old.by_number.entries)) }
+        ensures ok { OnOk result ((q : ℕ) → at_key q self.new.by_number.entries ≡ (if q == sub
+            then Some added else at_key q self.old.by_number.entries)) }
         ensures err { OnErr result (self.new.by_number.entries ≡ self.old.by_number.entries) }
     {
         self.by_number.insert(sub, added)?;
@@ -155,7 +164,8 @@ impl Live {
     /// Takes out a subscription. It takes no memory.
     pub(crate) fn remove(&mut self, sub: u64) -> Option<Subscription>
         ensures taken { result ≡ at_key sub self.old.by_number.entries }
-        ensures each { (q : ℕ) → at_key q self.new.by_number.entries ≡ (if q == sub then None else at_key q self.old.by_number.entries) }
+        ensures each { (q : ℕ) → at_key q self.new.by_number.entries ≡ (if q == sub then None
+            else at_key q self.old.by_number.entries) }
     {
         self.by_number.remove(&sub)
     }
@@ -171,10 +181,14 @@ impl Live {
         target: u16,
     ) -> Result<Option<Bytes>, PullError>
         requires known { IsSome (at_key sub self.old.by_number.entries) }
-        ensures others { (q : ℕ) → q ≢ sub → at_key q self.new.by_number.entries ≡ at_key q self.old.by_number.entries }
-        ensures names { (q : ℕ) → name_at self.new.by_number.entries q ≡ name_at self.old.by_number.entries q }
-        ensures ok { IfOk result (λ m. Related (PullsOne now target m) (at_key sub self.old.by_number.entries) (at_key sub self.new.by_number.entries)) }
-        ensures err { OnErr result ((q : ℕ) → at_key q self.new.by_number.entries ≡ at_key q self.old.by_number.entries) }
+        ensures others { (q : ℕ) → q ≢ sub
+            → at_key q self.new.by_number.entries ≡ at_key q self.old.by_number.entries }
+        ensures names { (q : ℕ)
+            → name_at self.new.by_number.entries q ≡ name_at self.old.by_number.entries q }
+        ensures ok { IfOk result (λ m. Related (PullsOne now target m)
+            (at_key sub self.old.by_number.entries) (at_key sub self.new.by_number.entries)) }
+        ensures err { OnErr result ((q : ℕ)
+            → at_key q self.new.by_number.entries ≡ at_key q self.old.by_number.entries) }
     {
         match self.by_number.get_mut(&sub) {
             Some(kept) => kept.stream.pull(now, target),

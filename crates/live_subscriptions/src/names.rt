@@ -36,7 +36,8 @@ impl Names {
     /// # Errors
     /// Want of memory, and then nothing has changed.
     pub(crate) fn insert(&mut self, alloc: Global, name: &str, sub: u64) -> Result<(), AllocError>
-        ensures ok { OnOk result ((n : List ℕ) → number_of self.new n ≡ update bytes_eq (number_of self.old) name.now (Some sub) n) }
+        ensures ok { OnOk result ((n : List ℕ)
+            → number_of self.new n ≡ update bytes_eq (number_of self.old) name.now (Some sub) n) }
         ensures err { OnErr result (self.new.by_name.entries ≡ self.old.by_name.entries) }
     {
         let key = String::from_str(alloc, name)?;
@@ -46,7 +47,8 @@ impl Names {
 
     /// Takes out a name. It takes no memory.
     pub(crate) fn remove(&mut self, name: &str)
-        ensures { (n : List ℕ) → number_of self.new n ≡ update bytes_eq (number_of self.old) name.now None n }
+        ensures { (n : List ℕ)
+            → number_of self.new n ≡ update bytes_eq (number_of self.old) name.now None n }
     {
         let _ = self.by_name.remove(name);
     }

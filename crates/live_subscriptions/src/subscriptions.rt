@@ -73,7 +73,8 @@ impl Subscriptions {
     /// The number of the live subscription under this name.
     pub fn named(&self, name: &str) -> Option<u64>
         ensures found { IfSome result (λ sub. IsSomeAnd (at self.now sub) (HasName name.now)) }
-        ensures none { IfNone result ((sub : ℕ) → IfSome (at self.now sub) (λ s. s.name ≢ name.now)) }
+        ensures none { IfNone result ((sub : ℕ)
+            → IfSome (at self.now sub) (λ s. s.name ≢ name.now)) }
     {
         self.names.get(name)
     }
@@ -108,7 +109,8 @@ impl Subscriptions {
     /// Want of memory. Nothing else changes, whatever the answer.
     pub fn reserve(&mut self, shares: &[Share]) -> Result<(), AllocError>
         ensures same { SameTable self.old self.new }
-        ensures ok { OnOk result (AllByRecursion (λ s. IfSome (at self.new s.0) (λ x. length s.1 ≤ x.stream.spare)) (map shown shares.now)) }
+        ensures ok { OnOk result (AllByRecursion (λ s. IfSome (at self.new s.0)
+            (λ x. length s.1 ≤ x.stream.spare)) (map shown shares.now)) }
     {
         self.live.reserve(shares)
     }
@@ -116,7 +118,8 @@ impl Subscriptions {
     /// Hands each subscription its records, in room that was reserved. It takes no memory.
     pub fn give(&mut self, shares: Vec<Share>)
         requires ready { AreReady self.old (map shown shares.items) }
-        ensures each { (sub : ℕ) → Related (TakesGiven (given_to sub (map shown shares.items))) (at self.old sub) (at self.new sub) }
+        ensures each { (sub : ℕ) → Related (TakesGiven (given_to sub (map shown shares.items)))
+            (at self.old sub) (at self.new sub) }
         ensures served { self.new.served ≡ self.old.served }
     {
         self.live.give(shares);
@@ -124,7 +127,8 @@ impl Subscriptions {
 
     /// Cuts a subscription: it is served no more, and keeps what waits. It takes no memory.
     pub fn cut(&mut self, sub: u64)
-        ensures each { (q : ℕ) → at self.new q ≡ (if q == sub then option_map cut_off (at self.old q) else at self.old q) }
+        ensures each { (q : ℕ) → at self.new q
+            ≡ (if q == sub then option_map cut_off (at self.old q) else at self.old q) }
         ensures served { self.new.served ≡ filter (λ q. not (q == sub)) self.old.served }
     {
         self.live.cut(sub);
@@ -139,7 +143,8 @@ impl Subscriptions {
         requires name { is_name name.now ≡ true }
         requires new { at self.old sub ≡ None }
         requires free { (q : ℕ) → IfSome (at self.old q) (λ s. s.name ≢ name.now) }
-        ensures ok { OnOk result ((q : ℕ) → at self.new q ≡ (if q == sub then Some (record { name = name.now; is_cut = false; stream = stream }) else at self.old q)) }
+        ensures ok { OnOk result ((q : ℕ) → at self.new q ≡ (if q == sub then Some
+            (record { name = name.now; is_cut = false; stream = stream }) else at self.old q)) }
         ensures served { OnOk result (self.new.served ≡ self.old.served ++ sub ∷ []) }
         ensures err { OnErr result (SameTable self.old self.new) }
     {
@@ -177,7 +182,8 @@ impl Subscriptions {
         requires known { IsSome (at self.old sub) }
         ensures others { (q : ℕ) → q ≢ sub → at self.new q ≡ at self.old q }
         ensures served { self.new.served ≡ self.old.served }
-        ensures ok { IfOk result (λ m. Related (PullsOne now target m) (at self.old sub) (at self.new sub)) }
+        ensures ok { IfOk result (λ m.
+            Related (PullsOne now target m) (at self.old sub) (at self.new sub)) }
         ensures err { OnErr result (SameTable self.old self.new) }
     {
         self.live.pull(sub, now, target)

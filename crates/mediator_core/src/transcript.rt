@@ -74,12 +74,15 @@ fn answer(mediator: &mut Mediator, call: Call) -> Reply
 /// # Errors
 /// A limit is out of its range, or memory ran out before the first call.
 pub fn run(alloc: Global, limits: Limits, calls: Vec<Call>) -> Result<Transcript, RunFault>
-    ensures steps { IfOk result (λ t. Runs (started limits) calls.items t.replies.items t.mediator) }
+    ensures steps { IfOk result (λ t.
+        Runs (started limits) calls.items t.replies.items t.mediator) }
     ensures history { IfOk result (λ t. HistoryIsTheCalls calls.items t.replies.items t.mediator) }
-    ensures disclosed { IfOk result (λ t. HandedIsDisclosed calls.items t.replies.items t.mediator) }
+    ensures disclosed { IfOk result (λ t.
+        HandedIsDisclosed calls.items t.replies.items t.mediator) }
     ensures front { IfOk result (λ t. HandedIsFront calls.items t.replies.items t.mediator) }
     ensures audited { IfOk result (λ t. DrainedIsAudited calls.items t.replies.items t.mediator) }
-    ensures secret { IfOk result (λ t. (sub : ℕ) → IsBuiltFromDisclosed sub (started limits) calls.items t.replies.items t.mediator) }
+    ensures secret { IfOk result (λ t. (sub : ℕ)
+        → IsBuiltFromDisclosed sub (started limits) calls.items t.replies.items t.mediator) }
     ensures err { IfErr result (λ e. RefusesLimits e limits) }
 {
     let mut mediator = Mediator::new(alloc, limits)?;

@@ -12,12 +12,14 @@ ghost use Rattle.mediator_history.specs.Auditing.{audit_at, audit_list};
 
 /// The policy in force is that of the last edit whose text is a policy, or one without rules where there is none; and none else is.
 pub fn last_edit_is_in_force()
-    ensures { (h : List Entry) (policy : Policy) → (policy_in_force h ≡ policy) ↔ IsInForce h policy }
+    ensures { (h : List Entry) (policy : Policy) → (policy_in_force h ≡ policy)
+        ↔ IsInForce h policy }
 {}
 
 /// A subscription has the name under which it began last, or no octets where it never began; and none else.
 pub fn last_subscription_names()
-    ensures { (sub : ℕ) (h : List Entry) (name : List ℕ) → (name_of sub h ≡ name) ↔ IsNamed sub h name }
+    ensures { (sub : ℕ) (h : List Entry) (name : List ℕ) → (name_of sub h ≡ name)
+        ↔ IsNamed sub h name }
 {}
 
 /// A subscription is served exactly where it began and after that neither ended nor was cut: where the last entry that switches
@@ -38,15 +40,21 @@ pub fn open_since_opened()
 
 /// A subscription that was cut, or that ended, is served no more; and no entry gives a subscription anything that is not served.
 pub fn cut_ends_serving()
-    ensures serves_no_more { (sub : ℕ) (h : List Entry) → (is_served sub (h ++ Cut sub ∷ []) ≡ false) × (is_served sub (h ++ Unsubscribe sub ∷ []) ≡ false) }
-    ensures gives_nothing { (sub : ℕ) (h : List Entry) (e : Entry) → is_served sub h ≡ false → given_at sub h e ≡ [] }
+    ensures serves_no_more { (sub : ℕ) (h : List Entry) → (is_served sub (h ++ Cut sub ∷ [])
+        ≡ false) × (is_served sub (h ++ Unsubscribe sub ∷ []) ≡ false) }
+    ensures gives_nothing { (sub : ℕ) (h : List Entry) (e : Entry) → is_served sub h ≡ false
+        → given_at sub h e ≡ [] }
 {}
 
 /// One entry more adds, behind all that was there, the records that it brings, what it gives to a subscription and what the audit
 /// names of it, each after all entries before it; and before the first entry there is none of these.
 pub fn one_entry_more()
-    ensures start { (sub : ℕ) → (accepted [] ≡ []) × (disclosed sub [] ≡ []) × (audit_list [] ≡ []) }
-    ensures accepts { (h : List Entry) (e : Entry) → accepted (h ++ e ∷ []) ≡ accepted h ++ accepted_at h e }
-    ensures discloses { (sub : ℕ) (h : List Entry) (e : Entry) → disclosed sub (h ++ e ∷ []) ≡ disclosed sub h ++ given_at sub h e }
-    ensures audits { (h : List Entry) (e : Entry) → audit_list (h ++ e ∷ []) ≡ audit_list h ++ audit_at h e }
+    ensures start { (sub : ℕ) → (accepted [] ≡ []) × (disclosed sub [] ≡ [])
+        × (audit_list [] ≡ []) }
+    ensures accepts { (h : List Entry) (e : Entry)
+        → accepted (h ++ e ∷ []) ≡ accepted h ++ accepted_at h e }
+    ensures discloses { (sub : ℕ) (h : List Entry) (e : Entry)
+        → disclosed sub (h ++ e ∷ []) ≡ disclosed sub h ++ given_at sub h e }
+    ensures audits { (h : List Entry) (e : Entry)
+        → audit_list (h ++ e ∷ []) ≡ audit_list h ++ audit_at h e }
 {}

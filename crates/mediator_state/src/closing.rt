@@ -29,7 +29,8 @@ impl Engine {
     /// # Errors
     /// Want of memory.
     pub(crate) fn plan_advance(&self, t: u64) -> Result<Closing, AllocError>
-        ensures { IfOk result (λ c. (h : List Entry) → Stands self.now h → IsJudged self.now h (Advance t) c.cuts.items (map shown c.shares.items) []) }
+        ensures { IfOk result (λ c. (h : List Entry) → Stands self.now h
+            → IsJudged self.now h (Advance t) c.cuts.items (map shown c.shares.items) []) }
     {
         let served = self.subscriptions.served()?;
         let closing = self.close_for(t, &served)?;
@@ -59,7 +60,9 @@ impl Engine {
     /// # Errors
     /// Want of memory.
     fn close_for(&self, t: u64, served: &[Served<'_>]) -> Result<Closing, AllocError>
-        ensures { IfOk result (λ c. (h : List Entry) → Stands self.now h → AreParted self.now.subscriptions (map (closing_share h t) (map told served.now)) c.cuts.items (map shown c.shares.items)) }
+        ensures { IfOk result (λ c. (h : List Entry) → Stands self.now h
+            → AreParted self.now.subscriptions (map (closing_share h t) (map told served.now))
+            c.cuts.items (map shown c.shares.items)) }
     {
         let mut cuts = Vec::new(self.alloc);
         let mut shares = Vec::new(self.alloc);

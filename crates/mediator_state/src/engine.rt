@@ -132,7 +132,8 @@ impl Engine {
     /// Want of memory.
     pub(crate) fn open(&mut self, number: u64) -> Result<(), AllocError>
         requires next { number ≡ self.old.opened + 1 }
-        ensures ok { OnOk result ((h : List Entry) → Stands self.old h → Stands self.new (h ++ Open number ∷ [])) }
+        ensures ok { OnOk result ((h : List Entry) → Stands self.old h
+            → Stands self.new (h ++ Open number ∷ [])) }
         ensures untouched { IsUntouched self.old self.new }
         ensures err { OnErr result (IsSameEngine self.old self.new) }
     {
@@ -146,9 +147,11 @@ impl Engine {
     /// # Errors
     /// The session isn't open; or memory ran out.
     pub(crate) fn snapshot(&mut self, number: u64) -> Result<Snapshot, Fault>
-        ensures ok { IfOk result (λ snapshot. (h : List Entry) → Stands self.old h → IsSnapshot h number snapshot) }
+        ensures ok { IfOk result (λ snapshot. (h : List Entry) → Stands self.old h
+            → IsSnapshot h number snapshot) }
         ensures same { IsSameEngine self.old self.new }
-        ensures err { IfErr result (λ e. (h : List Entry) → Stands self.old h → RefusesSnapshot e h number) }
+        ensures err { IfErr result (λ e. (h : List Entry) → Stands self.old h
+            → RefusesSnapshot e h number) }
     {
         if !self.is_open(number) {
             return Err(Fault::UnknownSession);
@@ -198,7 +201,8 @@ impl Engine {
 
     /// Closes a session.
     pub(crate) fn close(&mut self, number: u64)
-        ensures stands { (h : List Entry) → Stands self.old h → Stands self.new (h ++ Close number ∷ []) }
+        ensures stands { (h : List Entry) → Stands self.old h
+            → Stands self.new (h ++ Close number ∷ []) }
         ensures untouched { IsUntouched self.old self.new }
     {
         self.sessions.close(number);
@@ -220,7 +224,8 @@ impl Engine {
         requires short { position ≤ MOST_ENTRIES }
         requires same_clock { in_force.clock ≡ self.old.in_force.clock }
         ensures value { (h : List Entry) → Stands self.old h → result ≡ edits_made h + 1 }
-        ensures stands { (h : List Entry) (text : List ℕ) → Stands self.old h → policy_of text ≡ Ok in_force.policy → Stands self.new (h ++ Edit text ∷ []) }
+        ensures stands { (h : List Entry) (text : List ℕ) → Stands self.old h
+            → policy_of text ≡ Ok in_force.policy → Stands self.new (h ++ Edit text ∷ []) }
         ensures untouched { IsUntouched self.old self.new }
     {
         self.in_force = in_force;
@@ -240,9 +245,12 @@ impl Engine {
 
     /// The number of the live subscription under a name.
     pub(crate) fn named(&self, name: &str) -> Option<u64>
-        ensures found { IfSome result (λ sub. (h : List Entry) → Stands self.now h → (is_live sub h ≡ true) × (name_of sub h ≡ name.now)) }
-        ensures none { IfNone result ((h : List Entry) → Stands self.now h → (sub : ℕ) → is_live sub h ≡ true → name_of sub h ≢ name.now) }
-        ensures free { IfNone result ((q : ℕ) → IfSome (at self.now.subscriptions q) (λ s. s.name ≢ name.now)) }
+        ensures found { IfSome result (λ sub. (h : List Entry) → Stands self.now h
+            → (is_live sub h ≡ true) × (name_of sub h ≡ name.now)) }
+        ensures none { IfNone result ((h : List Entry) → Stands self.now h
+            → (sub : ℕ) → is_live sub h ≡ true → name_of sub h ≢ name.now) }
+        ensures free { IfNone result ((q : ℕ)
+            → IfSome (at self.now.subscriptions q) (λ s. s.name ≢ name.now)) }
     {
         self.subscriptions.named(name)
     }
@@ -256,7 +264,8 @@ impl Engine {
         requires next { number ≡ self.old.begun + 1 }
         requires name { is_name name.now ≡ true }
         requires free { (q : ℕ) → IfSome (at self.old.subscriptions q) (λ s. s.name ≢ name.now) }
-        ensures ok { OnOk result ((h : List Entry) → Stands self.old h → Stands self.new (h ++ Subscribe number name.now ∷ [])) }
+        ensures ok { OnOk result ((h : List Entry) → Stands self.old h
+            → Stands self.new (h ++ Subscribe number name.now ∷ [])) }
         ensures untouched { IsUntouched self.old self.new }
         ensures err { OnErr result (IsSameEngine self.old self.new) }
     {
@@ -277,7 +286,8 @@ impl Engine {
 
     /// Ends a subscription, with what waits for it.
     pub(crate) fn unsubscribe(&mut self, number: u64)
-        ensures stands { (h : List Entry) → Stands self.old h → Stands self.new (h ++ Unsubscribe number ∷ []) }
+        ensures stands { (h : List Entry) → Stands self.old h
+            → Stands self.new (h ++ Unsubscribe number ∷ []) }
         ensures others { (q : ℕ) → q ≢ number → place_of self.new q ≡ place_of self.old q }
         ensures drained { self.new.audit.standing.drained ≡ self.old.audit.standing.drained }
         ensures limits { self.new.limits ≡ self.old.limits }
@@ -290,7 +300,8 @@ impl Engine {
     /// Cuts a subscription, in room that the audit has; its running groups are gone. It takes no memory.
     fn cut(&mut self, position: u64, number: u64)
         requires room { HasAuditRoom self.old.audit 1 }
-        ensures stands { (h : List Entry) → Stands self.old h → length h ≡ position → Stands self.new (h ++ Cut number ∷ []) }
+        ensures stands { (h : List Entry) → Stands self.old h → length h ≡ position
+            → Stands self.new (h ++ Cut number ∷ []) }
         ensures once { IsCutOnce number self.old self.new }
     {
         self.subscriptions.cut(number);
@@ -307,7 +318,8 @@ impl Engine {
     pub(crate) fn cut_all(&mut self, position: u64, numbers: &[u64])
         requires room { HasAuditRoom self.old.audit (length numbers.now) }
         requires short { position + length numbers.now < 2 ^ 63 }
-        ensures stands { (h : List Entry) → Stands self.old h → length h ≡ position → Stands self.new (after_cuts h numbers.now) }
+        ensures stands { (h : List Entry) → Stands self.old h → length h ≡ position
+            → Stands self.new (after_cuts h numbers.now) }
         ensures row { CutsInARow numbers.now self.old self.new }
     {
         'cuts: for (place, number) in numbers.iter().enumerate() {
@@ -338,7 +350,9 @@ impl Engine {
         ensures same { IsSameEngine self.old self.new }
         ensures ok { OnOk result (HasAuditFor self.new.audit need places) }
         ensures err { IfErr result (λ e. LacksAudit e self.old.audit need) }
-        ensures rest { (self.new.sessions ≡ self.old.sessions) × (self.new.subscriptions ≡ self.old.subscriptions) × (self.new.groups ≡ self.old.groups) }
+        ensures rest { (self.new.sessions ≡ self.old.sessions)
+            × (self.new.subscriptions ≡ self.old.subscriptions)
+            × (self.new.groups ≡ self.old.groups) }
     {
         let room = self.audit.room();
         if need > u64::from(room) {
@@ -354,8 +368,10 @@ impl Engine {
     /// The audit has no room, or memory ran out.
     pub(crate) fn make_room(&mut self, plan: &Plan) -> Result<Vec<Reserved>, Fault>
         ensures same { IsSameEngine self.old self.new }
-        ensures ok { IfOk result (λ reserved. HasRoomForPlan self.new plan.now (map reserved_for reserved.items)) }
-        ensures err { IfErr result (λ e. LacksAudit e self.old.audit (length plan.now.cuts.items + plan.now.notes.count)) }
+        ensures ok { IfOk result (λ reserved.
+            HasRoomForPlan self.new plan.now (map reserved_for reserved.items)) }
+        ensures err { IfErr result (λ e.
+            LacksAudit e self.old.audit (length plan.now.cuts.items + plan.now.notes.count)) }
     {
         let cuts = plan.cuts.len();
         self.make_audit_room(cuts as u64 + plan.notes.count(), cuts + 1)?;
@@ -368,9 +384,12 @@ impl Engine {
     pub(crate) fn accept(&mut self, position: u64, plan: Plan, reserved: Vec<Reserved>) -> Receipt
         requires room { HasRoomForPlan self.old plan (map reserved_for reserved.items) }
         requires planned { IsPlannedFor self.old position plan }
-        ensures stands { (h : List Entry) (number : ℕ) (octets : List ℕ) → Stands self.old h → length h ≡ position → IsPlan self.old h number octets plan
-            → Stands self.new (after_cuts h plan.cuts.items ++ Message plan.session number octets ∷ []) }
-        ensures receipt { result ≡ receipt_of position (length plan.cuts.items) plan.reading.meaning }
+        ensures stands { (h : List Entry) (number : ℕ) (octets : List ℕ) → Stands self.old h
+            → length h ≡ position → IsPlan self.old h number octets plan
+            → Stands self.new (after_cuts h plan.cuts.items
+            ++ Message plan.session number octets ∷ []) }
+        ensures receipt { result
+            ≡ receipt_of position (length plan.cuts.items) plan.reading.meaning }
         ensures untouched { IsUntouched self.old self.new }
     {
         let receipt = Receipt {
@@ -402,10 +421,13 @@ impl Engine {
         position: u64,
         notes: Vec<Note>,
     )
-        requires room { IsReadyToTake self.old session reading (map shown shares.items) (map reserved_for reserved.items) (length notes.items) }
-        ensures stands { (h : List Entry) (number : ℕ) (octets : List ℕ) (tallies : List (ℕ × List Count)) → Stands self.old h
-            → AllReady self.old.groups (map reserved_for reserved.items) tallies → AreApart tallies
-            → IsMessage self.old h session number octets reading (map shown shares.items) tallies (map (stamp position) notes.items)
+        requires room { IsReadyToTake self.old session reading (map shown shares.items)
+            (map reserved_for reserved.items) (length notes.items) }
+        ensures stands { (h : List Entry) (number : ℕ) (octets : List ℕ)
+            (tallies : List (ℕ × List Count)) → Stands self.old h
+            → AllReady self.old.groups (map reserved_for reserved.items) tallies
+            → AreApart tallies → IsMessage self.old h session number octets reading
+            (map shown shares.items) tallies (map (stamp position) notes.items)
             → Stands self.new (h ++ Message session number octets ∷ []) }
         ensures untouched { IsUntouched self.old self.new }
     {
@@ -434,7 +456,8 @@ impl Engine {
     pub(crate) fn make_room_to_close(&mut self, closing: &Closing) -> Result<(), Fault>
         ensures same { IsSameEngine self.old self.new }
         ensures ok { OnOk result (HasRoomToClose self.new closing.now) }
-        ensures err { IfErr result (λ e. LacksAudit e self.old.audit (length closing.now.cuts.items)) }
+        ensures err { IfErr result (λ e.
+            LacksAudit e self.old.audit (length closing.now.cuts.items)) }
     {
         self.make_audit_room(closing.cuts.len() as u64, closing.cuts.len())?;
         self.subscriptions.reserve(&closing.shares)?;
@@ -457,7 +480,8 @@ impl Engine {
     /// Gives what an advance of the clock closes, in room that was made for it, and drops these groups.
     fn close_due(&mut self, t: u64, shares: Vec<Share>)
         requires room { IsReadyToClose self.old (map shown shares.items) }
-        ensures stands { (h : List Entry) → Stands self.old h → clock_of h ≤ t → AreClosings self.old h t (map shown shares.items)
+        ensures stands { (h : List Entry) → Stands self.old h → clock_of h ≤ t
+            → AreClosings self.old h t (map shown shares.items)
             → Stands self.new (h ++ Advance t ∷ []) }
         ensures untouched { IsUntouched self.old self.new }
     {

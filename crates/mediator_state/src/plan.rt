@@ -54,8 +54,10 @@ impl Engine {
     /// # Errors
     /// The session isn't open; or the message has another number than its next, or is malformed; or memory ran out.
     pub(crate) fn read(&self, session: u64, number: u64, message: &Bytes) -> Result<Reading, Fault>
-        ensures ok { IfOk result (λ reading. (h : List Entry) → Stands self.now h → IsNextReading h session number message.now reading) }
-        ensures err { IfErr result (λ e. (h : List Entry) → Stands self.now h → RefusesMessage e h session number message.now) }
+        ensures ok { IfOk result (λ reading. (h : List Entry) → Stands self.now h
+            → IsNextReading h session number message.now reading) }
+        ensures err { IfErr result (λ e. (h : List Entry) → Stands self.now h
+            → RefusesMessage e h session number message.now) }
     {
         let open = self.in_turn(session, number)?;
         Ok(open.session.read(message)?)
@@ -72,10 +74,14 @@ impl Engine {
         number: u64,
         prepared: &Prepared,
     ) -> Result<Reading, Fault>
-        ensures ok { IfOk result (λ reading. (h : List Entry) → Stands self.now h → IsNextReading h session number prepared.now.message reading) }
-        ensures domain { IfOk result (λ reading. reading.meaning.header.domain ≡ domain_of prepared.now.message) }
-        ensures records { IfOk result (λ reading. reading.meaning.records ≡ prepared.now.contents.records) }
-        ensures err { IfErr result (λ e. (h : List Entry) → Stands self.now h → RefusesPrepared e h session number prepared.now) }
+        ensures ok { IfOk result (λ reading. (h : List Entry) → Stands self.now h
+            → IsNextReading h session number prepared.now.message reading) }
+        ensures domain { IfOk result (λ reading.
+            reading.meaning.header.domain ≡ domain_of prepared.now.message) }
+        ensures records { IfOk result (λ reading.
+            reading.meaning.records ≡ prepared.now.contents.records) }
+        ensures err { IfErr result (λ e. (h : List Entry) → Stands self.now h
+            → RefusesPrepared e h session number prepared.now) }
     {
         let open = self.in_turn(session, number)?;
         Ok(prepared.reading_in(&open.session)?)
@@ -95,8 +101,10 @@ impl Engine {
     ) -> Result<Plan, AllocError>
         requires few { length reading.meaning.records ≤ 2 ^ 32 }
         requires short { position ≤ MOST_ENTRIES }
-        requires judgement { IfSome judgement (IsJudgementOf reading.meaning.header.domain reading.meaning.records) }
-        ensures ok { IfOk result (λ p. (h : List Entry) (number : ℕ) (octets : List ℕ) → Stands self.old h → length h ≡ position
+        requires judgement { IfSome judgement
+            (IsJudgementOf reading.meaning.header.domain reading.meaning.records) }
+        ensures ok { IfOk result (λ p. (h : List Entry) (number : ℕ) (octets : List ℕ)
+            → Stands self.old h → length h ≡ position
             → IsNextReading h session number octets reading → IsPlan self.old h number octets p) }
         ensures session { IfOk result (λ p. p.session ≡ session) }
         ensures same { self.new ≡ self.old }
@@ -116,7 +124,8 @@ impl Engine {
     /// The session, where it is open and this is the number of its next message.
     fn in_turn(&self, session: u64, number: u64) -> Result<&OpenSession, Fault>
         ensures ok { IfOk result (λ o. IsInTurn self.now session number o.now) }
-        ensures err { IfErr result (λ e. (h : List Entry) → Stands self.now h → RefusesTurn e h session number) }
+        ensures err { IfErr result (λ e. (h : List Entry) → Stands self.now h
+            → RefusesTurn e h session number) }
     {
         let Some(open) = self.sessions.get(session) else {
             return Err(Fault::UnknownSession);
@@ -141,8 +150,10 @@ impl Engine {
     ) -> Result<Judged, AllocError>
         requires few { length reading.now.meaning.records ≤ 2 ^ 32 }
         requires short { position ≤ MOST_ENTRIES }
-        requires judgement { IfSome judgement (IsJudgementOf reading.now.meaning.header.domain reading.now.meaning.records) }
-        ensures judged { IfOk result (λ j. (h : List Entry) → Stands self.old h → length h ≡ position → IsJudgedFor self.old h reading.now.meaning j) }
+        requires judgement { IfSome judgement
+            (IsJudgementOf reading.now.meaning.header.domain reading.now.meaning.records) }
+        ensures judged { IfOk result (λ j. (h : List Entry) → Stands self.old h
+            → length h ≡ position → IsJudgedFor self.old h reading.now.meaning j) }
         ensures same { self.new ≡ self.old }
     {
         let domain = reading.header().domain;
@@ -195,9 +206,12 @@ fn shares_of_all(
 ) -> Result<Shares, AllocError>
     requires few { length records.now ≤ 2 ^ 32 }
     requires judgement { IfSome judgement (IsJudgementOf domain records.now) }
-    ensures shares { IfOk result (λ s. map shown s.shares.items ≡ shares_of domain in_force.old records.now served.now) }
-    ensures tallies { IfOk result (λ s. map tallied s.tallies.items ≡ tallies_of domain in_force.old records.now served.now) }
-    ensures notes { IfOk result (λ s. s.notes ≡ kept_of most (notes_of domain in_force.old records.now served.now)) }
+    ensures shares { IfOk result (λ s.
+        map shown s.shares.items ≡ shares_of domain in_force.old records.now served.now) }
+    ensures tallies { IfOk result (λ s.
+        map tallied s.tallies.items ≡ tallies_of domain in_force.old records.now served.now) }
+    ensures notes { IfOk result (λ s.
+        s.notes ≡ kept_of most (notes_of domain in_force.old records.now served.now)) }
     ensures stay { in_force.new ≡ in_force.old }
 {
     if let Some(judgement) = judgement {
@@ -240,10 +254,13 @@ fn split_by_room<'a>(
     shares: &[Share],
 ) -> Result<Split<'a>, AllocError>
     requires each { length shares.now ≡ length served.now }
-    ensures cuts { (domain : ℕ) (f : Force) (records : List DataRecord) → map shown shares.now ≡ shares_of domain f records served.now
-        → IfOk result (λ s. s.cuts.items ≡ map (λ w. w.sub) (filter (lacks subscriptions.now domain f records) served.now)) }
-    ensures left { (domain : ℕ) (f : Force) (records : List DataRecord) → map shown shares.now ≡ shares_of domain f records served.now
-        → IfOk result (λ s. s.left.items ≡ filter (has subscriptions.now domain f records) served.now) }
+    ensures cuts { (domain : ℕ) (f : Force) (records : List DataRecord)
+        → map shown shares.now ≡ shares_of domain f records served.now
+        → IfOk result (λ s. s.cuts.items
+        ≡ map (λ w. w.sub) (filter (lacks subscriptions.now domain f records) served.now)) }
+    ensures left { (domain : ℕ) (f : Force) (records : List DataRecord)
+        → map shown shares.now ≡ shares_of domain f records served.now → IfOk result (λ s.
+        s.left.items ≡ filter (has subscriptions.now domain f records) served.now) }
 {
     let mut cuts = Vec::new(alloc);
     let mut left = Vec::new(alloc);
@@ -272,12 +289,18 @@ fn share_left(
     most: u64,
 ) -> Result<Shares, AllocError>
     requires few { length records.now ≤ 2 ^ 32 }
-    requires shares { cuts.now ≡ [] → map shown all.shares.items ≡ shares_of domain in_force.old records.now left.now }
-    requires tallies { cuts.now ≡ [] → map tallied all.tallies.items ≡ tallies_of domain in_force.old records.now left.now }
-    requires notes { cuts.now ≡ [] → all.notes ≡ kept_of most (notes_of domain in_force.old records.now left.now) }
-    ensures shares { IfOk result (λ s. map shown s.shares.items ≡ shares_of domain in_force.old records.now left.now) }
-    ensures tallies { IfOk result (λ s. map tallied s.tallies.items ≡ tallies_of domain in_force.old records.now left.now) }
-    ensures notes { IfOk result (λ s. s.notes ≡ kept_of most (notes_of domain in_force.old records.now left.now)) }
+    requires shares { cuts.now ≡ []
+        → map shown all.shares.items ≡ shares_of domain in_force.old records.now left.now }
+    requires tallies { cuts.now ≡ []
+        → map tallied all.tallies.items ≡ tallies_of domain in_force.old records.now left.now }
+    requires notes { cuts.now ≡ []
+        → all.notes ≡ kept_of most (notes_of domain in_force.old records.now left.now) }
+    ensures shares { IfOk result (λ s.
+        map shown s.shares.items ≡ shares_of domain in_force.old records.now left.now) }
+    ensures tallies { IfOk result (λ s.
+        map tallied s.tallies.items ≡ tallies_of domain in_force.old records.now left.now) }
+    ensures notes { IfOk result (λ s.
+        s.notes ≡ kept_of most (notes_of domain in_force.old records.now left.now)) }
     ensures stay { in_force.new ≡ in_force.old }
 {
     if cuts.is_empty() {

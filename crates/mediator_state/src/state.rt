@@ -63,7 +63,8 @@ impl<C: Chronicle + Drop> State<C> {
         requires range { AreLimits limits }
         ensures stands { IfOk result (λ s. C.tells chronicle [] → StandsFor C.tells s []) }
         ensures kept { IfOk result (λ s. s.chronicle ≡ chronicle) }
-        ensures limits { IfOk result (λ s. s.engine.limits ≡ record { queue = limits.queue; shapes = limits.shapes }) }
+        ensures limits { IfOk result (λ s.
+            s.engine.limits ≡ record { queue = limits.queue; shapes = limits.shapes }) }
         ensures audit_limit { IfOk result (λ s. s.engine.audit.limit ≡ limits.audit) }
         ensures drained { IfOk result (λ s. s.engine.audit.standing.drained ≡ 0) }
     {
@@ -78,7 +79,8 @@ impl<C: Chronicle + Drop> State<C> {
     /// Hashes with these keys what exporters choose: the groups and templates of subscriptions that begin from now on. It shows in
     /// no answer.
     pub fn hash_by(&mut self, keys: HashKeys)
-        ensures same { (h : List Entry) → StandsFor C.tells self.old h → StandsFor C.tells self.new h }
+        ensures same { (h : List Entry) → StandsFor C.tells self.old h
+            → StandsFor C.tells self.new h }
         ensures untouched { IsUntouched self.old.engine self.new.engine }
         ensures journaled { C.limits self.new.chronicle ≡ C.limits self.old.chronicle }
     {
@@ -104,15 +106,18 @@ impl<C: Chronicle + Drop> State<C> {
     /// # Errors
     /// The journal is full, or memory ran out.
     fn make_room(&mut self, entry: &Entry) -> Result<(), Fault>
-        ensures tells { (h : List Entry) → C.tells self.old.chronicle h → C.tells self.new.chronicle h }
+        ensures tells { (h : List Entry) → C.tells self.old.chronicle h
+            → C.tells self.new.chronicle h }
         ensures engine { self.new.engine ≡ self.old.engine }
-        ensures room { OnOk result (HasRoom (C.limits self.new.chronicle) (C.count self.new.chronicle) (C.octets self.new.chronicle) (entry.now ∷ [])) }
+        ensures room { OnOk result (HasRoom (C.limits self.new.chronicle)
+            (C.count self.new.chronicle) (C.octets self.new.chronicle) (entry.now ∷ [])) }
         ensures count { C.count self.new.chronicle ≡ C.count self.old.chronicle }
         ensures octets { C.octets self.new.chronicle ≡ C.octets self.old.chronicle }
         ensures limits { C.limits self.new.chronicle ≡ C.limits self.old.chronicle }
         ensures short { OnOk result (C.count self.old.chronicle < MOST_ENTRIES) }
         ensures reserved { OnOk result (0 < C.spare self.new.chronicle) }
-        ensures err { IfErr result (λ e. LacksRoom e (C.limits self.old.chronicle) (C.count self.old.chronicle) (C.octets self.old.chronicle) (entry.now ∷ [])) }
+        ensures err { IfErr result (λ e. LacksRoom e (C.limits self.old.chronicle)
+            (C.count self.old.chronicle) (C.octets self.old.chronicle) (entry.now ∷ [])) }
     {
         if !self.chronicle.room(from_ref(entry)) {
             return Err(Fault::JournalFull);
@@ -128,11 +133,15 @@ impl<C: Chronicle + Drop> State<C> {
     /// The journal is full, or memory ran out.
     pub fn open(&mut self) -> Result<u64, Fault>
         requires stands { StandsForSome C.tells self.old }
-        ensures ok { IfOk result (λ n. (h : List Entry) → StandsFor C.tells self.old h → Opens C.tells C.limits self.old h n self.new) }
+        ensures ok { IfOk result (λ n. (h : List Entry) → StandsFor C.tells self.old h
+            → Opens C.tells C.limits self.old h n self.new) }
         ensures untouched { IsUntouched self.old.engine self.new.engine }
-        ensures same { OnErr result ((h : List Entry) → StandsFor C.tells self.old h → StandsFor C.tells self.new h) }
+        ensures same { OnErr result ((h : List Entry) → StandsFor C.tells self.old h
+            → StandsFor C.tells self.new h) }
         ensures journaled { C.limits self.new.chronicle ≡ C.limits self.old.chronicle }
-        ensures err { IfErr result (λ e. (h : List Entry) → StandsFor C.tells self.old h → LacksRoomAfter e (C.limits self.old.chronicle) h (Open (sessions_opened h + 1) ∷ [])) }
+        ensures err { IfErr result (λ e. (h : List Entry) → StandsFor C.tells self.old h
+            → LacksRoomAfter e (C.limits self.old.chronicle) h
+            (Open (sessions_opened h + 1) ∷ [])) }
     {
         let session = self.engine.next_session(self.chronicle.len());
         let entry = Entry::Open { session };
@@ -148,11 +157,14 @@ impl<C: Chronicle + Drop> State<C> {
     /// No session with this number is open; the journal is full, or memory ran out.
     pub fn close(&mut self, session: u64) -> Result<(), Fault>
         requires stands { StandsForSome C.tells self.old }
-        ensures ok { OnOk result ((h : List Entry) → StandsFor C.tells self.old h → Closes C.tells C.limits self.old h session self.new) }
+        ensures ok { OnOk result ((h : List Entry) → StandsFor C.tells self.old h
+            → Closes C.tells C.limits self.old h session self.new) }
         ensures untouched { IsUntouched self.old.engine self.new.engine }
-        ensures same { OnErr result ((h : List Entry) → StandsFor C.tells self.old h → StandsFor C.tells self.new h) }
+        ensures same { OnErr result ((h : List Entry) → StandsFor C.tells self.old h
+            → StandsFor C.tells self.new h) }
         ensures journaled { C.limits self.new.chronicle ≡ C.limits self.old.chronicle }
-        ensures err { IfErr result (λ e. (h : List Entry) → StandsFor C.tells self.old h → RefusesClose e (C.limits self.old.chronicle) h session) }
+        ensures err { IfErr result (λ e. (h : List Entry) → StandsFor C.tells self.old h
+            → RefusesClose e (C.limits self.old.chronicle) h session) }
     {
         if !self.engine.is_open(session) {
             return Err(Fault::UnknownSession);
@@ -179,11 +191,15 @@ impl<C: Chronicle + Drop> State<C> {
     /// the audit; or memory ran out.
     pub fn receive(&mut self, session: u64, number: u64, message: Bytes) -> Result<Receipt, Fault>
         requires stands { StandsForSome C.tells self.old }
-        ensures ok { IfOk result (λ r. (h : List Entry) → StandsFor C.tells self.old h → Receives C.tells C.limits self.old h session number message r self.new) }
+        ensures ok { IfOk result (λ r. (h : List Entry) → StandsFor C.tells self.old h
+            → Receives C.tells C.limits self.old h session number message r self.new) }
         ensures untouched { IsUntouched self.old.engine self.new.engine }
-        ensures same { OnErr result ((h : List Entry) → StandsFor C.tells self.old h → StandsFor C.tells self.new h) }
+        ensures same { OnErr result ((h : List Entry) → StandsFor C.tells self.old h
+            → StandsFor C.tells self.new h) }
         ensures journaled { C.limits self.new.chronicle ≡ C.limits self.old.chronicle }
-        ensures err { IfErr result (λ e. (h : List Entry) → StandsFor C.tells self.old h → RefusesReceive e (C.limits self.old.chronicle) self.old.engine h session number message) }
+        ensures err { IfErr result (λ e. (h : List Entry) → StandsFor C.tells self.old h
+            → RefusesReceive e (C.limits self.old.chronicle) self.old.engine h
+            session number message) }
     {
         self.receive_judged(session, number, message, None)
     }
@@ -201,11 +217,15 @@ impl<C: Chronicle + Drop> State<C> {
         ahead: Option<JudgedAhead>,
     ) -> Result<Receipt, Fault>
         requires stands { StandsForSome C.tells self.old }
-        ensures ok { IfOk result (λ r. (h : List Entry) → StandsFor C.tells self.old h → Receives C.tells C.limits self.old h session number message r self.new) }
+        ensures ok { IfOk result (λ r. (h : List Entry) → StandsFor C.tells self.old h
+            → Receives C.tells C.limits self.old h session number message r self.new) }
         ensures untouched { IsUntouched self.old.engine self.new.engine }
-        ensures same { OnErr result ((h : List Entry) → StandsFor C.tells self.old h → StandsFor C.tells self.new h) }
+        ensures same { OnErr result ((h : List Entry) → StandsFor C.tells self.old h
+            → StandsFor C.tells self.new h) }
         ensures journaled { C.limits self.new.chronicle ≡ C.limits self.old.chronicle }
-        ensures err { IfErr result (λ e. (h : List Entry) → StandsFor C.tells self.old h → RefusesReceive e (C.limits self.old.chronicle) self.old.engine h session number message) }
+        ensures err { IfErr result (λ e. (h : List Entry) → StandsFor C.tells self.old h
+            → RefusesReceive e (C.limits self.old.chronicle) self.old.engine h
+            session number message) }
     {
         let reading = self.engine.read(session, number, &message)?;
         let judgement = judgement_of(ahead, &reading);
@@ -218,11 +238,14 @@ impl<C: Chronicle + Drop> State<C> {
     /// # Errors
     /// The session isn't open; or memory ran out.
     pub fn snapshot(&mut self, session: u64) -> Result<Snapshot, Fault>
-        ensures ok { IfOk result (λ snapshot. (h : List Entry) → StandsFor C.tells self.old h → IsSnapshot h session snapshot) }
-        ensures same { (h : List Entry) → StandsFor C.tells self.old h → StandsFor C.tells self.new h }
+        ensures ok { IfOk result (λ snapshot. (h : List Entry) → StandsFor C.tells self.old h
+            → IsSnapshot h session snapshot) }
+        ensures same { (h : List Entry) → StandsFor C.tells self.old h
+            → StandsFor C.tells self.new h }
         ensures untouched { IsUntouched self.old.engine self.new.engine }
         ensures journaled { C.limits self.new.chronicle ≡ C.limits self.old.chronicle }
-        ensures err { IfErr result (λ e. (h : List Entry) → StandsFor C.tells self.old h → RefusesSnapshot e h session) }
+        ensures err { IfErr result (λ e. (h : List Entry) → StandsFor C.tells self.old h
+            → RefusesSnapshot e h session) }
     {
         self.engine.snapshot(session)
     }
@@ -239,11 +262,15 @@ impl<C: Chronicle + Drop> State<C> {
         mut prepared: Prepared,
     ) -> Result<Receipt, (Fault, Prepared)>
         requires stands { StandsForSome C.tells self.old }
-        ensures ok { IfOk result (λ r. (h : List Entry) → StandsFor C.tells self.old h → Receives C.tells C.limits self.old h session number prepared.message r self.new) }
+        ensures ok { IfOk result (λ r. (h : List Entry) → StandsFor C.tells self.old h
+            → Receives C.tells C.limits self.old h session number prepared.message r self.new) }
         ensures untouched { IsUntouched self.old.engine self.new.engine }
-        ensures same { OnErr result ((h : List Entry) → StandsFor C.tells self.old h → StandsFor C.tells self.new h) }
+        ensures same { OnErr result ((h : List Entry) → StandsFor C.tells self.old h
+            → StandsFor C.tells self.new h) }
         ensures journaled { C.limits self.new.chronicle ≡ C.limits self.old.chronicle }
-        ensures err { IfErr result (λ e. (h : List Entry) → StandsFor C.tells self.old h → RefusesReceivePrepared e.0 (C.limits self.old.chronicle) self.old.engine h session number prepared) }
+        ensures err { IfErr result (λ e. (h : List Entry) → StandsFor C.tells self.old h
+            → RefusesReceivePrepared e.0 (C.limits self.old.chronicle) self.old.engine h
+            session number prepared) }
         ensures handed_back { IfErr result (λ e. e.1 ≡ prepared) }
     {
         match self.take_prepared(session, number, &mut prepared) {
@@ -260,11 +287,15 @@ impl<C: Chronicle + Drop> State<C> {
         prepared: &mut Prepared,
     ) -> Result<Receipt, Fault>
         requires stands { StandsForSome C.tells self.old }
-        ensures ok { IfOk result (λ r. (h : List Entry) → StandsFor C.tells self.old h → Receives C.tells C.limits self.old h session number prepared.old.message r self.new) }
+        ensures ok { IfOk result (λ r. (h : List Entry) → StandsFor C.tells self.old h
+            → Receives C.tells C.limits self.old h session number prepared.old.message r self.new) }
         ensures untouched { IsUntouched self.old.engine self.new.engine }
-        ensures same { OnErr result ((h : List Entry) → StandsFor C.tells self.old h → StandsFor C.tells self.new h) }
+        ensures same { OnErr result ((h : List Entry) → StandsFor C.tells self.old h
+            → StandsFor C.tells self.new h) }
         ensures journaled { C.limits self.new.chronicle ≡ C.limits self.old.chronicle }
-        ensures err { IfErr result (λ e. (h : List Entry) → StandsFor C.tells self.old h → RefusesReceivePrepared e (C.limits self.old.chronicle) self.old.engine h session number prepared.old) }
+        ensures err { IfErr result (λ e. (h : List Entry) → StandsFor C.tells self.old h
+            → RefusesReceivePrepared e (C.limits self.old.chronicle) self.old.engine h
+            session number prepared.old) }
         ensures lent { prepared.new ≡ prepared.old }
     {
         let reading = self.engine.read_prepared(session, number, prepared)?;
@@ -286,13 +317,19 @@ impl<C: Chronicle + Drop> State<C> {
         judgement: Option<Judgement>,
     ) -> Result<Receipt, Fault>
         requires stands { StandsForSome C.tells self.old }
-        requires judgement { IfSome judgement (IsJudgementOf reading.meaning.header.domain reading.meaning.records) }
-        requires read { (h : List Entry) → StandsFor C.tells self.old h → IsNextReading h session number message reading }
-        ensures ok { IfOk result (λ r. (h : List Entry) → StandsFor C.tells self.old h → Receives C.tells C.limits self.old h session number message r self.new) }
+        requires judgement { IfSome judgement
+            (IsJudgementOf reading.meaning.header.domain reading.meaning.records) }
+        requires read { (h : List Entry) → StandsFor C.tells self.old h
+            → IsNextReading h session number message reading }
+        ensures ok { IfOk result (λ r. (h : List Entry) → StandsFor C.tells self.old h
+            → Receives C.tells C.limits self.old h session number message r self.new) }
         ensures untouched { IsUntouched self.old.engine self.new.engine }
-        ensures same { OnErr result ((h : List Entry) → StandsFor C.tells self.old h → StandsFor C.tells self.new h) }
+        ensures same { OnErr result ((h : List Entry) → StandsFor C.tells self.old h
+            → StandsFor C.tells self.new h) }
         ensures journaled { C.limits self.new.chronicle ≡ C.limits self.old.chronicle }
-        ensures err { IfErr result (λ e. (h : List Entry) → StandsFor C.tells self.old h → RefusesReceive e (C.limits self.old.chronicle) self.old.engine h session number message) }
+        ensures err { IfErr result (λ e. (h : List Entry) → StandsFor C.tells self.old h
+            → RefusesReceive e (C.limits self.old.chronicle) self.old.engine h
+            session number message) }
     {
         see_octets(&message);
         let position = self.chronicle.len();
@@ -319,11 +356,14 @@ impl<C: Chronicle + Drop> State<C> {
     /// The text is no policy; the journal is full, or memory ran out.
     pub fn edit(&mut self, text: &str) -> Result<u64, Fault>
         requires stands { StandsForSome C.tells self.old }
-        ensures ok { IfOk result (λ n. (h : List Entry) → StandsFor C.tells self.old h → Edits C.tells C.limits self.old h text.now n self.new) }
+        ensures ok { IfOk result (λ n. (h : List Entry) → StandsFor C.tells self.old h
+            → Edits C.tells C.limits self.old h text.now n self.new) }
         ensures untouched { IsUntouched self.old.engine self.new.engine }
-        ensures same { OnErr result ((h : List Entry) → StandsFor C.tells self.old h → StandsFor C.tells self.new h) }
+        ensures same { OnErr result ((h : List Entry) → StandsFor C.tells self.old h
+            → StandsFor C.tells self.new h) }
         ensures journaled { C.limits self.new.chronicle ≡ C.limits self.old.chronicle }
-        ensures err { IfErr result (λ e. (h : List Entry) → StandsFor C.tells self.old h → RefusesEdit e (C.limits self.old.chronicle) h text.now) }
+        ensures err { IfErr result (λ e. (h : List Entry) → StandsFor C.tells self.old h
+            → RefusesEdit e (C.limits self.old.chronicle) h text.now) }
     {
         let policy = read_policy(self.engine.alloc, text)?;
         let in_force = self.engine.with_policy(policy)?;
@@ -342,11 +382,14 @@ impl<C: Chronicle + Drop> State<C> {
     /// The text is no name, or that of a live subscription; the journal is full, or memory ran out.
     pub fn subscribe(&mut self, name: &str) -> Result<u64, Fault>
         requires stands { StandsForSome C.tells self.old }
-        ensures ok { IfOk result (λ n. (h : List Entry) → StandsFor C.tells self.old h → Subscribes C.tells C.limits self.old h name.now n self.new) }
+        ensures ok { IfOk result (λ n. (h : List Entry) → StandsFor C.tells self.old h
+            → Subscribes C.tells C.limits self.old h name.now n self.new) }
         ensures untouched { IsUntouched self.old.engine self.new.engine }
-        ensures same { OnErr result ((h : List Entry) → StandsFor C.tells self.old h → StandsFor C.tells self.new h) }
+        ensures same { OnErr result ((h : List Entry) → StandsFor C.tells self.old h
+            → StandsFor C.tells self.new h) }
         ensures journaled { C.limits self.new.chronicle ≡ C.limits self.old.chronicle }
-        ensures err { IfErr result (λ e. (h : List Entry) → StandsFor C.tells self.old h → RefusesSubscribe e (C.limits self.old.chronicle) h name.now) }
+        ensures err { IfErr result (λ e. (h : List Entry) → StandsFor C.tells self.old h
+            → RefusesSubscribe e (C.limits self.old.chronicle) h name.now) }
     {
         if !is_name(name) {
             return Err(Fault::BadName);
@@ -371,13 +414,18 @@ impl<C: Chronicle + Drop> State<C> {
         requires stands { StandsForSome C.tells self.old }
         ensures limits { self.new.engine.limits ≡ self.old.engine.limits }
         ensures audit_limit { self.new.engine.audit.limit ≡ self.old.engine.audit.limit }
-        ensures ok { OnOk result ((h : List Entry) → StandsFor C.tells self.old h → Unsubscribes C.tells C.limits self.old h sub self.new) }
-        ensures others { (q : ℕ) → q ≢ sub → place_of self.new.engine q ≡ place_of self.old.engine q }
-        ensures drained { self.new.engine.audit.standing.drained ≡ self.old.engine.audit.standing.drained }
-        ensures same { OnErr result ((h : List Entry) → StandsFor C.tells self.old h → StandsFor C.tells self.new h) }
+        ensures ok { OnOk result ((h : List Entry) → StandsFor C.tells self.old h
+            → Unsubscribes C.tells C.limits self.old h sub self.new) }
+        ensures others { (q : ℕ) → q ≢ sub
+            → place_of self.new.engine q ≡ place_of self.old.engine q }
+        ensures drained { self.new.engine.audit.standing.drained
+            ≡ self.old.engine.audit.standing.drained }
+        ensures same { OnErr result ((h : List Entry) → StandsFor C.tells self.old h
+            → StandsFor C.tells self.new h) }
         ensures untouched { OnErr result (IsUntouched self.old.engine self.new.engine) }
         ensures journaled { C.limits self.new.chronicle ≡ C.limits self.old.chronicle }
-        ensures err { IfErr result (λ e. (h : List Entry) → StandsFor C.tells self.old h → RefusesUnsubscribe e (C.limits self.old.chronicle) h sub) }
+        ensures err { IfErr result (λ e. (h : List Entry) → StandsFor C.tells self.old h
+            → RefusesUnsubscribe e (C.limits self.old.chronicle) h sub) }
     {
         if !self.engine.is_live(sub) {
             return Err(Fault::UnknownSub);
@@ -397,11 +445,14 @@ impl<C: Chronicle + Drop> State<C> {
     /// The clock stands later; the journal is full, or the audit; or memory ran out.
     pub fn advance(&mut self, t: u64) -> Result<(), Fault>
         requires stands { StandsForSome C.tells self.old }
-        ensures ok { OnOk result ((h : List Entry) → StandsFor C.tells self.old h → Advances C.tells C.limits self.old h t self.new) }
+        ensures ok { OnOk result ((h : List Entry) → StandsFor C.tells self.old h
+            → Advances C.tells C.limits self.old h t self.new) }
         ensures untouched { IsUntouched self.old.engine self.new.engine }
-        ensures same { OnErr result ((h : List Entry) → StandsFor C.tells self.old h → StandsFor C.tells self.new h) }
+        ensures same { OnErr result ((h : List Entry) → StandsFor C.tells self.old h
+            → StandsFor C.tells self.new h) }
         ensures journaled { C.limits self.new.chronicle ≡ C.limits self.old.chronicle }
-        ensures err { IfErr result (λ e. (h : List Entry) → StandsFor C.tells self.old h → RefusesAdvance e (C.limits self.old.chronicle) self.old.engine h t) }
+        ensures err { IfErr result (λ e. (h : List Entry) → StandsFor C.tells self.old h
+            → RefusesAdvance e (C.limits self.old.chronicle) self.old.engine h t) }
     {
         let last = self.engine.in_force.clock();
         if t < last {
@@ -422,9 +473,11 @@ impl<C: Chronicle + Drop> State<C> {
 
     /// Appends entries for which there is room, in memory too.
     fn append(&mut self, entries: Vec<Entry>)
-        requires room { HasRoom (C.limits self.old.chronicle) (C.count self.old.chronicle) (C.octets self.old.chronicle) entries.items }
+        requires room { HasRoom (C.limits self.old.chronicle) (C.count self.old.chronicle)
+            (C.octets self.old.chronicle) entries.items }
         requires reserved { length entries.items ≤ C.spare self.old.chronicle }
-        ensures tells { (h : List Entry) → C.tells self.old.chronicle h → C.tells self.new.chronicle (h ++ entries.items) }
+        ensures tells { (h : List Entry) → C.tells self.old.chronicle h
+            → C.tells self.new.chronicle (h ++ entries.items) }
         ensures engine { self.new.engine ≡ self.old.engine }
         ensures limits { C.limits self.new.chronicle ≡ C.limits self.old.chronicle }
     {
@@ -447,13 +500,18 @@ impl<C: Chronicle + Drop> State<C> {
     pub fn pull(&mut self, sub: u64, now: u32, target: u16) -> Result<Option<Bytes>, Fault>
         ensures limits { self.new.engine.limits ≡ self.old.engine.limits }
         ensures audit_limit { self.new.engine.audit.limit ≡ self.old.engine.audit.limit }
-        ensures ok { IfOk result (λ m. (h : List Entry) → StandsFor C.tells self.old h → Pulls C.tells self.old h sub now target m self.new) }
-        ensures others { (q : ℕ) → q ≢ sub → place_of self.new.engine q ≡ place_of self.old.engine q }
-        ensures drained { self.new.engine.audit.standing.drained ≡ self.old.engine.audit.standing.drained }
-        ensures same { OnErr result ((h : List Entry) → StandsFor C.tells self.old h → StandsFor C.tells self.new h) }
+        ensures ok { IfOk result (λ m. (h : List Entry) → StandsFor C.tells self.old h
+            → Pulls C.tells self.old h sub now target m self.new) }
+        ensures others { (q : ℕ) → q ≢ sub
+            → place_of self.new.engine q ≡ place_of self.old.engine q }
+        ensures drained { self.new.engine.audit.standing.drained
+            ≡ self.old.engine.audit.standing.drained }
+        ensures same { OnErr result ((h : List Entry) → StandsFor C.tells self.old h
+            → StandsFor C.tells self.new h) }
         ensures untouched { OnErr result (IsUntouched self.old.engine self.new.engine) }
         ensures journaled { C.limits self.new.chronicle ≡ C.limits self.old.chronicle }
-        ensures err { IfErr result (λ e. (h : List Entry) → StandsFor C.tells self.old h → RefusesPull e h sub) }
+        ensures err { IfErr result (λ e. (h : List Entry) → StandsFor C.tells self.old h
+            → RefusesPull e h sub) }
     {
         if !self.engine.is_live(sub) {
             return Err(Fault::UnknownSub);
@@ -466,8 +524,10 @@ impl<C: Chronicle + Drop> State<C> {
 
     /// How a live subscription stands; `None` where none with this number is live. It takes no memory.
     pub fn status(&self, sub: u64) -> Option<Status>
-        ensures some { IfSome result (λ s. (h : List Entry) → StandsFor C.tells self.now h → IsStatus h sub (place_of self.now.engine sub) s) }
-        ensures none { IfNone result ((h : List Entry) → StandsFor C.tells self.now h → is_live sub h ≡ false) }
+        ensures some { IfSome result (λ s. (h : List Entry) → StandsFor C.tells self.now h
+            → IsStatus h sub (place_of self.now.engine sub) s) }
+        ensures none { IfNone result ((h : List Entry) → StandsFor C.tells self.now h
+            → is_live sub h ≡ false) }
     {
         let kept = self.engine.subscriptions.get(sub)?;
         Some(Status {
@@ -517,9 +577,11 @@ impl<C: Chronicle + Drop> State<C> {
         ensures limits { self.new.engine.limits ≡ self.old.engine.limits }
         ensures audit_limit { self.new.engine.audit.limit ≡ self.old.engine.audit.limit }
         ensures ok { IfOk result (λ out. (h : List Entry) → StandsFor C.tells self.old h
-            → (out.items ≡ take most (drop self.old.engine.audit.standing.drained (audit_list h))) × StandsFor C.tells self.new h) }
+            → (out.items ≡ take most (drop self.old.engine.audit.standing.drained (audit_list h)))
+            × StandsFor C.tells self.new h) }
         ensures places { (q : ℕ) → place_of self.new.engine q ≡ place_of self.old.engine q }
-        ensures drained { IfOk result (λ out. self.new.engine.audit.standing.drained ≡ self.old.engine.audit.standing.drained + length out.items) }
+        ensures drained { IfOk result (λ out. self.new.engine.audit.standing.drained
+            ≡ self.old.engine.audit.standing.drained + length out.items) }
         ensures journaled { C.limits self.new.chronicle ≡ C.limits self.old.chronicle }
         ensures err { OnErr result (self.new ≡ self.old) }
         // Nothing to hand out takes no memory.
@@ -583,7 +645,8 @@ fn refusal(fault: PolicyFault) -> Fault
 
 /// What was judged ahead, where it is of what was read.
 fn judgement_of(ahead: Option<JudgedAhead>, reading: &Reading) -> Option<Judgement>
-    ensures { IfSome result (IsJudgementOf reading.now.meaning.header.domain reading.now.meaning.records) }
+    ensures { IfSome result
+        (IsJudgementOf reading.now.meaning.header.domain reading.now.meaning.records) }
 {
     ahead?.judgement_of(reading.header().domain, reading.records())
 }

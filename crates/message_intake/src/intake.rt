@@ -57,11 +57,13 @@ impl Intake {
     /// out, or ends inside a message; or no read is left; or memory ran out, and then what was read last is lost.
     pub fn next<R: Source>(&mut self, reader: &mut R) -> Result<Option<Vec<Bytes>>, IntakeFault>
         ensures ok { IfOk result (λ found. MatchOption found
-            (Ends self.old (R.remaining reader.old) (R.remaining reader.new) self.new)
-            (λ out. Takes self.old (R.remaining reader.old) (R.remaining reader.new) out.items self.new)) }
+            (Ends self.old (R.remaining reader.old) (R.remaining reader.new) self.new) (λ out.
+            Takes self.old (R.remaining reader.old) (R.remaining reader.new) out.items self.new)) }
         ensures sound { OnOk result (R.has_failed reader.new ≡ R.has_failed reader.old) }
-        ensures fails { IfErr result (λ e. R.has_failed reader.new ≡ reader_after e (R.has_failed reader.old)) }
-        ensures err { IfErr result (λ e. Stops e self.old (R.remaining reader.old) (R.remaining reader.new) self.new) }
+        ensures fails { IfErr result (λ e.
+            R.has_failed reader.new ≡ reader_after e (R.has_failed reader.old)) }
+        ensures err { IfErr result (λ e.
+            Stops e self.old (R.remaining reader.old) (R.remaining reader.new) self.new) }
     {
         if let Some(fault) = self.framer.fault() {
             return Err(stream_fault(fault));
@@ -82,8 +84,10 @@ impl Intake {
 
     /// The end of the stream, which is none of a message that was begun.
     fn end(&self) -> Result<Option<Vec<Bytes>>, IntakeFault>
-        ensures ok { IfOk result (λ found. (is_none found ≡ true) × (self.now.framing.pending ≡ [])) }
-        ensures err { IfErr result (λ e. (e ≡ Framing CutOff) × (0 < length self.now.framing.pending)) }
+        ensures ok { IfOk result (λ found. (is_none found ≡ true)
+            × (self.now.framing.pending ≡ [])) }
+        ensures err { IfErr result (λ e. (e ≡ Framing CutOff)
+            × (0 < length self.now.framing.pending)) }
     {
         if self.framer.pending() == 0 {
             Ok(None)
@@ -106,10 +110,13 @@ ghost use Rattle.message_intake.specs.Intake.{named};
 fn read_piece<R: Source>(reader: &mut R, buffer: &mut Vec<u8>) -> Result<usize, IntakeFault>
     requires { 0 < length buffer.old.items }
     ensures length { length buffer.new.items ≡ length buffer.old.items }
-    ensures ok { IfOk result (λ n. (n ≤ length buffer.new.items) × Consumes (R.remaining reader.old) (R.remaining reader.new) (take n buffer.new.items)) }
+    ensures ok { IfOk result (λ n. (n ≤ length buffer.new.items)
+        × Consumes (R.remaining reader.old) (R.remaining reader.new) (take n buffer.new.items)) }
     ensures end { IfOk result (λ n. n ≡ 0 → IsAtEnd (R.remaining reader.new)) }
     ensures stays { OnOk result (R.has_failed reader.new ≡ R.has_failed reader.old) }
-    ensures err { IfErr result (λ e. (e ≡ Read) × Keeps (R.remaining reader.old) (R.remaining reader.new) × (R.has_failed reader.new ≡ true)) }
+    ensures err { IfErr result (λ e. (e ≡ Read)
+        × Keeps (R.remaining reader.old) (R.remaining reader.new)
+        × (R.has_failed reader.new ≡ true)) }
 {
     match reader.read(buffer.as_mut_slice()) {
         Ok(count) => Ok(count),

@@ -72,7 +72,8 @@ impl<T: Write> Device<T> {
     /// # Errors
     /// The writer has failed; how much of the text was written before is not known.
     pub fn write_fmt<D: Display + Drop>(&mut self, text: D) -> Result<(), Failed>
-        ensures octets { OnOk result (IfSome (D.output text) (Appends (T.contents (device_inner self.old)) (T.contents (device_inner self.new)))) }
+        ensures octets { OnOk result (IfSome (D.output text)
+            (Appends (T.contents (device_inner self.old)) (T.contents (device_inner self.new)))) }
         ensures failed { FailsOnErr (device_failed self.old) (device_failed self.new) result }
     {
         match self.inner.write_fmt(text) {
@@ -86,7 +87,8 @@ impl<T: Write> Device<T> {
     /// # Errors
     /// The writer has failed.
     pub fn flush(&mut self) -> Result<(), Failed>
-        ensures octets { Keeps (T.contents (device_inner self.old)) (T.contents (device_inner self.new)) }
+        ensures octets { Keeps
+            (T.contents (device_inner self.old)) (T.contents (device_inner self.new)) }
         ensures failed { FailsOnErr (device_failed self.old) (device_failed self.new) result }
     {
         match self.inner.flush() {

@@ -40,7 +40,8 @@ pub struct WriteStopped {
 pub fn write_all<S: Sink>(sink: &mut S, octets: &[u8]) -> Result<(), WriteStopped>
     ensures ok { OnOk result (Appends (S.contents sink.old) (S.contents sink.new) octets.now) }
     ensures stays { OnOk result (S.has_failed sink.new ≡ S.has_failed sink.old) }
-    ensures err { IfErr result (λ stopped. WritesFront (S.contents sink.old) (S.contents sink.new) octets.now stopped.sent (S.has_failed sink.new)) }
+    ensures err { IfErr result (λ stopped. WritesFront (S.contents sink.old) (S.contents sink.new)
+        octets.now stopped.sent (S.has_failed sink.new)) }
 {
     let mut sent = 0;
     'writes: while sent < octets.len() {

@@ -16,7 +16,8 @@ impl Prepared {
     /// Whether more than [`MOST_COUNTS`] records count in aggregates, by what was judged on the snapshot's terms. Not where
     /// nothing was judged, or where that was taken. It looks at one number for each subscription.
     pub fn counts_too_many(&self) -> bool
-        ensures { IsTrue result → MayCountMoreThan MOST_COUNTS (domain_of self.now.message) self.now.contents.records }
+        ensures { IsTrue result
+            → MayCountMoreThan MOST_COUNTS (domain_of self.now.message) self.now.contents.records }
     {
         match &self.judgement {
             Some(judgement) => judgement.counts_more_than(MOST_COUNTS),
@@ -28,7 +29,8 @@ impl Prepared {
 impl JudgedAhead {
     /// Whether more than [`MOST_COUNTS`] records count in aggregates, by the snapshot's terms.
     pub fn counts_too_many(&self) -> bool
-        ensures { (message : List ℕ) → IsAheadOf message self.now → IsTrue result → CountsTooMany message }
+        ensures { (message : List ℕ) → IsAheadOf message self.now → IsTrue result
+            → CountsTooMany message }
     {
         self.judgement.counts_more_than(MOST_COUNTS)
     }

@@ -27,7 +27,8 @@ pub(crate) struct Found {
 /// # Errors
 /// Those of [`prepare`](crate::Prepared::prepare).
 pub(crate) fn read_by(templates: &Templates, message: &Bytes) -> Result<Found, PrepareFault>
-    ensures gives { (older : List (List ℕ)) → Knows templates.now older → Gives (λ f. held f.contents) result (prepared_from older message.now) }
+    ensures gives { (older : List (List ℕ)) → Knows templates.now older
+        → Gives (λ f. held f.contents) result (prepared_from older message.now) }
     ensures found { IfOk result (IsFound templates.now message.now) }
 {
     let octets: &[u8] = message;

@@ -63,7 +63,11 @@ impl Model for Prepared {
 
     ghost view = { λ p. record { message = p.message; contents = held p.contents; used = map seen p.uses.items } };
 
-    ghost invariant = { λ p. IsKept (record { message = p.message; contents = held p.contents; used = map seen p.uses.items }) p.header p.count
+    ghost invariant = { λ p. IsKept (record {
+      message = p.message;
+      contents = held p.contents;
+      used = map seen p.uses.items;
+    }) p.header p.count
         × IsJudged p.header (held p.contents) p.judgement };
 }
 
@@ -76,10 +80,12 @@ impl Prepared {
     /// record goes past its set; or want of memory.
     pub fn prepare(snapshot: &Snapshot, message: Bytes) -> Result<Prepared, PrepareFault>
         // The answer is what the message holds after the messages that the snapshot stands for, or which fault it has.
-        ensures gives { (older : List (List ℕ)) → Knows snapshot.now older → Gives (λ p. p.contents) result (prepared_from older message) }
+        ensures gives { (older : List (List ℕ)) → Knows snapshot.now older
+            → Gives (λ p. p.contents) result (prepared_from older message) }
         ensures whole { IfOk result (λ p. p.message ≡ message) }
         // It agrees with a session exactly where that has the snapshot's templates for the Set IDs that the message uses.
-        ensures used { IfOk result (λ p. (older : List (List ℕ)) → AgreesWith older p ↔ TablesAgree snapshot.now older message) }
+        ensures used { IfOk result (λ p. (older : List (List ℕ)) → AgreesWith older p
+            ↔ TablesAgree snapshot.now older message) }
         ensures prepared { IfOk result IsPrepared }
     {
         Prepared::prepare_in(snapshot, message, &mut Workspace::new())
@@ -94,9 +100,11 @@ impl Prepared {
         message: Bytes,
         workspace: &mut Workspace,
     ) -> Result<Prepared, PrepareFault>
-        ensures gives { (older : List (List ℕ)) → Knows snapshot.now older → Gives (λ p. p.contents) result (prepared_from older message) }
+        ensures gives { (older : List (List ℕ)) → Knows snapshot.now older
+            → Gives (λ p. p.contents) result (prepared_from older message) }
         ensures whole { IfOk result (λ p. p.message ≡ message) }
-        ensures used { IfOk result (λ p. (older : List (List ℕ)) → AgreesWith older p ↔ TablesAgree snapshot.now older message) }
+        ensures used { IfOk result (λ p. (older : List (List ℕ)) → AgreesWith older p
+            ↔ TablesAgree snapshot.now older message) }
         ensures prepared { IfOk result IsPrepared }
     {
         let Found {
@@ -150,7 +158,8 @@ impl Prepared {
 
     /// What was judged of the records on the snapshot's terms, if it wasn't taken yet. It takes no memory.
     pub fn take_judgement(&mut self) -> Option<Judgement>
-        ensures judgement { IfSome result (IsJudgementOf (domain_of self.old.message) self.old.contents.records) }
+        ensures judgement { IfSome result
+            (IsJudgementOf (domain_of self.old.message) self.old.contents.records) }
         ensures same { self.new ≡ self.old }
     {
         self.judgement.take()
@@ -166,7 +175,8 @@ impl Prepared {
             → IfOk result (λ r. meaning_of older self.now.message ≡ Ok (shown r)) }
         ensures stands { (older : List (List ℕ)) → StandsFor session.old older
             → OnOk result (StandsFor session.new (self.now.message ∷ older)) }
-        ensures stale { (older : List (List ℕ)) → StandsFor session.old older → IsStaleOnly result (AgreesWith older self.now) }
+        ensures stale { (older : List (List ℕ)) → StandsFor session.old older
+            → IsStaleOnly result (AgreesWith older self.now) }
         ensures err { OnErr result (session.new.standing ≡ session.old.standing) }
     {
         let records = self.records_in(session)?;
@@ -186,10 +196,12 @@ impl Prepared {
     /// # Errors
     /// Stale as for [`apply_to`](Prepared::apply_to); or want of memory.
     pub fn reading_in(&self, session: &Session) -> Result<Reading, ApplyFault>
-        ensures reading { (older : List (List ℕ)) → StandsFor session.now older → IfOk result (IsReadingOf older self.now.message) }
+        ensures reading { (older : List (List ℕ)) → StandsFor session.now older
+            → IfOk result (IsReadingOf older self.now.message) }
         ensures domain { IfOk result (λ r. r.meaning.header.domain ≡ domain_of self.now.message) }
         ensures records { IfOk result (λ r. r.meaning.records ≡ self.now.contents.records) }
-        ensures stale { (older : List (List ℕ)) → StandsFor session.now older → IsStaleOnly result (AgreesWith older self.now) }
+        ensures stale { (older : List (List ℕ)) → StandsFor session.now older
+            → IsStaleOnly result (AgreesWith older self.now) }
     {
         let records = self.records_in(session)?;
         Ok(session.reading_of(self.header, records, self.contents.skips))
@@ -201,8 +213,10 @@ impl Prepared {
     /// Stale as for [`apply_to`](Prepared::apply_to); or want of memory.
     fn records_in(&self, session: &Session) -> Result<Records, ApplyFault>
         ensures records { IfOk result (λ r. r ≡ self.now.contents.records) }
-        ensures agrees { (older : List (List ℕ)) → StandsFor session.now older → OnOk result (AgreesWith older self.now) }
-        ensures stale { (older : List (List ℕ)) → StandsFor session.now older → IsStaleOnly result (AgreesWith older self.now) }
+        ensures agrees { (older : List (List ℕ)) → StandsFor session.now older
+            → OnOk result (AgreesWith older self.now) }
+        ensures stale { (older : List (List ℕ)) → StandsFor session.now older
+            → IsStaleOnly result (AgreesWith older self.now) }
     {
         if !self.agrees_with(session) {
             return Err(ApplyFault::Stale);
@@ -212,7 +226,8 @@ impl Prepared {
 
     /// Whether each ID of the message has the same template in the session, or none.
     pub fn agrees_with(&self, session: &Session) -> bool
-        ensures agrees { (older : List (List ℕ)) → StandsFor session.now older → IsTrue result ↔ AgreesWith older self.now }
+        ensures agrees { (older : List (List ℕ)) → StandsFor session.now older
+            → IsTrue result ↔ AgreesWith older self.now }
         ensures prepared { IsPrepared self.now }
     {
         are_in_force(&self.uses, self.header.domain, session)

@@ -45,7 +45,8 @@ impl Snapshot {
     pub fn of(session: &Session) -> Result<Snapshot, AllocError>
         ensures same { IfOk result (λ s. s ≡ session.now.standing.templates) }
         // After the messages that the session stands for these templates are in force.
-        ensures knows { (older : List (List ℕ)) → StandsFor session.now older → IfOk result (λ s. Knows s older) }
+        ensures knows { (older : List (List ℕ)) → StandsFor session.now older
+            → IfOk result (λ s. Knows s older) }
     {
         Ok(Snapshot {
             templates: session.templates()?,

@@ -33,7 +33,8 @@ impl Used {
 
     /// Whether the ID has the same template in a domain of a session, or none.
     fn is_in_force(&self, domain: u32, session: &Session) -> bool
-        ensures { (older : List (List ℕ)) → StandsFor session.now older → IsTrue result ↔ IsInForce domain older (seen self.now) }
+        ensures { (older : List (List ℕ)) → StandsFor session.now older
+            → IsTrue result ↔ IsInForce domain older (seen self.now) }
     {
         are_same(session.template(domain, self.id), self.template())
     }
@@ -54,7 +55,8 @@ fn are_same(kept: Option<&Template>, used: Option<&Template>) -> bool
 
 /// Whether all these IDs have the same templates in a domain of a session.
 pub(crate) fn are_in_force(uses: &[Used], domain: u32, session: &Session) -> bool
-    ensures { (older : List (List ℕ)) → StandsFor session.now older → IsTrue result ↔ AreInForce domain older (map seen uses.now) }
+    ensures { (older : List (List ℕ)) → StandsFor session.now older
+        → IsTrue result ↔ AreInForce domain older (map seen uses.now) }
 {
     for used in uses {
         if !used.is_in_force(domain, session) {
@@ -75,7 +77,8 @@ pub(crate) fn used_by(
     domain: u32,
     said: &[Item],
 ) -> Result<Vec<Used>, AllocError>
-    ensures { IfOk result (λ uses. map seen uses.items ≡ used_by (known_in domain templates.now) None said.now) }
+    ensures { IfOk result (λ uses.
+        map seen uses.items ≡ used_by (known_in domain templates.now) None said.now) }
 {
     let mut uses = Vec::new(alloc);
     let mut before = None;
@@ -97,8 +100,9 @@ fn put_used(
     before: &mut Option<u16>,
     uses: &mut Vec<Used>,
 ) -> Result<(), AllocError>
-    ensures { OnOk result ((items : List Item) → map seen uses.new.items ++ used_by (known_in domain templates.now) before.new items
-        ≡ map seen uses.old.items ++ used_by (known_in domain templates.now) before.old (item.now ∷ items)) }
+    ensures { OnOk result ((items : List Item) → map seen uses.new.items
+        ++ used_by (known_in domain templates.now) before.new items ≡ map seen uses.old.items
+        ++ used_by (known_in domain templates.now) before.old (item.now ∷ items)) }
 {
     match data_set_of(item) {
         Some(id) if !is_again(*before, id) => {

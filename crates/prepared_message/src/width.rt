@@ -77,7 +77,8 @@ fn are_too_wide(
     most: u64,
 ) -> Result<bool, AllocError>
     requires few { most < 2 ^ 64 - 1 }
-    ensures { IfOk result (λ wide. IsTrue wide ↔ (most < values_of (widths_in domain templates.now) said.now)) }
+    ensures { IfOk result (λ wide. IsTrue wide
+        ↔ (most < values_of (widths_in domain templates.now) said.now)) }
 {
     let mut given = BTreeMap::new(alloc);
     let mut left = most;
@@ -102,7 +103,8 @@ fn are_too_wide(
 /// # Errors
 /// Want of memory.
 fn give(given: &mut BTreeMap<u16, Width>, id: u16, width: Width) -> Result<(), AllocError>
-    ensures { OnOk result ((other : ℕ) → get nat_cmp given.new other ≡ (if other == id then Some width else get nat_cmp given.old other)) }
+    ensures { OnOk result ((other : ℕ) → get nat_cmp given.new other ≡ (if other == id
+        then Some width else get nat_cmp given.old other)) }
 {
     given.insert(id, width)?;
     Ok(())
@@ -116,7 +118,8 @@ fn values_of_set(
     id: u16,
     octets: usize,
 ) -> u64
-    ensures { result ≡ min (2 ^ 64 - 1) (set_values (given_or (get nat_cmp given.now) (widths_in domain templates.now) id) octets) }
+    ensures { result ≡ min (2 ^ 64 - 1)
+        (set_values (given_or (get nat_cmp given.now) (widths_in domain templates.now) id) octets) }
 {
     let width = match given.get(&id) {
         Some(width) => Some(*width),

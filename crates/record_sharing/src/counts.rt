@@ -16,9 +16,13 @@ impl Judgement {
     /// Whether more than so many records count in aggregates, by its terms, added up over all subscriptions. It looks at one
     /// number for each subscription.
     pub fn counts_more_than(&self, most: u64) -> bool
-        ensures exact { (domain : ℕ) (f : InForce) (records : List DataRecord) (served : List Served) (notes : ℕ) → IsJudgementOf domain records self.now
-            → arc_value self.now.terms ≡ terms_of f served notes → IsTrue result ↔ (most < counts_in_all domain f records served) }
-        ensures some { (domain : ℕ) (records : List DataRecord) → IsJudgementOf domain records self.now → IsTrue result → MayCountMoreThan most domain records }
+        ensures exact { (domain : ℕ) (f : InForce) (records : List DataRecord)
+            (served : List Served) (notes : ℕ) → IsJudgementOf domain records self.now
+            → arc_value self.now.terms ≡ terms_of f served notes
+            → IsTrue result ↔ (most < counts_in_all domain f records served) }
+        ensures some { (domain : ℕ) (records : List DataRecord)
+            → IsJudgementOf domain records self.now → IsTrue result
+            → MayCountMoreThan most domain records }
     {
         add_more_than(&self.shares.tallies, most)
     }

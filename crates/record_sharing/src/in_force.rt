@@ -222,7 +222,8 @@ impl InForce {
 
 /// Drops what is kept where it is as much as may be, of so many subscriptions each.
 fn make_room(kept: &mut Vec<Judges>, subscriptions: usize)
-    ensures { (rules : List Rule) → All (AreReady rules) kept.old.items → All (AreReady rules) kept.new.items }
+    ensures { (rules : List Rule) → All (AreReady rules) kept.old.items
+        → All (AreReady rules) kept.new.items }
 {
     if kept.len() >= MOST_KEPT || kept.len().saturating_mul(subscriptions) >= MOST_PLANS {
         kept.clear();

@@ -31,7 +31,8 @@ impl Judgement {
     /// judged.
     pub fn shares_by(self, in_force: &InForce, served: &[Served<'_>], most: u64) -> Option<Shares>
         ensures due { IsSome result ↔ arc_value self.terms ≡ terms_of in_force.now served.now most }
-        ensures shares { (domain : ℕ) (records : List DataRecord) → IsJudgementOf domain records self
+        ensures shares { (domain : ℕ) (records : List DataRecord)
+            → IsJudgementOf domain records self
             → IfSome result (AreSharesOf domain records in_force.now served.now most) }
     {
         let Judgement { terms, shares } = self;

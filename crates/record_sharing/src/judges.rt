@@ -62,7 +62,14 @@ impl Judges {
         domain: u32,
     ) -> Judges
         requires { HaveCuts (arc_value classes) (arc_value table) }
-        ensures { result ≡ record { rules = arc_value table; cuts = arc_value classes; domain = domain; template = None; fors = []; shares = [] } }
+        ensures { result ≡ record {
+          rules = arc_value table;
+          cuts = arc_value classes;
+          domain = domain;
+          template = None;
+          fors = [];
+          shares = [];
+        } }
     {
         Judges {
             table,
@@ -78,7 +85,11 @@ impl Judges {
     /// # Errors
     /// Want of memory.
     pub(crate) fn add(&mut self, alloc: Global, sub: u64, name: &str) -> Result<(), AllocError>
-        ensures { OnOk result (self.new ≡ record self.old { fors = self.old.fors ++ plans_for self.old.rules self.old.cuts self.old.domain None name.now ∷ []; shares = self.old.shares ++ (sub, []) ∷ [] }) }
+        ensures { OnOk result (self.new ≡ record self.old {
+          fors = self.old.fors
+              ++ plans_for self.old.rules self.old.cuts self.old.domain None name.now ∷ [];
+          shares = self.old.shares ++ (sub, []) ∷ [];
+        }) }
     {
         let (table, classes) = (self.table.clone()?, self.classes.classes().clone()?);
         let plans = Plans::new(alloc, table, classes, name, self.domain)?;
@@ -95,7 +106,10 @@ impl Judges {
         alloc: Global,
         template: &Arc<Template>,
     ) -> Result<(), AllocError>
-        ensures { OnOk result (self.new ≡ record self.old { template = Some (arc_value template.now); fors = map (of_template (arc_value template.now)) self.old.fors }) }
+        ensures { OnOk result (self.new ≡ record self.old {
+          template = Some (arc_value template.now);
+          fors = map (of_template (arc_value template.now)) self.old.fors;
+        }) }
     {
         if !self.is_for(template) {
             self.places = Some(AddressPlaces::of(alloc, template.clone()?)?);
@@ -138,12 +152,18 @@ impl Judges {
         flow_record: &RecordView<'_>,
     ) -> Result<Decision, AllocError>
         requires there { place < length self.old.fors }
-        requires template { (p : PlansFor) → slice_get self.old.fors place ≡ Some p → p.template ≡ Some flow_record.now.template }
-        requires cuts { (p : PlansFor) → slice_get self.old.fors place ≡ Some p → p.cuts ≡ self.old.cuts }
+        requires template { (p : PlansFor) → slice_get self.old.fors place ≡ Some p
+            → p.template ≡ Some flow_record.now.template }
+        requires cuts { (p : PlansFor) → slice_get self.old.fors place ≡ Some p
+            → p.cuts ≡ self.old.cuts }
         requires classes { classes ≡ classes_of self.old.cuts flow_record.now }
-        ensures decision { (p : PlansFor) → slice_get self.old.fors place ≡ Some p → IfOk result (λ d. d ≡ decision_of (outcome_for p flow_record.now)) }
-        ensures given { (p : PlansFor) (before after : List (ℕ × List DataRecord)) (s : ℕ × List DataRecord) → slice_get self.old.fors place ≡ Some p → self.old.shares ≡ before ++ s ∷ after → length before ≡ place
-            → OnOk result (self.new.shares ≡ before ++ (s.0, s.1 ++ passed (outcome_for p flow_record.now)) ∷ after) }
+        ensures decision { (p : PlansFor) → slice_get self.old.fors place ≡ Some p
+            → IfOk result (λ d. d ≡ decision_of (outcome_for p flow_record.now)) }
+        ensures given { (p : PlansFor) (before after : List (ℕ × List DataRecord))
+            (s : ℕ × List DataRecord) → slice_get self.old.fors place ≡ Some p
+            → self.old.shares ≡ before ++ s ∷ after
+            → length before ≡ place → OnOk result (self.new.shares
+            ≡ before ++ (s.0, s.1 ++ passed (outcome_for p flow_record.now)) ∷ after) }
         ensures fors { self.new.fors ≡ self.old.fors }
         ensures template { self.new.template ≡ self.old.template }
         ensures cuts { self.new.cuts ≡ self.old.cuts }
@@ -180,7 +200,8 @@ impl Judges {
     /// Want of memory.
     pub(crate) fn take_shares(&mut self, alloc: Global) -> Result<Vec<Share>, AllocError>
         ensures shares { IfOk result (λ shares. map shown shares.items ≡ self.old.shares) }
-        ensures taken { OnOk result (self.new ≡ record self.old { shares = map emptied self.old.shares }) }
+        ensures taken { OnOk result
+            (self.new ≡ record self.old { shares = map emptied self.old.shares }) }
     {
         take_shares(alloc, &mut self.judges)
     }
@@ -196,7 +217,8 @@ pub(crate) fn place_for(
     served: &[Served<'_>],
 ) -> Option<usize>
     ensures within { IfSome result (λ place. place < length kept.now) }
-    ensures found { IfSome result (λ place. (judges : JudgesOf) → slice_get kept.now place ≡ Some judges → AreFor judges domain served.now) }
+    ensures found { IfSome result (λ place. (judges : JudgesOf)
+        → slice_get kept.now place ≡ Some judges → AreFor judges domain served.now) }
 {
     'kept: for place in 0..kept.len() {
         if kept[place].are_for(domain, served) && kept[place].expect(runs) {
@@ -211,7 +233,8 @@ pub(crate) fn place_for(
 /// # Errors
 /// Want of memory.
 fn begin_each(judges: &mut Vec<Judge>, template: &Arc<Template>) -> Result<(), AllocError>
-    ensures fors { OnOk result (map for_of judges.new.items ≡ map (of_template (arc_value template.now)) (map for_of judges.old.items)) }
+    ensures fors { OnOk result (map for_of judges.new.items
+        ≡ map (of_template (arc_value template.now)) (map for_of judges.old.items)) }
     ensures shares { OnOk result (map given_to judges.new.items ≡ map given_to judges.old.items) }
 {
     'judges: for place in 0..judges.len() {
@@ -225,9 +248,11 @@ fn begin_each(judges: &mut Vec<Judge>, template: &Arc<Template>) -> Result<(), A
 /// # Errors
 /// Want of memory.
 fn take_shares(alloc: Global, judges: &mut Vec<Judge>) -> Result<Vec<Share>, AllocError>
-    ensures shares { IfOk result (λ shares. map shown shares.items ≡ map given_to judges.old.items) }
+    ensures shares { IfOk result (λ shares.
+        map shown shares.items ≡ map given_to judges.old.items) }
     ensures fors { OnOk result (map for_of judges.new.items ≡ map for_of judges.old.items) }
-    ensures taken { OnOk result (map given_to judges.new.items ≡ map emptied (map given_to judges.old.items)) }
+    ensures taken { OnOk result (map given_to judges.new.items
+        ≡ map emptied (map given_to judges.old.items)) }
 {
     let mut shares = Vec::new(alloc);
     'judges: for place in 0..judges.len() {
@@ -239,8 +264,10 @@ fn take_shares(alloc: Global, judges: &mut Vec<Judge>) -> Result<Vec<Share>, All
 
 /// Whether these judge the records of a domain, for these subscriptions.
 fn are_for(judges: &[Judge], domain: u32, served: &[Served<'_>]) -> bool
-    ensures whose { result ≡ true → map whose (map for_of judges.now) ≡ map (λ who. (domain, who.name.now)) served.now }
-    ensures subs { result ≡ true → map (λ s. s.0) (map given_to judges.now) ≡ map (λ who. who.sub) served.now }
+    ensures whose { result ≡ true
+        → map whose (map for_of judges.now) ≡ map (λ who. (domain, who.name.now)) served.now }
+    ensures subs { result ≡ true
+        → map (λ s. s.0) (map given_to judges.now) ≡ map (λ who. who.sub) served.now }
 {
     if judges.len() != served.len() {
         return false;

@@ -50,7 +50,8 @@ impl Model for Revision {
 
     ghost view = { λ r. r.policy };
 
-    ghost invariant = { λ r. IsKept r.policy (string_bytes r.text) (arc_value r.table) (arc_value r.classes) r.definitions.items };
+    ghost invariant = { λ r. IsKept r.policy (string_bytes r.text) (arc_value r.table)
+        (arc_value r.classes) r.definitions.items };
 }
 
 impl Revision {
@@ -111,7 +112,8 @@ impl Revision {
 }
 
 fn definitions_of(alloc: Global, aggregates: &[AggregateDef]) -> Result<Vec<Definition>, AllocError>
-    requires { AllByRecursion (λ a. AllByRecursion (λ e. is_key_kind (kind_of e) ≡ true) a.key) aggregates.now }
+    requires { AllByRecursion (λ a. AllByRecursion (λ e. is_key_kind (kind_of e) ≡ true) a.key)
+        aggregates.now }
     ensures { IfOk result (λ v. v.items ≡ aggregates.now) }
 {
     let mut definitions = Vec::new(alloc);

@@ -50,9 +50,12 @@ impl Shares {
         most: u64,
     ) -> Result<Shares, AllocError>
         requires few { length records.now ≤ 2 ^ 32 }
-        ensures shares { IfOk result (λ s. map shown s.shares.items ≡ shares_of domain in_force.old records.now served.now) }
-        ensures tallies { IfOk result (λ s. map tallied s.tallies.items ≡ tallies_of domain in_force.old records.now served.now) }
-        ensures notes { IfOk result (λ s. s.notes ≡ kept_of most (notes_of domain in_force.old records.now served.now)) }
+        ensures shares { IfOk result (λ s.
+            map shown s.shares.items ≡ shares_of domain in_force.old records.now served.now) }
+        ensures tallies { IfOk result (λ s.
+            map tallied s.tallies.items ≡ tallies_of domain in_force.old records.now served.now) }
+        ensures notes { IfOk result (λ s.
+            s.notes ≡ kept_of most (notes_of domain in_force.old records.now served.now)) }
         ensures stay { in_force.new ≡ in_force.old }
     {
         let mut judges = in_force.judges(alloc, domain, records.runs(), served)?;
@@ -109,9 +112,12 @@ impl Sums {
         requires judges { JudgesAny judges.old in_force.now domain served.now }
         requires blank { judges.old.shares ≡ map blank served.now }
         requires blank_tallies { map tallied self.old.tallies.items ≡ map blank served.now }
-        ensures shares { OnOk result (judges.new.shares ≡ shares_of domain in_force.now (records_in runs.now) served.now) }
-        ensures tallies { OnOk result (map tallied self.new.tallies.items ≡ tallies_of domain in_force.now (records_in runs.now) served.now) }
-        ensures notes { OnOk result (self.new.notes ≡ and_more self.old.notes (notes_of domain in_force.now (records_in runs.now) served.now)) }
+        ensures shares { OnOk result (judges.new.shares
+            ≡ shares_of domain in_force.now (records_in runs.now) served.now) }
+        ensures tallies { OnOk result (map tallied self.new.tallies.items
+            ≡ tallies_of domain in_force.now (records_in runs.now) served.now) }
+        ensures notes { OnOk result (self.new.notes ≡ and_more self.old.notes (notes_of domain
+            in_force.now (records_in runs.now) served.now)) }
         ensures judges { OnOk result (JudgesAny judges.new in_force.now domain served.now) }
     {
         let mut before = 0;
@@ -137,11 +143,17 @@ impl Sums {
         requires judges { JudgesAny judges.old in_force.now domain served.now }
         requires each { length judges.old.shares ≡ length served.now }
         requires each_tally { length self.old.tallies.items ≡ length served.now }
-        ensures shares { (done : List DataRecord) → judges.old.shares ≡ shares_of domain in_force.now done served.now
-            → OnOk result (judges.new.shares ≡ shares_of domain in_force.now (done ++ records_of run.now) served.now) }
-        ensures tallies { (done : List DataRecord) → map tallied self.old.tallies.items ≡ tallies_of domain in_force.now done served.now
-            → OnOk result (map tallied self.new.tallies.items ≡ tallies_of domain in_force.now (done ++ records_of run.now) served.now) }
-        ensures notes { OnOk result (self.new.notes ≡ and_more self.old.notes (flat_map (noted_of_each domain in_force.now served.now) (enumerate_from before (records_of run.now)))) }
+        ensures shares { (done : List DataRecord)
+            → judges.old.shares ≡ shares_of domain in_force.now done served.now
+            → OnOk result (judges.new.shares
+            ≡ shares_of domain in_force.now (done ++ records_of run.now) served.now) }
+        ensures tallies { (done : List DataRecord)
+            → map tallied self.old.tallies.items ≡ tallies_of domain in_force.now done served.now
+            → OnOk result (map tallied self.new.tallies.items
+            ≡ tallies_of domain in_force.now (done ++ records_of run.now) served.now) }
+        ensures notes { OnOk result (self.new.notes
+            ≡ and_more self.old.notes (flat_map (noted_of_each domain in_force.now served.now)
+            (enumerate_from before (records_of run.now)))) }
         ensures judges { OnOk result (JudgesAny judges.new in_force.now domain served.now) }
         ensures stay { OnOk result (length judges.new.shares ≡ length served.now) }
         ensures stay_tallies { OnOk result (length self.new.tallies.items ≡ length served.now) }
@@ -167,17 +179,24 @@ impl Sums {
         flow_record: &RecordView<'_>,
         served: &[Served<'_>],
     ) -> Result<(), AllocError>
-        requires judges { JudgeFor judges.old in_force.now domain (Some flow_record.now.template) served.now }
+        requires judges { JudgeFor judges.old in_force.now domain
+            (Some flow_record.now.template) served.now }
         requires each { length judges.old.shares ≡ length served.now }
         requires each_tally { length self.old.tallies.items ≡ length served.now }
-        ensures shares { (done : List DataRecord) → judges.old.shares ≡ shares_of domain in_force.now done served.now
-            → OnOk result (judges.new.shares ≡ shares_of domain in_force.now (done ++ flow_record.now ∷ []) served.now) }
-        ensures tallies { (done : List DataRecord) → map tallied self.old.tallies.items ≡ tallies_of domain in_force.now done served.now
-            → OnOk result (map tallied self.new.tallies.items ≡ tallies_of domain in_force.now (done ++ flow_record.now ∷ []) served.now) }
-        ensures judges { OnOk result (JudgeFor judges.new in_force.now domain (Some flow_record.now.template) served.now) }
+        ensures shares { (done : List DataRecord)
+            → judges.old.shares ≡ shares_of domain in_force.now done served.now
+            → OnOk result (judges.new.shares
+            ≡ shares_of domain in_force.now (done ++ flow_record.now ∷ []) served.now) }
+        ensures tallies { (done : List DataRecord)
+            → map tallied self.old.tallies.items ≡ tallies_of domain in_force.now done served.now
+            → OnOk result (map tallied self.new.tallies.items
+            ≡ tallies_of domain in_force.now (done ++ flow_record.now ∷ []) served.now) }
+        ensures judges { OnOk result (JudgeFor judges.new in_force.now domain
+            (Some flow_record.now.template) served.now) }
         ensures stay { OnOk result (length judges.new.shares ≡ length served.now) }
         ensures stay_tallies { OnOk result (length self.new.tallies.items ≡ length served.now) }
-        ensures notes { OnOk result (self.new.notes ≡ and_more self.old.notes (noted_of_each domain in_force.now served.now (index, flow_record.now))) }
+        ensures notes { OnOk result (self.new.notes ≡ and_more self.old.notes (noted_of_each domain
+            in_force.now served.now (index, flow_record.now))) }
     {
         let classes = judges.classes_of(flow_record);
         'served: for (place, who) in served.iter().enumerate() {
@@ -199,10 +218,18 @@ impl Sums {
         found: Decision,
     ) -> Result<(), AllocError>
         requires within { place < length self.old.tallies.items }
-        ensures tallies { (before after : List (ℕ × List OneCount)) (s : ℕ × List OneCount) → map tallied self.old.tallies.items ≡ before ++ s ∷ after → length before ≡ place
-            → OnOk result (map tallied self.new.tallies.items ≡ before ++ (s.0, s.1 ++ map count_of (counts_by in_force.now.policy.aggregates in_force.now.clock flow_record.now found)) ∷ after) }
+        ensures tallies { (before after : List (ℕ × List OneCount)) (s : ℕ × List OneCount)
+            → map tallied self.old.tallies.items ≡ before ++ s ∷ after → length before ≡ place
+            → OnOk result (map tallied self.new.tallies.items ≡ before ++ (
+              s.0,
+              s.1 ++ map count_of (counts_by in_force.now.policy.aggregates
+                  in_force.now.clock flow_record.now found),
+            ) ∷ after) }
         ensures stay { OnOk result (length self.new.tallies.items ≡ length self.old.tallies.items) }
-        ensures notes { OnOk result (self.new.notes ≡ and_more self.old.notes (map (note_of index sub) (kept_back_by in_force.now.policy.aggregates in_force.now.clock flow_record.now found))) }
+        ensures notes { OnOk result (self.new.notes
+            ≡ and_more self.old.notes (map (note_of index sub)
+            (kept_back_by in_force.now.policy.aggregates in_force.now.clock
+            flow_record.now found))) }
     {
         match found {
             Decision::Passed { removed } => self.note_removed(index, sub, removed),
@@ -225,8 +252,10 @@ impl Sums {
     /// Adds what counts to the aggregates of the subscription at a place.
     fn tally(&mut self, place: usize, count: Count) -> Result<(), AllocError>
         requires within { place < length self.old.tallies.items }
-        ensures tallies { (before after : List (ℕ × List OneCount)) (s : ℕ × List OneCount) → map tallied self.old.tallies.items ≡ before ++ s ∷ after → length before ≡ place
-            → OnOk result (map tallied self.new.tallies.items ≡ before ++ (s.0, s.1 ++ count ∷ []) ∷ after) }
+        ensures tallies { (before after : List (ℕ × List OneCount)) (s : ℕ × List OneCount)
+            → map tallied self.old.tallies.items ≡ before ++ s ∷ after
+            → length before ≡ place → OnOk result (map tallied self.new.tallies.items
+            ≡ before ++ (s.0, s.1 ++ count ∷ []) ∷ after) }
         ensures stay { OnOk result (length self.new.tallies.items ≡ length self.old.tallies.items) }
         ensures notes { self.new.notes ≡ self.old.notes }
     {
@@ -241,7 +270,8 @@ impl Sums {
         sub: u64,
         removed: RemovedFields,
     ) -> Result<(), AllocError>
-        ensures notes { OnOk result (self.new.notes ≡ and_more self.old.notes (map (note_of index sub) (removed_of removed))) }
+        ensures notes { OnOk result (self.new.notes
+            ≡ and_more self.old.notes (map (note_of index sub) (removed_of removed))) }
         ensures tallies { self.new.tallies ≡ self.old.tallies }
     {
         if removed.is_empty() {
@@ -251,7 +281,8 @@ impl Sums {
     }
 
     fn note(&mut self, index: u32, sub: u64, what: What) -> Result<(), AllocError>
-        ensures notes { OnOk result (self.new.notes ≡ and_more self.old.notes (note_of index sub what ∷ [])) }
+        ensures notes { OnOk result (self.new.notes
+            ≡ and_more self.old.notes (note_of index sub what ∷ [])) }
         ensures tallies { self.new.tallies ≡ self.old.tallies }
     {
         self.notes.push(Note { index, sub, what })
