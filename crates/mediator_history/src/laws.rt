@@ -40,8 +40,9 @@ pub fn open_since_opened()
 
 /// A subscription that was cut, or that ended, is served no more; and no entry gives a subscription anything that is not served.
 pub fn cut_ends_serving()
-    ensures serves_no_more { (sub : ℕ) (h : List Entry) → (is_served sub (h ++ Cut sub ∷ [])
-        ≡ false) × (is_served sub (h ++ Unsubscribe sub ∷ []) ≡ false) }
+    ensures serves_no_more { (sub : ℕ) (h : List Entry)
+        → (is_served sub (h ++ Cut sub ∷ []) ≡ false)
+        × (is_served sub (h ++ Unsubscribe sub ∷ []) ≡ false) }
     ensures gives_nothing { (sub : ℕ) (h : List Entry) (e : Entry) → is_served sub h ≡ false
         → given_at sub h e ≡ [] }
 {}
