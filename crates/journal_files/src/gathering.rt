@@ -1,4 +1,4 @@
-//! Gathering octets from a source.
+//! Gathering the octets of one entry from a source, and none past them.
 ghost use Rattle.std.specs.Prelude.{◌≡◌, ◌+◌, ◌<◌, ◌≤◌, true, length, vec_len, OnOk, OnErr, IfOk, IfErr, IfSome};
 ghost use Rattle.std.specs.Io.KnownBytes.{IsAtEnd};
 ghost use Rattle.journal_files.specs.Gathering.{Gathers, IsFilled, Skips};
@@ -14,11 +14,12 @@ use octet_devices::{Failed, Source};
 /// The most octets of one read.
 const PIECE: usize = 65_536;
 
-/// Puts octets from a source behind those that are held, until so many are held, and says whether there are. It reads no
-/// octet past them.
+/// Reads octets of `source` to behind those in `held`, until that has `wanted` octets, and answers whether it has. It
+/// reads no octet past them, and `false` comes only at the source's end. `piece` is where each read puts its octets
+/// first, at most 65,536 at a time.
 ///
 /// # Errors
-/// The source failed, or memory ran out.
+/// The source failed, or want of memory. In both cases octets may have been read that are lost.
 pub(crate) fn fill<R: Source>(
     source: &mut R,
     wanted: usize,
@@ -45,10 +46,11 @@ pub(crate) fn fill<R: Source>(
     Ok(true)
 }
 
-/// Reads once, and puts at most so many octets behind those that are held; none only at the end.
+/// Reads once from `source` into `piece`, and puts what came, at most `room` octets, behind those in `held`. It answers
+/// how many octets came: none only at the source's end.
 ///
 /// # Errors
-/// The source failed, or memory ran out.
+/// The source failed, or want of memory. In both cases octets may have been read that are lost.
 fn read_piece<R: Source>(
     source: &mut R,
     room: usize,
@@ -80,10 +82,13 @@ ghost use Rattle.event_journal.specs.declared.limits.TheConstants.{MOST_OCTETS};
 ghost use Rattle.journal_files.specs.Gathering.{front_octets, announced};
 ghost use Rattle.journal_files.specs.Streaming.{Place, IsGathered, StopsReading, next_of};
 
-/// Gathers the octets of one entry, and none past them; or fewer where the source ends, or where they are of no entry.
+/// Reads into `held`, which is empty, the octets of the next entry of `source`, and none past them; or fewer where the
+/// source ends before, or where they are of no entry. `piece` is where each read puts its octets first.
 ///
 /// # Errors
-/// The source failed, or memory ran out; or the entry is past the greatest limits, and its octets are not held.
+/// The source failed; or want of memory; or the entry announces more octets than a journal may have: then these are
+/// read and not held, so that the fault is `BadEntry` where they are there, and `Truncated` where the source ends
+/// before.
 pub(crate) fn gather<R: Source>(
     source: &mut R,
     piece: &mut Vec<u8>,
@@ -116,7 +121,8 @@ pub(crate) fn gather<R: Source>(
     Ok(())
 }
 
-/// The octets of a kind before what it announces, if there is such a kind.
+/// How many octets an entry of this `kind` has before the message, text or name whose length it announces, or `None`
+/// where there is no such kind.
 #[tactic(auto, unfolding(crate::specs::Gathering::front_octets))]
 fn front_of_kind(kind: u8) -> Option<usize>
     ensures value { result ≡ front_octets kind }
@@ -130,7 +136,8 @@ fn front_of_kind(kind: u8) -> Option<usize>
     }
 }
 
-/// How many octets an entry announces in its front.
+/// The length that an entry of this `kind` announces in its `front`: the octets of its message, text or name, or 0
+/// where it has none.
 #[tactic(auto, unfolding(crate::specs::Gathering::announced, crate::specs::Gathering::front_octets))]
 fn announced_by(kind: u8, front: &[u8]) -> u64
     requires { IfSome (front_octets kind) (λ n. n ≤ length front.now) }
@@ -146,11 +153,12 @@ fn announced_by(kind: u8, front: &[u8]) -> u64
     }
 }
 
-/// Reads so many octets and keeps none, and says which fault an entry has that is so long: the file is cut off in it, or
-/// it is past the limits.
+/// Reads `count` octets of `source` and keeps none, and answers which fault an entry has that is so long: `BadEntry`,
+/// since it is past the limits, or `Truncated`, where the source ends before. `piece` is where each read puts its
+/// octets.
 ///
 /// # Errors
-/// The source failed, or memory ran out.
+/// The source failed, or want of memory. In both cases octets may have been read that are lost.
 fn skip<R: Source>(
     source: &mut R,
     count: u64,
