@@ -49,8 +49,8 @@ impl Marks {
     ///
     /// # Errors
     /// The position of the first of these receipts that is none: its entry doesn't stand at its position, or that is
-    /// before `from`, or not behind the receipt before it in `kept`, or it was marked before. The marks of the receipts
-    /// before it are set then.
+    /// before `from`, or not behind the receipt before it in `kept`, or it was marked before. The marks of receipts
+    /// before it may be set then.
     pub fn mark(&mut self, journal: &Journal, kept: &[KeptEntry]) -> Result<(), u64>
         ensures from { self.new.from ≡ self.old.from }
         ensures ok { OnOk result ((handles : List (List KeptEntry))
