@@ -1,4 +1,4 @@
-//! How many records of a message count in aggregates.
+//! How many of the records that were judged count in aggregates.
 ghost use Rattle.std.specs.Prelude.{◌≡◌, ◌↔◌, ◌<◌, ℕ, List, map, IsTrue};
 ghost use Rattle.std.specs.Arc.{arc_value};
 ghost use Rattle.ipfix_template.specs.DataRecord.{DataRecord};
@@ -13,8 +13,8 @@ use crate::judgement::Judgement;
 use running_groups::Tally;
 
 impl Judgement {
-    /// Whether more than so many records count in aggregates, by its terms, added up over all subscriptions. It looks at one
-    /// number for each subscription.
+    /// Whether more than `most` records count in aggregates, by the terms of the judgement, where a record counts once
+    /// for each subscription in one of whose aggregates it is placed. It looks at one number for each subscription.
     pub fn counts_more_than(&self, most: u64) -> bool
         ensures exact { (domain : ℕ) (f : InForce) (records : List DataRecord)
             (served : List Served) (notes : ℕ) → IsJudgementOf domain records self.now
@@ -28,7 +28,7 @@ impl Judgement {
     }
 }
 
-/// Whether more than this is added to aggregates, for all subscriptions together.
+/// Whether `tallies` have more than `most` records together.
 fn add_more_than(tallies: &[Tally], most: u64) -> bool
     ensures { IsTrue result ↔ (most < total_of (map tallied tallies.now)) }
 {
