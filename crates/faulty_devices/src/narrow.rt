@@ -1,3 +1,4 @@
+//! A writer that takes few octets at a call, and fails at one of its calls.
 ghost use Rattle.std.specs.Prelude.{◌≡◌, ◌≢◌, ◌≤◌, ◌+◌, [], Some, IsOk, IfOk, IfErr, length, min, vec_len, vec_capacity};
 ghost use Rattle.std.specs.Io.{WritesAtMost};
 ghost use Rattle.std.specs.Io.KnownBytes.{Keeps, WriteAppends};
@@ -8,8 +9,8 @@ use crate::schedule::Schedule;
 use std::alloc::{AllocError, Global};
 use std::io::{self, ErrorKind, Write};
 
-/// A writer that takes few octets at a call, and fails at one of its calls. It keeps what it took. A
-/// flush does nothing, and is no call.
+/// A writer that takes few octets at a call, and fails at one of its calls. It keeps what it took. A flush does
+/// nothing, and is no call.
 #[derive(Drop)]
 pub struct Narrow {
     /// What was written.
@@ -19,8 +20,12 @@ pub struct Narrow {
 }
 
 impl Narrow {
-    /// A writer that has taken nothing, with room for so many octets: a write into that room takes no
-    /// memory. Fails only for want of memory.
+    /// A writer that has taken nothing. A call takes at most `most` octets; `until_failure` calls come before the one
+    /// that fails, with an error of the kind `failure`. There is room for `room` octets in memory from `alloc`: a write
+    /// into that room takes no memory.
+    ///
+    /// # Errors
+    /// Want of memory for the room.
     pub fn new(
         alloc: Global,
         room: usize,

@@ -1,3 +1,4 @@
+//! A reader that gives few octets at a call, and fails at one of its calls.
 ghost use Rattle.std.specs.Prelude.{◌≡◌, ◌≢◌, Some, Ok, length, min, max};
 ghost use Rattle.std.specs.Io.{ReadsAtMost};
 ghost use Rattle.std.specs.Io.KnownBytes.{ReadConsumes};
@@ -11,13 +12,14 @@ use std::io::{self, ErrorKind, Read};
 pub struct Sparing<'a> {
     /// What is still to be read.
     pub rest: &'a [u8],
-    /// How much a call gives, and which call fails. None stands for one: a read of none is the end of a
-    /// stream.
+    /// How much a call gives, and which call fails. A most of 0 octets stands for 1, since a read of none is the end of
+    /// a stream.
     pub schedule: Schedule,
 }
 
 impl<'a> Sparing<'a> {
-    /// A reader of these octets.
+    /// A reader of the octets `rest`. A call gives at most `most` of them, and 1 where that is 0; `until_failure` calls
+    /// come before the one that fails, with an error of the kind `failure`.
     pub fn new(rest: &'a [u8], most: usize, until_failure: usize, failure: ErrorKind) -> Sparing<'a>
         ensures rest { result.rest.now ≡ rest.now }
         ensures schedule { result.schedule
