@@ -36,8 +36,9 @@ impl Width {
         }
     }
 
-    /// How many values a Data Set whose records take `octets` octets may have: those of as many records as fit in, and
-    /// of one more, since the fields are gone through for a set without records too. It is 2^64-1 where there are more.
+    /// How many values a Data Set with `octets` octets after its header may have: those of as many records as fit in,
+    /// and of one more, since the fields are gone through for a set without records too. It is 2^64-1 where there are
+    /// more.
     fn values(self, octets: usize) -> u64
         ensures { result ≡ min (2 ^ 64 - 1) (set_values (Some self) octets) }
     {
@@ -112,9 +113,9 @@ fn give(given: &mut BTreeMap<u16, Width>, id: u16, width: Width) -> Result<(), A
     Ok(())
 }
 
-/// How many values a Data Set of the ID `id`, whose records take `octets` octets, may have, by the template that its ID
-/// was given last: in the message, as `given` says, or else by `templates` in the Observation Domain `domain`. Without
-/// a template it has none.
+/// How many values a Data Set of the ID `id`, with `octets` octets after its header, may have, by the template that its
+/// ID was given last: in the message, as `given` says, or else by `templates` in the Observation Domain `domain`.
+/// Without a template it has none.
 fn values_of_set(
     templates: &Templates,
     domain: u32,
