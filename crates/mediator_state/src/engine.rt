@@ -1,4 +1,4 @@
-//! What a mediator keeps beside its history.
+//! What a mediator keeps beside its history, with the steps by which its calls change that.
 ghost use Rattle.std.specs.Prelude.{◌≡◌, ◌≤◌, ◌<◌, ◌+◌, ◌^◌, ◌++◌, ◌∷◌, [], ◌≢◌, ℕ, List, length, not, true, is_some, IfOk, IfSome, IfNone, OnOk, OnErr, IsSomeAnd, Ok};
 ghost use Rattle.std.specs.List.{AllByRecursion};
 ghost use Rattle.policy_text.specs.Parsing.{policy_of};
@@ -30,11 +30,11 @@ use std::alloc::{AllocError, Global};
 use std::sync::Arc;
 use subscriber_stream::{Limits, Stream};
 
-/// What a mediator keeps beside its history. Contracts say by `Stands` for which histories it stands; its calls change it
-/// by one entry, or by none.
+/// What a mediator keeps beside its history. Contracts say by `Stands` for which histories it stands. Its calls change
+/// it by one entry, or by none.
 pub(crate) struct Engine {
     pub(crate) alloc: Global,
-    /// What tables are hashed with whose entries exporters choose.
+    /// By what tables are hashed whose entries exporters choose.
     keys: HashKeys,
     /// How much each subscription's stream may hold.
     pub(crate) limits: Limits,
@@ -42,14 +42,17 @@ pub(crate) struct Engine {
     pub(crate) in_force: InForce,
     /// How many edits there were.
     edits: u64,
+    /// The open sessions.
     pub(crate) sessions: Sessions,
     /// How many sessions were opened.
     opened: u64,
+    /// The live subscriptions.
     pub(crate) subscriptions: Subscriptions,
     /// The running groups of those that are served.
     pub(crate) groups: RunningGroups,
     /// How many subscriptions began.
     begun: u64,
+    /// The entries of the audit that wait to be handed out.
     pub(crate) audit: Audit,
     /// What decided when a snapshot was taken last, for the next one. It decides nothing here.
     terms: Option<Arc<Terms>>,
@@ -82,7 +85,12 @@ impl Engine {
     ghost use Rattle.mediator_state.specs.Calls.{IsSnapshot, RefusesSnapshot};
     ghost use Rattle.std.specs.Prelude.{IfErr};
 
-    /// Before any entry: the policy has no rules.
+    /// What is kept before any entry: no session and no subscription, a policy without rules, and the clock at 0. The
+    /// stream of each subscription may hold what `limits` say, and at most `audit` audit entries may wait. All of it is
+    /// in memory from `alloc`.
+    ///
+    /// # Errors
+    /// Want of memory.
     pub(crate) fn new(alloc: Global, limits: Limits, audit: u32) -> Result<Engine, AllocError>
         requires range { AreInRange limits }
         requires least { 1 ≤ audit }
@@ -108,7 +116,7 @@ impl Engine {
         })
     }
 
-    /// Hashes groups and templates of subscriptions that begin from now on with these keys.
+    /// Hashes by `keys` the groups and templates of subscriptions that begin from now on.
     pub(crate) fn hash_by(&mut self, keys: HashKeys)
         ensures same { IsSameEngine self.old self.new }
     {
@@ -116,7 +124,7 @@ impl Engine {
         self.groups.hash_by(keys);
     }
 
-    /// The number of the next session.
+    /// The number of the next session, behind a history of `position` entries: how many were opened, and one more.
     pub(crate) fn next_session(&self, position: u64) -> u64
         requires somewhere { StandsSomewhere self.now position }
         requires short { position ≤ MOST_ENTRIES }
@@ -126,10 +134,10 @@ impl Engine {
         self.opened + 1
     }
 
-    /// Opens the next session.
+    /// Opens the next session, whose number is `number`.
     ///
     /// # Errors
-    /// Want of memory.
+    /// Want of memory, and then nothing has changed.
     pub(crate) fn open(&mut self, number: u64) -> Result<(), AllocError>
         requires next { number ≡ self.old.opened + 1 }
         ensures ok { OnOk result ((h : List Entry) → Stands self.old h
@@ -142,10 +150,11 @@ impl Engine {
         Ok(())
     }
 
-    /// The templates of an open session as they stand, which the session shares then, with the terms on which records are shared.
+    /// The templates of the open session with the number `number` as they stand, which the session shares then, with
+    /// the terms on which records are shared now.
     ///
     /// # Errors
-    /// The session isn't open; or memory ran out.
+    /// [`Fault::UnknownSession`] where the session isn't open; or [`Fault::OutOfMemory`].
     pub(crate) fn snapshot(&mut self, number: u64) -> Result<Snapshot, Fault>
         ensures ok { IfOk result (λ snapshot. (h : List Entry) → Stands self.old h
             → IsSnapshot h number snapshot) }
@@ -164,7 +173,8 @@ impl Engine {
         }
     }
 
-    /// The terms on which records are shared now: those that were made for the last snapshot, where they still hold.
+    /// The terms on which records are shared now. Those that were made for the last snapshot are taken where they still
+    /// hold.
     ///
     /// # Errors
     /// Want of memory.
@@ -184,14 +194,14 @@ impl Engine {
         Ok(terms)
     }
 
-    /// Whether a session is open.
+    /// Whether the session with the number `number` is open.
     pub(crate) fn is_open(&self, number: u64) -> bool
         ensures { (h : List Entry) → Stands self.now h → result ≡ is_open number h }
     {
         self.sessions.get(number).is_some()
     }
 
-    /// Whether a subscription is live.
+    /// Whether the subscription with the number `number` is live.
     pub(crate) fn is_live(&self, number: u64) -> bool
         ensures live { (h : List Entry) → Stands self.now h → result ≡ is_live number h }
         ensures there { result ≡ is_some (at self.now.subscriptions number) }
@@ -199,7 +209,7 @@ impl Engine {
         self.subscriptions.get(number).is_some()
     }
 
-    /// Closes a session.
+    /// Closes the session with the number `number`. It takes no memory.
     pub(crate) fn close(&mut self, number: u64)
         ensures stands { (h : List Entry) → Stands self.old h
             → Stands self.new (h ++ Close number ∷ []) }
@@ -208,7 +218,7 @@ impl Engine {
         self.sessions.close(number);
     }
 
-    /// A policy as it would be in force now.
+    /// The policy `policy` as it would be in force now, with the clock as it stands.
     ///
     /// # Errors
     /// Want of memory.
@@ -218,7 +228,8 @@ impl Engine {
         InForce::since(self.alloc, policy, self.in_force.clock())
     }
 
-    /// Puts a policy in force, and says how many edits there were.
+    /// Puts `in_force` in force, which [`with_policy`](Engine::with_policy) made, behind a history of `position`
+    /// entries; and answers how many edits there were then. It takes no memory.
     pub(crate) fn put_in_force(&mut self, in_force: InForce, position: u64) -> u64
         requires somewhere { StandsSomewhere self.old position }
         requires short { position ≤ MOST_ENTRIES }
@@ -233,7 +244,7 @@ impl Engine {
         self.edits
     }
 
-    /// The number of the next subscription.
+    /// The number of the next subscription, behind a history of `position` entries: how many began, and one more.
     pub(crate) fn next_subscription(&self, position: u64) -> u64
         requires somewhere { StandsSomewhere self.now position }
         requires short { position ≤ MOST_ENTRIES }
@@ -243,7 +254,7 @@ impl Engine {
         self.begun + 1
     }
 
-    /// The number of the live subscription under a name.
+    /// The number of the live subscription whose subscriber has this `name`, or `None`.
     pub(crate) fn named(&self, name: &str) -> Option<u64>
         ensures found { IfSome result (λ sub. (h : List Entry) → Stands self.now h
             → (is_live sub h ≡ true) × (name_of sub h ≡ name.now)) }
@@ -255,10 +266,11 @@ impl Engine {
         self.subscriptions.named(name)
     }
 
-    /// Begins the next subscription.
+    /// Begins the next subscription, whose number is `number`, for a subscriber of this `name`, which no live
+    /// subscription has.
     ///
     /// # Errors
-    /// Want of memory.
+    /// Want of memory, and then nothing has changed.
     pub(crate) fn subscribe(&mut self, number: u64, name: &str) -> Result<(), AllocError>
         requires somewhere { HasHistory self.old }
         requires next { number ≡ self.old.begun + 1 }
@@ -284,7 +296,8 @@ impl Engine {
     ghost use Rattle.std.specs.Option.{option_map};
     ghost use Rattle.mediator_state.specs.Steps.{IsCutOnce, HasAuditRoom, CutsInARow};
 
-    /// Ends a subscription, with what waits for it.
+    /// Ends the subscription with the number `number`, with what waits for it and its running groups. It takes no
+    /// memory.
     pub(crate) fn unsubscribe(&mut self, number: u64)
         ensures stands { (h : List Entry) → Stands self.old h
             → Stands self.new (h ++ Unsubscribe number ∷ []) }
@@ -297,7 +310,8 @@ impl Engine {
         self.groups.remove(number);
     }
 
-    /// Cuts a subscription, in room that the audit has; its running groups are gone. It takes no memory.
+    /// Cuts the subscription with the number `number`, by an entry at `position`: it is served no more, and its running
+    /// groups are gone. The audit has room for the entry that names this. It takes no memory.
     fn cut(&mut self, position: u64, number: u64)
         requires room { HasAuditRoom self.old.audit 1 }
         ensures stands { (h : List Entry) → Stands self.old h → length h ≡ position
@@ -314,7 +328,8 @@ impl Engine {
         });
     }
 
-    /// Cuts subscriptions one after another, the first at a position.
+    /// Cuts the subscriptions with these `numbers`, one after another, the first by an entry at `position`. The audit
+    /// has room for the entries that name this. It takes no memory.
     pub(crate) fn cut_all(&mut self, position: u64, numbers: &[u64])
         requires room { HasAuditRoom self.old.audit (length numbers.now) }
         requires short { position + length numbers.now < 2 ^ 63 }
@@ -341,10 +356,10 @@ impl Engine {
     ghost use Rattle.mediator_state.specs.Accepting.{HasRoomForPlan, HasAuditFor, IsPlannedFor, LacksAudit, IsReadyToTake, IsMessage, receipt_of};
     ghost use Rattle.std.specs.Prelude.{map, IfErr};
 
-    /// Makes room for so many audit entries, and so many places of memory for them.
+    /// Finds out whether `need` more entries have room in the audit, and makes room in memory for `places` of them.
     ///
     /// # Errors
-    /// The audit has no room, or memory ran out.
+    /// [`Fault::AuditFull`] where they have none; or [`Fault::OutOfMemory`]. Only reserved room has changed then.
     pub(crate) fn make_audit_room(&mut self, need: u64, places: usize) -> Result<(), Fault>
         requires few { places ≤ need + 1 }
         ensures same { IsSameEngine self.old self.new }
@@ -362,10 +377,11 @@ impl Engine {
         Ok(())
     }
 
-    /// Makes room for what a plan does, and makes ready what it counts.
+    /// Makes room for what `plan` does, and makes ready what it counts, which is the answer.
     ///
     /// # Errors
-    /// The audit has no room, or memory ran out.
+    /// [`Fault::AuditFull`] where the audit has no room for its cuts and notes; or [`Fault::OutOfMemory`]. Only
+    /// reserved room has changed then.
     pub(crate) fn make_room(&mut self, plan: &Plan) -> Result<Vec<Reserved>, Fault>
         ensures same { IsSameEngine self.old self.new }
         ensures ok { IfOk result (λ reserved.
@@ -380,7 +396,9 @@ impl Engine {
         Ok(self.groups.reserve(&plan.tallies)?)
     }
 
-    /// Does what a plan says, in room that was made for it. It takes no memory.
+    /// Does what `plan` says, in the room that [`make_room`](Engine::make_room) made for it, behind a history of
+    /// `position` entries. `reserved` is what that call made ready. The answer is the receipt of the message. It takes
+    /// no memory and can't fail.
     pub(crate) fn accept(&mut self, position: u64, plan: Plan, reserved: Vec<Reserved>) -> Receipt
         requires room { HasRoomForPlan self.old plan (map reserved_for reserved.items) }
         requires planned { IsPlannedFor self.old position plan }
@@ -411,7 +429,8 @@ impl Engine {
         receipt
     }
 
-    /// Takes what the message at a position brings, gives, counts and keeps back, in room that was made for it.
+    /// Takes in the message at `position`, in room that was made for it: `reading` is what it means to the session with
+    /// the number `session`, `shares` what it gives, `reserved` what it counts, and `notes` what the audit names of it.
     fn take(
         &mut self,
         session: u64,
@@ -449,10 +468,11 @@ impl Engine {
     ghost use Rattle.mediator_state.specs.Accepting.{LacksAudit};
     ghost use Rattle.mediator_state.specs.Advancing.{HasRoomToClose, IsClosingFor, IsReadyToClose, AreClosings};
 
-    /// Makes room for what an advance of the clock does.
+    /// Makes room for what `closing`, an advance of the clock, does.
     ///
     /// # Errors
-    /// The audit has no room, or memory ran out.
+    /// [`Fault::AuditFull`] where the audit has no room for its cuts; or [`Fault::OutOfMemory`]. Only reserved room has
+    /// changed then.
     pub(crate) fn make_room_to_close(&mut self, closing: &Closing) -> Result<(), Fault>
         ensures same { IsSameEngine self.old self.new }
         ensures ok { OnOk result (HasRoomToClose self.new closing.now) }
@@ -464,7 +484,9 @@ impl Engine {
         Ok(())
     }
 
-    /// Advances the clock to `t`, and does what that closes, in room that was made for it. It takes no memory.
+    /// Advances the clock to `t`, in milliseconds since 1970, behind a history of `position` entries, and does what
+    /// `closing` says, in the room that [`make_room_to_close`](Engine::make_room_to_close) made for it. It takes no
+    /// memory and can't fail.
     pub(crate) fn advance(&mut self, position: u64, t: u64, closing: Closing)
         requires room { HasRoomToClose self.old closing }
         requires planned { IsClosingFor self.old position t closing }
@@ -477,7 +499,8 @@ impl Engine {
         self.close_due(t, closing.shares);
     }
 
-    /// Gives what an advance of the clock closes, in room that was made for it, and drops these groups.
+    /// Gives `shares`, which the advance of the clock to `t` closes, in room that was made for them, and drops the
+    /// groups that it closes.
     fn close_due(&mut self, t: u64, shares: Vec<Share>)
         requires room { IsReadyToClose self.old (map shown shares.items) }
         ensures stands { (h : List Entry) → Stands self.old h → clock_of h ≤ t
