@@ -1,3 +1,4 @@
+//! A buffer of a fixed size, in which the octets of an answer wait until they are written.
 ghost use Rattle.std.specs.Prelude.{◌≡◌, ◌+◌, ◌≤◌, ◌↔◌, ◌++◌, [], length, IfOk, IsTrue};
 ghost use Rattle.std.specs.Fmt.{decimal};
 ghost use Rattle.answer_writing.specs.Pieces.{most_octets, longest_piece, longest_number};
@@ -6,7 +7,7 @@ use itoa::Buffer;
 use std::alloc::{AllocError, Global};
 use std::marker::Model;
 
-/// How many octets a buffer has room for.
+/// For how many octets a buffer has room.
 const MOST_OCTETS: usize = 16_384;
 
 /// The most octets of one piece of an answer.
@@ -30,10 +31,10 @@ impl Model for AnswerBuffer {
 }
 
 impl AnswerBuffer {
-    /// A buffer in which nothing waits.
+    /// A buffer in which nothing waits, with all of its room in memory from `alloc`.
     ///
     /// # Errors
-    /// Want of memory.
+    /// Want of memory for the room.
     pub fn new(alloc: Global) -> Result<AnswerBuffer, AllocError>
         ensures { IfOk result (λ b. b ≡ []) }
     {
@@ -42,28 +43,29 @@ impl AnswerBuffer {
         })
     }
 
-    /// The octets that wait.
+    /// The octets that wait, in their order.
     pub fn as_slice(&self) -> &[u8]
         ensures { result.now ≡ self.now }
     {
         self.octets.as_slice()
     }
 
-    /// Whether one more piece has room.
+    /// Whether one more piece has room: at least 128 octets.
     pub(crate) fn has_room(&self) -> bool
         ensures { IsTrue result ↔ (length self.now + longest_piece ≤ most_octets) }
     {
         self.octets.len() <= MOST_OCTETS - LONGEST_PIECE
     }
 
-    /// Forgets what waits.
+    /// Drops what waits. The room stays.
     pub fn clear(&mut self)
         ensures { self.new ≡ [] }
     {
         self.octets.clear();
     }
 
-    /// Puts octets behind those that wait, into room that is there.
+    /// Puts `octets` behind those that wait. The caller has seen to it that there is room for them: at most 16,384
+    /// octets wait then. It takes no memory and can't fail.
     pub fn put(&mut self, octets: &[u8])
         requires room { length self.old + length octets.now ≤ most_octets }
         ensures added { self.new ≡ self.old ++ octets.now }
@@ -75,7 +77,8 @@ impl AnswerBuffer {
         }
     }
 
-    /// Puts the digits of a number behind what waits.
+    /// Puts the decimal digits of `number` behind what waits. The caller has seen to it that there is room for 20
+    /// octets, which is as long as a number of 64 bits may be.
     pub fn put_number(&mut self, number: u64)
         requires room { length self.old + longest_number ≤ most_octets }
         ensures added { self.new ≡ self.old ++ decimal number }

@@ -1,4 +1,5 @@
-//! The lines of entries, a piece at a time: a line, or what stands in it before the fields that were removed, or one of these.
+//! The lines of audit entries, a piece at a time: a line, or what stands in it before the fields that were removed, or
+//! one of these.
 ghost use Rattle.std.specs.Prelude.{◌≡◌, ◌+◌, ◌<◌, ◌≤◌, ◌++◌, ◌∷◌, [], length, codes, MatchOption, if◌then◌else◌};
 ghost use Rattle.std.specs.Fmt.{decimal};
 ghost use Rattle.std.specs.List.{join_with_byte};
@@ -18,7 +19,7 @@ pub(crate) struct Rest<'e> {
 }
 
 impl<'e> Rest<'e> {
-    /// All lines of these entries.
+    /// The lines of all `entries`.
     pub(crate) fn all_of(entries: &'e [AuditEntry]) -> Rest<'e>
         ensures fields { result.fields.now ≡ [] }
         ensures entries { result.entries.now ≡ entries.now }
@@ -30,7 +31,7 @@ impl<'e> Rest<'e> {
     }
 }
 
-/// Puts the line that stands before those of an answer with so many entries.
+/// Puts the first line of an answer with `count` entries into `buffer`, which has room for a piece: `ok COUNT`.
 pub(crate) fn put_count(buffer: &mut AnswerBuffer, count: usize)
     requires room { length buffer.old + longest_piece ≤ most_octets }
     ensures put { buffer.new ≡ buffer.old ++ (codes "ok " ++ decimal count ++ 10 ∷ []) }
@@ -41,12 +42,14 @@ pub(crate) fn put_count(buffer: &mut AnswerBuffer, count: usize)
     buffer.put(b"\n");
 }
 
-/// Puts the next piece, and answers what is then still to be put; `None` where nothing was.
+/// Puts the next piece of `rest` into `buffer`, which has room for one, and answers what is then still to be put; or
+/// `None` where nothing was.
 pub(crate) fn put_next<'e>(buffer: &mut AnswerBuffer, rest: Rest<'e>) -> Option<Rest<'e>>
     requires room { length buffer.old + longest_piece ≤ most_octets }
-    ensures { MatchOption result
-        ((buffer.new ≡ buffer.old) × (rest_of_lines rest.entry.fields.now rest.entry.entries.now ≡ []))
-        (λ after. (buffer.new ++ rest_of_lines after.fields.now after.entries.now ≡ buffer.old ++ rest_of_lines rest.entry.fields.now rest.entry.entries.now)
+    ensures { MatchOption result ((buffer.new ≡ buffer.old)
+        × (rest_of_lines rest.entry.fields.now rest.entry.entries.now ≡ []))
+        (λ after. (buffer.new ++ rest_of_lines after.fields.now after.entries.now
+        ≡ buffer.old ++ rest_of_lines rest.entry.fields.now rest.entry.entries.now)
         × (length buffer.old < length buffer.new)) }
 {
     match rest.fields.split_first() {
@@ -61,13 +64,13 @@ pub(crate) fn put_next<'e>(buffer: &mut AnswerBuffer, rest: Rest<'e>) -> Option<
     }
 }
 
-/// Puts the first piece of the next entry's line.
+/// Puts the first piece of the line of the first of `entries` into `buffer`, which has room for one, and answers what
+/// is then still to be put; or `None` where there is no entry.
 fn put_next_entry<'e>(buffer: &mut AnswerBuffer, entries: &'e [AuditEntry]) -> Option<Rest<'e>>
     requires room { length buffer.old + longest_piece ≤ most_octets }
-    ensures { MatchOption result
-        ((buffer.new ≡ buffer.old) × (entries.now ≡ []))
-        (λ after. (buffer.new ++ rest_of_lines after.fields.now after.entries.now ≡ buffer.old ++ rest_of_lines [] entries.now)
-        × (length buffer.old < length buffer.new)) }
+    ensures { MatchOption result ((buffer.new ≡ buffer.old) × (entries.now ≡ []))
+        (λ after. (buffer.new ++ rest_of_lines after.fields.now after.entries.now
+        ≡ buffer.old ++ rest_of_lines [] entries.now) × (length buffer.old < length buffer.new)) }
 {
     match entries.split_first() {
         Some((entry, entries)) => {
@@ -78,7 +81,8 @@ fn put_next_entry<'e>(buffer: &mut AnswerBuffer, entries: &'e [AuditEntry]) -> O
     }
 }
 
-/// Puts the line of an entry, up to the fields that it lists; and answers these.
+/// Puts the line of `entry` into `buffer`, which has room for a piece, up to the fields that the line lists; and
+/// answers these.
 fn put_entry<'e>(buffer: &mut AnswerBuffer, entry: &'e AuditEntry) -> &'e [RemovedField]
     requires room { length buffer.old + longest_piece ≤ most_octets }
     ensures put { buffer.new ++ rest_of_line result.now ≡ buffer.old ++ line_of entry.now }
@@ -93,10 +97,12 @@ fn put_entry<'e>(buffer: &mut AnswerBuffer, entry: &'e AuditEntry) -> &'e [Remov
     put_what(buffer, &entry.what)
 }
 
-/// Puts what was kept back, up to the fields that it lists; and answers these. Where it lists none the line is whole.
+/// Puts `what`, which an entry says of its record or subscription, into `buffer`, up to the fields that it lists; and
+/// answers these. Where it lists none, the line is whole.
 fn put_what<'e>(buffer: &mut AnswerBuffer, what: &'e What) -> &'e [RemovedField]
     requires room { length buffer.old + 64 ≤ most_octets }
-    ensures put { buffer.new ++ rest_of_line result.now ≡ buffer.old ++ (join_with_byte 32 (what_words what.now) ++ 10 ∷ []) }
+    ensures put { buffer.new ++ rest_of_line result.now
+        ≡ buffer.old ++ (join_with_byte 32 (what_words what.now) ++ 10 ∷ []) }
     ensures some { length buffer.old ≤ length buffer.new }
 {
     match what {
@@ -128,10 +134,12 @@ fn put_what<'e>(buffer: &mut AnswerBuffer, what: &'e What) -> &'e [RemovedField]
     }
 }
 
-/// Puts the place of a removed field, a colon and its rule, and behind the last one a line feed, behind another a comma.
+/// Puts the removed `field` into `buffer`, which has room for a piece: its place in the record, a colon and the number
+/// of the rule; and then a line feed where it `is_last` of its line, else a comma.
 fn put_field(buffer: &mut AnswerBuffer, field: RemovedField, is_last: bool)
     requires room { length buffer.old + longest_piece ≤ most_octets }
-    ensures put { buffer.new ≡ buffer.old ++ (field_text field ++ (if is_last then 10 else 44) ∷ []) }
+    ensures put { buffer.new
+        ≡ buffer.old ++ (field_text field ++ (if is_last then 10 else 44) ∷ []) }
     ensures some { length buffer.old < length buffer.new }
 {
     buffer.put_number(u64::from(field.place));

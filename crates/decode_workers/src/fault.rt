@@ -6,13 +6,13 @@ use thiserror::Error;
 /// Why a list of messages is not prepared. A message of the list that can't be prepared is no such fault: it has its own answer.
 #[derive(Clone, Copy, Debug, PartialEq, Eq, Error)]
 pub enum WorkersFault {
-    /// There may be 1 to 64 workers.
+    /// The number of workers is not 1 to 64.
     #[error("BadWorkers")]
     BadWorkers,
-    /// A thread was refused.
+    /// The system refused a thread.
     #[error("NoThread")]
     NoThread,
-    /// Want of memory: it says nothing of the messages.
+    /// Want of memory for the lists. It says nothing of the messages.
     #[error("OutOfMemory")]
     OutOfMemory,
 }

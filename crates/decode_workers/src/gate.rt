@@ -1,12 +1,12 @@
-//! What is told which message a thread is at.
+//! What is told which message a thread is at, so that a test can hold it there.
 
-/// Is told of each message before and after it is prepared, on the thread that prepares it. A piece is the place of a message in
-/// the list, from 0 on. So a test can hold one message back until another came.
+/// Is told of each message before and after it is prepared, on the thread that prepares it. So a test can hold one
+/// message back until another came.
 pub trait Gate {
-    /// The piece is about to be prepared.
+    /// The message at the place `piece` in the list, counted from 0, is about to be prepared.
     fn enter(&self, piece: u64);
 
-    /// The piece was prepared, whatever the answer.
+    /// The message at the place `piece` in the list, counted from 0, was prepared, whatever the answer.
     fn leave(&self, piece: u64);
 }
 

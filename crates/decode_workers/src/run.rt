@@ -1,4 +1,4 @@
-//! A run of messages, which one thread prepares.
+//! A run: messages that stand one after another, which one thread prepares.
 ghost use Rattle.std.specs.Prelude.{◌≡◌, ◌+◌, ◌<◌, ◌^◌, IfOk, vec_len};
 ghost use Rattle.decode_workers.specs.Workers.{IsAnswer, AreAnswers};
 
@@ -17,7 +17,9 @@ pub(crate) struct Ran {
     pub(crate) workspace: Workspace,
 }
 
-/// Prepares the messages of a run, one after another. `first` is the place of its first message in the whole list.
+/// Prepares the `messages` of a run against `snapshot`, one after another, with what `workspace` has worked out before.
+/// `first` is the place of the first of them in the whole list, counted from 0, and `gate` is told of each. The list of
+/// answers is in memory from `alloc`.
 ///
 /// # Errors
 /// Want of memory for the list of answers.
@@ -41,7 +43,11 @@ pub(crate) fn prepare_run<G: Gate>(
     Ok(Ran { answers, workspace })
 }
 
-/// Prepares a message, and tells the gate before and after it.
+/// Prepares `message` against `snapshot`, with what `workspace` has worked out before, and tells `gate` before and
+/// after it that it stands at the place `piece` in the list.
+///
+/// # Errors
+/// Those of [`Prepared::prepare`].
 fn prepare_piece<G: Gate>(
     snapshot: &Snapshot,
     gate: &G,
@@ -57,7 +63,8 @@ fn prepare_piece<G: Gate>(
     answer
 }
 
-/// What a thread promises: an answer to each message of the run that it was handed. Both are remembered for proofs alone.
+/// What a thread promises: an answer to each message of the run that it was handed. Both fields are kept for proofs
+/// alone.
 #[derive(Drop)]
 pub(crate) struct Owed {
     pub(crate) snapshot: Remembered<Snapshot>,

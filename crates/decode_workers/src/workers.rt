@@ -1,4 +1,4 @@
-//! Lists of messages, which several threads prepare at once.
+//! Workers: lists of messages are prepared by several threads at once, and answered in their order.
 ghost use Rattle.std.specs.Prelude.{◌≡◌, ◌≢◌, ◌+◌, ◌<◌, ◌^◌, ◌++◌, ℕ, List, IfOk, IfErr, IsOk, OnOk, Err, MatchBool, vec_len};
 ghost use Rattle.decode_workers.specs.declared.fault.WorkersFault.TheVariants.{BadWorkers};
 ghost use Rattle.decode_workers.specs.Workers.{Tables, AreAnswers, may_work};
@@ -22,17 +22,18 @@ pub const MOST_WORKERS: u64 = 64;
 /// A thread that prepares a run.
 type Worker = PromisedHandle<Result<Ran, AllocError>, Owed>;
 
-/// So many workers, 1 to 64. What each worked out for the messages that it prepared is kept for those to come.
+/// A number of workers, 1 to 64. What each has worked out for the messages that it prepared is kept for those to come.
 #[derive(Drop)]
 pub struct Workers {
     count: u64,
     idle: Vec<Workspace>,
 }
 
-/// Prepares each message against the snapshot, by workers that prepared nothing yet: see [`Workers::prepare_all`].
+/// Prepares each of `messages` against `snapshot`, by `workers` workers, 1 to 64, that prepared nothing yet: as
+/// [`Workers::prepare_all`] does. `rt` gives the threads, and `gate` is told of each message.
 ///
 /// # Errors
-/// BadWorkers where there are not 1 to 64 workers, and those of [`Workers::prepare_all`].
+/// [`WorkersFault::BadWorkers`] where the number of workers is not 1 to 64, and those of [`Workers::prepare_all`].
 pub fn prepare_all<R: Threads + Wait + Sync, G: Gate + Sync>(
     rt: &R,
     snapshot: &Snapshot,
@@ -42,17 +43,19 @@ pub fn prepare_all<R: Threads + Wait + Sync, G: Gate + Sync>(
 ) -> Result<Vec<Result<Prepared, PrepareFault>>, WorkersFault>
     // Each message has the answer that `Prepared::prepare` gives it, in the order of the messages.
     ensures answers { IfOk result (λ v. AreAnswers snapshot.now messages.items v.items) }
-    ensures workers { MatchBool (may_work workers) (IfErr result (λ why. why ≢ BadWorkers)) (result ≡ Err BadWorkers) }
+    ensures workers { MatchBool (may_work workers) (IfErr result (λ why. why ≢ BadWorkers))
+        (result ≡ Err BadWorkers) }
 {
     let mut workers = Workers::new(*messages.allocator(), workers)?;
     workers.prepare_all(rt, snapshot, messages, gate)
 }
 
 impl Workers {
-    /// So many workers, which prepared nothing yet. It takes no memory.
+    /// A number `count` of workers, 1 to 64, which prepared nothing yet. What they come to keep is in memory from
+    /// `alloc`; this call takes none.
     ///
     /// # Errors
-    /// BadWorkers where there are not 1 to 64.
+    /// [`WorkersFault::BadWorkers`] where `count` is not 1 to 64.
     pub fn new(alloc: Global, count: u64) -> Result<Workers, WorkersFault>
         ensures { MatchBool (may_work count) (IsOk result) (result ≡ Err BadWorkers) }
     {
@@ -65,13 +68,15 @@ impl Workers {
         })
     }
 
-    /// Prepares each message against the snapshot, and gives the answers in the order of the messages. The calling thread is
-    /// one of the workers, and no more work than there are messages: with one worker, or one message, no thread is started. It
-    /// returns once all threads that it started have ended, whatever it answers.
+    /// Prepares each of `messages` against `snapshot`, and answers the list of what came of each, in the order of the
+    /// messages: what [`Prepared::prepare`] answers for it. `rt` gives the threads, and `gate` is told of each message
+    /// before and after it is prepared. The calling thread is one of the workers, and at most as many work as there are
+    /// messages: with one worker, or one message, no thread is started. It returns once all threads that it started
+    /// have ended, whatever it answers. The lists are in memory from where that of the messages is.
     ///
     /// # Errors
-    /// NoThread where a thread was refused; or want of memory for the lists. A message that can't be prepared, also for want
-    /// of memory, has that as its answer.
+    /// [`WorkersFault::NoThread`] where a thread was refused, or [`WorkersFault::OutOfMemory`] for the lists. A message
+    /// that can't be prepared, also for want of memory, is no error: that is its answer in the list.
     pub fn prepare_all<R: Threads + Wait + Sync, G: Gate + Sync>(
         &mut self,
         rt: &R,
@@ -96,7 +101,7 @@ impl Workers {
     }
 }
 
-/// A workspace that is free, or a new one.
+/// Takes a workspace that is free out of `idle`, or makes a new one.
 fn next_idle(idle: &mut Vec<Workspace>) -> Workspace {
     match idle.pop() {
         Some(workspace) => workspace,
@@ -104,7 +109,8 @@ fn next_idle(idle: &mut Vec<Workspace>) -> Workspace {
     }
 }
 
-/// The answers of a run, whose workspace is free again. Where there is no memory to keep that, it is dropped.
+/// The answers of the run `ran`, whose workspace goes to those in `idle`. Where there is no memory to keep that, it is
+/// dropped.
 fn answers_of(ran: Ran, idle: &mut Vec<Workspace>) -> Vec<Result<Prepared, PrepareFault>>
     ensures { result ≡ ran.answers }
 {
@@ -115,7 +121,11 @@ fn answers_of(ran: Ran, idle: &mut Vec<Workspace>) -> Vec<Result<Prepared, Prepa
     answers
 }
 
-/// Prepares the messages in so many runs: the first in this thread, and each other in a thread of its own.
+/// Prepares `messages` against `snapshot` in a number `runs` of runs: the first in this thread, and each other in a
+/// thread of its own, which `scope` starts. Workspaces come from `idle` and go there again.
+///
+/// # Errors
+/// `NoThread` or `OutOfMemory`.
 fn prepare_in_runs<'s, 't: 's, 'g: 's, X: 's, R: Threads, G: Gate + Sync>(
     rt: &R,
     alloc: Global,
@@ -136,7 +146,11 @@ fn prepare_in_runs<'s, 't: 's, 'g: 's, X: 's, R: Threads, G: Gate + Sync>(
     Ok(answers)
 }
 
-/// Takes all runs but the first off the messages, the last one first, and starts a thread for each.
+/// Takes all runs but the first off `messages`, the last one first, and has `scope` start a thread for each: so of
+/// `runs` runs one is left in `messages`. The answer is the list of these threads, in memory from `alloc`.
+///
+/// # Errors
+/// `NoThread` or `OutOfMemory`.
 fn start_all<'s, 't: 's, 'g: 's, X: 's, G: Gate + Sync>(
     alloc: Global,
     snapshot: &'t Snapshot,
@@ -162,7 +176,11 @@ fn start_all<'s, 't: 's, 'g: 's, X: 's, G: Gate + Sync>(
     Ok(working)
 }
 
-/// Starts a thread that prepares a run.
+/// Has `scope` start a thread that prepares the messages of `run` against `snapshot`, of which the first stands at the
+/// place `first` in the list, with what `workspace` has worked out before.
+///
+/// # Errors
+/// `NoThread` where the thread was refused.
 fn start<'s, 't: 's, 'g: 's, X: 's, G: Gate + Sync>(
     alloc: Global,
     snapshot: &'t Snapshot,
@@ -173,7 +191,8 @@ fn start<'s, 't: 's, 'g: 's, X: 's, G: Gate + Sync>(
     workspace: Workspace,
 ) -> Result<Worker, WorkersFault>
     requires places { first + vec_len run < 2 ^ 64 }
-    ensures owed { IfOk result (λ h. (h.promise.snapshot.value ≡ snapshot.now) × (h.promise.messages.value ≡ run)) }
+    ensures owed { IfOk result (λ h. (h.promise.snapshot.value ≡ snapshot.now)
+        × (h.promise.messages.value ≡ run)) }
     ensures err { IfErr result (λ why. why ≢ BadWorkers) }
 {
     let owed = Owed {
@@ -188,8 +207,11 @@ fn start<'s, 't: 's, 'g: 's, X: 's, G: Gate + Sync>(
     }
 }
 
-/// Waits for the threads, the one that was started last before the others, and puts the answers of each behind those that are
-/// there.
+/// Waits for the threads `working`, the one that was started last before the others, and puts the answers of each
+/// behind those in `answers`, and its workspace to those in `idle`.
+///
+/// # Errors
+/// Want of memory for a list of answers.
 fn join_all<R: Threads>(
     rt: &R,
     mut working: Vec<Worker>,
@@ -197,7 +219,8 @@ fn join_all<R: Threads>(
     idle: &mut Vec<Workspace>,
 ) -> Result<(), AllocError>
     ensures { OnOk result ((known : Tables) (before : List (List ℕ)) → KnowAll known working.items
-        → AreAnswers known before answers.old.items → AreAnswers known (before ++ owed_by working.items) answers.new.items) }
+        → AreAnswers known before answers.old.items
+        → AreAnswers known (before ++ owed_by working.items) answers.new.items) }
 {
     while let Some(worker) = working.pop() {
         let mut more = answers_of(worker.join(rt)?, idle);

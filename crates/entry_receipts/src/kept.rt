@@ -1,8 +1,9 @@
-//! What whoever made a call keeps of it.
+//! What a caller keeps of a call that was accepted.
 
 use event_journal::Entry;
 
-/// An entry of a journal, and the position at which it stands there: the receipt of the call that added it.
+/// The receipt of a call that added an entry to a journal: the `entry`, and the `position` at which it stands there,
+/// counted from 0.
 #[derive(Debug, Drop)]
 pub struct KeptEntry {
     pub position: u64,

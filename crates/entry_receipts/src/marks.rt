@@ -1,4 +1,4 @@
-//! Which places of a journal have their receipt.
+//! Marks on the entries of a journal that have their receipt.
 ghost use Rattle.std.specs.Prelude.{◌≡◌, ◌↔◌, ◌++◌, ◌∷◌, [], ◌-◌, ◌<◌, ◌≤◌, true, false, List, length, slice_get, slice_set, Some, IfOk, IfErr, OnOk, IsTrue};
 ghost use Rattle.event_journal.specs.declared.entry.Entry.{Entry};
 ghost use Rattle.event_journal.specs.declared.limits.TheConstants.{MOST_ENTRIES};
@@ -12,8 +12,8 @@ use event_journal::Journal;
 use std::alloc::{AllocError, Global};
 use std::marker::Model;
 
-/// A mark for each entry of a journal from a place on, set where a receipt of it was shown. Contracts see the place and the
-/// marks.
+/// A mark for each entry of a journal from a position on, set where a receipt of that entry was shown. Contracts see
+/// the position and the marks.
 #[derive(Drop)]
 pub struct Marks {
     from: u64,
@@ -29,10 +29,11 @@ impl Model for Marks {
 }
 
 impl Marks {
-    /// Marks for the entries from a place on, none of them set.
+    /// Marks for the entries of `journal` from the position `from` on, none of them set. `from` is at most the number
+    /// of the entries. The marks are in memory from `alloc`, an octet for each entry.
     ///
     /// # Errors
-    /// Want of memory.
+    /// Want of memory for the marks.
     pub fn new(alloc: Global, journal: &Journal, from: u64) -> Result<Marks, AllocError>
         requires within { from ≤ length journal.now.entries }
         ensures from { IfOk result (λ marks. marks.from ≡ from) }
@@ -43,16 +44,24 @@ impl Marks {
         Ok(Marks { from, marks })
     }
 
-    /// Sets the marks of one handle's receipts, which are those of its calls in their order.
+    /// Sets the marks of the receipts in `kept`, which are those of one handle, in the order of its calls. `journal` is
+    /// the one that the marks were made for.
     ///
     /// # Errors
-    /// The position of the first receipt whose entry doesn't stand there, or stands before the place or before an earlier
-    /// one of the same handle, or was marked before. Some marks of the handle may be set then.
+    /// The position of the first of these receipts that is none: its entry doesn't stand at its position, or that is
+    /// before `from`, or not behind the receipt before it in `kept`, or it was marked before. The marks of receipts
+    /// before it may be set then.
     pub fn mark(&mut self, journal: &Journal, kept: &[KeptEntry]) -> Result<(), u64>
         ensures from { self.new.from ≡ self.old.from }
-        ensures ok { OnOk result ((handles : List (List KeptEntry)) → AreMarked self.old journal.now.entries handles → AreMarked self.new journal.now.entries (handles ++ kept.now ∷ [])) }
-        ensures err { IfErr result (λ position. (is_in position (positions kept.now) ≡ true) × ((handles : List (List KeptEntry)) → AreMarked self.old journal.now.entries handles → AreReceipts self.old.from journal.now.entries (handles ++ kept.now ∷ []) → ⊥)) }
-        ensures first { IfErr result (λ position. (handles : List (List KeptEntry)) → AreMarked self.old journal.now.entries handles → IsFirstRefused self.old.from journal.now.entries handles kept.now position) }
+        ensures ok { OnOk result ((handles : List (List KeptEntry))
+            → AreMarked self.old journal.now.entries handles
+            → AreMarked self.new journal.now.entries (handles ++ kept.now ∷ [])) }
+        ensures err { IfErr result (λ position. (is_in position (positions kept.now) ≡ true)
+            × ((handles : List (List KeptEntry)) → AreMarked self.old journal.now.entries handles
+            → AreReceipts self.old.from journal.now.entries (handles ++ kept.now ∷ []) → ⊥)) }
+        ensures first { IfErr result (λ position.
+            (handles : List (List KeptEntry)) → AreMarked self.old journal.now.entries handles
+            → IsFirstRefused self.old.from journal.now.entries handles kept.now position) }
     {
         let mut floor = self.from;
         for receipt in kept {
@@ -65,12 +74,15 @@ impl Marks {
         Ok(())
     }
 
-    /// Sets the mark of a position, and says whether there is one that was not set.
+    /// Sets the mark at `position`, which is not before `from`, and answers whether there is a mark there and it was
+    /// not set before.
     fn set(&mut self, position: u64) -> bool
         requires behind { self.old.from ≤ position }
         ensures from { self.new.from ≡ self.old.from }
-        ensures free { IsTrue result ↔ (slice_get self.old.marks (position - self.old.from) ≡ Some false) }
-        ensures set { IsTrue result → self.new.marks ≡ slice_set self.old.marks (position - self.old.from) true }
+        ensures free { IsTrue result
+            ↔ (slice_get self.old.marks (position - self.old.from) ≡ Some false) }
+        ensures set { IsTrue result
+            → self.new.marks ≡ slice_set self.old.marks (position - self.old.from) true }
     {
         let place = (position - self.from) as usize;
         let free = place < self.marks.len() && !self.marks[place];
@@ -80,18 +92,20 @@ impl Marks {
         free
     }
 
-    /// How many marks are set: as many as there were receipts.
+    /// How many marks are set: as many as receipts were shown, where all of them were accepted.
     pub fn count(&self) -> u64
         ensures value { result ≡ count_of self.now }
-        ensures receipts { (h : List Entry) (handles : List (List KeptEntry)) → AreMarked self.now h handles → result ≡ length (all_kept handles) }
+        ensures receipts { (h : List Entry) (handles : List (List KeptEntry))
+            → AreMarked self.now h handles → result ≡ length (all_kept handles) }
     {
         self.marks.iter().filter(|mark| **mark).count() as u64
     }
 }
 
-/// Whether the entry stands in the journal at its position.
+/// Whether the entry of `receipt` stands in `journal` at the position of `receipt`.
 fn stands(journal: &Journal, receipt: &KeptEntry) -> bool
-    ensures there { IsTrue result ↔ (slice_get journal.now.entries receipt.now.position ≡ Some receipt.now.entry) }
+    ensures there { IsTrue result
+        ↔ (slice_get journal.now.entries receipt.now.position ≡ Some receipt.now.entry) }
     ensures below { IsTrue result → receipt.now.position < MOST_ENTRIES }
 {
     if receipt.position >= journal.len() {

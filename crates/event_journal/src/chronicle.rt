@@ -1,4 +1,4 @@
-//! What keeps a history, or its sizes.
+//! What keeps a history, or its sizes alone: the trait of a [`Journal`](crate::Journal) and a [`Tally`](crate::Tally).
 ghost use Rattle.std.specs.Prelude.{◌≡◌, ◌≤◌, ◌<◌, ◌+◌, ◌-◌, ◌↔◌, ℕ, List, [], ◌∷◌, ◌++◌, length, IsTrue, IsOk, OnOk, OnErr};
 ghost use Rattle.std.proofs.Common.{ap};
 ghost use Rattle.event_journal.specs.declared.entry.Entry.{Entry};
@@ -11,8 +11,8 @@ use crate::journal::Journal;
 use crate::tally::Tally;
 use std::alloc::AllocError;
 
-/// What keeps a history, or its sizes. What holds one is generic over it, and its contract speaks of each history that
-/// the chronicle tells.
+/// What keeps a history, or its sizes alone. What holds one is generic over it, and its contract speaks of each history
+/// that the chronicle tells.
 pub trait Chronicle {
     // The histories that it may stand for: a journal's is its entries, and a tally tells each one that has its sizes.
     ghost tells: { Self → List Entry → Type 0 };
@@ -28,14 +28,18 @@ pub trait Chronicle {
     // For how many more entries room is reserved.
     ghost spare: { Self → ℕ };
 
-    /// Whether both limits leave room for all these entries, and a journal file can spell each of them. It takes no memory.
+    /// Whether the entries `more` have room behind those that are there: both limits allow them, and a journal file can
+    /// spell each of them, which it can unless it is a message of 2^32 octets or more. It takes no memory.
     fn room(&self, more: &[Entry]) -> bool
-        ensures { IsTrue result ↔ HasRoom (limits self.now) (count self.now) (octets self.now) more.now };
+        ensures { IsTrue result
+            ↔ HasRoom (limits self.now) (count self.now) (octets self.now) more.now };
 
-    /// Makes room in memory for so many more entries, whatever the limits.
+    /// Reserves memory for `more` further entries, whatever the limits. Room that is reserved already counts as part of
+    /// these, and none of it is given back.
     ///
     /// # Errors
-    /// Want of memory, and then nothing has changed.
+    /// Want of memory, and then nothing has changed. Where room for `more` entries is reserved already, there is no
+    /// error.
     fn reserve(&mut self, more: u64) -> Result<(), AllocError>
         ensures tells { (h : List Entry) → tells self.old h → tells self.new h }
         ensures count { count self.new ≡ count self.old }
@@ -47,7 +51,9 @@ pub trait Chronicle {
         // Room that is reserved already takes no memory.
         ensures there { more ≤ spare self.old → IsOk result };
 
-    /// Takes an entry into the reserved room, behind the others. It takes no memory.
+    /// Puts `entry` behind the others, into the reserved room, of which there is then less by one. The caller has seen
+    /// to it that the limits allow the entry (`room`) and that there is reserved room (`reserve`). It takes no memory
+    /// and can't fail.
     fn push_reserved(&mut self, entry: Entry)
         requires room { HasRoom (limits self.old) (count self.old) (octets self.old) (entry ∷ []) }
         requires reserved { 0 < spare self.old }
@@ -57,13 +63,13 @@ pub trait Chronicle {
         ensures limits { limits self.new ≡ limits self.old }
         ensures spare { spare self.new + 1 ≡ spare self.old };
 
-    /// How many entries there are.
+    /// The number of the entries, at most the limit.
     fn len(&self) -> u64
         ensures value { result ≡ count self.now }
         ensures within { result ≤ (limits self.now).entries }
         ensures limits { AreLimits (limits self.now) };
 
-    /// For how many octets they count.
+    /// The octets that the entries take in a journal's file, added up: at most the limit.
     fn octets(&self) -> u64
         ensures value { result ≡ octets self.now }
         ensures within { result ≤ (limits self.now).octets }

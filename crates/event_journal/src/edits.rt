@@ -1,11 +1,12 @@
-//! The text of the last edit.
+//! The text of the last edit among entries: the policy that a journal leaves in force.
 ghost use Rattle.std.specs.Prelude.{◌≡◌};
 ghost use Rattle.std.specs.Option.{option_copied};
 ghost use Rattle.event_journal.specs.LastEdit.{edit_text, last_edit};
 
 use crate::entry::Entry;
 
-/// The text of the last edit among the entries. It goes from the last entry to the first, and ends at an edit.
+/// The text of the last edit among `entries`, or `None` where none of them is an edit. It goes from the last entry to
+/// the first, and ends at an edit.
 pub(crate) fn text_of_last(entries: &[Entry]) -> Option<&str>
     ensures { option_copied result ≡ last_edit entries.now }
 {
@@ -19,7 +20,7 @@ pub(crate) fn text_of_last(entries: &[Entry]) -> Option<&str>
     None
 }
 
-/// The text of an edit.
+/// The text of `entry` where that is an edit, or `None`.
 fn text_of(entry: &Entry) -> Option<&str>
     ensures { option_copied result ≡ edit_text entry.now }
 {

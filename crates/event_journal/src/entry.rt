@@ -1,4 +1,4 @@
-//! What a mediator accepts.
+//! One thing that a mediator accepted, with the octets that it takes in a journal's file.
 ghost use Rattle.std.specs.Prelude.{◌≡◌, ◌<◌, ◌+◌, ◌↔◌, ◌^◌, IsTrue};
 ghost use Rattle.event_journal.specs.Sizes.{entry_octets};
 ghost use Rattle.event_journal.specs.Spelled.{IsSpelled};
@@ -25,7 +25,8 @@ const BEFORE_NAME: u64 = KIND + NUMBER + 1;
 /// The octets of the longest message whose length has 4 octets.
 const LONGEST_MESSAGE: u64 = u32::MAX as u64;
 
-/// One thing that a mediator accepted. Sessions and subscriptions have numbers from 1 on.
+/// One thing that a mediator accepted. `session` is the number of a session and `sub` that of a subscription; both
+/// count from 1, and no number comes again.
 #[derive(Debug, Drop, PartialEq, Eq)]
 pub enum Entry {
     /// An exporter's session begins.
@@ -36,18 +37,18 @@ pub enum Entry {
     Close {
         session: u64,
     },
-    /// A session's message, and how many messages the session had before. The octets are shared with
-    /// whoever handed them in.
+    /// A message of a session. `number` is how many messages the session had before it, and `octets` is the whole
+    /// message, which is shared with whoever handed it in.
     Message {
         session: u64,
         number: u64,
         octets: Bytes,
     },
-    /// A policy's text comes into force.
+    /// A policy comes into force. `text` is the policy as it was handed in.
     Edit {
         text: PolicyText,
     },
-    /// A subscription begins, under its name.
+    /// A subscription begins, under the subscriber's `name`.
     Subscribe {
         sub: u64,
         name: Name,
@@ -56,18 +57,19 @@ pub enum Entry {
     Unsubscribe {
         sub: u64,
     },
-    /// The clock stands at so many milliseconds since 1970.
+    /// The clock is moved to `t`, in milliseconds since 1970-01-01 00:00 UTC.
     Advance {
         t: u64,
     },
-    /// A subscription gets nothing more.
+    /// A subscription is cut, since its limits left no room for what came next: it is given nothing more.
     Cut {
         sub: u64,
     },
 }
 
 impl Entry {
-    /// The octets that the entry counts for.
+    /// The octets that the entry takes in a journal's file: 1 for its kind, 8 for each number, 4, 8 or 1 for the length
+    /// of a message, a text or a name, and that message, text or name itself.
     pub fn octets(&self) -> u64
         ensures value { result ≡ entry_octets self.now }
         // Octets in memory are fewer than 2^63.
@@ -85,7 +87,8 @@ impl Entry {
         }
     }
 
-    /// Whether a journal file can spell the entry: all but a message of 2^32 octets or more.
+    /// Whether a journal file can spell the entry: each entry but a message of 2^32 octets or more, whose length has no
+    /// room there.
     pub fn is_spelled(&self) -> bool
         ensures { IsTrue result ↔ IsSpelled self.now }
     {

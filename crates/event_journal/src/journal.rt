@@ -1,4 +1,4 @@
-//! A journal, which keeps its entries.
+//! A journal: it keeps the entries themselves, within limits.
 ghost use Rattle.std.specs.Prelude.{◌≡◌, ◌≤◌, ◌<◌, ◌+◌, ◌-◌, ◌↔◌, [], ◌∷◌, ◌++◌, length, All, IsTrue, IsOk, OnOk, OnErr, slice_get, vec_capacity};
 ghost use Rattle.std.specs.Option.{option_copied};
 ghost use Rattle.event_journal.specs.declared.limits.TheConstants.{MOST_ENTRIES, MOST_OCTETS};
@@ -9,7 +9,7 @@ use crate::tally::Tally;
 use std::alloc::{AllocError, Global};
 use std::marker::Model;
 
-/// What a mediator accepted, oldest first. The place of an entry, counted from 0, is its position.
+/// What a mediator accepted, oldest first. An entry's position is how many entries stand before it.
 #[derive(Debug)]
 pub struct Journal {
     entries: Vec<Entry>,
@@ -47,13 +47,19 @@ impl Journal {
     ghost use Rattle.event_journal.specs.Spelled.{IsSpelled};
     ghost use Rattle.event_journal.specs.LastEdit.{last_edit};
 
-    /// A journal of no entry, for at most so many entries and octets. What it comes to keep is taken from `alloc`.
+    /// A journal of no entry, which may come to hold `entries` entries, 1 to [`MOST_ENTRIES`](crate::MOST_ENTRIES),
+    /// that take `octets` octets in a journal's file, 1 to [`MOST_OCTETS`](crate::MOST_OCTETS). It takes the memory for
+    /// them from `alloc` later, in [`reserve`](Journal::reserve), and none now.
     pub fn new(alloc: Global, entries: u64, octets: u64) -> Journal
         requires some_entries { 1 ≤ entries }
         requires most_entries { entries ≤ MOST_ENTRIES }
         requires some_octets { 1 ≤ octets }
         requires most_octets { octets ≤ MOST_OCTETS }
-        ensures { result ≡ record { entries = []; limits = record { entries = entries; octets = octets }; spare = 0 } }
+        ensures { result ≡ record {
+          entries = [];
+          limits = record { entries = entries; octets = octets };
+          spare = 0;
+        } }
     {
         Journal {
             entries: Vec::new(alloc),
@@ -61,17 +67,20 @@ impl Journal {
         }
     }
 
-    /// Whether both limits leave room for all these entries, and a journal file can spell each of them. It takes no memory.
+    /// Whether the entries `more` have room behind those that are there: both limits allow them, and a journal file can
+    /// spell each of them, which it can unless it is a message of 2^32 octets or more. It takes no memory.
     pub fn room(&self, more: &[Entry]) -> bool
         ensures { IsTrue result ↔ HasRoomAfter self.now.limits self.now.entries more.now }
     {
         self.tally.room(more)
     }
 
-    /// Makes room in memory for so many more entries, whatever the limits.
+    /// Reserves memory for `more` further entries, whatever the limits. Room that is reserved already counts as part of
+    /// these.
     ///
     /// # Errors
-    /// Want of memory, and then nothing has changed.
+    /// Want of memory, and then nothing has changed. Where room for `more` entries is reserved already, there is no
+    /// error.
     pub fn reserve(&mut self, more: u64) -> Result<(), AllocError>
         ensures entries { self.new.entries ≡ self.old.entries }
         ensures limits { self.new.limits ≡ self.old.limits }
@@ -86,7 +95,9 @@ impl Journal {
         Ok(())
     }
 
-    /// Takes an entry into the reserved room, behind the others. It takes no memory.
+    /// Puts `entry` behind the others, into the reserved room. The caller has seen to it that the limits allow the
+    /// entry ([`room`](Journal::room)) and that room is reserved ([`reserve`](Journal::reserve)). It takes no memory
+    /// and can't fail.
     pub fn push_reserved(&mut self, entry: Entry)
         requires room { HasRoomAfter self.old.limits self.old.entries (entry ∷ []) }
         requires reserved { 0 < self.old.spare }
@@ -96,7 +107,7 @@ impl Journal {
         self.entries.push_reserved(entry);
     }
 
-    /// How many entries it has.
+    /// The number of the entries, at most the limit.
     pub fn len(&self) -> u64
         ensures value { result ≡ length self.now.entries }
         ensures within { result ≤ self.now.limits.entries }
@@ -107,28 +118,29 @@ impl Journal {
         self.tally.len()
     }
 
-    /// Whether it has no entry.
+    /// Whether the journal has no entry.
     pub fn is_empty(&self) -> bool
         ensures { IsTrue result ↔ (self.now.entries ≡ []) }
     {
         self.entries.is_empty()
     }
 
-    /// The entry at a position, or `None` past the last one.
+    /// The entry at `position`, counted from 0, or `None` past the last one.
     pub fn get(&self, position: u64) -> Option<&Entry>
         ensures { option_copied result ≡ slice_get self.now.entries position }
     {
         self.entries.get(position as usize)
     }
 
-    /// The text of the last edit, or `None` where there was none. It takes no memory.
+    /// The text of the last edit, which is the policy in force at the end, or `None` where the journal has no edit. It
+    /// takes no memory, and time in proportion to the entries behind that edit.
     pub fn last_edit(&self) -> Option<&str>
         ensures { option_copied result ≡ last_edit self.now.entries }
     {
         text_of_last(self.entries.as_slice())
     }
 
-    /// For how many octets its entries count.
+    /// The octets that the entries take in a journal's file, added up: at most the limit.
     pub fn octets(&self) -> u64
         ensures value { result ≡ history_octets self.now.entries }
         ensures within { result ≤ self.now.limits.octets }

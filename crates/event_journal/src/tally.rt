@@ -1,4 +1,4 @@
-//! A journal's sizes alone.
+//! A tally: the sizes of a journal alone, for a run that is not to grow with what it accepts.
 ghost use Rattle.std.specs.Prelude.{◌≡◌, ◌≤◌, ◌<◌, ◌+◌, ◌-◌, ◌↔◌, [], ◌∷◌, IsTrue, max};
 ghost use Rattle.event_journal.specs.declared.limits.TheConstants.{MOST_ENTRIES, MOST_OCTETS};
 
@@ -6,8 +6,9 @@ use crate::entry::Entry;
 use crate::room::{are_spelled, octets_fit};
 use std::marker::Model;
 
-/// How many entries a journal would hold, and for how many octets they would count: the same limits and sizes as a
-/// journal's, with no entry kept. It takes no memory.
+/// How many entries a journal would hold, and how many octets they would take in its file. Its limits and sizes are
+/// those of a [`Journal`](crate::Journal) that was given the same entries, and it keeps none of them. It takes no
+/// memory.
 #[derive(Debug, Drop)]
 pub struct Tally {
     entries: u64,
@@ -24,20 +25,31 @@ impl Model for Tally {
 
     ghost view = { λ t. record { count = t.entries; octets = t.octets; limits = record { entries = t.most_entries; octets = t.most_octets }; spare = t.spare } };
 
-    ghost invariant = { λ t. IsWithin (record { count = t.entries; octets = t.octets; limits = record { entries = t.most_entries; octets = t.most_octets }; spare = t.spare }) };
+    ghost invariant = { λ t. IsWithin (record {
+      count = t.entries;
+      octets = t.octets;
+      limits = record { entries = t.most_entries; octets = t.most_octets };
+      spare = t.spare;
+    }) };
 }
 
 impl Tally {
     ghost use Rattle.event_journal.specs.Room.{HasRoom};
     ghost use Rattle.event_journal.specs.Counted.{AreLimits, with_one};
 
-    /// A tally of no entry, for at most so many entries and octets.
+    /// A tally of no entry, which may come to count `entries` entries, 1 to [`MOST_ENTRIES`](crate::MOST_ENTRIES), that
+    /// take `octets` octets in a journal's file, 1 to [`MOST_OCTETS`](crate::MOST_OCTETS).
     pub fn new(entries: u64, octets: u64) -> Tally
         requires some_entries { 1 ≤ entries }
         requires most_entries { entries ≤ MOST_ENTRIES }
         requires some_octets { 1 ≤ octets }
         requires most_octets { octets ≤ MOST_OCTETS }
-        ensures { result ≡ record { count = 0; octets = 0; limits = record { entries = entries; octets = octets }; spare = 0 } }
+        ensures { result ≡ record {
+          count = 0;
+          octets = 0;
+          limits = record { entries = entries; octets = octets };
+          spare = 0;
+        } }
     {
         Tally {
             entries: 0,
@@ -48,7 +60,8 @@ impl Tally {
         }
     }
 
-    /// Whether both limits leave room for all these entries, and a journal file can spell each of them.
+    /// Whether the entries `more` have room behind those that were counted: both limits allow them, and a journal file
+    /// can spell each of them, which it can unless it is a message of 2^32 octets or more.
     pub fn room(&self, more: &[Entry]) -> bool
         ensures { IsTrue result ↔ HasRoom self.now.limits self.now.count self.now.octets more.now }
     {
@@ -57,14 +70,16 @@ impl Tally {
             && are_spelled(more)
     }
 
-    /// Reserves room for so many more entries, whatever the limits.
+    /// Reserves room for `more` further entries, whatever the limits. That is a number alone, as a
+    /// [`Journal`](crate::Journal) has it, so it can't fail.
     pub fn reserve(&mut self, more: u64)
         ensures { self.new ≡ record self.old { spare = max self.old.spare more } }
     {
         self.spare = self.spare.max(more);
     }
 
-    /// Counts an entry in the reserved room, and lets go of it.
+    /// Counts `entry` in the reserved room, of which there is then less by one, and drops it. The caller has seen to it
+    /// that the limits allow the entry ([`room`](Tally::room)) and that room is reserved ([`reserve`](Tally::reserve)).
     pub fn push_reserved(&mut self, entry: Entry)
         requires room { HasRoom self.old.limits self.old.count self.old.octets (entry ∷ []) }
         requires reserved { 0 < self.old.spare }
@@ -73,7 +88,8 @@ impl Tally {
         self.count_reserved(&entry);
     }
 
-    /// Counts an entry in the reserved room.
+    /// Counts `entry` in the reserved room, of which there is then less by one, for a journal that keeps the entry
+    /// itself.
     pub(crate) fn count_reserved(&mut self, entry: &Entry)
         requires room { HasRoom self.old.limits self.old.count self.old.octets (entry.now ∷ []) }
         requires reserved { 0 < self.old.spare }
@@ -84,7 +100,7 @@ impl Tally {
         self.spare -= 1;
     }
 
-    /// How many entries were counted.
+    /// The number of the entries that were counted, at most the limit.
     pub fn len(&self) -> u64
         ensures value { result ≡ self.now.count }
         ensures within { result ≤ self.now.limits.entries }
@@ -100,7 +116,7 @@ impl Tally {
         self.entries == 0
     }
 
-    /// For how many octets they count.
+    /// The octets that the counted entries take in a journal's file, added up: at most the limit.
     pub fn octets(&self) -> u64
         ensures value { result ≡ self.now.octets }
         ensures within { result ≤ self.now.limits.octets }

@@ -1,4 +1,4 @@
-//! The text of an edit.
+//! The text of an edit, as its journal keeps it.
 ghost use Rattle.std.specs.Prelude.{◌≡◌, IfOk, string_bytes, nat_eq};
 ghost use Rattle.std.specs.Cmp.Lexicographic.{pointwise, nat_list_eq_equiv};
 ghost use Rattle.std.specs.Cmp.{partial_equiv_from_equiv};
@@ -21,10 +21,10 @@ impl Model for PolicyText {
 }
 
 impl PolicyText {
-    /// A copy of the text.
+    /// A copy of `text`, in memory from `alloc`.
     ///
     /// # Errors
-    /// Want of memory.
+    /// Want of memory for the copy.
     pub fn new(alloc: Global, text: &str) -> Result<PolicyText, AllocError>
         ensures { IfOk result (λ copy. copy ≡ text.now) }
     {
@@ -32,14 +32,14 @@ impl PolicyText {
         Ok(PolicyText { text })
     }
 
-    /// The text that the string is. It takes no memory.
+    /// A policy's text which is `text` itself. It takes no memory.
     pub fn from_string(text: String) -> PolicyText
         ensures { result ≡ string_bytes text }
     {
         PolicyText { text }
     }
 
-    /// The text.
+    /// The text, as it was handed in.
     pub fn as_str(&self) -> &str
         ensures { result.now ≡ self.now }
     {

@@ -1,3 +1,4 @@
+//! A writer that takes few octets at a call, and fails at one of its calls.
 ghost use Rattle.std.specs.Prelude.{◌≡◌, ◌≢◌, ◌≤◌, ◌+◌, [], Some, IsOk, IfOk, IfErr, length, min, vec_len, vec_capacity};
 ghost use Rattle.std.specs.Io.{WritesAtMost};
 ghost use Rattle.std.specs.Io.KnownBytes.{Keeps, WriteAppends};
@@ -8,8 +9,8 @@ use crate::schedule::Schedule;
 use std::alloc::{AllocError, Global};
 use std::io::{self, ErrorKind, Write};
 
-/// A writer that takes few octets at a call, and fails at one of its calls. It keeps what it took. A
-/// flush does nothing, and is no call.
+/// A writer that takes few octets at a call, and fails at one of its calls. It keeps what it took. A flush does
+/// nothing, and is no call.
 #[derive(Drop)]
 pub struct Narrow {
     /// What was written.
@@ -19,8 +20,12 @@ pub struct Narrow {
 }
 
 impl Narrow {
-    /// A writer that has taken nothing, with room for so many octets: a write into that room takes no
-    /// memory. Fails only for want of memory.
+    /// A writer that has taken nothing. A call takes at most `most` octets; `until_failure` calls come before the one
+    /// that fails, with an error of the kind `failure`. There is room for `room` octets in memory from `alloc`: a write
+    /// into that room takes no memory.
+    ///
+    /// # Errors
+    /// Want of memory for the room.
     pub fn new(
         alloc: Global,
         room: usize,
@@ -30,7 +35,8 @@ impl Narrow {
     ) -> Result<Narrow, AllocError>
         ensures empty { IfOk result (λ writer. writer.octets.items ≡ []) }
         ensures room { IfOk result (λ writer. room ≤ vec_capacity writer.octets) }
-        ensures schedule { IfOk result (λ writer. writer.schedule ≡ record { most = most; until_failure = until_failure; failure = failure }) }
+        ensures schedule { IfOk result (λ writer. writer.schedule
+            ≡ record { most = most; until_failure = until_failure; failure = failure }) }
     {
         Ok(Narrow {
             octets: Vec::with_capacity(alloc, room)?,
@@ -48,12 +54,17 @@ impl Write for Narrow {
 
     fn write(&mut self, octets: &[u8]) -> io::Result<usize>
         ensures bound { WritesAtMost result octets.now }
-        ensures bytes { WriteAppends (Some self.old.octets.items) (Some self.new.octets.items) result octets.now }
-        ensures takes { IfOk result (λ count. count ≡ min (length octets.now) self.old.schedule.most) }
+        ensures bytes { WriteAppends (Some self.old.octets.items) (Some self.new.octets.items)
+            result octets.now }
+        ensures takes { IfOk result (λ count.
+            count ≡ min (length octets.now) self.old.schedule.most) }
         ensures due { FailsWhenDue self.old.schedule self.new.schedule result }
         // Each other call fails only for want of memory, and room that is there takes none.
-        ensures memory { self.old.schedule.until_failure ≢ 0 → IfErr result (λ e. error_kind e ≡ ErrorKind.OutOfMemory) }
-        ensures there { self.old.schedule.until_failure ≢ 0 → vec_len self.old.octets + min (length octets.now) self.old.schedule.most ≤ vec_capacity self.old.octets → IsOk result }
+        ensures memory { self.old.schedule.until_failure ≢ 0
+            → IfErr result (λ e. error_kind e ≡ ErrorKind.OutOfMemory) }
+        ensures there { self.old.schedule.until_failure ≢ 0
+            → vec_len self.old.octets + min (length octets.now) self.old.schedule.most
+            ≤ vec_capacity self.old.octets → IsOk result }
     {
         let count = octets.len().min(self.schedule.next_call()?);
         self.octets.extend_from_slice(&octets[..count])?;

@@ -1,3 +1,4 @@
+//! How much a call of a reader or a writer does, and which call fails.
 ghost use Rattle.std.specs.Prelude.{◌≡◌, ◌≢◌, Ok};
 ghost use Rattle.faulty_devices.specs.Calls.{FailsWhenDue};
 
@@ -10,15 +11,15 @@ pub struct Schedule {
     pub most: usize,
     /// How many calls come before the one that fails.
     pub until_failure: usize,
-    /// The error of that call.
+    /// The kind of that call's error.
     pub failure: ErrorKind,
 }
 
 impl Schedule {
-    /// Counts a call, and answers how much it may do.
+    /// Counts a call, and answers the most octets that it may take or give.
     ///
     /// # Errors
-    /// That which is told, at the call that is to fail.
+    /// An error of the kind that was told, at the call that is to fail.
     pub(crate) fn next_call(&mut self) -> io::Result<usize>
         ensures due { FailsWhenDue self.old self.new result }
         ensures most { self.old.until_failure ≢ 0 → result ≡ Ok self.old.most }

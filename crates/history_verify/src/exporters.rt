@@ -43,7 +43,8 @@ impl Exporters {
     /// Want of memory, and then nothing has changed.
     pub fn open(&mut self, session: u64) -> Result<(), AllocError>
         requires next { session ≡ self.old.opened + 1 }
-        ensures ok { OnOk result ((h : List Entry) → AreExporters self.old h → AreExporters self.new (h ++ Open session ∷ [])) }
+        ensures ok { OnOk result ((h : List Entry) → AreExporters self.old h
+            → AreExporters self.new (h ++ Open session ∷ [])) }
         ensures err { OnErr result (SameExporters self.old self.new) }
     {
         self.sessions.open(session)?;
@@ -60,7 +61,8 @@ impl Exporters {
 
     /// Closes a session.
     pub fn close(&mut self, session: u64)
-        ensures { (h : List Entry) → AreExporters self.old h → AreExporters self.new (h ++ Close session ∷ []) }
+        ensures { (h : List Entry) → AreExporters self.old h
+            → AreExporters self.new (h ++ Close session ∷ []) }
     {
         self.sessions.close(session);
     }
@@ -68,7 +70,8 @@ impl Exporters {
     /// The session, where it is open and this is the number of its next message.
     pub fn in_turn(&self, session: u64, number: u64) -> Option<&OpenSession>
         ensures found { IfSome result (λ o. IsInTurn self.now session number o.now) }
-        ensures none { IfNone result ((h : List Entry) → AreExporters self.now h → IsTurn h session number → ⊥) }
+        ensures none { IfNone result ((h : List Entry) → AreExporters self.now h
+            → IsTurn h session number → ⊥) }
     {
         let open = self.sessions.get(session)?;
         if open.accepted == number {
@@ -91,9 +94,11 @@ impl Exporters {
 
     /// Keeps what was read of a session's next message, in room that was made for it. It takes no memory.
     pub fn keep(&mut self, session: u64, reading: Reading)
-        requires room { IsSomeAnd (at_key session self.old.sessions) (λ o. HasRoomFor o.session reading) }
+        requires room { IsSomeAnd (at_key session self.old.sessions)
+            (λ o. HasRoomFor o.session reading) }
         requires count { IfSome (at_key session self.old.sessions) (λ o. o.accepted + 1 < 2 ^ 64) }
-        ensures { (h : List Entry) (number : ℕ) (octets : List ℕ) → AreExporters self.old h → is_open session h ≡ true → IsReadingOf (messages_of session h) octets reading
+        ensures { (h : List Entry) (number : ℕ) (octets : List ℕ) → AreExporters self.old h
+            → is_open session h ≡ true → IsReadingOf (messages_of session h) octets reading
             → AreExporters self.new (h ++ Message session number octets ∷ []) }
     {
         self.sessions.keep(session, reading);

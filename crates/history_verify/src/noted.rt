@@ -53,7 +53,9 @@ impl Noted {
     /// Notes entries, which are those that are wanted of a list, in room that was made. It takes no memory.
     pub(crate) fn append(&mut self, entries: Vec<AuditEntry>)
         requires room { HasRoomToNote self.old (length entries.items) }
-        ensures more { (list more : List OneEntry) → AreNoted self.old list → entries.items ≡ (if self.old.wanted then more else []) → AreNoted self.new (list ++ more) }
+        ensures more { (list more : List OneEntry) → AreNoted self.old list
+            → entries.items ≡ (if self.old.wanted then more else [])
+            → AreNoted self.new (list ++ more) }
         ensures wanted { self.new.wanted ≡ self.old.wanted }
     {
         if self.wanted {
@@ -64,7 +66,8 @@ impl Noted {
     /// Notes an entry, in room that was made. It takes no memory.
     pub(crate) fn push(&mut self, entry: AuditEntry)
         requires room { HasRoomToNote self.old 1 }
-        ensures more { (list : List OneEntry) → AreNoted self.old list → AreNoted self.new (list ++ entry ∷ []) }
+        ensures more { (list : List OneEntry) → AreNoted self.old list
+            → AreNoted self.new (list ++ entry ∷ []) }
         ensures wanted { self.new.wanted ≡ self.old.wanted }
     {
         if self.wanted {
@@ -74,7 +77,8 @@ impl Noted {
 
     /// The entries.
     pub(crate) fn into_entries(self) -> Vec<AuditEntry>
-        ensures { (list : List OneEntry) → AreNoted self list → result.items ≡ (if self.wanted then list else []) }
+        ensures { (list : List OneEntry) → AreNoted self list
+            → result.items ≡ (if self.wanted then list else []) }
     {
         let Noted { wanted: _, entries } = self;
         entries

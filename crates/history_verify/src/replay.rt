@@ -85,7 +85,8 @@ impl Replay {
     /// it, and where none waits it is itself the first bad one.
     pub(crate) fn bad(&self) -> VerifyFault
         requires short { StandsShort self.now }
-        ensures { (entry : Entry) (h : List Entry) → Stands self.now h → (IsAccepted h entry → ⊥) → RefusesEntry result self.now h entry }
+        ensures { (entry : Entry) (h : List Entry) → Stands self.now h → (IsAccepted h entry → ⊥)
+            → RefusesEntry result self.now h entry }
     {
         VerifyFault::BadHistory {
             position: self.first_waiting(),
@@ -220,7 +221,8 @@ impl Replay {
     /// Want of memory.
     pub(crate) fn cut(&mut self, sub: u64) -> Result<(), AllocError>
         requires short { StandsShort self.old }
-        ensures ok { OnOk result ((h : List Entry) → Stands self.old h → MayCut h sub → Stands self.new (h ++ Cut sub ∷ [])) }
+        ensures ok { OnOk result ((h : List Entry) → Stands self.old h → MayCut h sub
+            → Stands self.new (h ++ Cut sub ∷ [])) }
         ensures same { OnErr result (IsSameReplay self.old self.new) }
         ensures wanted { self.new.audit.wanted ≡ self.old.audit.wanted }
     {
@@ -240,7 +242,8 @@ impl Replay {
 
     /// What the history disclosed, and what its audit names, where no cut waits.
     pub(crate) fn into_verified(self) -> Verified
-        ensures { (h : List Entry) → Stands self h → self.waiting.items ≡ [] → IsVerified self.audit.wanted h result }
+        ensures { (h : List Entry) → Stands self h → self.waiting.items ≡ []
+            → IsVerified self.audit.wanted h result }
     {
         let Replay {
             alloc: _,
@@ -284,9 +287,11 @@ impl Replay {
         octets: &Bytes,
     ) -> Result<Reading, VerifyFault>
         requires short { StandsShort self.now }
-        ensures ok { IfOk result (λ reading. (h : List Entry) → Stands self.now h → IsReadOf h session number octets.now reading) }
+        ensures ok { IfOk result (λ reading. (h : List Entry) → Stands self.now h
+            → IsReadOf h session number octets.now reading) }
         ensures few { IfOk result (λ reading. length reading.meaning.records ≤ 2 ^ 32) }
-        ensures err { IfErr result (λ e. RefusesNext e self.now (Message session number octets.now)) }
+        ensures err { IfErr result (λ e.
+            RefusesNext e self.now (Message session number octets.now)) }
     {
         let Some(open) = self.exporters.in_turn(session, number) else {
             return Err(self.bad());
@@ -308,9 +313,13 @@ impl Replay {
         requires short { StandsShort self.old }
         requires few { length reading.now.meaning.records ≤ 2 ^ 32 }
         ensures same { self.new ≡ self.old }
-        ensures within { IfOk result (λ place. IfSome place (λ n. n < length self.old.waiting.items)) }
-        ensures first { IfOk result (λ place. (settled h : List Entry) (session number : ℕ) (octets : List ℕ) → StandsOver self.old settled h → IsReadOf h session number octets reading.now
-            → IsFirstOr (λ sub. given_at sub settled (Message session number octets)) self.old.waiting.items place) }
+        ensures within { IfOk result (λ place. IfSome place
+            (λ n. n < length self.old.waiting.items)) }
+        ensures first { IfOk result (λ place.
+            (settled h : List Entry) (session number : ℕ) (octets : List ℕ)
+            → StandsOver self.old settled h → IsReadOf h session number octets reading.now
+            → IsFirstOr (λ sub. given_at sub settled (Message session number octets))
+            self.old.waiting.items place) }
     {
         let (domain, records) = (reading.header().domain, reading.records());
         let cut = self.subscribers.those(&self.waiting)?;
@@ -325,7 +334,8 @@ impl Replay {
     pub(crate) fn judge(&mut self, reading: &Reading) -> Result<Judged, AllocError>
         requires few { length reading.now.meaning.records ≤ 2 ^ 32 }
         ensures same { self.new ≡ self.old }
-        ensures judged { IfOk result (λ j. (h : List Entry) (session number : ℕ) (octets : List ℕ) → Stands self.old h → IsReadOf h session number octets reading.now
+        ensures judged { IfOk result (λ j. (h : List Entry) (session number : ℕ) (octets : List ℕ)
+            → Stands self.old h → IsReadOf h session number octets reading.now
             → IsJudged self.new.audit.wanted h (Message session number octets) j) }
     {
         let (domain, records) = (reading.header().domain, reading.records());
@@ -352,10 +362,15 @@ impl Replay {
     ) -> Result<(), AllocError>
         requires short { StandsShort self.old }
         requires few { length reading.meaning.records ≤ 2 ^ 32 }
-        requires planned { (settled h : List Entry) × (number : ℕ) × (octets : List ℕ) × StandsOver self.old settled h × IsReadOf h session number octets reading × IsJudged self.old.audit.wanted h (Message session number octets) judged }
-        ensures ok { OnOk result ((settled h : List Entry) (number : ℕ) (octets : List ℕ) → StandsOver self.old settled h → IsReadOf h session number octets reading
-            → AllByRecursion (λ sub. given_at sub settled (Message session number octets) ≢ []) self.old.waiting.items
-            → IsJudged self.old.audit.wanted h (Message session number octets) judged → IsTaken self.new h (Message session number octets)) }
+        requires planned { (settled h : List Entry) × (number : ℕ) × (octets : List ℕ)
+            × StandsOver self.old settled h × IsReadOf h session number octets reading
+            × IsJudged self.old.audit.wanted h (Message session number octets) judged }
+        ensures ok { OnOk result ((settled h : List Entry) (number : ℕ) (octets : List ℕ)
+            → StandsOver self.old settled h → IsReadOf h session number octets reading
+            → AllByRecursion (λ sub. given_at sub settled (Message session number octets) ≢ [])
+            self.old.waiting.items
+            → IsJudged self.old.audit.wanted h (Message session number octets) judged
+            → IsTaken self.new h (Message session number octets)) }
         ensures same { OnErr result (IsSameReplay self.old self.new) }
         ensures wanted { self.new.audit.wanted ≡ self.old.audit.wanted }
     {
@@ -396,8 +411,11 @@ impl Replay {
     /// # Errors
     /// Want of memory.
     pub(crate) fn unborne_at(&self, t: u64) -> Result<Option<usize>, AllocError>
-        ensures within { IfOk result (λ place. IfSome place (λ n. n < length self.now.waiting.items)) }
-        ensures first { IfOk result (λ place. (settled h : List Entry) → StandsOver self.now settled h → IsFirstOr (λ sub. given_at sub settled (Advance t)) self.now.waiting.items place) }
+        ensures within { IfOk result (λ place. IfSome place
+            (λ n. n < length self.now.waiting.items)) }
+        ensures first { IfOk result (λ place.
+            (settled h : List Entry) → StandsOver self.now settled h
+            → IsFirstOr (λ sub. given_at sub settled (Advance t)) self.now.waiting.items place) }
     {
         'waiting: for (place, sub) in self.waiting.iter().enumerate() {
             let share = self.sums.closing_of(*sub, t)?;
@@ -415,8 +433,10 @@ impl Replay {
     pub(crate) fn advance(&mut self, t: u64) -> Result<(), AllocError>
         requires short { StandsShort self.old }
         requires accepted { (h : List Entry) → Stands self.old h → IsAccepted h (Advance t) }
-        ensures ok { OnOk result ((settled h : List Entry) → StandsOver self.old settled h → IsAccepted h (Advance t)
-            → AllByRecursion (λ sub. given_at sub settled (Advance t) ≢ []) self.old.waiting.items → IsTaken self.new h (Advance t)) }
+        ensures ok { OnOk result ((settled h : List Entry) → StandsOver self.old settled h
+            → IsAccepted h (Advance t)
+            → AllByRecursion (λ sub. given_at sub settled (Advance t) ≢ []) self.old.waiting.items
+            → IsTaken self.new h (Advance t)) }
         ensures same { OnErr result (IsSameReplay self.old self.new) }
         ensures wanted { self.new.audit.wanted ≡ self.old.audit.wanted }
     {

@@ -74,8 +74,10 @@ impl Subscribers {
 
     /// The name of a subscription that began.
     fn name(&self, sub: u64) -> Option<&str>
-        ensures some { IfSome result (λ name. (h : List Entry) → AreSubscribers self.now h → (name.now ≡ name_of sub h) × (sub ≤ subscriptions_begun h) × (0 < sub)) }
-        ensures none { IfNone result ((h : List Entry) → AreSubscribers self.now h → IsUnbegun h sub) }
+        ensures some { IfSome result (λ name. (h : List Entry) → AreSubscribers self.now h
+            → (name.now ≡ name_of sub h) × (sub ≤ subscriptions_begun h) × (0 < sub)) }
+        ensures none { IfNone result ((h : List Entry) → AreSubscribers self.now h
+            → IsUnbegun h sub) }
     {
         let count = count_at(&self.begun, sub)?;
         Some(count.name.as_str())
@@ -88,7 +90,8 @@ impl Subscribers {
     pub(crate) fn begin(&mut self, sub: u64, name: &Name) -> Result<(), AllocError>
         requires next { sub ≡ length self.old.begun.items + 1 }
         requires free { number_of self.old name.now ≡ None }
-        ensures ok { OnOk result ((h : List Entry) → AreSubscribers self.old h → AreSubscribers self.new (h ++ Subscribe sub name.now ∷ [])) }
+        ensures ok { OnOk result ((h : List Entry) → AreSubscribers self.old h
+            → AreSubscribers self.new (h ++ Subscribe sub name.now ∷ [])) }
         // A name is one by its type.
         ensures named { OnOk result (is_name name.now ≡ true) }
         ensures err { OnErr result (SameSubscribers self.old self.new) }
@@ -111,7 +114,8 @@ impl Subscribers {
 
     /// Ends a live subscription.
     pub(crate) fn end(&mut self, sub: u64)
-        ensures { (h : List Entry) → AreSubscribers self.old h → is_live sub h ≡ true → AreSubscribers self.new (h ++ Unsubscribe sub ∷ []) }
+        ensures { (h : List Entry) → AreSubscribers self.old h → is_live sub h ≡ true
+            → AreSubscribers self.new (h ++ Unsubscribe sub ∷ []) }
     {
         self.served.remove(&sub);
         if let Some(count) = count_at(&self.begun, sub) {
@@ -121,7 +125,8 @@ impl Subscribers {
 
     /// Cuts a subscription. It takes no memory.
     pub(crate) fn cut(&mut self, sub: u64)
-        ensures { (h : List Entry) → AreSubscribers self.old h → AreSubscribers self.new (h ++ Cut sub ∷ []) }
+        ensures { (h : List Entry) → AreSubscribers self.old h
+            → AreSubscribers self.new (h ++ Cut sub ∷ []) }
     {
         self.served.remove(&sub);
     }
@@ -131,7 +136,9 @@ impl Subscribers {
     /// # Errors
     /// Want of memory.
     pub(crate) fn served_if(&self, wanted: bool) -> Result<Vec<Served<'_>>, AllocError>
-        ensures { IfOk result (λ v. (h : List Entry) → AreSubscribers self.now h → map told v.items ≡ (if wanted then map (λ sub. (sub, name_of sub h)) (served h) else [])) }
+        ensures { IfOk result (λ v. (h : List Entry) → AreSubscribers self.now h
+            → map told v.items ≡ (if wanted then map (λ sub. (sub, name_of sub h)) (served h)
+            else [])) }
     {
         let mut found = Vec::new(self.alloc);
         if !wanted {
@@ -149,7 +156,8 @@ impl Subscribers {
     /// # Errors
     /// Want of memory.
     pub(crate) fn those(&self, subs: &[u64]) -> Result<Vec<Served<'_>>, AllocError>
-        ensures { IfOk result (λ v. (h : List Entry) → AreSubscribers self.now h → map told v.items ≡ map (λ sub. (sub, name_of sub h)) subs.now) }
+        ensures { IfOk result (λ v. (h : List Entry) → AreSubscribers self.now h
+            → map told v.items ≡ map (λ sub. (sub, name_of sub h)) subs.now) }
     {
         let mut found = Vec::with_capacity(self.alloc, subs.len())?;
         'subs: for sub in subs {
@@ -219,8 +227,10 @@ ghost use Rattle.history_verify.specs.Parts.{more_at};
 
 /// The count of a subscription.
 fn count_at(counts: &[Count], sub: u64) -> Option<&Count>
-    ensures some { IfSome result (λ count. (place : ℕ) × (sub ≡ place + 1) × (slice_get counts.now place ≡ Some count.now)) }
-    ensures none { IfNone result ((place : ℕ) → sub ≡ place + 1 → slice_get counts.now place ≡ None) }
+    ensures some { IfSome result (λ count. (place : ℕ) × (sub ≡ place + 1)
+        × (slice_get counts.now place ≡ Some count.now)) }
+    ensures none { IfNone result ((place : ℕ) → sub ≡ place + 1
+        → slice_get counts.now place ≡ None) }
 {
     let place = sub.checked_sub(1)?;
     counts.get(place as usize)

@@ -40,7 +40,9 @@ impl Sums {
     /// Want of memory. Nothing that contracts see changes, whatever the answer.
     pub(crate) fn reserve(&mut self, tallies: &[Tally]) -> Result<Vec<Reserved>, AllocError>
         ensures same { SameSums self.old self.new }
-        ensures ready { IfOk result (λ reserved. AreApart (map tallied tallies.now) → AllReady self.new.groups (map reserved_for reserved.items) (map tallied tallies.now)) }
+        ensures ready { IfOk result (λ reserved. AreApart (map tallied tallies.now)
+            → AllReady self.new.groups (map reserved_for reserved.items)
+            (map tallied tallies.now)) }
     {
         self.groups.reserve(tallies)
     }
@@ -48,8 +50,10 @@ impl Sums {
     /// Adds what was made ready. It takes no memory.
     pub(crate) fn add(&mut self, reserved: Vec<Reserved>)
         requires { AreCountable self.old.groups (map reserved_for reserved.items) }
-        ensures { (tallies : List (ℕ × List Count)) (more : ℕ → List Counted) (h g : List Entry) → AllReady self.old.groups (map reserved_for reserved.items) tallies → AreApart tallies
-            → ((q : ℕ) → added_to q tallies ≡ map count_of (more q)) → AreSums self.old h → ((q : ℕ) → running q g ≡ running q h ++ more q) → AreSums self.new g }
+        ensures { (tallies : List (ℕ × List Count)) (more : ℕ → List Counted) (h g : List Entry)
+            → AllReady self.old.groups (map reserved_for reserved.items) tallies → AreApart tallies
+            → ((q : ℕ) → added_to q tallies ≡ map count_of (more q)) → AreSums self.old h
+            → ((q : ℕ) → running q g ≡ running q h ++ more q) → AreSums self.new g }
     {
         self.groups.add_reserved(reserved);
     }
@@ -60,7 +64,8 @@ impl Sums {
     /// Want of memory.
     pub(crate) fn closing_of(&self, sub: u64, t: u64) -> Result<Share, AllocError>
         ensures sub { IfOk result (λ share. share.sub ≡ sub) }
-        ensures given { IfOk result (λ share. (h : List Entry) → AreSums self.now h → share.given ≡ closed_by t (running sub h)) }
+        ensures given { IfOk result (λ share. (h : List Entry) → AreSums self.now h
+            → share.given ≡ closed_by t (running sub h)) }
     {
         let given = self.groups.closing(sub, t)?;
         Ok(Share { sub, given })
@@ -71,7 +76,8 @@ impl Sums {
     /// # Errors
     /// Want of memory.
     pub(crate) fn closing(&self, t: u64) -> Result<Vec<Share>, AllocError>
-        ensures { IfOk result (λ shares. (h : List Entry) → AreSums self.now h → (sub : ℕ) → given_to sub (map shown shares.items) ≡ closed_by t (running sub h)) }
+        ensures { IfOk result (λ shares. (h : List Entry) → AreSums self.now h
+            → (sub : ℕ) → given_to sub (map shown shares.items) ≡ closed_by t (running sub h)) }
     {
         let subs = self.groups.subs()?;
         let mut shares = Vec::new(self.alloc);
@@ -83,15 +89,21 @@ impl Sums {
 
     /// Drops the groups that an advance of the clock to `t` closes. It takes no memory.
     pub(crate) fn close(&mut self, t: u64)
-        ensures { (h g : List Entry) → AreSums self.old h → ((q : ℕ) → running q g ≡ staying t (running q h)) → AreSums self.new g }
+        ensures { (h g : List Entry) → AreSums self.old h
+            → ((q : ℕ) → running q g ≡ staying t (running q h)) → AreSums self.new g }
     {
         self.groups.close(t);
     }
 
     /// Drops the groups of subscriptions. It takes no memory, and what was reserved for others stays so.
     pub(crate) fn remove(&mut self, subs: &[u64])
-        ensures gone { (h g : List Entry) → AreSums self.old h → ((q : ℕ) → is_in q subs.now ≡ true → running q g ≡ []) → ((q : ℕ) → (is_in q subs.now ≡ true → ⊥) → running q g ≡ running q h) → AreSums self.new g }
-        ensures ready { (reserved : List (ℕ × List Addition)) (tallies : List (ℕ × List Count)) → AllReady self.old.groups reserved tallies → ((q : ℕ) → is_in q subs.now ≡ true → added_to q tallies ≡ [])
+        ensures gone { (h g : List Entry) → AreSums self.old h
+            → ((q : ℕ) → is_in q subs.now ≡ true → running q g ≡ [])
+            → ((q : ℕ) → (is_in q subs.now ≡ true → ⊥) → running q g ≡ running q h)
+            → AreSums self.new g }
+        ensures ready { (reserved : List (ℕ × List Addition)) (tallies : List (ℕ × List Count))
+            → AllReady self.old.groups reserved tallies
+            → ((q : ℕ) → is_in q subs.now ≡ true → added_to q tallies ≡ [])
             → AllReady self.new.groups reserved tallies }
     {
         'subs: for sub in subs {
@@ -101,7 +113,8 @@ impl Sums {
 
     /// Drops the groups of a subscription.
     pub(crate) fn remove_one(&mut self, sub: u64)
-        ensures gone { (h g : List Entry) → AreSums self.old h → running sub g ≡ [] → ((q : ℕ) → q ≢ sub → running q g ≡ running q h) → AreSums self.new g }
+        ensures gone { (h g : List Entry) → AreSums self.old h → running sub g ≡ []
+            → ((q : ℕ) → q ≢ sub → running q g ≡ running q h) → AreSums self.new g }
         ensures without { IsWithout self.old sub self.new }
     {
         self.groups.remove(sub);

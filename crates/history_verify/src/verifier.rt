@@ -58,8 +58,10 @@ impl Verifier {
     /// has changed.
     pub fn feed(&mut self, entry: &Entry) -> Result<(), VerifyFault>
         requires short { IsFedShort self.old }
-        ensures ok { OnOk result ((h : List OneEntry) → IsFed self.old h → IsFed self.new (h ++ entry.now ∷ [])) }
-        ensures err { IfErr result (λ e. (h : List OneEntry) → IsFed self.old h → NamesFirstOfAny e (h ++ entry.now ∷ [])) }
+        ensures ok { OnOk result ((h : List OneEntry) → IsFed self.old h
+            → IsFed self.new (h ++ entry.now ∷ [])) }
+        ensures err { IfErr result (λ e. (h : List OneEntry) → IsFed self.old h
+            → NamesFirstOfAny e (h ++ entry.now ∷ [])) }
         ensures same { OnErr result ((h : List OneEntry) → IsFed self.old h → IsFed self.new h) }
         ensures wanted { keeps_audit self.new ≡ keeps_audit self.old }
     {
@@ -100,7 +102,8 @@ impl Verifier {
     /// It ends in cuts, which nothing bears out.
     pub fn finish(self) -> Result<Verified, VerifyFault>
         requires short { IsFedShort self }
-        ensures ok { IfOk result (λ v. (h : List OneEntry) → IsFed self h → IsVerified (keeps_audit self) h v) }
+        ensures ok { IfOk result (λ v. (h : List OneEntry) → IsFed self h
+            → IsVerified (keeps_audit self) h v) }
         ensures err { IfErr result (λ e. (h : List OneEntry) → IsFed self h → NamesFirst e h) }
     {
         self.none_wait()?;
@@ -128,7 +131,8 @@ impl Verifier {
 
     fn cut(&mut self, sub: u64) -> Result<(), VerifyFault>
         requires short { IsFedShort self.old }
-        ensures ok { OnOk result ((h : List OneEntry) → IsFed self.old h → IsFed self.new (h ++ Cut sub ∷ [])) }
+        ensures ok { OnOk result ((h : List OneEntry) → IsFed self.old h
+            → IsFed self.new (h ++ Cut sub ∷ [])) }
         ensures err { IfErr result (λ e. e ≡ OutOfMemory) }
         ensures same { OnErr result ((h : List OneEntry) → IsFed self.old h → IsFed self.new h) }
         ensures wanted { keeps_audit self.new ≡ keeps_audit self.old }
@@ -143,8 +147,10 @@ impl Verifier {
 
     fn message(&mut self, session: u64, number: u64, octets: &Bytes) -> Result<(), VerifyFault>
         requires short { IsFedShort self.old }
-        ensures ok { OnOk result ((h : List OneEntry) → IsFed self.old h → IsFed self.new (h ++ Message session number octets.now ∷ [])) }
-        ensures err { IfErr result (λ e. (h : List OneEntry) → IsFed self.old h → NamesFirstOfAny e (h ++ Message session number octets.now ∷ [])) }
+        ensures ok { OnOk result ((h : List OneEntry) → IsFed self.old h
+            → IsFed self.new (h ++ Message session number octets.now ∷ [])) }
+        ensures err { IfErr result (λ e. (h : List OneEntry) → IsFed self.old h
+            → NamesFirstOfAny e (h ++ Message session number octets.now ∷ [])) }
         ensures same { OnErr result ((h : List OneEntry) → IsFed self.old h → IsFed self.new h) }
         ensures wanted { keeps_audit self.new ≡ keeps_audit self.old }
     {
@@ -158,8 +164,10 @@ impl Verifier {
 
     fn advance(&mut self, t: u64) -> Result<(), VerifyFault>
         requires short { IsFedShort self.old }
-        ensures ok { OnOk result ((h : List OneEntry) → IsFed self.old h → IsFed self.new (h ++ Advance t ∷ [])) }
-        ensures err { IfErr result (λ e. (h : List OneEntry) → IsFed self.old h → NamesFirstOfAny e (h ++ Advance t ∷ [])) }
+        ensures ok { OnOk result ((h : List OneEntry) → IsFed self.old h
+            → IsFed self.new (h ++ Advance t ∷ [])) }
+        ensures err { IfErr result (λ e. (h : List OneEntry) → IsFed self.old h
+            → NamesFirstOfAny e (h ++ Advance t ∷ [])) }
         ensures same { OnErr result ((h : List OneEntry) → IsFed self.old h → IsFed self.new h) }
         ensures wanted { keeps_audit self.new ≡ keeps_audit self.old }
     {

@@ -1,4 +1,4 @@
-//! Reading a journal file in memory.
+//! Reading a journal file that is whole in memory.
 ghost use Rattle.std.specs.Prelude.{◌≡◌, ◌∷◌, ◌++◌, [], List, true, false, length, IfOk};
 ghost use Rattle.event_journal.specs.declared.entry.Entry.{Entry};
 ghost use Rattle.event_journal.specs.declared.limits.TheConstants.{MOST_ENTRIES, MOST_OCTETS};
@@ -14,17 +14,21 @@ use event_journal::{Entry, Journal, MOST_ENTRIES, MOST_OCTETS};
 use std::alloc::Global;
 use std::slice::from_ref;
 
-/// The journal that a file says, with the greatest limits that a journal may have.
+/// The journal that the file `octets` says, with the greatest limits that a journal may have. Its entries, and the
+/// copies of their messages, texts and names, are in memory from `alloc`.
 ///
 /// # Errors
-/// The file's first fault, or want of memory.
+/// The first fault of the file from its front, as [`JournalFault`] names them; or want of memory, which says nothing of
+/// the file.
 pub fn decode(alloc: Global, octets: &[u8]) -> Result<Journal, JournalFault>
     ensures exact { Gives (λ j. j.entries) result (file_of octets.now) }
-    ensures limits { IfOk result (λ j. j.limits ≡ record { entries = MOST_ENTRIES; octets = MOST_OCTETS }) }
+    ensures limits { IfOk result (λ j.
+        j.limits ≡ record { entries = MOST_ENTRIES; octets = MOST_OCTETS }) }
     // The octets are those by which the journal is written, so there is no other file of it.
     ensures same { IfOk result (λ j. octets.now ≡ file_octets j.entries) }
     // The file of a history is read, unless memory runs out.
-    ensures only { (h : List Entry) → IsFile h → octets.now ≡ file_octets h → Gives (λ j. j.entries) result (Ok h) }
+    ensures only { (h : List Entry) → IsFile h → octets.now ≡ file_octets h
+        → Gives (λ j. j.entries) result (Ok h) }
 {
     read_file(alloc, octets)
 }
@@ -32,7 +36,8 @@ pub fn decode(alloc: Global, octets: &[u8]) -> Result<Journal, JournalFault>
 #[tactic(auto, unfolding(crate::specs::Reading::file_of))]
 fn read_file(alloc: Global, octets: &[u8]) -> Result<Journal, JournalFault>
     ensures exact { Gives (λ j. j.entries) result (file_of octets.now) }
-    ensures limits { IfOk result (λ j. j.limits ≡ record { entries = MOST_ENTRIES; octets = MOST_OCTETS }) }
+    ensures limits { IfOk result (λ j.
+        j.limits ≡ record { entries = MOST_ENTRIES; octets = MOST_OCTETS }) }
 {
     let (count, rest) = read_head(octets)?;
     let mut journal = Journal::new(alloc, MOST_ENTRIES, MOST_OCTETS);
@@ -40,7 +45,11 @@ fn read_file(alloc: Global, octets: &[u8]) -> Result<Journal, JournalFault>
     Ok(journal)
 }
 
-/// Adds so many entries to a journal, which are all that the octets have.
+/// Puts `count` entries behind those of `journal`. They are all that `octets` has.
+///
+/// # Errors
+/// The first fault of `octets`: an entry is cut off, is none, or is past the journal's limits, or something stands
+/// behind the last entry; or want of memory. The entries before it stay in the journal.
 fn put_entries(
     alloc: Global,
     count: u64,
@@ -48,7 +57,8 @@ fn put_entries(
     journal: &mut Journal,
 ) -> Result<(), JournalFault>
     requires limits { journal.old.limits ≡ record { entries = MOST_ENTRIES; octets = MOST_OCTETS } }
-    ensures read { Gives (λ _. journal.new.entries) result (entries_behind journal.old.entries count octets.now) }
+    ensures read { Gives (λ _. journal.new.entries) result
+        (entries_behind journal.old.entries count octets.now) }
     ensures limits { journal.new.limits ≡ journal.old.limits }
 {
     let mut rest = octets;
@@ -66,7 +76,10 @@ fn put_entries(
     }
 }
 
-/// Adds an entry to a journal, if it isn't past the journal's limits.
+/// Puts `entry` behind those of `journal`.
+///
+/// # Errors
+/// `BadEntry` where the entry is past the journal's limits, or want of memory; then the journal is as it was.
 fn put_entry(entry: Entry, journal: &mut Journal) -> Result<(), JournalFault>
     requires limits { journal.old.limits ≡ record { entries = MOST_ENTRIES; octets = MOST_OCTETS } }
     requires spelled { IsSpelled entry }

@@ -9,10 +9,10 @@ use crate::format::{
 use event_journal::{Entry, Journal};
 use std::alloc::{AllocError, Global};
 
-/// The file of a journal.
+/// The file of `journal`, whole, in memory from `alloc`: its head, and then its entries in their order.
 ///
 /// # Errors
-/// Want of memory.
+/// Want of memory for the file.
 pub fn encode(alloc: Global, journal: &Journal) -> Result<Vec<u8>, AllocError>
     ensures { IfOk result (λ file. file.items ≡ file_octets journal.now.entries) }
 {
@@ -26,10 +26,11 @@ pub fn encode(alloc: Global, journal: &Journal) -> Result<Vec<u8>, AllocError>
     Ok(file)
 }
 
-/// Appends what stands before so many entries.
+/// Puts the head of a file of `entries` entries behind what `out` has: the letters `IPMJ`, the version, and the number
+/// of the entries.
 ///
 /// # Errors
-/// Want of memory.
+/// Want of memory. Then `out` may have a part of the head.
 pub(crate) fn put_head(entries: u64, out: &mut Vec<u8>) -> Result<(), AllocError>
     ensures { OnOk result (out.new.items ≡ out.old.items ++ head_octets entries) }
 {
@@ -38,10 +39,10 @@ pub(crate) fn put_head(entries: u64, out: &mut Vec<u8>) -> Result<(), AllocError
     put_number(entries, out)
 }
 
-/// Appends the octets of an entry.
+/// Puts the octets of `entry` behind what `out` has. The caller has seen to it that a journal file can spell the entry.
 ///
 /// # Errors
-/// Want of memory.
+/// Want of memory. Then `out` may have a part of the entry.
 pub(crate) fn put_entry(entry: &Entry, out: &mut Vec<u8>) -> Result<(), AllocError>
     requires { IsSpelled entry.now }
     ensures { OnOk result (out.new.items ≡ out.old.items ++ octets_of entry.now) }
@@ -67,21 +68,21 @@ ghost use Rattle.sequences.specs.Octets.{be_octets};
 ghost use Rattle.policy_text.specs.Naming.{is_name};
 ghost use Rattle.event_journal.specs.declared.entry.Entry.TheVariants.{Message, Edit, Subscribe};
 
-/// Appends a number in 8 octets.
+/// Puts `number` behind what `out` has, in 8 octets in network byte order.
 fn put_number(number: u64, out: &mut Vec<u8>) -> Result<(), AllocError>
     ensures { OnOk result (out.new.items ≡ out.old.items ++ be_octets 8 number) }
 {
     out.extend_from_slice(&number.to_be_bytes())
 }
 
-/// Appends a length in 4 octets.
+/// Puts the length `len` behind what `out` has, in 4 octets in network byte order.
 fn put_length(len: u32, out: &mut Vec<u8>) -> Result<(), AllocError>
     ensures { OnOk result (out.new.items ≡ out.old.items ++ be_octets 4 len) }
 {
     out.extend_from_slice(&len.to_be_bytes())
 }
 
-/// Appends an entry that has a number alone.
+/// Puts an entry of this `kind` that has a `number` alone behind what `out` has.
 fn put_numbered(kind: u8, number: u64, out: &mut Vec<u8>) -> Result<(), AllocError>
     ensures { OnOk result (out.new.items ≡ out.old.items ++ kind ∷ be_octets 8 number) }
 {
@@ -89,7 +90,8 @@ fn put_numbered(kind: u8, number: u64, out: &mut Vec<u8>) -> Result<(), AllocErr
     put_number(number, out)
 }
 
-/// Appends a message's entry.
+/// Puts a message's entry behind what `out` has: that of the session with the number `session`, which had `number`
+/// messages before.
 fn put_message(
     session: u64,
     number: u64,
@@ -97,7 +99,8 @@ fn put_message(
     out: &mut Vec<u8>,
 ) -> Result<(), AllocError>
     requires { length message.now < 2 ^ 32 }
-    ensures { OnOk result (out.new.items ≡ out.old.items ++ octets_of (Message session number message.now)) }
+    ensures { OnOk result (out.new.items
+        ≡ out.old.items ++ octets_of (Message session number message.now)) }
 {
     put_numbered(MESSAGE, session, out)?;
     put_number(number, out)?;
@@ -105,7 +108,7 @@ fn put_message(
     out.extend_from_slice(message)
 }
 
-/// Appends an edit's entry.
+/// Puts an edit's entry behind what `out` has, with the policy's `text`.
 fn put_edit(text: &str, out: &mut Vec<u8>) -> Result<(), AllocError>
     ensures { OnOk result (out.new.items ≡ out.old.items ++ octets_of (Edit text.now)) }
 {
@@ -113,7 +116,7 @@ fn put_edit(text: &str, out: &mut Vec<u8>) -> Result<(), AllocError>
     out.extend_from_slice(text.as_bytes())
 }
 
-/// Appends a subscription's entry.
+/// Puts the entry of a subscription's beginning behind what `out` has: its number `sub` and the octets of its `name`.
 fn put_subscribe(sub: u64, name: &[u8], out: &mut Vec<u8>) -> Result<(), AllocError>
     requires { is_name name.now ≡ true }
     ensures { OnOk result (out.new.items ≡ out.old.items ++ octets_of (Subscribe sub name.now)) }

@@ -1,4 +1,4 @@
-//! Reading the entry at the front of octets.
+//! Reading the head of a file, or an entry, at the front of octets.
 ghost use Rattle.std.specs.Prelude.{◌≡◌, ◌++◌, ◌≤◌, ◌<◌, ◌^◌, length, true, false, IfOk, MatchResult};
 ghost use Rattle.std.specs.Str.{is_utf8};
 ghost use Rattle.policy_text.specs.Naming.{is_name};
@@ -19,7 +19,7 @@ use policy_text::{Name, is_name};
 use std::alloc::Global;
 use std::str::from_utf8;
 
-/// So many octets of the front, and those after them.
+/// The first `count` of `octets`, and those after them; `Truncated` where there are fewer.
 #[tactic(auto, unfolding(crate::specs::Reading::front_of))]
 fn front(count: u64, octets: &[u8]) -> Result<(&[u8], &[u8]), JournalFault>
     ensures read { Gives octets_seen result (front_of count octets.now) }
@@ -31,7 +31,8 @@ fn front(count: u64, octets: &[u8]) -> Result<(&[u8], &[u8]), JournalFault>
     Ok(octets.split_at(count as usize))
 }
 
-/// The number in so many octets of the front, and the octets after them.
+/// The number in the first `width` of `octets`, in network byte order, and the octets after it; `Truncated` where there
+/// are fewer.
 #[tactic(auto, unfolding(crate::specs::Reading::number_of))]
 fn number(width: u64, octets: &[u8]) -> Result<(u64, &[u8]), JournalFault>
     requires some { 1 ≤ width }
@@ -43,10 +44,10 @@ fn number(width: u64, octets: &[u8]) -> Result<(u64, &[u8]), JournalFault>
     Ok((be_number(digits), rest))
 }
 
-/// How many entries a file announces, and the octets after its head.
+/// How many entries the file at the front of `octets` announces, and the octets after its head.
 ///
 /// # Errors
-/// The file is cut off in its head, or has another magic number or version.
+/// The first fault of the head: the file is cut off in it, or begins with another magic number or version.
 pub(crate) fn read_head(octets: &[u8]) -> Result<(u64, &[u8]), JournalFault>
     ensures read { Gives number_seen result (head_of octets.now) }
     ensures written { IfOk result (λ f. octets.now ≡ head_octets f.0 ++ f.1.now) }
@@ -69,10 +70,11 @@ fn first_head(octets: &[u8]) -> Result<(u64, &[u8]), JournalFault>
     number(8, rest)
 }
 
-/// The entry at the front, and the octets after it.
+/// The entry at the front of `octets`, and the octets after it. What the entry has of a message, a text or a name is
+/// copied to memory from `alloc`.
 ///
 /// # Errors
-/// The entry is cut off, or is none; or memory ran out.
+/// The octets are cut off in the entry (`Truncated`) or have none at their front (`BadEntry`); or want of memory.
 pub(crate) fn read_entry(alloc: Global, octets: &[u8]) -> Result<(Entry, &[u8]), JournalFault>
     ensures read { Gives entry_seen result (entry_of octets.now) }
     ensures spelled { IfOk result (λ f. IsSpelled f.0) }
@@ -90,7 +92,7 @@ fn first_entry(alloc: Global, octets: &[u8]) -> Result<(Entry, &[u8]), JournalFa
     read_by(alloc, kind as u8, rest)
 }
 
-/// The entry of a kind, and the octets after it.
+/// The entry of this `kind` whose numbers are at the front of `octets`, and the octets after it.
 #[tactic(auto, unfolding(crate::specs::Reading::entry_by, crate::specs::Reading::numbered))]
 fn read_by(alloc: Global, kind: u8, octets: &[u8]) -> Result<(Entry, &[u8]), JournalFault>
     ensures read { Gives entry_seen result (entry_by kind octets.now) }
@@ -124,7 +126,7 @@ fn read_by(alloc: Global, kind: u8, octets: &[u8]) -> Result<(Entry, &[u8]), Jou
     }
 }
 
-/// The message's entry behind its kind, and the octets after it.
+/// The entry of a message, whose octets after its kind are at the front of `octets`, and the octets after it.
 #[tactic(auto, unfolding(crate::specs::Reading::message_of))]
 fn read_message(alloc: Global, octets: &[u8]) -> Result<(Entry, &[u8]), JournalFault>
     ensures read { Gives entry_seen result (message_of octets.now) }
@@ -142,7 +144,7 @@ fn read_message(alloc: Global, octets: &[u8]) -> Result<(Entry, &[u8]), JournalF
     Ok((entry, rest))
 }
 
-/// The edit's entry behind its kind, and the octets after it.
+/// The entry of an edit, whose octets after its kind are at the front of `octets`, and the octets after it.
 #[tactic(auto, unfolding(crate::specs::Reading::edit_of))]
 fn read_edit(alloc: Global, octets: &[u8]) -> Result<(Entry, &[u8]), JournalFault>
     ensures read { Gives entry_seen result (edit_of octets.now) }
@@ -154,13 +156,14 @@ fn read_edit(alloc: Global, octets: &[u8]) -> Result<(Entry, &[u8]), JournalFaul
     Ok((Entry::Edit { text }, rest))
 }
 
-/// The text that the octets are.
+/// The text that `octets` are.
 ///
 /// # Errors
-/// They are not UTF-8.
+/// `BadEntry` where they are not UTF-8.
 #[tactic(auto, using(crate::proofs::TextLaws::is_text, crate::proofs::TextLaws::is_no_text))]
 fn text_in(octets: &[u8]) -> Result<&str, JournalFault>
-    ensures { MatchResult result (λ text. (text.now ≡ octets.now) × (is_utf8 octets.now ≡ true)) (λ e. (e ≡ BadEntry) × (is_utf8 octets.now ≡ false)) }
+    ensures { MatchResult result (λ text. (text.now ≡ octets.now) × (is_utf8 octets.now ≡ true))
+        (λ e. (e ≡ BadEntry) × (is_utf8 octets.now ≡ false)) }
 {
     match from_utf8(octets) {
         Ok(text) => Ok(text),
@@ -168,7 +171,7 @@ fn text_in(octets: &[u8]) -> Result<&str, JournalFault>
     }
 }
 
-/// Whether the octets are a name.
+/// Whether `octets` are a name that a subscriber may have.
 #[tactic(auto, using(crate::proofs::TextLaws::is_no_name))]
 fn is_name_in(octets: &[u8]) -> bool
     ensures { result ≡ is_name octets.now }
@@ -179,7 +182,8 @@ fn is_name_in(octets: &[u8]) -> bool
     }
 }
 
-/// The subscription's entry behind its kind, and the octets after it.
+/// The entry of a subscription's beginning, whose octets after its kind are at the front of `octets`, and the octets
+/// after it.
 #[tactic(auto, unfolding(crate::specs::Reading::subscribe_of))]
 fn read_subscribe(alloc: Global, octets: &[u8]) -> Result<(Entry, &[u8]), JournalFault>
     ensures read { Gives entry_seen result (subscribe_of octets.now) }

@@ -4,19 +4,19 @@ use std::alloc::{AllocError, AllocFailed};
 use std::error::Error;
 use std::fmt::{self, Display, Formatter, Write};
 
-/// Why octets are no journal file. The first fault from the front is named; its text is its name.
+/// Why octets are no journal file. Of several faults the first from the front is named. A fault's text is its name.
 #[derive(Clone, Copy, Debug, PartialEq, Eq)]
 pub enum JournalFault {
     /// The file doesn't begin with the letters `IPMJ`.
     BadMagic,
     /// The version of the format isn't 1.
     BadVersion,
-    /// The file ends before what was begun, or announced.
+    /// The file ends within its head, or before the entries that it announces are whole.
     Truncated,
-    /// An entry of no kind, a text that isn't UTF-8, a name that is none, an entry past the greatest limits of a
-    /// journal, or octets behind the last entry.
+    /// An entry of no kind, a text that isn't UTF-8, a name that no subscriber may have, an entry past the greatest
+    /// limits of a journal, or octets behind the last entry.
     BadEntry,
-    /// Want of memory: it says nothing of the file.
+    /// Want of memory. It says nothing of the file.
     OutOfMemory,
 }
 

@@ -1,4 +1,4 @@
-//! Gathering octets from a source.
+//! Gathering the octets of one entry from a source, and none past them.
 ghost use Rattle.std.specs.Prelude.{◌≡◌, ◌+◌, ◌<◌, ◌≤◌, true, length, vec_len, OnOk, OnErr, IfOk, IfErr, IfSome};
 ghost use Rattle.std.specs.Io.KnownBytes.{IsAtEnd};
 ghost use Rattle.journal_files.specs.Gathering.{Gathers, IsFilled, Skips};
@@ -14,11 +14,12 @@ use octet_devices::{Failed, Source};
 /// The most octets of one read.
 const PIECE: usize = 65_536;
 
-/// Puts octets from a source behind those that are held, until so many are held, and says whether there are. It reads no
-/// octet past them.
+/// Reads octets of `source` to behind those in `held`, until that has `wanted` octets, and answers whether it has. It
+/// reads no octet past them, and `false` comes only at the source's end. `piece` is where each read puts its octets
+/// first, at most 65,536 at a time.
 ///
 /// # Errors
-/// The source failed, or memory ran out.
+/// The source failed, or want of memory. In both cases octets may have been read that are lost.
 pub(crate) fn fill<R: Source>(
     source: &mut R,
     wanted: usize,
@@ -26,11 +27,14 @@ pub(crate) fn fill<R: Source>(
     held: &mut Vec<u8>,
 ) -> Result<bool, ReadFault>
     requires { vec_len held.old ≤ wanted }
-    ensures gathers { OnOk result (Gathers (R.remaining source.old) (R.remaining source.new) held.old.items held.new.items) }
-    ensures filled { IfOk result (λ whole. IsFilled whole wanted held.new.items (R.remaining source.new)) }
+    ensures gathers { OnOk result
+        (Gathers (R.remaining source.old) (R.remaining source.new) held.old.items held.new.items) }
+    ensures filled { IfOk result (λ whole.
+        IsFilled whole wanted held.new.items (R.remaining source.new)) }
     ensures stays { OnOk result (R.has_failed source.new ≡ R.has_failed source.old) }
     ensures loses { OnErr result (Loses (R.remaining source.old) (R.remaining source.new)) }
-    ensures err { IfErr result (λ e. FailsToGather e (R.has_failed source.old) (R.has_failed source.new)) }
+    ensures err { IfErr result (λ e.
+        FailsToGather e (R.has_failed source.old) (R.has_failed source.new)) }
 {
     'reads: while held.len() < wanted {
         let room = (wanted - held.len()).min(PIECE);
@@ -42,10 +46,11 @@ pub(crate) fn fill<R: Source>(
     Ok(true)
 }
 
-/// Reads once, and puts at most so many octets behind those that are held; none only at the end.
+/// Reads once from `source` into `piece`, and puts what came, at most `room` octets, behind those in `held`. It answers
+/// how many octets came: none only at the source's end.
 ///
 /// # Errors
-/// The source failed, or memory ran out.
+/// The source failed, or want of memory. In both cases octets may have been read that are lost.
 fn read_piece<R: Source>(
     source: &mut R,
     room: usize,
@@ -53,12 +58,14 @@ fn read_piece<R: Source>(
     held: &mut Vec<u8>,
 ) -> Result<usize, ReadFault>
     requires some { 0 < room }
-    ensures gathers { OnOk result (Gathers (R.remaining source.old) (R.remaining source.new) held.old.items held.new.items) }
+    ensures gathers { OnOk result
+        (Gathers (R.remaining source.old) (R.remaining source.new) held.old.items held.new.items) }
     ensures count { IfOk result (λ n. (vec_len held.new ≡ vec_len held.old + n) × (n ≤ room)) }
     ensures end { IfOk result (λ n. n ≡ 0 → IsAtEnd (R.remaining source.new)) }
     ensures stays { OnOk result (R.has_failed source.new ≡ R.has_failed source.old) }
     ensures loses { OnErr result (Loses (R.remaining source.old) (R.remaining source.new)) }
-    ensures err { IfErr result (λ e. FailsToGather e (R.has_failed source.old) (R.has_failed source.new)) }
+    ensures err { IfErr result (λ e.
+        FailsToGather e (R.has_failed source.old) (R.has_failed source.new)) }
 {
     piece.resize(room, 0)?;
     match source.read(piece.as_mut_slice()) {
@@ -75,20 +82,26 @@ ghost use Rattle.event_journal.specs.declared.limits.TheConstants.{MOST_OCTETS};
 ghost use Rattle.journal_files.specs.Gathering.{front_octets, announced};
 ghost use Rattle.journal_files.specs.Streaming.{Place, IsGathered, StopsReading, next_of};
 
-/// Gathers the octets of one entry, and none past them; or fewer where the source ends, or where they are of no entry.
+/// Reads into `held`, which is empty, the octets of the next entry of `source`, and none past them; or fewer where the
+/// source ends before, or where they are of no entry. `piece` is where each read puts its octets first.
 ///
 /// # Errors
-/// The source failed, or memory ran out; or the entry is past the greatest limits, and its octets are not held.
+/// The source failed; or want of memory; or the entry announces more octets than a journal may have: then these are
+/// read and not held, so that the fault is `BadEntry` where they are there, and `Truncated` where the source ends
+/// before.
 pub(crate) fn gather<R: Source>(
     source: &mut R,
     piece: &mut Vec<u8>,
     held: &mut Vec<u8>,
 ) -> Result<(), ReadFault>
     requires { held.old.items ≡ [] }
-    ensures gathers { OnOk result (Gathers (R.remaining source.old) (R.remaining source.new) [] held.new.items) }
+    ensures gathers { OnOk result
+        (Gathers (R.remaining source.old) (R.remaining source.new) [] held.new.items) }
     ensures gathered { OnOk result (IsGathered held.new.items (R.remaining source.new)) }
     ensures stays { OnOk result (R.has_failed source.new ≡ R.has_failed source.old) }
-    ensures err { IfErr result (λ e. (place : Place) → StopsReading e (next_of place) (R.remaining source.old) (R.remaining source.new) (R.has_failed source.old) (R.has_failed source.new)) }
+    ensures err { IfErr result (λ e. (place : Place)
+        → StopsReading e (next_of place) (R.remaining source.old) (R.remaining source.new)
+        (R.has_failed source.old) (R.has_failed source.new)) }
 {
     if !fill(source, 1, piece, held)? {
         return Ok(());
@@ -108,7 +121,8 @@ pub(crate) fn gather<R: Source>(
     Ok(())
 }
 
-/// The octets of a kind before what it announces, if there is such a kind.
+/// How many octets an entry of this `kind` has before the message, text or name whose length it announces, or `None`
+/// where there is no such kind.
 #[tactic(auto, unfolding(crate::specs::Gathering::front_octets))]
 fn front_of_kind(kind: u8) -> Option<usize>
     ensures value { result ≡ front_octets kind }
@@ -122,7 +136,8 @@ fn front_of_kind(kind: u8) -> Option<usize>
     }
 }
 
-/// How many octets an entry announces in its front.
+/// The length that an entry of this `kind` announces in its `front`: the octets of its message, text or name, or 0
+/// where it has none.
 #[tactic(auto, unfolding(crate::specs::Gathering::announced, crate::specs::Gathering::front_octets))]
 fn announced_by(kind: u8, front: &[u8]) -> u64
     requires { IfSome (front_octets kind) (λ n. n ≤ length front.now) }
@@ -138,20 +153,23 @@ fn announced_by(kind: u8, front: &[u8]) -> u64
     }
 }
 
-/// Reads so many octets and keeps none, and says which fault an entry has that is so long: the file is cut off in it, or
-/// it is past the limits.
+/// Reads `count` octets of `source` and keeps none, and answers which fault an entry has that is so long: `BadEntry`,
+/// since it is past the limits, or `Truncated`, where the source ends before. `piece` is where each read puts its
+/// octets.
 ///
 /// # Errors
-/// The source failed, or memory ran out.
+/// The source failed, or want of memory. In both cases octets may have been read that are lost.
 fn skip<R: Source>(
     source: &mut R,
     count: u64,
     piece: &mut Vec<u8>,
 ) -> Result<JournalFault, ReadFault>
-    ensures skips { IfOk result (λ fault. Skips fault count (R.remaining source.old) (R.remaining source.new)) }
+    ensures skips { IfOk result (λ fault.
+        Skips fault count (R.remaining source.old) (R.remaining source.new)) }
     ensures stays { OnOk result (R.has_failed source.new ≡ R.has_failed source.old) }
     ensures loses { OnErr result (Loses (R.remaining source.old) (R.remaining source.new)) }
-    ensures err { IfErr result (λ e. FailsToGather e (R.has_failed source.old) (R.has_failed source.new)) }
+    ensures err { IfErr result (λ e.
+        FailsToGather e (R.has_failed source.old) (R.has_failed source.new)) }
 {
     let mut left = count;
     'pieces: while left > 0 {

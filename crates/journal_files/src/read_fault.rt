@@ -1,14 +1,14 @@
-//! Why nothing was read of a file.
+//! Why no more is read of a file: its source failed, or the file has a fault.
 
 use crate::fault::JournalFault;
 use std::alloc::AllocError;
 
-/// Why nothing more was read of a file.
+/// Why no more was read of a file.
 #[derive(Clone, Copy, Debug, PartialEq, Eq)]
 pub enum ReadFault {
-    /// The source failed.
+    /// The source failed. What was read of the entry is lost.
     Read,
-    /// The file has a fault, which is its first; or memory ran out, and what was read last is lost.
+    /// The first fault of the file; or want of memory, and then what was read of the entry is lost.
     File(JournalFault),
 }
 

@@ -44,15 +44,20 @@ impl Model for JournalReader {
 }
 
 impl JournalReader {
-    /// Begins a file, and reads what stands before its entries.
+    /// Begins to read a file from `source`: reads its head, which has 14 octets, and none past it. The reader takes
+    /// memory from `alloc`.
     ///
     /// # Errors
-    /// The source failed, the file has a fault there, or memory ran out.
+    /// The source failed; the head has a fault, which is the file's first; or want of memory. At a failed source, and
+    /// at want of memory, octets may have been read that are lost.
     pub fn start<R: Source>(alloc: Global, source: &mut R) -> Result<JournalReader, ReadFault>
-        ensures ok { IfOk result (λ r. (r.count ≡ 0) × (r.octets ≡ 0) × Consumes (R.remaining source.old) (R.remaining source.new) (head_octets r.left)) }
+        ensures ok { IfOk result (λ r. (r.count ≡ 0) × (r.octets ≡ 0)
+            × Consumes (R.remaining source.old) (R.remaining source.new) (head_octets r.left)) }
         ensures few { IfOk result (λ r. r.left < 2 ^ 64) }
         ensures stays { OnOk result (R.has_failed source.new ≡ R.has_failed source.old) }
-        ensures err { IfErr result (λ e. StopsReading e head_of (R.remaining source.old) (R.remaining source.new) (R.has_failed source.old) (R.has_failed source.new)) }
+        ensures err { IfErr result (λ e.
+            StopsReading e head_of (R.remaining source.old) (R.remaining source.new)
+            (R.has_failed source.old) (R.has_failed source.new)) }
     {
         let mut piece = Vec::new(alloc);
         let mut held = Vec::new(alloc);
@@ -68,23 +73,27 @@ impl JournalReader {
         })
     }
 
-    /// How many entries are left to read.
+    /// How many entries are left to read, of those that the file announces.
     pub fn left(&self) -> u64
         ensures { result ≡ self.now.left }
     {
         self.left
     }
 
-    /// Reads the next entry, or `None` where the file ends behind its last entry.
+    /// Reads the next entry from `source`, by exactly its own octets, or answers `None` where the file ends behind its
+    /// last entry. `source` is the one that [`start`](JournalReader::start) had.
     ///
     /// # Errors
-    /// The source failed, the file has a fault there, or memory ran out.
+    /// The source failed; the file has a fault there, which is its first; or want of memory. At a failed source, and at
+    /// want of memory, octets may have been read that are lost. So nothing can be read after any of these.
     pub fn next<R: Source>(&mut self, source: &mut R) -> Result<Option<Entry>, ReadFault>
         ensures ok { IfOk result (λ found. MatchOption found
-            (EndsFile self.old (R.remaining source.old) (R.remaining source.new) self.new)
-            (λ entry. TakesEntry self.old (R.remaining source.old) (R.remaining source.new) entry self.new)) }
+            (EndsFile self.old (R.remaining source.old) (R.remaining source.new) self.new) (λ entry.
+            TakesEntry self.old (R.remaining source.old) (R.remaining source.new) entry self.new)) }
         ensures stays { OnOk result (R.has_failed source.new ≡ R.has_failed source.old) }
-        ensures err { IfErr result (λ e. StopsReading e (step_of self.old) (R.remaining source.old) (R.remaining source.new) (R.has_failed source.old) (R.has_failed source.new)) }
+        ensures err { IfErr result (λ e.
+            StopsReading e (step_of self.old) (R.remaining source.old) (R.remaining source.new)
+            (R.has_failed source.old) (R.has_failed source.new)) }
     {
         self.held.clear();
         if self.left == 0 {
@@ -107,10 +116,12 @@ ghost use Rattle.event_journal.specs.declared.limits.TheConstants.{MOST_ENTRIES,
 ghost use Rattle.journal_files.specs.Reading.{is_past};
 ghost use Rattle.journal_files.specs.Streaming.{IsEntryIn, FailsIn};
 
-/// The entry that the octets are, behind so many entries of so many octets.
+/// The entry at the front of `held`, which stands behind `count` entries of `octets` octets. Its parts are copied to
+/// memory from `alloc`.
 ///
 /// # Errors
-/// The entry is none, or past the greatest limits; or memory ran out.
+/// `BadEntry` or `Truncated` where there is none, `BadEntry` where it is past the greatest limits of a journal; or want
+/// of memory.
 fn entry_in(alloc: Global, count: u64, octets: u64, held: &[u8]) -> Result<Entry, JournalFault>
     requires few { count ≤ MOST_ENTRIES }
     requires small { octets ≤ MOST_OCTETS }
@@ -124,7 +135,7 @@ fn entry_in(alloc: Global, count: u64, octets: u64, held: &[u8]) -> Result<Entry
     Ok(entry)
 }
 
-/// Whether the entry is past the greatest limits, behind so many entries of so many octets.
+/// Whether `entry` is past the greatest limits of a journal, where it stands behind `count` entries of `octets` octets.
 fn is_past(count: u64, octets: u64, entry: &Entry) -> bool
     requires few { count ≤ MOST_ENTRIES }
     requires small { octets ≤ MOST_OCTETS }

@@ -14,9 +14,10 @@ use std::marker::Model;
 /// Why a file could not be written further.
 #[derive(Clone, Copy, Debug, PartialEq, Eq)]
 pub enum WriteFault {
-    /// The sink failed, after so many octets of what the call was to write.
+    /// The sink failed. Of the octets that were due, which are a head or one entry, `sent` were written, and that is
+    /// not all of them. The file is broken there.
     Write { sent: usize },
-    /// Want of memory, and the call has written nothing.
+    /// Want of memory. Nothing was written of the head or of the entry that was due.
     OutOfMemory,
 }
 
@@ -31,8 +32,8 @@ impl From<AllocError> for WriteFault {
     }
 }
 
-/// Writes a file of so many entries to a sink, an entry at a time. It keeps room for the octets of one entry. Contracts
-/// see how many entries are left to write.
+/// Writes a file to a sink, an entry at a time. It keeps room for the octets of one entry. Contracts see how many
+/// entries are left to write.
 #[derive(Drop)]
 pub struct JournalWriter {
     left: u64,
@@ -49,19 +50,23 @@ impl Model for JournalWriter {
 }
 
 impl JournalWriter {
-    /// Begins a file of so many entries, and writes what stands before them.
+    /// Begins to write to `sink` a file that will have `entries` entries: writes its head, which has 14 octets. The
+    /// writer takes memory from `alloc`.
     ///
     /// # Errors
-    /// The sink failed, or memory ran out.
+    /// [`WriteFault::Write`] where the sink failed: a front of the head was written. [`WriteFault::OutOfMemory`] at
+    /// want of memory: nothing was written.
     pub fn start<S: Sink>(
         alloc: Global,
         entries: u64,
         sink: &mut S,
     ) -> Result<JournalWriter, WriteFault>
         ensures ok { IfOk result (λ w. w ≡ entries) }
-        ensures written { OnOk result (Appends (S.contents sink.old) (S.contents sink.new) (head_octets entries)) }
+        ensures written { OnOk result (Appends (S.contents sink.old) (S.contents sink.new)
+            (head_octets entries)) }
         ensures stays { OnOk result (S.has_failed sink.new ≡ S.has_failed sink.old) }
-        ensures err { IfErr result (λ e. Stops e (S.contents sink.old) (S.contents sink.new) (head_octets entries) (S.has_failed sink.old) (S.has_failed sink.new)) }
+        ensures err { IfErr result (λ e. Stops e (S.contents sink.old) (S.contents sink.new)
+            (head_octets entries) (S.has_failed sink.old) (S.has_failed sink.new)) }
     {
         let mut entry = Vec::new(alloc);
         put_head(entries, &mut entry)?;
@@ -72,25 +77,30 @@ impl JournalWriter {
         })
     }
 
-    /// How many entries are left to write.
+    /// How many entries are left to write, of those that the head announced.
     pub fn left(&self) -> u64
         ensures { result ≡ self.now }
     {
         self.left
     }
 
-    /// Writes an entry.
+    /// Writes `entry` to `sink`, behind what was written. The caller has seen to it that an entry is left to write and
+    /// that a journal file can spell this one; `sink` is the one that [`start`](JournalWriter::start) had.
     ///
     /// # Errors
-    /// The sink failed, and the file is broken; or memory ran out, and the entry may be written again.
+    /// [`WriteFault::Write`] where the sink failed: a front of the entry was written, and the file is broken.
+    /// [`WriteFault::OutOfMemory`] at want of memory: nothing was written, and the entry may be written again. In both
+    /// cases as many entries are left as before.
     pub fn put<S: Sink>(&mut self, entry: &Entry, sink: &mut S) -> Result<(), WriteFault>
         requires left { 0 < self.old }
         requires spelled { IsSpelled entry.now }
         ensures left { OnOk result (self.new + 1 ≡ self.old) }
         ensures same { OnErr result (self.new ≡ self.old) }
-        ensures written { OnOk result (Appends (S.contents sink.old) (S.contents sink.new) (octets_of entry.now)) }
+        ensures written { OnOk result (Appends (S.contents sink.old) (S.contents sink.new)
+            (octets_of entry.now)) }
         ensures stays { OnOk result (S.has_failed sink.new ≡ S.has_failed sink.old) }
-        ensures err { IfErr result (λ e. Stops e (S.contents sink.old) (S.contents sink.new) (octets_of entry.now) (S.has_failed sink.old) (S.has_failed sink.new)) }
+        ensures err { IfErr result (λ e. Stops e (S.contents sink.old) (S.contents sink.new)
+            (octets_of entry.now) (S.has_failed sink.old) (S.has_failed sink.new)) }
     {
         self.entry.clear();
         put_entry(entry, &mut self.entry)?;
@@ -100,19 +110,22 @@ impl JournalWriter {
     }
 }
 
-/// Writes the file of a journal to a sink, an entry at a time.
+/// Writes the file of `journal` to `sink`, an entry at a time. It takes memory from `alloc` for the octets of one
+/// entry.
 ///
 /// # Errors
-/// The sink failed, or memory ran out. A front of the file was written, and the fault says how many octets it has of the entry
-/// that could not be written.
+/// [`WriteFault::Write`] where the sink failed, or [`WriteFault::OutOfMemory`] at want of memory. In both cases a front
+/// of the file was written; `sent` counts the octets of the head or entry at which it stopped, and not of the file.
 pub fn write_journal<S: Sink>(
     alloc: Global,
     journal: &Journal,
     sink: &mut S,
 ) -> Result<(), WriteFault>
-    ensures written { OnOk result (Appends (S.contents sink.old) (S.contents sink.new) (file_octets journal.now.entries)) }
+    ensures written { OnOk result (Appends (S.contents sink.old) (S.contents sink.new)
+        (file_octets journal.now.entries)) }
     ensures stays { OnOk result (S.has_failed sink.new ≡ S.has_failed sink.old) }
-    ensures err { OnErr result (WritesSome (S.contents sink.old) (S.contents sink.new) (file_octets journal.now.entries)) }
+    ensures err { OnErr result (WritesSome (S.contents sink.old) (S.contents sink.new)
+        (file_octets journal.now.entries)) }
 {
     let mut writer = JournalWriter::start(alloc, journal.len(), sink)?;
     let mut position = 0;
@@ -123,11 +136,15 @@ pub fn write_journal<S: Sink>(
     Ok(())
 }
 
-/// Writes all of the octets.
+/// Writes all of `octets` to `sink`.
+///
+/// # Errors
+/// The sink failed, and a front of the octets was written.
 fn send<S: Sink>(octets: &[u8], sink: &mut S) -> Result<(), WriteFault>
     ensures written { OnOk result (Appends (S.contents sink.old) (S.contents sink.new) octets.now) }
     ensures stays { OnOk result (S.has_failed sink.new ≡ S.has_failed sink.old) }
-    ensures err { IfErr result (λ e. Stops e (S.contents sink.old) (S.contents sink.new) octets.now (S.has_failed sink.old) (S.has_failed sink.new)) }
+    ensures err { IfErr result (λ e. Stops e (S.contents sink.old) (S.contents sink.new) octets.now
+        (S.has_failed sink.old) (S.has_failed sink.new)) }
 {
     match write_all(sink, octets) {
         Ok(()) => Ok(()),

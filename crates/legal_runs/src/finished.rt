@@ -1,4 +1,4 @@
-//! Verifying what stays of a run.
+//! Verifying what stays of a run, which can fail for want of memory alone.
 ghost use Rattle.std.specs.Prelude.{true, IfOk};
 ghost use Rattle.history_verify.specs.Legal.{IsLegal};
 ghost use Rattle.history_verify.specs.Answers.{IsVerified};
@@ -7,8 +7,8 @@ use history_verify::{Verified, VerifyFault, verify};
 use mediator_calls::Finished;
 use std::alloc::{AllocError, Global};
 
-/// Verifies what stays of a run, whose history is legal by [`runs_are_legal`](crate::runs_are_legal):
-/// how much was disclosed to each subscription, and what the audit names.
+/// Verifies what stays of a run, `finished`, whose history is legal by [`runs_are_legal`](crate::runs_are_legal). It
+/// answers how many records were disclosed to each subscription, and what the audit names, in memory from `alloc`.
 ///
 /// # Errors
 /// Want of memory, and nothing else.

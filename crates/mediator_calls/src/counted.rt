@@ -133,7 +133,8 @@ impl CountedMediator {
         ensures ok { OnOk result (Closes self.old.core session.0 self.new.core) }
         ensures counts { OnOk result (Counts self.old 0 0 0 self.new) }
         ensures same { OnErr result (self.new ≡ self.old) }
-        ensures err { IfErr result (λ e. RefusesClose e (journal_limits self.old.core.limits) self.old.core.history session.0) }
+        ensures err { IfErr result (λ e.
+            RefusesClose e (journal_limits self.old.core.limits) self.old.core.history session.0) }
     {
         let _journal = self.mediator.journal();
         self.mediator.close(session)
@@ -149,7 +150,8 @@ impl CountedMediator {
         number: u64,
         message: Bytes,
     ) -> Result<Receipt, Fault>
-        ensures ok { IfOk result (λ receipt. Receives self.old.core session.0 number message receipt self.new.core) }
+        ensures ok { IfOk result (λ receipt.
+            Receives self.old.core session.0 number message receipt self.new.core) }
         ensures counts { OnOk result (Counts self.old 1 0 0 self.new) }
         ensures same { OnErr result (self.new ≡ self.old) }
         ensures err { IfErr result (λ e. RefusesReceive e self.old.core session.0 number message) }
@@ -168,7 +170,8 @@ impl CountedMediator {
         message: Bytes,
         ahead: Option<JudgedAhead>,
     ) -> Result<Receipt, Fault>
-        ensures ok { IfOk result (λ receipt. Receives self.old.core session.0 number message receipt self.new.core) }
+        ensures ok { IfOk result (λ receipt.
+            Receives self.old.core session.0 number message receipt self.new.core) }
         ensures counts { OnOk result (Counts self.old 1 0 0 self.new) }
         ensures same { OnErr result (self.new ≡ self.old) }
         ensures err { IfErr result (λ e. RefusesReceive e self.old.core session.0 number message) }
@@ -200,10 +203,12 @@ impl CountedMediator {
         number: u64,
         prepared: Prepared,
     ) -> Result<Receipt, (Fault, Prepared)>
-        ensures ok { IfOk result (λ receipt. Receives self.old.core session.0 number prepared.message receipt self.new.core) }
+        ensures ok { IfOk result (λ receipt.
+            Receives self.old.core session.0 number prepared.message receipt self.new.core) }
         ensures counts { OnOk result (Counts self.old 1 0 0 self.new) }
         ensures same { OnErr result (self.new ≡ self.old) }
-        ensures err { IfErr result (λ e. RefusesReceivePrepared e.0 self.old.core session.0 number prepared) }
+        ensures err { IfErr result (λ e.
+            RefusesReceivePrepared e.0 self.old.core session.0 number prepared) }
         ensures handed_back { IfErr result (λ e. e.1 ≡ prepared) }
     {
         let _journal = self.mediator.journal();
@@ -218,7 +223,8 @@ impl CountedMediator {
         ensures ok { IfOk result (λ edits. Edits self.old.core text.now edits self.new.core) }
         ensures counts { OnOk result (Counts self.old 1 0 0 self.new) }
         ensures same { OnErr result (self.new ≡ self.old) }
-        ensures err { IfErr result (λ e. RefusesEdit e (journal_limits self.old.core.limits) self.old.core.history text.now) }
+        ensures err { IfErr result (λ e.
+            RefusesEdit e (journal_limits self.old.core.limits) self.old.core.history text.now) }
     {
         let _journal = self.mediator.journal();
         self.mediator.edit(text)
@@ -232,7 +238,8 @@ impl CountedMediator {
         ensures ok { IfOk result (λ sub. Subscribes self.old.core name.now sub.0 self.new.core) }
         ensures counts { OnOk result (Counts self.old 1 0 0 self.new) }
         ensures same { OnErr result (self.new ≡ self.old) }
-        ensures err { IfErr result (λ e. RefusesSubscribe e (journal_limits self.old.core.limits) self.old.core.history name.now) }
+        ensures err { IfErr result (λ e. RefusesSubscribe e (journal_limits self.old.core.limits)
+            self.old.core.history name.now) }
     {
         let _journal = self.mediator.journal();
         self.mediator.subscribe(name)
@@ -245,9 +252,11 @@ impl CountedMediator {
     /// Those of [`Mediator::unsubscribe`].
     pub fn unsubscribe(&mut self, sub: SubId) -> Result<(), Fault>
         ensures ok { OnOk result (Unsubscribes self.old.core sub.0 self.new.core) }
-        ensures counts { OnOk result (Counts self.old 1 0 (handed_at self.old.core sub.0) self.new) }
+        ensures counts { OnOk result
+            (Counts self.old 1 0 (handed_at self.old.core sub.0) self.new) }
         ensures same { OnErr result (self.new ≡ self.old) }
-        ensures err { IfErr result (λ e. RefusesUnsubscribe e (journal_limits self.old.core.limits) self.old.core.history sub.0) }
+        ensures err { IfErr result (λ e. RefusesUnsubscribe e (journal_limits self.old.core.limits)
+            self.old.core.history sub.0) }
     {
         let _journal = self.mediator.journal();
         let handed = match self.mediator.status(sub) {

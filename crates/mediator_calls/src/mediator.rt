@@ -110,7 +110,8 @@ impl Mediator {
     pub fn close(&mut self, session: SessionId) -> Result<(), Fault>
         ensures ok { OnOk result (Closes self.old session.0 self.new) }
         ensures same { OnErr result (self.new ≡ self.old) }
-        ensures err { IfErr result (λ e. RefusesClose e (journal_limits self.old.limits) self.old.history session.0) }
+        ensures err { IfErr result (λ e.
+            RefusesClose e (journal_limits self.old.limits) self.old.history session.0) }
     {
         self.state.close(session.0)
     }
@@ -129,7 +130,8 @@ impl Mediator {
         number: u64,
         message: Bytes,
     ) -> Result<Receipt, Fault>
-        ensures ok { IfOk result (λ receipt. Receives self.old session.0 number message receipt self.new) }
+        ensures ok { IfOk result (λ receipt.
+            Receives self.old session.0 number message receipt self.new) }
         ensures same { OnErr result (self.new ≡ self.old) }
         ensures err { IfErr result (λ e. RefusesReceive e self.old session.0 number message) }
     {
@@ -149,7 +151,8 @@ impl Mediator {
         message: Bytes,
         ahead: Option<JudgedAhead>,
     ) -> Result<Receipt, Fault>
-        ensures ok { IfOk result (λ receipt. Receives self.old session.0 number message receipt self.new) }
+        ensures ok { IfOk result (λ receipt.
+            Receives self.old session.0 number message receipt self.new) }
         ensures same { OnErr result (self.new ≡ self.old) }
         ensures err { IfErr result (λ e. RefusesReceive e self.old session.0 number message) }
     {
@@ -181,9 +184,11 @@ impl Mediator {
         number: u64,
         prepared: Prepared,
     ) -> Result<Receipt, (Fault, Prepared)>
-        ensures ok { IfOk result (λ receipt. Receives self.old session.0 number prepared.message receipt self.new) }
+        ensures ok { IfOk result (λ receipt.
+            Receives self.old session.0 number prepared.message receipt self.new) }
         ensures same { OnErr result (self.new ≡ self.old) }
-        ensures err { IfErr result (λ e. RefusesReceivePrepared e.0 self.old session.0 number prepared) }
+        ensures err { IfErr result (λ e.
+            RefusesReceivePrepared e.0 self.old session.0 number prepared) }
         ensures handed_back { IfErr result (λ e. e.1 ≡ prepared) }
     {
         self.state.receive_prepared(session.0, number, prepared)
@@ -197,7 +202,8 @@ impl Mediator {
     pub fn edit(&mut self, text: &str) -> Result<u64, Fault>
         ensures ok { IfOk result (λ edits. Edits self.old text.now edits self.new) }
         ensures same { OnErr result (self.new ≡ self.old) }
-        ensures err { IfErr result (λ e. RefusesEdit e (journal_limits self.old.limits) self.old.history text.now) }
+        ensures err { IfErr result (λ e.
+            RefusesEdit e (journal_limits self.old.limits) self.old.history text.now) }
     {
         self.state.edit(text)
     }
@@ -209,7 +215,8 @@ impl Mediator {
     pub fn subscribe(&mut self, name: &str) -> Result<SubId, Fault>
         ensures ok { IfOk result (λ sub. Subscribes self.old name.now sub.0 self.new) }
         ensures same { OnErr result (self.new ≡ self.old) }
-        ensures err { IfErr result (λ e. RefusesSubscribe e (journal_limits self.old.limits) self.old.history name.now) }
+        ensures err { IfErr result (λ e.
+            RefusesSubscribe e (journal_limits self.old.limits) self.old.history name.now) }
     {
         match self.state.subscribe(name) {
             Ok(sub) => Ok(SubId(sub)),
@@ -224,7 +231,8 @@ impl Mediator {
     pub fn unsubscribe(&mut self, sub: SubId) -> Result<(), Fault>
         ensures ok { OnOk result (Unsubscribes self.old sub.0 self.new) }
         ensures same { OnErr result (self.new ≡ self.old) }
-        ensures err { IfErr result (λ e. RefusesUnsubscribe e (journal_limits self.old.limits) self.old.history sub.0) }
+        ensures err { IfErr result (λ e.
+            RefusesUnsubscribe e (journal_limits self.old.limits) self.old.history sub.0) }
     {
         self.state.unsubscribe(sub.0)
     }

@@ -1,4 +1,4 @@
-//! Calls in a row on a new mediator.
+//! A run: calls in a row on a new mediator, with the reply to each.
 ghost use Rattle.std.specs.Prelude.{◌≡◌, ◌++◌, ◌≤◌, ℕ, List, length, IfOk, IfErr};
 ghost use Rattle.mediator_calls.specs.Mediation.{started};
 ghost use Rattle.mediator_calls.specs.Limited.{RefusesLimits};
@@ -11,14 +11,14 @@ use mediator_calls::{Call, Limits, Mediator, Reply, RunFault, SessionId, SubId};
 use mediator_state::Fault;
 use std::alloc::Global;
 
-/// What a run leaves: the reply to each call, in order, and the mediator after the last one.
+/// What a run leaves: the replies, one to each call, in their order; and the mediator as it is after the last call.
 #[derive(Drop)]
 pub struct Transcript {
     pub replies: Vec<Reply>,
     pub mediator: Mediator,
 }
 
-/// Makes a call that stands as a value.
+/// Makes `call` on `mediator`, and answers its reply. A refusal, also for want of memory, is a reply.
 fn answer(mediator: &mut Mediator, call: Call) -> Reply
     ensures { Answers mediator.old call result mediator.new }
 {
@@ -84,18 +84,22 @@ fn answer_pull(mediator: &mut Mediator, sub: SubId, now: u32, target: u16) -> Re
     }
 }
 
-/// Makes these calls on a new mediator, one after another, and answers the reply to each. Want of memory in a call is a
-/// reply of that call; the list of replies is made first.
+/// Makes `calls` on a new mediator with these `limits`, one after another, and answers the reply to each. All of it is
+/// in memory from `alloc`. Want of memory in a call is the reply to that call; room for the list of replies is made
+/// before the first call.
 ///
 /// # Errors
-/// A limit is out of its range, or memory ran out before the first call.
+/// A limit is out of its range, or want of memory before the first call. No call was made then.
 pub fn run(alloc: Global, limits: Limits, calls: Vec<Call>) -> Result<Transcript, RunFault>
-    ensures steps { IfOk result (λ t. Runs (started limits) calls.items t.replies.items t.mediator) }
+    ensures steps { IfOk result (λ t.
+        Runs (started limits) calls.items t.replies.items t.mediator) }
     ensures history { IfOk result (λ t. HistoryIsTheCalls calls.items t.replies.items t.mediator) }
-    ensures disclosed { IfOk result (λ t. HandedIsDisclosed calls.items t.replies.items t.mediator) }
+    ensures disclosed { IfOk result (λ t.
+        HandedIsDisclosed calls.items t.replies.items t.mediator) }
     ensures front { IfOk result (λ t. HandedIsFront calls.items t.replies.items t.mediator) }
     ensures audited { IfOk result (λ t. DrainedIsAudited calls.items t.replies.items t.mediator) }
-    ensures secret { IfOk result (λ t. (sub : ℕ) → IsBuiltFromDisclosed sub (started limits) calls.items t.replies.items t.mediator) }
+    ensures secret { IfOk result (λ t. (sub : ℕ)
+        → IsBuiltFromDisclosed sub (started limits) calls.items t.replies.items t.mediator) }
     ensures err { IfErr result (λ e. RefusesLimits e limits) }
 {
     let mut mediator = Mediator::new(alloc, limits)?;

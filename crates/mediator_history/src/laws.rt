@@ -1,4 +1,5 @@
-//! Laws over the definitions of a history: what the last entry of its kind decides, what a cut ends, and what one entry more adds.
+//! Laws over the definitions of a history: what the last entry of its kind decides, what a cut ends, and what one entry
+//! more adds. Their functions do nothing; their clauses are what is proved.
 ghost use Rattle.std.specs.Prelude.{◌≡◌, ◌↔◌, ◌∷◌, ◌++◌, [], ℕ, false, List, IsTrue};
 ghost use Rattle.policy_text.specs.Policies.{Meaning as Policy};
 ghost use Rattle.event_journal.specs.declared.entry.Entry.{Entry};
@@ -10,18 +11,22 @@ ghost use Rattle.mediator_history.specs.Accepted.{accepted_at, accepted};
 ghost use Rattle.mediator_history.specs.Disclosed.{given_at, disclosed};
 ghost use Rattle.mediator_history.specs.Auditing.{audit_at, audit_list};
 
-/// The policy in force is that of the last edit whose text is a policy, or one without rules where there is none; and none else is.
+/// The policy in force after a history is that of its last edit whose text is a policy, or a policy without rules where
+/// it has no such edit; and no other is in force.
 pub fn last_edit_is_in_force()
-    ensures { (h : List Entry) (policy : Policy) → (policy_in_force h ≡ policy) ↔ IsInForce h policy }
+    ensures { (h : List Entry) (policy : Policy) → (policy_in_force h ≡ policy)
+        ↔ IsInForce h policy }
 {}
 
-/// A subscription has the name under which it began last, or no octets where it never began; and none else.
+/// A subscription has the name under which it began last, or a name of no octets where it never began; and it has no
+/// other.
 pub fn last_subscription_names()
-    ensures { (sub : ℕ) (h : List Entry) (name : List ℕ) → (name_of sub h ≡ name) ↔ IsNamed sub h name }
+    ensures { (sub : ℕ) (h : List Entry) (name : List ℕ) → (name_of sub h ≡ name)
+        ↔ IsNamed sub h name }
 {}
 
-/// A subscription is served exactly where it began and after that neither ended nor was cut: where the last entry that switches
-/// it is one by which it begins.
+/// A subscription is served exactly where it began and after that neither ended nor was cut: of the entries that begin,
+/// end or cut it, the last is one that begins it.
 pub fn served_since_subscribed()
     ensures { (sub : ℕ) (h : List Entry) → IsTrue (is_served sub h) ↔ IsSubscribed sub h }
 {}
@@ -36,17 +41,26 @@ pub fn open_since_opened()
     ensures { (session : ℕ) (h : List Entry) → IsTrue (is_open session h) ↔ IsOpened session h }
 {}
 
-/// A subscription that was cut, or that ended, is served no more; and no entry gives a subscription anything that is not served.
+/// A subscription that was cut, or that ended, is served no more; and no entry gives anything to a subscription that is
+/// not served.
 pub fn cut_ends_serving()
-    ensures serves_no_more { (sub : ℕ) (h : List Entry) → (is_served sub (h ++ Cut sub ∷ []) ≡ false) × (is_served sub (h ++ Unsubscribe sub ∷ []) ≡ false) }
-    ensures gives_nothing { (sub : ℕ) (h : List Entry) (e : Entry) → is_served sub h ≡ false → given_at sub h e ≡ [] }
+    ensures serves_no_more { (sub : ℕ) (h : List Entry)
+        → (is_served sub (h ++ Cut sub ∷ []) ≡ false)
+        × (is_served sub (h ++ Unsubscribe sub ∷ []) ≡ false) }
+    ensures gives_nothing { (sub : ℕ) (h : List Entry) (e : Entry) → is_served sub h ≡ false
+        → given_at sub h e ≡ [] }
 {}
 
-/// One entry more adds, behind all that was there, the records that it brings, what it gives to a subscription and what the audit
-/// names of it, each after all entries before it; and before the first entry there is none of these.
+/// An entry behind a history adds, behind what the history has of them, the records that the entry brings, what it
+/// gives to a subscription, and what the audit names of it. Before the first entry there is none of these. So each of
+/// the three lists goes through the history in its order.
 pub fn one_entry_more()
-    ensures start { (sub : ℕ) → (accepted [] ≡ []) × (disclosed sub [] ≡ []) × (audit_list [] ≡ []) }
-    ensures accepts { (h : List Entry) (e : Entry) → accepted (h ++ e ∷ []) ≡ accepted h ++ accepted_at h e }
-    ensures discloses { (sub : ℕ) (h : List Entry) (e : Entry) → disclosed sub (h ++ e ∷ []) ≡ disclosed sub h ++ given_at sub h e }
-    ensures audits { (h : List Entry) (e : Entry) → audit_list (h ++ e ∷ []) ≡ audit_list h ++ audit_at h e }
+    ensures start { (sub : ℕ) → (accepted [] ≡ []) × (disclosed sub [] ≡ [])
+        × (audit_list [] ≡ []) }
+    ensures accepts { (h : List Entry) (e : Entry)
+        → accepted (h ++ e ∷ []) ≡ accepted h ++ accepted_at h e }
+    ensures discloses { (sub : ℕ) (h : List Entry) (e : Entry)
+        → disclosed sub (h ++ e ∷ []) ≡ disclosed sub h ++ given_at sub h e }
+    ensures audits { (h : List Entry) (e : Entry)
+        → audit_list (h ++ e ∷ []) ≡ audit_list h ++ audit_at h e }
 {}

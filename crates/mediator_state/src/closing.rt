@@ -12,9 +12,9 @@ use std::alloc::{AllocError, Global};
 /// What an advance of the clock would do.
 #[derive(Drop)]
 pub(crate) struct Closing {
-    /// Whom it cuts, ascending.
+    /// The numbers of the subscriptions that it cuts, ascending.
     pub(crate) cuts: Vec<u64>,
-    /// What it gives to those that are still served.
+    /// What it gives to those that are still served then.
     pub(crate) shares: Vec<Share>,
 }
 
@@ -24,12 +24,14 @@ impl Engine {
     ghost use Rattle.mediator_state.specs.Planning.{IsJudged};
     ghost use Rattle.mediator_state.specs.Advancing.{closing_share, AreParted};
 
-    /// What an advance of the clock to `t` would do as the next entry, with the cuts before it.
+    /// What an advance of the clock to `t`, in milliseconds since 1970, would do as the next entry, with the cuts
+    /// before it.
     ///
     /// # Errors
     /// Want of memory.
     pub(crate) fn plan_advance(&self, t: u64) -> Result<Closing, AllocError>
-        ensures { IfOk result (λ c. (h : List Entry) → Stands self.now h → IsJudged self.now h (Advance t) c.cuts.items (map shown c.shares.items) []) }
+        ensures { IfOk result (λ c. (h : List Entry) → Stands self.now h
+            → IsJudged self.now h (Advance t) c.cuts.items (map shown c.shares.items) []) }
     {
         let served = self.subscriptions.served()?;
         let closing = self.close_for(t, &served)?;
@@ -37,8 +39,9 @@ impl Engine {
         Ok(closing)
     }
 
-    /// Whether what an advance of the clock to `t` would close has no room in the queue of one that is served until some of what
-    /// waits is pulled, and has room then. Not where there is no memory to find that out.
+    /// Whether what an advance of the clock to `t`, in milliseconds since 1970, would close for one of those that are
+    /// served has no room in its queue until some of what waits is pulled, and has room then. It is false where there
+    /// is no memory to find that out.
     pub(crate) fn is_advance_held_up(&self, t: u64) -> bool {
         match self.subscriptions.served() {
             Ok(served) => served.iter().any(|who| self.is_closing_held_up(who.sub, t)),
@@ -46,7 +49,9 @@ impl Engine {
         }
     }
 
-    /// The same of one subscription.
+    /// Whether what an advance of the clock to `t` would close for the subscription with the number `sub` has no room
+    /// in its queue until some of what waits is pulled, and has room then. It is false where there is no memory to find
+    /// that out.
     fn is_closing_held_up(&self, sub: u64, t: u64) -> bool {
         match self.groups.closing(sub, t) {
             Ok(given) => self.subscriptions.is_held_up(&Share { sub, given }),
@@ -54,12 +59,15 @@ impl Engine {
         }
     }
 
-    /// What it closes for each that is served, where the limits leave room for that; the others are cut.
+    /// What an advance of the clock to `t` closes for each of the subscriptions `served`, where its limits leave room
+    /// for that; the others are cut.
     ///
     /// # Errors
     /// Want of memory.
     fn close_for(&self, t: u64, served: &[Served<'_>]) -> Result<Closing, AllocError>
-        ensures { IfOk result (λ c. (h : List Entry) → Stands self.now h → AreParted self.now.subscriptions (map (closing_share h t) (map told served.now)) c.cuts.items (map shown c.shares.items)) }
+        ensures { IfOk result (λ c. (h : List Entry) → Stands self.now h
+            → AreParted self.now.subscriptions (map (closing_share h t) (map told served.now))
+            c.cuts.items (map shown c.shares.items)) }
     {
         let mut cuts = Vec::new(self.alloc);
         let mut shares = Vec::new(self.alloc);

@@ -1,4 +1,4 @@
-//! What a mediator keeps beside its history.
+//! What a mediator keeps beside its history, with the steps by which its calls change that.
 ghost use Rattle.std.specs.Prelude.{◌≡◌, ◌≤◌, ◌<◌, ◌+◌, ◌^◌, ◌++◌, ◌∷◌, [], ◌≢◌, ℕ, List, length, not, true, is_some, IfOk, IfSome, IfNone, OnOk, OnErr, IsSomeAnd, Ok};
 ghost use Rattle.std.specs.List.{AllByRecursion};
 ghost use Rattle.policy_text.specs.Parsing.{policy_of};
@@ -28,11 +28,11 @@ use std::alloc::{AllocError, Global};
 use std::sync::Arc;
 use subscriber_stream::{Limits, Stream};
 
-/// What a mediator keeps beside its history. Contracts say by `Stands` for which histories it stands; its calls change it
-/// by one entry, or by none.
+/// What a mediator keeps beside its history. Contracts say by `Stands` for which histories it stands. Its calls change
+/// it by one entry, or by none.
 pub(crate) struct Engine {
     pub(crate) alloc: Global,
-    /// What tables are hashed with whose entries exporters choose.
+    /// By what tables are hashed whose entries exporters choose.
     keys: HashKeys,
     /// How much each subscription's stream may hold.
     pub(crate) limits: Limits,
@@ -40,14 +40,17 @@ pub(crate) struct Engine {
     pub(crate) in_force: InForce,
     /// How many edits there were.
     edits: u64,
+    /// The open sessions.
     pub(crate) sessions: Sessions,
     /// How many sessions were opened.
     opened: u64,
+    /// The live subscriptions.
     pub(crate) subscriptions: Subscriptions,
     /// The running groups of those that are served.
     pub(crate) groups: RunningGroups,
     /// How many subscriptions began.
     begun: u64,
+    /// The entries of the audit that wait to be handed out.
     pub(crate) audit: Audit,
     /// What decided when a snapshot was taken last, for the next one. It decides nothing here.
     terms: Option<Arc<Terms>>,
@@ -80,7 +83,12 @@ impl Engine {
     ghost use Rattle.mediator_state.specs.Calls.{IsSnapshot, RefusesSnapshot};
     ghost use Rattle.std.specs.Prelude.{IfErr};
 
-    /// Before any entry: the policy has no rules.
+    /// What is kept before any entry: no session and no subscription, a policy without rules, and the clock at 0. The
+    /// stream of each subscription may hold what `limits` say, and at most `audit` audit entries may wait. All of it is
+    /// in memory from `alloc`.
+    ///
+    /// # Errors
+    /// Want of memory.
     pub(crate) fn new(alloc: Global, limits: Limits, audit: u32) -> Result<Engine, AllocError>
         requires range { AreInRange limits }
         requires least { 1 ≤ audit }
@@ -106,7 +114,7 @@ impl Engine {
         })
     }
 
-    /// Hashes groups and templates of subscriptions that begin from now on with these keys.
+    /// Hashes by `keys` the groups and templates of subscriptions that begin from now on.
     pub(crate) fn hash_by(&mut self, keys: HashKeys)
         ensures same { IsSameEngine self.old self.new }
     {
@@ -114,7 +122,7 @@ impl Engine {
         self.groups.hash_by(keys);
     }
 
-    /// The number of the next session.
+    /// The number of the next session, behind a history of `position` entries: how many were opened, and one more.
     pub(crate) fn next_session(&self, position: u64) -> u64
         requires somewhere { StandsSomewhere self.now position }
         requires short { position ≤ MOST_ENTRIES }
@@ -124,13 +132,14 @@ impl Engine {
         self.opened + 1
     }
 
-    /// Opens the next session.
+    /// Opens the next session, whose number is `number`.
     ///
     /// # Errors
-    /// Want of memory.
+    /// Want of memory, and then nothing has changed.
     pub(crate) fn open(&mut self, number: u64) -> Result<(), AllocError>
         requires next { number ≡ self.old.opened + 1 }
-        ensures ok { OnOk result ((h : List Entry) → Stands self.old h → Stands self.new (h ++ Open number ∷ [])) }
+        ensures ok { OnOk result ((h : List Entry) → Stands self.old h
+            → Stands self.new (h ++ Open number ∷ [])) }
         ensures untouched { IsUntouched self.old self.new }
         ensures err { OnErr result (IsSameEngine self.old self.new) }
     {
@@ -139,14 +148,17 @@ impl Engine {
         Ok(())
     }
 
-    /// The templates of an open session as they stand, which the session shares then, with the terms on which records are shared.
+    /// The templates of the open session with the number `number` as they stand, which the session shares then, with
+    /// the terms on which records are shared now.
     ///
     /// # Errors
-    /// The session isn't open; or memory ran out.
+    /// [`Fault::UnknownSession`] where the session isn't open; or [`Fault::OutOfMemory`].
     pub(crate) fn snapshot(&mut self, number: u64) -> Result<Snapshot, Fault>
-        ensures ok { IfOk result (λ snapshot. (h : List Entry) → Stands self.old h → IsSnapshot h number snapshot) }
+        ensures ok { IfOk result (λ snapshot. (h : List Entry) → Stands self.old h
+            → IsSnapshot h number snapshot) }
         ensures same { IsSameEngine self.old self.new }
-        ensures err { IfErr result (λ e. (h : List Entry) → Stands self.old h → RefusesSnapshot e h number) }
+        ensures err { IfErr result (λ e. (h : List Entry) → Stands self.old h
+            → RefusesSnapshot e h number) }
     {
         if !self.is_open(number) {
             return Err(Fault::UnknownSession);
@@ -159,7 +171,8 @@ impl Engine {
         }
     }
 
-    /// The terms on which records are shared now: those that were made for the last snapshot, where they still hold.
+    /// The terms on which records are shared now. Those that were made for the last snapshot are taken where they still
+    /// hold.
     ///
     /// # Errors
     /// Want of memory.
@@ -179,14 +192,14 @@ impl Engine {
         Ok(terms)
     }
 
-    /// Whether a session is open.
+    /// Whether the session with the number `number` is open.
     pub(crate) fn is_open(&self, number: u64) -> bool
         ensures { (h : List Entry) → Stands self.now h → result ≡ is_open number h }
     {
         self.sessions.get(number).is_some()
     }
 
-    /// Whether a subscription is live.
+    /// Whether the subscription with the number `number` is live.
     pub(crate) fn is_live(&self, number: u64) -> bool
         ensures live { (h : List Entry) → Stands self.now h → result ≡ is_live number h }
         ensures there { result ≡ is_some (at self.now.subscriptions number) }
@@ -194,15 +207,16 @@ impl Engine {
         self.subscriptions.get(number).is_some()
     }
 
-    /// Closes a session.
+    /// Closes the session with the number `number`. It takes no memory.
     pub(crate) fn close(&mut self, number: u64)
-        ensures stands { (h : List Entry) → Stands self.old h → Stands self.new (h ++ Close number ∷ []) }
+        ensures stands { (h : List Entry) → Stands self.old h
+            → Stands self.new (h ++ Close number ∷ []) }
         ensures untouched { IsUntouched self.old self.new }
     {
         self.sessions.close(number);
     }
 
-    /// A policy as it would be in force now.
+    /// The policy `policy` as it would be in force now, with the clock as it stands.
     ///
     /// # Errors
     /// Want of memory.
@@ -212,13 +226,15 @@ impl Engine {
         InForce::since(self.alloc, policy, self.in_force.clock())
     }
 
-    /// Puts a policy in force, and says how many edits there were.
+    /// Puts `in_force` in force, which [`with_policy`](Engine::with_policy) made, behind a history of `position`
+    /// entries; and answers how many edits there were then. It takes no memory.
     pub(crate) fn put_in_force(&mut self, in_force: InForce, position: u64) -> u64
         requires somewhere { StandsSomewhere self.old position }
         requires short { position ≤ MOST_ENTRIES }
         requires same_clock { in_force.clock ≡ self.old.in_force.clock }
         ensures value { (h : List Entry) → Stands self.old h → result ≡ edits_made h + 1 }
-        ensures stands { (h : List Entry) (text : List ℕ) → Stands self.old h → policy_of text ≡ Ok in_force.policy → Stands self.new (h ++ Edit text ∷ []) }
+        ensures stands { (h : List Entry) (text : List ℕ) → Stands self.old h
+            → policy_of text ≡ Ok in_force.policy → Stands self.new (h ++ Edit text ∷ []) }
         ensures untouched { IsUntouched self.old self.new }
     {
         self.in_force = in_force;
@@ -226,7 +242,7 @@ impl Engine {
         self.edits
     }
 
-    /// The number of the next subscription.
+    /// The number of the next subscription, behind a history of `position` entries: how many began, and one more.
     pub(crate) fn next_subscription(&self, position: u64) -> u64
         requires somewhere { StandsSomewhere self.now position }
         requires short { position ≤ MOST_ENTRIES }
@@ -236,25 +252,30 @@ impl Engine {
         self.begun + 1
     }
 
-    /// The number of the live subscription under a name.
+    /// The number of the live subscription whose subscriber has this `name`, or `None`.
     pub(crate) fn named(&self, name: &str) -> Option<u64>
-        ensures found { IfSome result (λ sub. (h : List Entry) → Stands self.now h → (is_live sub h ≡ true) × (name_of sub h ≡ name.now)) }
-        ensures none { IfNone result ((h : List Entry) → Stands self.now h → (sub : ℕ) → is_live sub h ≡ true → name_of sub h ≢ name.now) }
-        ensures free { IfNone result ((q : ℕ) → IfSome (at self.now.subscriptions q) (λ s. s.name ≢ name.now)) }
+        ensures found { IfSome result (λ sub. (h : List Entry) → Stands self.now h
+            → (is_live sub h ≡ true) × (name_of sub h ≡ name.now)) }
+        ensures none { IfNone result ((h : List Entry) → Stands self.now h
+            → (sub : ℕ) → is_live sub h ≡ true → name_of sub h ≢ name.now) }
+        ensures free { IfNone result ((q : ℕ)
+            → IfSome (at self.now.subscriptions q) (λ s. s.name ≢ name.now)) }
     {
         self.subscriptions.named(name)
     }
 
-    /// Begins the next subscription.
+    /// Begins the next subscription, whose number is `number`, for a subscriber of this `name`, which no live
+    /// subscription has.
     ///
     /// # Errors
-    /// Want of memory.
+    /// Want of memory, and then nothing has changed.
     pub(crate) fn subscribe(&mut self, number: u64, name: &str) -> Result<(), AllocError>
         requires somewhere { HasHistory self.old }
         requires next { number ≡ self.old.begun + 1 }
         requires name { is_name name.now ≡ true }
         requires free { (q : ℕ) → IfSome (at self.old.subscriptions q) (λ s. s.name ≢ name.now) }
-        ensures ok { OnOk result ((h : List Entry) → Stands self.old h → Stands self.new (h ++ Subscribe number name.now ∷ [])) }
+        ensures ok { OnOk result ((h : List Entry) → Stands self.old h
+            → Stands self.new (h ++ Subscribe number name.now ∷ [])) }
         ensures untouched { IsUntouched self.old self.new }
         ensures err { OnErr result (IsSameEngine self.old self.new) }
     {
@@ -273,9 +294,11 @@ impl Engine {
     ghost use Rattle.std.specs.Option.{option_map};
     ghost use Rattle.mediator_state.specs.Steps.{IsCutOnce, HasAuditRoom, CutsInARow};
 
-    /// Ends a subscription, with what waits for it.
+    /// Ends the subscription with the number `number`, with what waits for it and its running groups. It takes no
+    /// memory.
     pub(crate) fn unsubscribe(&mut self, number: u64)
-        ensures stands { (h : List Entry) → Stands self.old h → Stands self.new (h ++ Unsubscribe number ∷ []) }
+        ensures stands { (h : List Entry) → Stands self.old h
+            → Stands self.new (h ++ Unsubscribe number ∷ []) }
         ensures others { (q : ℕ) → q ≢ number → place_of self.new q ≡ place_of self.old q }
         ensures drained { self.new.audit.standing.drained ≡ self.old.audit.standing.drained }
         ensures limits { self.new.limits ≡ self.old.limits }
@@ -285,10 +308,12 @@ impl Engine {
         self.groups.remove(number);
     }
 
-    /// Cuts a subscription, in room that the audit has; its running groups are gone. It takes no memory.
+    /// Cuts the subscription with the number `number`, by an entry at `position`: it is served no more, and its running
+    /// groups are gone. The audit has room for the entry that names this. It takes no memory.
     fn cut(&mut self, position: u64, number: u64)
         requires room { HasAuditRoom self.old.audit 1 }
-        ensures stands { (h : List Entry) → Stands self.old h → length h ≡ position → Stands self.new (h ++ Cut number ∷ []) }
+        ensures stands { (h : List Entry) → Stands self.old h → length h ≡ position
+            → Stands self.new (h ++ Cut number ∷ []) }
         ensures once { IsCutOnce number self.old self.new }
     {
         self.subscriptions.cut(number);
@@ -301,11 +326,13 @@ impl Engine {
         });
     }
 
-    /// Cuts subscriptions one after another, the first at a position.
+    /// Cuts the subscriptions with these `numbers`, one after another, the first by an entry at `position`. The audit
+    /// has room for the entries that name this. It takes no memory.
     pub(crate) fn cut_all(&mut self, position: u64, numbers: &[u64])
         requires room { HasAuditRoom self.old.audit (length numbers.now) }
         requires short { position + length numbers.now < 2 ^ 63 }
-        ensures stands { (h : List Entry) → Stands self.old h → length h ≡ position → Stands self.new (after_cuts h numbers.now) }
+        ensures stands { (h : List Entry) → Stands self.old h → length h ≡ position
+            → Stands self.new (after_cuts h numbers.now) }
         ensures row { CutsInARow numbers.now self.old self.new }
     {
         'cuts: for (place, number) in numbers.iter().enumerate() {
@@ -327,16 +354,18 @@ impl Engine {
     ghost use Rattle.mediator_state.specs.Accepting.{HasRoomForPlan, HasAuditFor, IsPlannedFor, LacksAudit, IsReadyToTake, IsMessage, receipt_of};
     ghost use Rattle.std.specs.Prelude.{map, IfErr};
 
-    /// Makes room for so many audit entries, and so many places of memory for them.
+    /// Finds out whether `need` more entries have room in the audit, and makes room in memory for `places` of them.
     ///
     /// # Errors
-    /// The audit has no room, or memory ran out.
+    /// [`Fault::AuditFull`] where they have none; or [`Fault::OutOfMemory`]. Only reserved room has changed then.
     pub(crate) fn make_audit_room(&mut self, need: u64, places: usize) -> Result<(), Fault>
         requires few { places ≤ need + 1 }
         ensures same { IsSameEngine self.old self.new }
         ensures ok { OnOk result (HasAuditFor self.new.audit need places) }
         ensures err { IfErr result (λ e. LacksAudit e self.old.audit need) }
-        ensures rest { (self.new.sessions ≡ self.old.sessions) × (self.new.subscriptions ≡ self.old.subscriptions) × (self.new.groups ≡ self.old.groups) }
+        ensures rest { (self.new.sessions ≡ self.old.sessions)
+            × (self.new.subscriptions ≡ self.old.subscriptions)
+            × (self.new.groups ≡ self.old.groups) }
     {
         let room = self.audit.room();
         if need > u64::from(room) {
@@ -346,14 +375,17 @@ impl Engine {
         Ok(())
     }
 
-    /// Makes room for what a plan does, and makes ready what it counts.
+    /// Makes room for what `plan` does, and makes ready what it counts, which is the answer.
     ///
     /// # Errors
-    /// The audit has no room, or memory ran out.
+    /// [`Fault::AuditFull`] where the audit has no room for its cuts and notes; or [`Fault::OutOfMemory`]. Only
+    /// reserved room has changed then.
     pub(crate) fn make_room(&mut self, plan: &Plan) -> Result<Vec<Reserved>, Fault>
         ensures same { IsSameEngine self.old self.new }
-        ensures ok { IfOk result (λ reserved. HasRoomForPlan self.new plan.now (map reserved_for reserved.items)) }
-        ensures err { IfErr result (λ e. LacksAudit e self.old.audit (length plan.now.cuts.items + plan.now.notes.count)) }
+        ensures ok { IfOk result (λ reserved.
+            HasRoomForPlan self.new plan.now (map reserved_for reserved.items)) }
+        ensures err { IfErr result (λ e.
+            LacksAudit e self.old.audit (length plan.now.cuts.items + plan.now.notes.count)) }
     {
         let cuts = plan.cuts.len();
         self.make_audit_room(cuts as u64 + plan.notes.count(), cuts + 1)?;
@@ -362,13 +394,18 @@ impl Engine {
         Ok(self.groups.reserve(&plan.tallies)?)
     }
 
-    /// Does what a plan says, in room that was made for it. It takes no memory.
+    /// Does what `plan` says, in the room that [`make_room`](Engine::make_room) made for it, behind a history of
+    /// `position` entries. `reserved` is what that call made ready. The answer is the receipt of the message. It takes
+    /// no memory and can't fail.
     pub(crate) fn accept(&mut self, position: u64, plan: Plan, reserved: Vec<Reserved>) -> Receipt
         requires room { HasRoomForPlan self.old plan (map reserved_for reserved.items) }
         requires planned { IsPlannedFor self.old position plan }
-        ensures stands { (h : List Entry) (number : ℕ) (octets : List ℕ) → Stands self.old h → length h ≡ position → IsPlan self.old h number octets plan
-            → Stands self.new (after_cuts h plan.cuts.items ++ Message plan.session number octets ∷ []) }
-        ensures receipt { result ≡ receipt_of position (length plan.cuts.items) plan.reading.meaning }
+        ensures stands { (h : List Entry) (number : ℕ) (octets : List ℕ) → Stands self.old h
+            → length h ≡ position → IsPlan self.old h number octets plan
+            → Stands self.new (after_cuts h plan.cuts.items
+            ++ Message plan.session number octets ∷ []) }
+        ensures receipt { result
+            ≡ receipt_of position (length plan.cuts.items) plan.reading.meaning }
         ensures untouched { IsUntouched self.old self.new }
     {
         let receipt = Receipt {
@@ -390,7 +427,8 @@ impl Engine {
         receipt
     }
 
-    /// Takes what the message at a position brings, gives, counts and keeps back, in room that was made for it.
+    /// Takes in the message at `position`, in room that was made for it: `reading` is what it means to the session with
+    /// the number `session`, `shares` what it gives, `reserved` what it counts, and `notes` what the audit names of it.
     fn take(
         &mut self,
         session: u64,
@@ -400,10 +438,13 @@ impl Engine {
         position: u64,
         notes: Vec<Note>,
     )
-        requires room { IsReadyToTake self.old session reading (map shown shares.items) (map reserved_for reserved.items) (length notes.items) }
-        ensures stands { (h : List Entry) (number : ℕ) (octets : List ℕ) (tallies : List (ℕ × List Count)) → Stands self.old h
-            → AllReady self.old.groups (map reserved_for reserved.items) tallies → AreApart tallies
-            → IsMessage self.old h session number octets reading (map shown shares.items) tallies (map (stamp position) notes.items)
+        requires room { IsReadyToTake self.old session reading (map shown shares.items)
+            (map reserved_for reserved.items) (length notes.items) }
+        ensures stands { (h : List Entry) (number : ℕ) (octets : List ℕ)
+            (tallies : List (ℕ × List Count)) → Stands self.old h
+            → AllReady self.old.groups (map reserved_for reserved.items) tallies
+            → AreApart tallies → IsMessage self.old h session number octets reading
+            (map shown shares.items) tallies (map (stamp position) notes.items)
             → Stands self.new (h ++ Message session number octets ∷ []) }
         ensures untouched { IsUntouched self.old self.new }
     {
@@ -425,21 +466,25 @@ impl Engine {
     ghost use Rattle.mediator_state.specs.Accepting.{LacksAudit};
     ghost use Rattle.mediator_state.specs.Advancing.{HasRoomToClose, IsClosingFor, IsReadyToClose, AreClosings};
 
-    /// Makes room for what an advance of the clock does.
+    /// Makes room for what `closing`, an advance of the clock, does.
     ///
     /// # Errors
-    /// The audit has no room, or memory ran out.
+    /// [`Fault::AuditFull`] where the audit has no room for its cuts; or [`Fault::OutOfMemory`]. Only reserved room has
+    /// changed then.
     pub(crate) fn make_room_to_close(&mut self, closing: &Closing) -> Result<(), Fault>
         ensures same { IsSameEngine self.old self.new }
         ensures ok { OnOk result (HasRoomToClose self.new closing.now) }
-        ensures err { IfErr result (λ e. LacksAudit e self.old.audit (length closing.now.cuts.items)) }
+        ensures err { IfErr result (λ e.
+            LacksAudit e self.old.audit (length closing.now.cuts.items)) }
     {
         self.make_audit_room(closing.cuts.len() as u64, closing.cuts.len())?;
         self.subscriptions.reserve(&closing.shares)?;
         Ok(())
     }
 
-    /// Advances the clock to `t`, and does what that closes, in room that was made for it. It takes no memory.
+    /// Advances the clock to `t`, in milliseconds since 1970, behind a history of `position` entries, and does what
+    /// `closing` says, in the room that [`make_room_to_close`](Engine::make_room_to_close) made for it. It takes no
+    /// memory and can't fail.
     pub(crate) fn advance(&mut self, position: u64, t: u64, closing: Closing)
         requires room { HasRoomToClose self.old closing }
         requires planned { IsClosingFor self.old position t closing }
@@ -452,10 +497,12 @@ impl Engine {
         self.close_due(t, closing.shares);
     }
 
-    /// Gives what an advance of the clock closes, in room that was made for it, and drops these groups.
+    /// Gives `shares`, which the advance of the clock to `t` closes, in room that was made for them, and drops the
+    /// groups that it closes.
     fn close_due(&mut self, t: u64, shares: Vec<Share>)
         requires room { IsReadyToClose self.old (map shown shares.items) }
-        ensures stands { (h : List Entry) → Stands self.old h → clock_of h ≤ t → AreClosings self.old h t (map shown shares.items)
+        ensures stands { (h : List Entry) → Stands self.old h → clock_of h ≤ t
+            → AreClosings self.old h t (map shown shares.items)
             → Stands self.new (h ++ Advance t ∷ []) }
         ensures untouched { IsUntouched self.old self.new }
     {

@@ -7,34 +7,34 @@ use std::alloc::AllocError;
 use std::error::Error;
 use std::fmt::{self, Display, Formatter, Write};
 
-/// Why a call is refused: the first reason that stands, in this order but for those that belong to other calls. Its text
-/// is its name.
+/// Why a call is refused. Of several reasons the first of this list is told, but for those that belong to other calls.
+/// A fault's text is its name. A refused call has changed nothing.
 #[derive(Clone, Copy, Debug, PartialEq, Eq)]
 pub enum Fault {
     /// No session with this number is open.
     UnknownSession,
-    /// The message's number isn't the number of messages that the session had.
+    /// The message's number isn't `expected`, which is how many messages the session had.
     OutOfTurn { expected: u64 },
-    /// The octets are no message of the session.
+    /// The octets are no message that the session can have (RFC 7011), for this reason.
     Malformed(ReadError),
-    /// A prepared message has an ID whose template in the session isn't the one by which it was prepared. It can be prepared
-    /// anew.
+    /// A prepared message has a Data Set whose template in the session isn't the one by which it was prepared. It can
+    /// be prepared anew.
     Stale,
-    /// The text is no policy.
+    /// The text is no policy, for this reason.
     Policy(PolicyFault),
-    /// The text is no name.
+    /// The text is no name that a subscriber may have.
     BadName,
-    /// A live subscription has this name.
+    /// The live subscription with the number `sub` has this name.
     AlreadySubscribed { sub: u64 },
     /// No subscription with this number is live.
     UnknownSub,
-    /// The clock stands later already: at so many milliseconds since 1970.
+    /// The clock stands later already: at `last`, in milliseconds since 1970.
     ClockBack { last: u64 },
-    /// The journal has no room for what would be accepted.
+    /// The journal has no room for the entries that the call would add.
     JournalFull,
-    /// The audit needs room for so many entries, and has this room.
+    /// The call would add `need` entries to the audit, which has room for `room`.
     AuditFull { need: u64, room: u32 },
-    /// Want of memory.
+    /// Want of memory. It says nothing of the call.
     OutOfMemory,
 }
 

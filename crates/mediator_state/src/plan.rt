@@ -28,12 +28,13 @@ use stream_meaning::see_records;
 /// What a message would do.
 #[derive(Drop)]
 pub(crate) struct Plan {
+    /// The number of its session.
     pub(crate) session: u64,
     /// What it means, and what it changes of its session.
     pub(crate) reading: Reading,
-    /// Whom it cuts, ascending.
+    /// The numbers of the subscriptions that it cuts, ascending.
     pub(crate) cuts: Vec<u64>,
-    /// What it gives to those that are still served.
+    /// What it gives to those that are still served then.
     pub(crate) shares: Vec<Share>,
     /// What it adds to their aggregates.
     pub(crate) tallies: Vec<Tally>,
@@ -47,40 +48,50 @@ impl Engine {
     ghost use Rattle.mediator_state.specs.Standing.{Stands};
     ghost use Rattle.mediator_state.specs.Planning.{IsPlan, IsNextReading, RefusesMessage, RefusesPrepared, IsInTurn, RefusesTurn, IsJudgedFor};
 
-    /// Reads the next message of a session, and keeps nothing of it.
+    /// Reads `message` as the next one of the session with the number `session`, and keeps nothing of it. `number` is
+    /// to be how many messages the session had.
     ///
     /// # Errors
-    /// The session isn't open; or the message has another number than its next, or is malformed; or memory ran out.
+    /// [`Fault::UnknownSession`], [`Fault::OutOfTurn`] or [`Fault::Malformed`], the first that stands; or
+    /// [`Fault::OutOfMemory`].
     pub(crate) fn read(&self, session: u64, number: u64, message: &Bytes) -> Result<Reading, Fault>
-        ensures ok { IfOk result (λ reading. (h : List Entry) → Stands self.now h → IsNextReading h session number message.now reading) }
-        ensures err { IfErr result (λ e. (h : List Entry) → Stands self.now h → RefusesMessage e h session number message.now) }
+        ensures ok { IfOk result (λ reading. (h : List Entry) → Stands self.now h
+            → IsNextReading h session number message.now reading) }
+        ensures err { IfErr result (λ e. (h : List Entry) → Stands self.now h
+            → RefusesMessage e h session number message.now) }
     {
         let open = self.in_turn(session, number)?;
         Ok(open.session.read(message)?)
     }
 
-    /// What is read of the next message of a session that was prepared elsewhere.
+    /// What is read of `prepared`, a message that was prepared elsewhere, as the next one of the session with the
+    /// number `session`. `number` is to be how many messages the session had.
     ///
     /// # Errors
-    /// The session isn't open; or the message has another number than its next, or was prepared by other templates than the
-    /// session's; or memory ran out.
+    /// [`Fault::UnknownSession`], [`Fault::OutOfTurn`], or [`Fault::Stale`] where it was prepared by other templates
+    /// than the session's, the first that stands; or [`Fault::OutOfMemory`].
     pub(crate) fn read_prepared(
         &self,
         session: u64,
         number: u64,
         prepared: &Prepared,
     ) -> Result<Reading, Fault>
-        ensures ok { IfOk result (λ reading. (h : List Entry) → Stands self.now h → IsNextReading h session number prepared.now.message reading) }
-        ensures domain { IfOk result (λ reading. reading.meaning.header.domain ≡ domain_of prepared.now.message) }
-        ensures records { IfOk result (λ reading. reading.meaning.records ≡ prepared.now.contents.records) }
-        ensures err { IfErr result (λ e. (h : List Entry) → Stands self.now h → RefusesPrepared e h session number prepared.now) }
+        ensures ok { IfOk result (λ reading. (h : List Entry) → Stands self.now h
+            → IsNextReading h session number prepared.now.message reading) }
+        ensures domain { IfOk result (λ reading.
+            reading.meaning.header.domain ≡ domain_of prepared.now.message) }
+        ensures records { IfOk result (λ reading.
+            reading.meaning.records ≡ prepared.now.contents.records) }
+        ensures err { IfErr result (λ e. (h : List Entry) → Stands self.now h
+            → RefusesPrepared e h session number prepared.now) }
     {
         let open = self.in_turn(session, number)?;
         Ok(prepared.reading_in(&open.session)?)
     }
 
-    /// What the next message of a session would do as the next entry, with the cuts before it, where so many entries stand
-    /// already. What was judged of it elsewhere is taken where its terms still hold.
+    /// What a message of the session with the number `session` would do as the next entry behind a history of
+    /// `position` entries, with the cuts before it. `reading` is what was read of it. `judgement`, what was judged of
+    /// its records elsewhere, is taken where its terms still hold.
     ///
     /// # Errors
     /// Want of memory.
@@ -93,8 +104,10 @@ impl Engine {
     ) -> Result<Plan, AllocError>
         requires few { length reading.meaning.records ≤ 2 ^ 32 }
         requires short { position ≤ MOST_ENTRIES }
-        requires judgement { IfSome judgement (IsJudgementOf reading.meaning.header.domain reading.meaning.records) }
-        ensures ok { IfOk result (λ p. (h : List Entry) (number : ℕ) (octets : List ℕ) → Stands self.old h → length h ≡ position
+        requires judgement { IfSome judgement
+            (IsJudgementOf reading.meaning.header.domain reading.meaning.records) }
+        ensures ok { IfOk result (λ p. (h : List Entry) (number : ℕ) (octets : List ℕ)
+            → Stands self.old h → length h ≡ position
             → IsNextReading h session number octets reading → IsPlan self.old h number octets p) }
         ensures session { IfOk result (λ p. p.session ≡ session) }
         ensures same { self.new ≡ self.old }
@@ -111,10 +124,14 @@ impl Engine {
         })
     }
 
-    /// The session, where it is open and this is the number of its next message.
+    /// The open session with the number `session`, where `number` is how many messages it had.
+    ///
+    /// # Errors
+    /// [`Fault::UnknownSession`] or [`Fault::OutOfTurn`].
     fn in_turn(&self, session: u64, number: u64) -> Result<&OpenSession, Fault>
         ensures ok { IfOk result (λ o. IsInTurn self.now session number o.now) }
-        ensures err { IfErr result (λ e. (h : List Entry) → Stands self.now h → RefusesTurn e h session number) }
+        ensures err { IfErr result (λ e. (h : List Entry) → Stands self.now h
+            → RefusesTurn e h session number) }
     {
         let Some(open) = self.sessions.get(session) else {
             return Err(Fault::UnknownSession);
@@ -127,7 +144,8 @@ impl Engine {
         Ok(open)
     }
 
-    /// Judges what was read of a message for each subscription that is served.
+    /// Judges what `reading` has of a message for each subscription that is served, behind a history of `position`
+    /// entries. `judgement`, what was judged of its records elsewhere, is taken where its terms still hold.
     ///
     /// # Errors
     /// Want of memory.
@@ -139,8 +157,10 @@ impl Engine {
     ) -> Result<Judged, AllocError>
         requires few { length reading.now.meaning.records ≤ 2 ^ 32 }
         requires short { position ≤ MOST_ENTRIES }
-        requires judgement { IfSome judgement (IsJudgementOf reading.now.meaning.header.domain reading.now.meaning.records) }
-        ensures judged { IfOk result (λ j. (h : List Entry) → Stands self.old h → length h ≡ position → IsJudgedFor self.old h reading.now.meaning j) }
+        requires judgement { IfSome judgement
+            (IsJudgementOf reading.now.meaning.header.domain reading.now.meaning.records) }
+        ensures judged { IfOk result (λ j. (h : List Entry) → Stands self.old h
+            → length h ≡ position → IsJudgedFor self.old h reading.now.meaning j) }
         ensures same { self.new ≡ self.old }
     {
         let domain = reading.header().domain;
@@ -158,7 +178,7 @@ impl Engine {
     }
 }
 
-/// Whom a message cuts, and what it gives, counts and keeps back then, behind them.
+/// Whom a message cuts, and what it gives, counts and keeps back then, behind the cuts.
 #[derive(Drop)]
 pub(crate) struct Judged {
     pub(crate) cuts: Vec<u64>,
@@ -168,7 +188,7 @@ pub(crate) struct Judged {
     pub(crate) notes: Notes,
 }
 
-/// Those who are cut, and those who are left.
+/// The subscriptions that a message cuts, and those that are left.
 #[derive(Drop)]
 struct Split<'a> {
     cuts: Vec<u64>,
@@ -178,7 +198,9 @@ struct Split<'a> {
 ghost use Rattle.mediator_tables.specs.SubscriptionTable.{told, lacks_room_at};
 ghost use Rattle.mediator_state.specs.Planning.{lacks, has};
 
-/// What the records give to all that are served, with so many notes at most: what was judged elsewhere, where its terms still hold.
+/// What `records`, which are those of a message of the Observation Domain `domain`, give to all subscriptions `served`,
+/// by what `in_force` says, with at most `most` notes kept. `judgement`, what was judged of them elsewhere, is taken
+/// where its terms still hold; else they are judged here, in memory from `alloc`.
 ///
 /// # Errors
 /// Want of memory.
@@ -193,9 +215,12 @@ fn shares_of_all(
 ) -> Result<Shares, AllocError>
     requires few { length records.now ≤ 2 ^ 32 }
     requires judgement { IfSome judgement (IsJudgementOf domain records.now) }
-    ensures shares { IfOk result (λ s. map shown s.shares.items ≡ shares_of domain in_force.old records.now served.now) }
-    ensures tallies { IfOk result (λ s. map tallied s.tallies.items ≡ tallies_of domain in_force.old records.now served.now) }
-    ensures notes { IfOk result (λ s. s.notes ≡ kept_of most (notes_of domain in_force.old records.now served.now)) }
+    ensures shares { IfOk result (λ s.
+        map shown s.shares.items ≡ shares_of domain in_force.old records.now served.now) }
+    ensures tallies { IfOk result (λ s.
+        map tallied s.tallies.items ≡ tallies_of domain in_force.old records.now served.now) }
+    ensures notes { IfOk result (λ s.
+        s.notes ≡ kept_of most (notes_of domain in_force.old records.now served.now)) }
     ensures stay { in_force.new ≡ in_force.old }
 {
     if let Some(judgement) = judgement {
@@ -206,7 +231,8 @@ fn shares_of_all(
     Shares::of_records(alloc, in_force, domain, records, served, most)
 }
 
-/// What is judged of a message, with its position behind its cuts, the first of which is at a position.
+/// What is judged of a message: `left` is what it gives to those that are left, and `cuts` are those before it, of
+/// which the first stands at `position`.
 fn judged_at(position: u64, cuts: Vec<u64>, left: Shares) -> Judged
     requires short { position ≤ MOST_ENTRIES }
     ensures cuts { result.cuts.items ≡ cuts.items }
@@ -227,7 +253,9 @@ fn judged_at(position: u64, cuts: Vec<u64>, left: Shares) -> Judged
     }
 }
 
-/// Cuts those whose limits leave no room for their share.
+/// Parts those `served` into those that are cut, since their limits in `subscriptions` leave no room for their part of
+/// `shares`, and those that are left. `shares` has one for each of those served, in their order. The lists are in
+/// memory from `alloc`.
 ///
 /// # Errors
 /// Want of memory.
@@ -238,10 +266,14 @@ fn split_by_room<'a>(
     shares: &[Share],
 ) -> Result<Split<'a>, AllocError>
     requires each { length shares.now ≡ length served.now }
-    ensures cuts { (domain : ℕ) (f : Force) (records : List DataRecord) → map shown shares.now ≡ shares_of domain f records served.now
-        → IfOk result (λ s. s.cuts.items ≡ map (λ w. w.sub) (filter (lacks subscriptions.now domain f records) served.now)) }
-    ensures left { (domain : ℕ) (f : Force) (records : List DataRecord) → map shown shares.now ≡ shares_of domain f records served.now
-        → IfOk result (λ s. s.left.items ≡ filter (has subscriptions.now domain f records) served.now) }
+    ensures cuts { (domain : ℕ) (f : Force) (records : List DataRecord)
+        → map shown shares.now ≡ shares_of domain f records served.now
+        → IfOk result (λ s. s.cuts.items
+        ≡ map (λ w. w.sub) (filter (lacks subscriptions.now domain f records) served.now)) }
+    ensures left { (domain : ℕ) (f : Force) (records : List DataRecord)
+        → map shown shares.now ≡ shares_of domain f records served.now
+        → IfOk result (λ s. s.left.items
+        ≡ filter (has subscriptions.now domain f records) served.now) }
 {
     let mut cuts = Vec::new(alloc);
     let mut left = Vec::new(alloc);
@@ -255,7 +287,9 @@ fn split_by_room<'a>(
     Ok(Split { cuts, left })
 }
 
-/// What the records give to those that are left, with so many notes at most: the shares of all, where none is cut.
+/// What `records`, which are those of a message of the Observation Domain `domain`, give to the subscriptions `left`,
+/// by what `in_force` says, with at most `most` notes kept. That is `all`, what they give to all that are served, where
+/// `cuts` has none; else they are judged once more, in memory from `alloc`.
 ///
 /// # Errors
 /// Want of memory.
@@ -270,12 +304,18 @@ fn share_left(
     most: u64,
 ) -> Result<Shares, AllocError>
     requires few { length records.now ≤ 2 ^ 32 }
-    requires shares { cuts.now ≡ [] → map shown all.shares.items ≡ shares_of domain in_force.old records.now left.now }
-    requires tallies { cuts.now ≡ [] → map tallied all.tallies.items ≡ tallies_of domain in_force.old records.now left.now }
-    requires notes { cuts.now ≡ [] → all.notes ≡ kept_of most (notes_of domain in_force.old records.now left.now) }
-    ensures shares { IfOk result (λ s. map shown s.shares.items ≡ shares_of domain in_force.old records.now left.now) }
-    ensures tallies { IfOk result (λ s. map tallied s.tallies.items ≡ tallies_of domain in_force.old records.now left.now) }
-    ensures notes { IfOk result (λ s. s.notes ≡ kept_of most (notes_of domain in_force.old records.now left.now)) }
+    requires shares { cuts.now ≡ []
+        → map shown all.shares.items ≡ shares_of domain in_force.old records.now left.now }
+    requires tallies { cuts.now ≡ []
+        → map tallied all.tallies.items ≡ tallies_of domain in_force.old records.now left.now }
+    requires notes { cuts.now ≡ []
+        → all.notes ≡ kept_of most (notes_of domain in_force.old records.now left.now) }
+    ensures shares { IfOk result (λ s.
+        map shown s.shares.items ≡ shares_of domain in_force.old records.now left.now) }
+    ensures tallies { IfOk result (λ s.
+        map tallied s.tallies.items ≡ tallies_of domain in_force.old records.now left.now) }
+    ensures notes { IfOk result (λ s.
+        s.notes ≡ kept_of most (notes_of domain in_force.old records.now left.now)) }
     ensures stay { in_force.new ≡ in_force.old }
 {
     if cuts.is_empty() {
@@ -284,12 +324,12 @@ fn share_left(
     Shares::of_records(alloc, in_force, domain, records, left, most)
 }
 
-/// Octets are less than 256, by their type.
+/// Tells proofs that the octets of `message` are less than 256, by their type. It does nothing.
 pub(crate) fn see_octets(message: &[u8])
     ensures { AreOctets message.now }
 {}
 
-/// Each record of a share may be streamed, by its type.
+/// Tells proofs that each record of `shares` may be streamed, by its type. It changes nothing.
 pub(crate) fn see_shares(shares: &[Share])
     ensures { AllByRecursion AreStreamed (map shown shares.now) }
 {

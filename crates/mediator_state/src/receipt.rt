@@ -1,19 +1,19 @@
-//! What calls answer.
+//! What calls answer: the receipt of a message, and how a subscription stands.
 
 use ipfix_session::{Gap, Skips};
 
 /// What became of an accepted message.
 #[derive(Clone, Copy, Debug, PartialEq, Eq)]
 pub struct Receipt {
-    /// Its place in the history, from 0.
+    /// The position of its entry in the history, counted from 0.
     pub position: u64,
-    /// How many records it brought.
+    /// How many Data Records it brought.
     pub records: u64,
-    /// How many subscriptions it cut: their entries stand directly before it.
+    /// How many subscriptions it cut. The entries of these cuts stand directly before its own.
     pub cut: u64,
     /// What it brought that gives no record.
     pub skips: Skips,
-    /// Set where its sequence number is not the one that was expected (RFC 7011, section 3.1).
+    /// Set where its Sequence Number is not the one that was expected (RFC 7011, section 3.1).
     pub gap: Option<Gap>,
 }
 

@@ -1,4 +1,4 @@
-//! A mediator's state, over what keeps its history.
+//! The state of a mediator and its calls, over what keeps its history.
 ghost use Rattle.std.specs.Prelude.{◌≡◌, ◌≤◌, ◌<◌, ◌+◌, ◌^◌, ◌++◌, ◌∷◌, ◌↔◌, [], ◌≢◌, ℕ, List, length, map, take, drop, true, false, IsOk, IfOk, IfErr, IfSome, IfNone, OnOk, OnErr};
 ghost use Rattle.event_journal.specs.declared.limits.TheConstants.{MOST_ENTRIES};
 ghost use Rattle.event_journal.specs.declared.entry.Entry.{Entry};
@@ -25,10 +25,10 @@ use std::alloc::{AllocError, Global};
 use std::slice::from_ref;
 use subscriber_stream::PullError;
 
-/// How many records may wait for a subscription, where nobody sets a limit.
+/// How many records may wait for a subscription where nobody sets a limit: 65,536.
 pub const DEFAULT_QUEUE: u32 = 65_536;
 
-/// How many entries may wait in the audit, where nobody sets a limit.
+/// How many entries may wait in the audit where nobody sets a limit: 131,072.
 pub const DEFAULT_AUDIT: u32 = 131_072;
 
 /// How much a mediator may hold beside its history.
@@ -42,8 +42,8 @@ pub struct Limits {
     pub audit: u32,
 }
 
-/// A mediator's state: what keeps its history, and what it keeps beside it. Contracts say by `StandsFor` for which histories
-/// it stands.
+/// A mediator's state: what keeps its history, and what it keeps beside that. Contracts say by `StandsFor` for which
+/// histories it stands. A call that is refused changes none of it.
 #[derive(Drop)]
 pub struct State<C> {
     pub(crate) chronicle: C,
@@ -55,7 +55,9 @@ impl<C: Chronicle + Drop> State<C> {
     ghost use Rattle.mediator_state.specs.Seen.{IsUntouched};
     ghost use Rattle.mediator_history.specs.Sessions.{sessions_opened};
 
-    /// A state before any entry.
+    /// A state before any entry: no session is open, nobody is subscribed, and the policy has no rules. It holds no
+    /// more than `limits` allow, each in its range, and its history is kept by `chronicle`, which has no entry. All of
+    /// it is in memory from `alloc`.
     ///
     /// # Errors
     /// Want of memory.
@@ -63,7 +65,8 @@ impl<C: Chronicle + Drop> State<C> {
         requires range { AreLimits limits }
         ensures stands { IfOk result (λ s. C.tells chronicle [] → StandsFor C.tells s []) }
         ensures kept { IfOk result (λ s. s.chronicle ≡ chronicle) }
-        ensures limits { IfOk result (λ s. s.engine.limits ≡ record { queue = limits.queue; shapes = limits.shapes }) }
+        ensures limits { IfOk result (λ s.
+            s.engine.limits ≡ record { queue = limits.queue; shapes = limits.shapes }) }
         ensures audit_limit { IfOk result (λ s. s.engine.audit.limit ≡ limits.audit) }
         ensures drained { IfOk result (λ s. s.engine.audit.standing.drained ≡ 0) }
     {
@@ -75,44 +78,48 @@ impl<C: Chronicle + Drop> State<C> {
         Ok(State { chronicle, engine })
     }
 
-    /// Hashes with these keys what exporters choose: the groups and templates of subscriptions that begin from now on. It shows in
-    /// no answer.
+    /// Hashes by `keys` what exporters choose: the keys of groups, and templates, of subscriptions that begin from now
+    /// on. It shows in no answer.
     pub fn hash_by(&mut self, keys: HashKeys)
-        ensures same { (h : List Entry) → StandsFor C.tells self.old h → StandsFor C.tells self.new h }
+        ensures same { (h : List Entry) → StandsFor C.tells self.old h
+            → StandsFor C.tells self.new h }
         ensures untouched { IsUntouched self.old.engine self.new.engine }
         ensures journaled { C.limits self.new.chronicle ≡ C.limits self.old.chronicle }
     {
         self.engine.hash_by(keys);
     }
 
-    /// What keeps its history.
+    /// What keeps the history.
     pub fn chronicle(&self) -> &C
         ensures { result.now ≡ self.now.chronicle }
     {
         &self.chronicle
     }
 
-    /// What keeps its history, without the rest.
+    /// What keeps the history, without the rest.
     pub fn into_chronicle(self) -> C
         ensures { result ≡ self.chronicle }
     {
         self.chronicle
     }
 
-    /// Makes room for one entry more.
+    /// Makes room for `entry` as the next one of the history.
     ///
     /// # Errors
-    /// The journal is full, or memory ran out.
+    /// [`Fault::JournalFull`] or [`Fault::OutOfMemory`], and then only reserved room has changed.
     fn make_room(&mut self, entry: &Entry) -> Result<(), Fault>
-        ensures tells { (h : List Entry) → C.tells self.old.chronicle h → C.tells self.new.chronicle h }
+        ensures tells { (h : List Entry) → C.tells self.old.chronicle h
+            → C.tells self.new.chronicle h }
         ensures engine { self.new.engine ≡ self.old.engine }
-        ensures room { OnOk result (HasRoom (C.limits self.new.chronicle) (C.count self.new.chronicle) (C.octets self.new.chronicle) (entry.now ∷ [])) }
+        ensures room { OnOk result (HasRoom (C.limits self.new.chronicle)
+            (C.count self.new.chronicle) (C.octets self.new.chronicle) (entry.now ∷ [])) }
         ensures count { C.count self.new.chronicle ≡ C.count self.old.chronicle }
         ensures octets { C.octets self.new.chronicle ≡ C.octets self.old.chronicle }
         ensures limits { C.limits self.new.chronicle ≡ C.limits self.old.chronicle }
         ensures short { OnOk result (C.count self.old.chronicle < MOST_ENTRIES) }
         ensures reserved { OnOk result (0 < C.spare self.new.chronicle) }
-        ensures err { IfErr result (λ e. LacksRoom e (C.limits self.old.chronicle) (C.count self.old.chronicle) (C.octets self.old.chronicle) (entry.now ∷ [])) }
+        ensures err { IfErr result (λ e. LacksRoom e (C.limits self.old.chronicle)
+            (C.count self.old.chronicle) (C.octets self.old.chronicle) (entry.now ∷ [])) }
     {
         if !self.chronicle.room(from_ref(entry)) {
             return Err(Fault::JournalFull);
@@ -122,17 +129,21 @@ impl<C: Chronicle + Drop> State<C> {
         Ok(())
     }
 
-    /// Opens a session, and answers its number: 1, 2, and so on.
+    /// Opens a session of an exporter, and answers its number: 1 for the first one, and so on.
     ///
     /// # Errors
-    /// The journal is full, or memory ran out.
+    /// [`Fault::JournalFull`] or [`Fault::OutOfMemory`]. Nothing has changed then.
     pub fn open(&mut self) -> Result<u64, Fault>
         requires stands { StandsForSome C.tells self.old }
-        ensures ok { IfOk result (λ n. (h : List Entry) → StandsFor C.tells self.old h → Opens C.tells C.limits self.old h n self.new) }
+        ensures ok { IfOk result (λ n. (h : List Entry) → StandsFor C.tells self.old h
+            → Opens C.tells C.limits self.old h n self.new) }
         ensures untouched { IsUntouched self.old.engine self.new.engine }
-        ensures same { OnErr result ((h : List Entry) → StandsFor C.tells self.old h → StandsFor C.tells self.new h) }
+        ensures same { OnErr result ((h : List Entry) → StandsFor C.tells self.old h
+            → StandsFor C.tells self.new h) }
         ensures journaled { C.limits self.new.chronicle ≡ C.limits self.old.chronicle }
-        ensures err { IfErr result (λ e. (h : List Entry) → StandsFor C.tells self.old h → LacksRoomAfter e (C.limits self.old.chronicle) h (Open (sessions_opened h + 1) ∷ [])) }
+        ensures err { IfErr result (λ e. (h : List Entry) → StandsFor C.tells self.old h
+            → LacksRoomAfter e (C.limits self.old.chronicle) h
+            (Open (sessions_opened h + 1) ∷ [])) }
     {
         let session = self.engine.next_session(self.chronicle.len());
         let entry = Entry::Open { session };
@@ -142,17 +153,21 @@ impl<C: Chronicle + Drop> State<C> {
         Ok(session)
     }
 
-    /// Closes a session: its number never comes again.
+    /// Closes the session with the number `session`, which never comes again.
     ///
     /// # Errors
-    /// No session with this number is open; the journal is full, or memory ran out.
+    /// [`Fault::UnknownSession`] where it isn't open, [`Fault::JournalFull`] or [`Fault::OutOfMemory`]: the first that
+    /// stands. Nothing has changed then.
     pub fn close(&mut self, session: u64) -> Result<(), Fault>
         requires stands { StandsForSome C.tells self.old }
-        ensures ok { OnOk result ((h : List Entry) → StandsFor C.tells self.old h → Closes C.tells C.limits self.old h session self.new) }
+        ensures ok { OnOk result ((h : List Entry) → StandsFor C.tells self.old h
+            → Closes C.tells C.limits self.old h session self.new) }
         ensures untouched { IsUntouched self.old.engine self.new.engine }
-        ensures same { OnErr result ((h : List Entry) → StandsFor C.tells self.old h → StandsFor C.tells self.new h) }
+        ensures same { OnErr result ((h : List Entry) → StandsFor C.tells self.old h
+            → StandsFor C.tells self.new h) }
         ensures journaled { C.limits self.new.chronicle ≡ C.limits self.old.chronicle }
-        ensures err { IfErr result (λ e. (h : List Entry) → StandsFor C.tells self.old h → RefusesClose e (C.limits self.old.chronicle) h session) }
+        ensures err { IfErr result (λ e. (h : List Entry) → StandsFor C.tells self.old h
+            → RefusesClose e (C.limits self.old.chronicle) h session) }
     {
         if !self.engine.is_open(session) {
             return Err(Fault::UnknownSession);
@@ -170,26 +185,32 @@ impl<C: Chronicle + Drop> State<C> {
     ghost use Rattle.mediator_state.specs.Seen.{IsUntouched, place_of};
     ghost use Rattle.mediator_state.specs.Planning.{IsNextReading};
 
-    /// Accepts the next message of a session: each subscription that is served is given what the policy in force discloses
-    /// to it, and the audit names what is kept back. A subscription whose limits leave no room for what it would be given is
-    /// cut before the message, and gets nothing of it or of later ones.
+    /// Accepts `message` as the next one of the session with the number `session`. `number` is to be how many messages
+    /// the session had. Each subscription that is served is given what the policy in force discloses to it, and the
+    /// audit names what is kept back. A subscription whose limits leave no room for what it would be given is cut
+    /// before the message, and is given nothing of it or of later ones.
     ///
     /// # Errors
-    /// The session isn't open; the number isn't that of its next message; the message is malformed; the journal is full, or
-    /// the audit; or memory ran out.
+    /// [`Fault::UnknownSession`], [`Fault::OutOfTurn`], [`Fault::Malformed`], [`Fault::JournalFull`] or
+    /// [`Fault::AuditFull`]: the first that stands; or [`Fault::OutOfMemory`]. Nothing has changed then.
     pub fn receive(&mut self, session: u64, number: u64, message: Bytes) -> Result<Receipt, Fault>
         requires stands { StandsForSome C.tells self.old }
-        ensures ok { IfOk result (λ r. (h : List Entry) → StandsFor C.tells self.old h → Receives C.tells C.limits self.old h session number message r self.new) }
+        ensures ok { IfOk result (λ r. (h : List Entry) → StandsFor C.tells self.old h
+            → Receives C.tells C.limits self.old h session number message r self.new) }
         ensures untouched { IsUntouched self.old.engine self.new.engine }
-        ensures same { OnErr result ((h : List Entry) → StandsFor C.tells self.old h → StandsFor C.tells self.new h) }
+        ensures same { OnErr result ((h : List Entry) → StandsFor C.tells self.old h
+            → StandsFor C.tells self.new h) }
         ensures journaled { C.limits self.new.chronicle ≡ C.limits self.old.chronicle }
-        ensures err { IfErr result (λ e. (h : List Entry) → StandsFor C.tells self.old h → RefusesReceive e (C.limits self.old.chronicle) self.old.engine h session number message) }
+        ensures err { IfErr result (λ e. (h : List Entry) → StandsFor C.tells self.old h
+            → RefusesReceive e (C.limits self.old.chronicle) self.old.engine h
+            session number message) }
     {
         self.receive_judged(session, number, message, None)
     }
 
-    /// The same. What was judged of the message ahead is taken where it is of the records that the session finds in it, and where
-    /// its terms still hold: it changes no answer.
+    /// Accepts `message` as [`receive`](State::receive) does. `ahead`, what was judged of it elsewhere, is taken where
+    /// it is of the records that the session finds in the message, and where its terms still hold. It changes no
+    /// answer.
     ///
     /// # Errors
     /// Those of [`receive`](State::receive).
@@ -201,37 +222,48 @@ impl<C: Chronicle + Drop> State<C> {
         ahead: Option<JudgedAhead>,
     ) -> Result<Receipt, Fault>
         requires stands { StandsForSome C.tells self.old }
-        ensures ok { IfOk result (λ r. (h : List Entry) → StandsFor C.tells self.old h → Receives C.tells C.limits self.old h session number message r self.new) }
+        ensures ok { IfOk result (λ r. (h : List Entry) → StandsFor C.tells self.old h
+            → Receives C.tells C.limits self.old h session number message r self.new) }
         ensures untouched { IsUntouched self.old.engine self.new.engine }
-        ensures same { OnErr result ((h : List Entry) → StandsFor C.tells self.old h → StandsFor C.tells self.new h) }
+        ensures same { OnErr result ((h : List Entry) → StandsFor C.tells self.old h
+            → StandsFor C.tells self.new h) }
         ensures journaled { C.limits self.new.chronicle ≡ C.limits self.old.chronicle }
-        ensures err { IfErr result (λ e. (h : List Entry) → StandsFor C.tells self.old h → RefusesReceive e (C.limits self.old.chronicle) self.old.engine h session number message) }
+        ensures err { IfErr result (λ e. (h : List Entry) → StandsFor C.tells self.old h
+            → RefusesReceive e (C.limits self.old.chronicle) self.old.engine h
+            session number message) }
     {
         let reading = self.engine.read(session, number, &message)?;
         let judgement = judgement_of(ahead, &reading);
         self.take_in(session, number, message, reading, judgement)
     }
 
-    /// The templates of an open session as they stand, by which its messages can be prepared without this state. It costs one
-    /// owner more of what the session shares from then on, whatever the number of its templates.
+    /// The templates of the open session with the number `session` as they stand, with the terms on which records are
+    /// shared now, so that its messages can be prepared and judged without this state. However many templates there
+    /// are, it costs one owner more, since the session shares them from then on.
     ///
     /// # Errors
-    /// The session isn't open; or memory ran out.
+    /// [`Fault::UnknownSession`] where the session isn't open; or [`Fault::OutOfMemory`].
     pub fn snapshot(&mut self, session: u64) -> Result<Snapshot, Fault>
-        ensures ok { IfOk result (λ snapshot. (h : List Entry) → StandsFor C.tells self.old h → IsSnapshot h session snapshot) }
-        ensures same { (h : List Entry) → StandsFor C.tells self.old h → StandsFor C.tells self.new h }
+        ensures ok { IfOk result (λ snapshot. (h : List Entry) → StandsFor C.tells self.old h
+            → IsSnapshot h session snapshot) }
+        ensures same { (h : List Entry) → StandsFor C.tells self.old h
+            → StandsFor C.tells self.new h }
         ensures untouched { IsUntouched self.old.engine self.new.engine }
         ensures journaled { C.limits self.new.chronicle ≡ C.limits self.old.chronicle }
-        ensures err { IfErr result (λ e. (h : List Entry) → StandsFor C.tells self.old h → RefusesSnapshot e h session) }
+        ensures err { IfErr result (λ e. (h : List Entry) → StandsFor C.tells self.old h
+            → RefusesSnapshot e h session) }
     {
         self.engine.snapshot(session)
     }
 
-    /// Accepts the next message of a session that was prepared elsewhere, as [`receive`](State::receive) accepts it.
+    /// Accepts `prepared`, a message that was prepared elsewhere, as the next one of the session with the number
+    /// `session`, as [`receive`](State::receive) accepts its octets. `number` is to be how many messages the session
+    /// had.
     ///
     /// # Errors
-    /// Those of `receive`, but for a malformed message; and in their place Stale, only where an ID of the message has another
-    /// template in the session than by which it was prepared. The message is handed back.
+    /// Those of [`receive`](State::receive), but with [`Fault::Stale`] in place of [`Fault::Malformed`]: only where an
+    /// ID of the message has another template in the session than by which it was prepared, or only one of them has
+    /// one. The message is handed back beside the fault, and nothing has changed.
     pub fn receive_prepared(
         &mut self,
         session: u64,
@@ -239,11 +271,15 @@ impl<C: Chronicle + Drop> State<C> {
         mut prepared: Prepared,
     ) -> Result<Receipt, (Fault, Prepared)>
         requires stands { StandsForSome C.tells self.old }
-        ensures ok { IfOk result (λ r. (h : List Entry) → StandsFor C.tells self.old h → Receives C.tells C.limits self.old h session number prepared.message r self.new) }
+        ensures ok { IfOk result (λ r. (h : List Entry) → StandsFor C.tells self.old h
+            → Receives C.tells C.limits self.old h session number prepared.message r self.new) }
         ensures untouched { IsUntouched self.old.engine self.new.engine }
-        ensures same { OnErr result ((h : List Entry) → StandsFor C.tells self.old h → StandsFor C.tells self.new h) }
+        ensures same { OnErr result ((h : List Entry) → StandsFor C.tells self.old h
+            → StandsFor C.tells self.new h) }
         ensures journaled { C.limits self.new.chronicle ≡ C.limits self.old.chronicle }
-        ensures err { IfErr result (λ e. (h : List Entry) → StandsFor C.tells self.old h → RefusesReceivePrepared e.0 (C.limits self.old.chronicle) self.old.engine h session number prepared) }
+        ensures err { IfErr result (λ e. (h : List Entry) → StandsFor C.tells self.old h
+            → RefusesReceivePrepared e.0 (C.limits self.old.chronicle) self.old.engine h
+            session number prepared) }
         ensures handed_back { IfErr result (λ e. e.1 ≡ prepared) }
     {
         match self.take_prepared(session, number, &mut prepared) {
@@ -252,7 +288,11 @@ impl<C: Chronicle + Drop> State<C> {
         }
     }
 
-    /// The same of a message that is lent. What was judged of it is used up, once it is found to be the session's next one.
+    /// Accepts the message `prepared`, which is lent, as [`receive_prepared`](State::receive_prepared) does. What was
+    /// judged of it is used up once it is found to be the session's next one.
+    ///
+    /// # Errors
+    /// Those of [`receive_prepared`](State::receive_prepared), without the message.
     fn take_prepared(
         &mut self,
         session: u64,
@@ -260,11 +300,15 @@ impl<C: Chronicle + Drop> State<C> {
         prepared: &mut Prepared,
     ) -> Result<Receipt, Fault>
         requires stands { StandsForSome C.tells self.old }
-        ensures ok { IfOk result (λ r. (h : List Entry) → StandsFor C.tells self.old h → Receives C.tells C.limits self.old h session number prepared.old.message r self.new) }
+        ensures ok { IfOk result (λ r. (h : List Entry) → StandsFor C.tells self.old h
+            → Receives C.tells C.limits self.old h session number prepared.old.message r self.new) }
         ensures untouched { IsUntouched self.old.engine self.new.engine }
-        ensures same { OnErr result ((h : List Entry) → StandsFor C.tells self.old h → StandsFor C.tells self.new h) }
+        ensures same { OnErr result ((h : List Entry) → StandsFor C.tells self.old h
+            → StandsFor C.tells self.new h) }
         ensures journaled { C.limits self.new.chronicle ≡ C.limits self.old.chronicle }
-        ensures err { IfErr result (λ e. (h : List Entry) → StandsFor C.tells self.old h → RefusesReceivePrepared e (C.limits self.old.chronicle) self.old.engine h session number prepared.old) }
+        ensures err { IfErr result (λ e. (h : List Entry) → StandsFor C.tells self.old h
+            → RefusesReceivePrepared e (C.limits self.old.chronicle) self.old.engine h
+            session number prepared.old) }
         ensures lent { prepared.new ≡ prepared.old }
     {
         let reading = self.engine.read_prepared(session, number, prepared)?;
@@ -273,10 +317,12 @@ impl<C: Chronicle + Drop> State<C> {
         self.take_in(session, number, message, reading, judgement)
     }
 
-    /// Accepts the next message of a session, which is read.
+    /// Accepts `message`, of which `reading` is what was read, as the next one of the session with the number
+    /// `session`, which had `number` messages. `judgement`, what was judged of its records elsewhere, is taken where
+    /// its terms still hold.
     ///
     /// # Errors
-    /// The journal is full, or the audit; or memory ran out.
+    /// [`Fault::JournalFull`], [`Fault::AuditFull`] or [`Fault::OutOfMemory`]. Nothing has changed then.
     fn take_in(
         &mut self,
         session: u64,
@@ -286,13 +332,19 @@ impl<C: Chronicle + Drop> State<C> {
         judgement: Option<Judgement>,
     ) -> Result<Receipt, Fault>
         requires stands { StandsForSome C.tells self.old }
-        requires judgement { IfSome judgement (IsJudgementOf reading.meaning.header.domain reading.meaning.records) }
-        requires read { (h : List Entry) → StandsFor C.tells self.old h → IsNextReading h session number message reading }
-        ensures ok { IfOk result (λ r. (h : List Entry) → StandsFor C.tells self.old h → Receives C.tells C.limits self.old h session number message r self.new) }
+        requires judgement { IfSome judgement
+            (IsJudgementOf reading.meaning.header.domain reading.meaning.records) }
+        requires read { (h : List Entry) → StandsFor C.tells self.old h
+            → IsNextReading h session number message reading }
+        ensures ok { IfOk result (λ r. (h : List Entry) → StandsFor C.tells self.old h
+            → Receives C.tells C.limits self.old h session number message r self.new) }
         ensures untouched { IsUntouched self.old.engine self.new.engine }
-        ensures same { OnErr result ((h : List Entry) → StandsFor C.tells self.old h → StandsFor C.tells self.new h) }
+        ensures same { OnErr result ((h : List Entry) → StandsFor C.tells self.old h
+            → StandsFor C.tells self.new h) }
         ensures journaled { C.limits self.new.chronicle ≡ C.limits self.old.chronicle }
-        ensures err { IfErr result (λ e. (h : List Entry) → StandsFor C.tells self.old h → RefusesReceive e (C.limits self.old.chronicle) self.old.engine h session number message) }
+        ensures err { IfErr result (λ e. (h : List Entry) → StandsFor C.tells self.old h
+            → RefusesReceive e (C.limits self.old.chronicle) self.old.engine h
+            session number message) }
     {
         see_octets(&message);
         let position = self.chronicle.len();
@@ -312,18 +364,22 @@ impl<C: Chronicle + Drop> State<C> {
         Ok(self.engine.accept(position, plan, reserved))
     }
 
-    /// Puts the policy of a text in force, and answers how many edits there were. What was accepted before is judged by the
-    /// policy of its time, and running groups close as they stand.
+    /// Puts the policy that `text` spells in force, and answers how many edits there were then. What was accepted
+    /// before is judged by the policy of its time, and running groups close as they stand.
     ///
     /// # Errors
-    /// The text is no policy; the journal is full, or memory ran out.
+    /// [`Fault::Policy`] where the text is no policy, [`Fault::JournalFull`] or [`Fault::OutOfMemory`]. Nothing has
+    /// changed then.
     pub fn edit(&mut self, text: &str) -> Result<u64, Fault>
         requires stands { StandsForSome C.tells self.old }
-        ensures ok { IfOk result (λ n. (h : List Entry) → StandsFor C.tells self.old h → Edits C.tells C.limits self.old h text.now n self.new) }
+        ensures ok { IfOk result (λ n. (h : List Entry) → StandsFor C.tells self.old h
+            → Edits C.tells C.limits self.old h text.now n self.new) }
         ensures untouched { IsUntouched self.old.engine self.new.engine }
-        ensures same { OnErr result ((h : List Entry) → StandsFor C.tells self.old h → StandsFor C.tells self.new h) }
+        ensures same { OnErr result ((h : List Entry) → StandsFor C.tells self.old h
+            → StandsFor C.tells self.new h) }
         ensures journaled { C.limits self.new.chronicle ≡ C.limits self.old.chronicle }
-        ensures err { IfErr result (λ e. (h : List Entry) → StandsFor C.tells self.old h → RefusesEdit e (C.limits self.old.chronicle) h text.now) }
+        ensures err { IfErr result (λ e. (h : List Entry) → StandsFor C.tells self.old h
+            → RefusesEdit e (C.limits self.old.chronicle) h text.now) }
     {
         let policy = read_policy(self.engine.alloc, text)?;
         let in_force = self.engine.with_policy(policy)?;
@@ -336,17 +392,21 @@ impl<C: Chronicle + Drop> State<C> {
         Ok(edits)
     }
 
-    /// Begins a subscription under a name, and answers its number: 1, 2, and so on.
+    /// Begins a subscription for a subscriber of this `name`, and answers its number: 1 for the first one, and so on.
     ///
     /// # Errors
-    /// The text is no name, or that of a live subscription; the journal is full, or memory ran out.
+    /// [`Fault::BadName`] where the text is no name, [`Fault::AlreadySubscribed`] where a live subscription has it,
+    /// [`Fault::JournalFull`] or [`Fault::OutOfMemory`]. Nothing has changed then.
     pub fn subscribe(&mut self, name: &str) -> Result<u64, Fault>
         requires stands { StandsForSome C.tells self.old }
-        ensures ok { IfOk result (λ n. (h : List Entry) → StandsFor C.tells self.old h → Subscribes C.tells C.limits self.old h name.now n self.new) }
+        ensures ok { IfOk result (λ n. (h : List Entry) → StandsFor C.tells self.old h
+            → Subscribes C.tells C.limits self.old h name.now n self.new) }
         ensures untouched { IsUntouched self.old.engine self.new.engine }
-        ensures same { OnErr result ((h : List Entry) → StandsFor C.tells self.old h → StandsFor C.tells self.new h) }
+        ensures same { OnErr result ((h : List Entry) → StandsFor C.tells self.old h
+            → StandsFor C.tells self.new h) }
         ensures journaled { C.limits self.new.chronicle ≡ C.limits self.old.chronicle }
-        ensures err { IfErr result (λ e. (h : List Entry) → StandsFor C.tells self.old h → RefusesSubscribe e (C.limits self.old.chronicle) h name.now) }
+        ensures err { IfErr result (λ e. (h : List Entry) → StandsFor C.tells self.old h
+            → RefusesSubscribe e (C.limits self.old.chronicle) h name.now) }
     {
         if !is_name(name) {
             return Err(Fault::BadName);
@@ -363,21 +423,28 @@ impl<C: Chronicle + Drop> State<C> {
         Ok(sub)
     }
 
-    /// Ends a subscription: what waits for it is gone, its name is free again, and its number never comes again.
+    /// Ends the subscription with the number `sub`, which never comes again: what waits for it is gone, and its name is
+    /// free again.
     ///
     /// # Errors
-    /// No subscription with this number is live; the journal is full, or memory ran out.
+    /// [`Fault::UnknownSub`] where it isn't live, [`Fault::JournalFull`] or [`Fault::OutOfMemory`]. Nothing has changed
+    /// then.
     pub fn unsubscribe(&mut self, sub: u64) -> Result<(), Fault>
         requires stands { StandsForSome C.tells self.old }
         ensures limits { self.new.engine.limits ≡ self.old.engine.limits }
         ensures audit_limit { self.new.engine.audit.limit ≡ self.old.engine.audit.limit }
-        ensures ok { OnOk result ((h : List Entry) → StandsFor C.tells self.old h → Unsubscribes C.tells C.limits self.old h sub self.new) }
-        ensures others { (q : ℕ) → q ≢ sub → place_of self.new.engine q ≡ place_of self.old.engine q }
-        ensures drained { self.new.engine.audit.standing.drained ≡ self.old.engine.audit.standing.drained }
-        ensures same { OnErr result ((h : List Entry) → StandsFor C.tells self.old h → StandsFor C.tells self.new h) }
+        ensures ok { OnOk result ((h : List Entry) → StandsFor C.tells self.old h
+            → Unsubscribes C.tells C.limits self.old h sub self.new) }
+        ensures others { (q : ℕ) → q ≢ sub
+            → place_of self.new.engine q ≡ place_of self.old.engine q }
+        ensures drained { self.new.engine.audit.standing.drained
+            ≡ self.old.engine.audit.standing.drained }
+        ensures same { OnErr result ((h : List Entry) → StandsFor C.tells self.old h
+            → StandsFor C.tells self.new h) }
         ensures untouched { OnErr result (IsUntouched self.old.engine self.new.engine) }
         ensures journaled { C.limits self.new.chronicle ≡ C.limits self.old.chronicle }
-        ensures err { IfErr result (λ e. (h : List Entry) → StandsFor C.tells self.old h → RefusesUnsubscribe e (C.limits self.old.chronicle) h sub) }
+        ensures err { IfErr result (λ e. (h : List Entry) → StandsFor C.tells self.old h
+            → RefusesUnsubscribe e (C.limits self.old.chronicle) h sub) }
     {
         if !self.engine.is_live(sub) {
             return Err(Fault::UnknownSub);
@@ -389,19 +456,23 @@ impl<C: Chronicle + Drop> State<C> {
         Ok(())
     }
 
-    /// Advances the clock to `t`, in milliseconds since 1970: each running group whose interval's end and grace it comes to is
-    /// closed, and its subscription is given the group's record. A subscription whose limits leave no room for what it
-    /// would be given is cut before the advance.
+    /// Advances the clock to `t`, in milliseconds since 1970. Each running group is closed whose interval's end, and
+    /// the grace after it, the clock comes to, and its subscription is given the group's record. A subscription whose
+    /// limits leave no room for what it would be given is cut before the advance.
     ///
     /// # Errors
-    /// The clock stands later; the journal is full, or the audit; or memory ran out.
+    /// [`Fault::ClockBack`] where the clock stands later, [`Fault::JournalFull`] or [`Fault::AuditFull`]: the first
+    /// that stands; or [`Fault::OutOfMemory`]. Nothing has changed then.
     pub fn advance(&mut self, t: u64) -> Result<(), Fault>
         requires stands { StandsForSome C.tells self.old }
-        ensures ok { OnOk result ((h : List Entry) → StandsFor C.tells self.old h → Advances C.tells C.limits self.old h t self.new) }
+        ensures ok { OnOk result ((h : List Entry) → StandsFor C.tells self.old h
+            → Advances C.tells C.limits self.old h t self.new) }
         ensures untouched { IsUntouched self.old.engine self.new.engine }
-        ensures same { OnErr result ((h : List Entry) → StandsFor C.tells self.old h → StandsFor C.tells self.new h) }
+        ensures same { OnErr result ((h : List Entry) → StandsFor C.tells self.old h
+            → StandsFor C.tells self.new h) }
         ensures journaled { C.limits self.new.chronicle ≡ C.limits self.old.chronicle }
-        ensures err { IfErr result (λ e. (h : List Entry) → StandsFor C.tells self.old h → RefusesAdvance e (C.limits self.old.chronicle) self.old.engine h t) }
+        ensures err { IfErr result (λ e. (h : List Entry) → StandsFor C.tells self.old h
+            → RefusesAdvance e (C.limits self.old.chronicle) self.old.engine h t) }
     {
         let last = self.engine.in_force.clock();
         if t < last {
@@ -420,11 +491,13 @@ impl<C: Chronicle + Drop> State<C> {
         Ok(())
     }
 
-    /// Appends entries for which there is room, in memory too.
+    /// Puts `entries` behind the history, in room that is there, in memory too. It can't fail.
     fn append(&mut self, entries: Vec<Entry>)
-        requires room { HasRoom (C.limits self.old.chronicle) (C.count self.old.chronicle) (C.octets self.old.chronicle) entries.items }
+        requires room { HasRoom (C.limits self.old.chronicle) (C.count self.old.chronicle)
+            (C.octets self.old.chronicle) entries.items }
         requires reserved { length entries.items ≤ C.spare self.old.chronicle }
-        ensures tells { (h : List Entry) → C.tells self.old.chronicle h → C.tells self.new.chronicle (h ++ entries.items) }
+        ensures tells { (h : List Entry) → C.tells self.old.chronicle h
+            → C.tells self.new.chronicle (h ++ entries.items) }
         ensures engine { self.new.engine ≡ self.old.engine }
         ensures limits { C.limits self.new.chronicle ≡ C.limits self.old.chronicle }
     {
@@ -439,21 +512,27 @@ impl<C: Chronicle + Drop> State<C> {
     ghost use Rattle.mediator_state.specs.Seen.{IsUntouched, place_of};
     ghost use Rattle.disclosure_audit.specs.Queue.{Drains};
 
-    /// Builds a live subscription's next message, with the Export Time `now`, of at most `target` octets where more than
-    /// one announcement or record stand in it; `None` where nothing waits.
+    /// Builds the next message of the live subscription with the number `sub`, out of what waits for it; or answers
+    /// `None` where nothing waits. `now` is its Export Time, in seconds since 1970 (RFC 7011, section 3.1), and
+    /// `target` the most octets that it is to have: it is longer only where one announcement or record alone is.
     ///
     /// # Errors
-    /// No subscription with this number is live, or memory ran out.
+    /// [`Fault::UnknownSub`] where the subscription isn't live; or [`Fault::OutOfMemory`]. Nothing has changed then.
     pub fn pull(&mut self, sub: u64, now: u32, target: u16) -> Result<Option<Bytes>, Fault>
         ensures limits { self.new.engine.limits ≡ self.old.engine.limits }
         ensures audit_limit { self.new.engine.audit.limit ≡ self.old.engine.audit.limit }
-        ensures ok { IfOk result (λ m. (h : List Entry) → StandsFor C.tells self.old h → Pulls C.tells self.old h sub now target m self.new) }
-        ensures others { (q : ℕ) → q ≢ sub → place_of self.new.engine q ≡ place_of self.old.engine q }
-        ensures drained { self.new.engine.audit.standing.drained ≡ self.old.engine.audit.standing.drained }
-        ensures same { OnErr result ((h : List Entry) → StandsFor C.tells self.old h → StandsFor C.tells self.new h) }
+        ensures ok { IfOk result (λ m. (h : List Entry) → StandsFor C.tells self.old h
+            → Pulls C.tells self.old h sub now target m self.new) }
+        ensures others { (q : ℕ) → q ≢ sub
+            → place_of self.new.engine q ≡ place_of self.old.engine q }
+        ensures drained { self.new.engine.audit.standing.drained
+            ≡ self.old.engine.audit.standing.drained }
+        ensures same { OnErr result ((h : List Entry) → StandsFor C.tells self.old h
+            → StandsFor C.tells self.new h) }
         ensures untouched { OnErr result (IsUntouched self.old.engine self.new.engine) }
         ensures journaled { C.limits self.new.chronicle ≡ C.limits self.old.chronicle }
-        ensures err { IfErr result (λ e. (h : List Entry) → StandsFor C.tells self.old h → RefusesPull e h sub) }
+        ensures err { IfErr result (λ e. (h : List Entry) → StandsFor C.tells self.old h
+            → RefusesPull e h sub) }
     {
         if !self.engine.is_live(sub) {
             return Err(Fault::UnknownSub);
@@ -464,10 +543,13 @@ impl<C: Chronicle + Drop> State<C> {
         }
     }
 
-    /// How a live subscription stands; `None` where none with this number is live. It takes no memory.
+    /// How the live subscription with the number `sub` stands, or `None` where none with this number is live. It takes
+    /// no memory.
     pub fn status(&self, sub: u64) -> Option<Status>
-        ensures some { IfSome result (λ s. (h : List Entry) → StandsFor C.tells self.now h → IsStatus h sub (place_of self.now.engine sub) s) }
-        ensures none { IfNone result ((h : List Entry) → StandsFor C.tells self.now h → is_live sub h ≡ false) }
+        ensures some { IfSome result (λ s. (h : List Entry) → StandsFor C.tells self.now h
+            → IsStatus h sub (place_of self.now.engine sub) s) }
+        ensures none { IfNone result ((h : List Entry) → StandsFor C.tells self.now h
+            → is_live sub h ≡ false) }
     {
         let kept = self.engine.subscriptions.get(sub)?;
         Some(Status {
@@ -478,14 +560,17 @@ impl<C: Chronicle + Drop> State<C> {
         })
     }
 
-    /// Whether one of these shares, which a message would give, has no room in its subscription's queue until some of what waits
-    /// is pulled, and has room then: so that the message cuts a subscription now, and may not cut it later. It takes no memory.
+    /// Whether one of `shares`, which a message would give, has no room in its subscription's queue until some of what
+    /// waits is pulled, and has room then: so the message cuts a subscription now, and may not cut it later. It takes
+    /// no memory.
     pub fn is_held_up(&self, shares: &[Share]) -> bool {
         let subscriptions = &self.engine.subscriptions;
         shares.iter().any(|share| subscriptions.is_held_up(share))
     }
 
-    /// The same of what an advance of the clock to `t` would close. Not where there is no memory to find that out.
+    /// Whether what an advance of the clock to `t`, in milliseconds since 1970, would close for a subscription has no
+    /// room in its queue until some of what waits is pulled, and has room then. It is false where there is no memory to
+    /// find that out.
     pub fn is_advance_held_up(&self, t: u64) -> bool {
         self.engine.is_advance_held_up(t)
     }
@@ -509,17 +594,19 @@ impl<C: Chronicle + Drop> State<C> {
         audit.limit().saturating_sub(audit.room())
     }
 
-    /// Hands out the oldest `most` of the audit's entries that wait, or all if there are fewer.
+    /// Hands out the oldest `most` of the audit's entries that wait, or all where there are fewer, in their order.
     ///
     /// # Errors
-    /// Want of memory, and then nothing has changed.
+    /// Want of memory, and then nothing has changed. Where no entry is handed out, there is no error.
     pub fn drain_audit(&mut self, most: u32) -> Result<Vec<AuditEntry>, AllocError>
         ensures limits { self.new.engine.limits ≡ self.old.engine.limits }
         ensures audit_limit { self.new.engine.audit.limit ≡ self.old.engine.audit.limit }
         ensures ok { IfOk result (λ out. (h : List Entry) → StandsFor C.tells self.old h
-            → (out.items ≡ take most (drop self.old.engine.audit.standing.drained (audit_list h))) × StandsFor C.tells self.new h) }
+            → (out.items ≡ take most (drop self.old.engine.audit.standing.drained (audit_list h)))
+            × StandsFor C.tells self.new h) }
         ensures places { (q : ℕ) → place_of self.new.engine q ≡ place_of self.old.engine q }
-        ensures drained { IfOk result (λ out. self.new.engine.audit.standing.drained ≡ self.old.engine.audit.standing.drained + length out.items) }
+        ensures drained { IfOk result (λ out. self.new.engine.audit.standing.drained
+            ≡ self.old.engine.audit.standing.drained + length out.items) }
         ensures journaled { C.limits self.new.chronicle ≡ C.limits self.old.chronicle }
         ensures err { OnErr result (self.new ≡ self.old) }
         // Nothing to hand out takes no memory.
@@ -529,7 +616,7 @@ impl<C: Chronicle + Drop> State<C> {
     }
 }
 
-/// The entries of cuts, and the one behind them.
+/// The entries of `cuts`, which are numbers of subscriptions, and behind them the entry `last`; in memory from `alloc`.
 ///
 /// # Errors
 /// Want of memory.
@@ -548,7 +635,10 @@ ghost use Rattle.std.specs.Prelude.{Ok};
 ghost use Rattle.policy_text.specs.Parsing.{policy_of};
 ghost use Rattle.mediator_state.specs.Calls.{RefusesPolicy};
 
-/// The policy that a text spells.
+/// The policy that `text` spells, in memory from `alloc`.
+///
+/// # Errors
+/// [`Fault::Policy`] with the first fault of the text; or [`Fault::OutOfMemory`].
 fn read_policy(alloc: Global, text: &str) -> Result<Policy, Fault>
     ensures ok { IfOk result (λ policy. policy_of text.now ≡ Ok policy) }
     ensures err { IfErr result (λ e. RefusesPolicy e text.now) }
@@ -561,7 +651,7 @@ fn read_policy(alloc: Global, text: &str) -> Result<Policy, Fault>
 
 ghost use Rattle.mediator_state.specs.Refusals.{policy_refusal};
 
-/// Want of memory is no fault of a policy.
+/// The refusal that `fault` of a policy's text is. Want of memory is no fault of a policy.
 fn refusal(fault: PolicyFault) -> Fault
     ensures { result ≡ policy_refusal fault }
 {
@@ -581,9 +671,10 @@ fn refusal(fault: PolicyFault) -> Fault
     }
 }
 
-/// What was judged ahead, where it is of what was read.
+/// What was judged `ahead` of a message, where it is of the records that `reading` has of it.
 fn judgement_of(ahead: Option<JudgedAhead>, reading: &Reading) -> Option<Judgement>
-    ensures { IfSome result (IsJudgementOf reading.now.meaning.header.domain reading.now.meaning.records) }
+    ensures { IfSome result
+        (IsJudgementOf reading.now.meaning.header.domain reading.now.meaning.records) }
 {
     ahead?.judgement_of(reading.header().domain, reading.records())
 }

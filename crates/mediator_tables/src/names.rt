@@ -1,4 +1,4 @@
-//! The numbers of the live subscriptions by their subscribers' names.
+//! The numbers of the live subscriptions under their subscribers' names.
 ghost use Rattle.std.specs.Prelude.{◌≡◌, ℕ, List, [], Some, None, OnOk, OnErr};
 ghost use Rattle.std.specs.Map.{update};
 ghost use Rattle.std.specs.Str.{bytes_eq};
@@ -6,7 +6,7 @@ ghost use Rattle.std.specs.Str.{bytes_eq};
 use std::alloc::{AllocError, Global};
 use std::collections::BTreeMap;
 
-/// Numbers by names.
+/// Numbers of subscriptions, each under a name.
 #[derive(Drop)]
 pub(crate) struct Names {
     by_name: BTreeMap<String, u64>,
@@ -15,7 +15,7 @@ pub(crate) struct Names {
 impl Names {
     ghost use Rattle.mediator_tables.specs.Naming.{number_of};
 
-    /// No name.
+    /// No name. What comes to be kept is in memory from `alloc`.
     pub(crate) fn new(alloc: Global) -> Names
         ensures { result.by_name.entries ≡ [] }
     {
@@ -24,19 +24,20 @@ impl Names {
         }
     }
 
-    /// The number under a name.
+    /// The number under `name`, or `None`.
     pub(crate) fn get(&self, name: &str) -> Option<u64>
         ensures { result ≡ number_of self.now name.now }
     {
         self.by_name.get(name).copied()
     }
 
-    /// Sets the number under a name.
+    /// Sets the number under `name`, which is copied to memory from `alloc`, to `sub`.
     ///
     /// # Errors
     /// Want of memory, and then nothing has changed.
     pub(crate) fn insert(&mut self, alloc: Global, name: &str, sub: u64) -> Result<(), AllocError>
-        ensures ok { OnOk result ((n : List ℕ) → number_of self.new n ≡ update bytes_eq (number_of self.old) name.now (Some sub) n) }
+        ensures ok { OnOk result ((n : List ℕ)
+            → number_of self.new n ≡ update bytes_eq (number_of self.old) name.now (Some sub) n) }
         ensures err { OnErr result (self.new.by_name.entries ≡ self.old.by_name.entries) }
     {
         let key = String::from_str(alloc, name)?;
@@ -44,9 +45,10 @@ impl Names {
         Ok(())
     }
 
-    /// Takes out a name. It takes no memory.
+    /// Takes out `name` with its number, if it is there. It takes no memory.
     pub(crate) fn remove(&mut self, name: &str)
-        ensures { (n : List ℕ) → number_of self.new n ≡ update bytes_eq (number_of self.old) name.now None n }
+        ensures { (n : List ℕ)
+            → number_of self.new n ≡ update bytes_eq (number_of self.old) name.now None n }
     {
         let _ = self.by_name.remove(name);
     }

@@ -1,4 +1,6 @@
-/// A subscription that is served.
+//! A subscription that is served, as those see it who judge records for it.
+
+/// A subscription that is served: it is live and was not cut.
 #[derive(Clone, Copy, Debug)]
 pub struct Served<'a> {
     /// Its number.

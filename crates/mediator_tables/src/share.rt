@@ -1,8 +1,8 @@
-//! What is given to a subscription.
+//! What a message, or an advance of the clock, gives to one subscription.
 
 use ipfix_records::Records;
 
-/// What a subscription is given.
+/// The records that one subscription is given.
 #[derive(Drop)]
 pub struct Share {
     /// The number of the subscription.

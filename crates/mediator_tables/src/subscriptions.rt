@@ -17,8 +17,8 @@ use std::alloc::{AllocError, Global};
 use std::marker::Model;
 use subscriber_stream::{PullError, Stream};
 
-/// The live subscriptions. Look-ups by number and by name take time that grows with the logarithm of their number; what
-/// goes over the served ones doesn't go over those that are cut.
+/// The live subscriptions of a mediator. A look-up by number or by name takes time that grows with the logarithm of how
+/// many there are. What goes over those that are served doesn't go over those that are cut.
 pub struct Subscriptions {
     alloc: Global,
     live: Live,
@@ -51,7 +51,7 @@ impl Model for Subscriptions {
 }
 
 impl Subscriptions {
-    /// No subscription. What it comes to keep is taken from `alloc`.
+    /// A table without a subscription. What it comes to keep is in memory from `alloc`.
     pub fn new(alloc: Global) -> Subscriptions
         ensures { result ≡ record { live = []; served = [] } }
     {
@@ -63,75 +63,83 @@ impl Subscriptions {
         }
     }
 
-    /// The live subscription with this number.
+    /// The live subscription with the number `sub`, or `None`.
     pub fn get(&self, sub: u64) -> Option<&Subscription>
         ensures { option_copied result ≡ at self.now sub }
     {
         self.live.get(sub)
     }
 
-    /// The number of the live subscription under this name.
+    /// The number of the live subscription whose subscriber has this `name`, or `None`.
     pub fn named(&self, name: &str) -> Option<u64>
         ensures found { IfSome result (λ sub. IsSomeAnd (at self.now sub) (HasName name.now)) }
-        ensures none { IfNone result ((sub : ℕ) → IfSome (at self.now sub) (λ s. s.name ≢ name.now)) }
+        ensures none { IfNone result ((sub : ℕ)
+            → IfSome (at self.now sub) (λ s. s.name ≢ name.now)) }
     {
         self.names.get(name)
     }
 
-    /// Those that are served, in the order in which they came.
+    /// The subscriptions that are served, in the order in which they began.
     ///
     /// # Errors
-    /// Want of memory.
+    /// Want of memory for the list.
     pub fn served(&self) -> Result<Vec<Served<'_>>, AllocError>
         ensures { IfOk result (λ v. map told v.items ≡ map (told_in self.now) self.now.served) }
     {
         self.live.served(self.alloc, &self.served)
     }
 
-    /// Whether the limits of a share's subscription leave no room for what it is given, of which there is some. It takes no
-    /// memory.
+    /// Whether the limits of the subscription that `share` names leave no room for the records of `share`, of which
+    /// there are some: then it is to be cut. It takes no memory.
     pub fn lacks_room(&self, share: &Share) -> bool
         ensures { result ≡ lacks_room_at self.now (shown share.now) }
     {
         self.live.lacks_room(share)
     }
 
-    /// Whether the queue of a share's subscription, which isn't cut, has no room for what it is given until some of what waits is
-    /// pulled, and has room then. It takes no memory.
+    /// Whether the queue of the subscription that `share` names, which isn't cut, has no room for the records of
+    /// `share` until some of what waits is pulled, and has room then. It takes no memory.
     pub fn is_held_up(&self, share: &Share) -> bool {
         self.live.is_held_up(share)
     }
 
-    /// Makes room in each stream for what a share gives it.
+    /// Makes room in the stream of each subscription that `shares` name for the records of its share, so that
+    /// [`give`](Subscriptions::give) can't fail.
     ///
     /// # Errors
-    /// Want of memory. Nothing else changes, whatever the answer.
+    /// Want of memory. Whatever the answer, only reserved room has changed.
     pub fn reserve(&mut self, shares: &[Share]) -> Result<(), AllocError>
         ensures same { SameTable self.old self.new }
-        ensures ok { OnOk result (AllByRecursion (λ s. IfSome (at self.new s.0) (λ x. length s.1 ≤ x.stream.spare)) (map shown shares.now)) }
+        ensures ok { OnOk result (AllByRecursion (λ s. IfSome (at self.new s.0)
+            (λ x. length s.1 ≤ x.stream.spare)) (map shown shares.now)) }
     {
         self.live.reserve(shares)
     }
 
-    /// Hands each subscription its records, in room that was reserved. It takes no memory.
+    /// Hands each subscription that `shares` name the records of its share, behind what waits for it. The caller has
+    /// seen to it that there is room ([`reserve`](Subscriptions::reserve)). It takes no memory and can't fail.
     pub fn give(&mut self, shares: Vec<Share>)
         requires ready { AreReady self.old (map shown shares.items) }
-        ensures each { (sub : ℕ) → Related (TakesGiven (given_to sub (map shown shares.items))) (at self.old sub) (at self.new sub) }
+        ensures each { (sub : ℕ) → Related (TakesGiven (given_to sub (map shown shares.items)))
+            (at self.old sub) (at self.new sub) }
         ensures served { self.new.served ≡ self.old.served }
     {
         self.live.give(shares);
     }
 
-    /// Cuts a subscription: it is served no more, and keeps what waits. It takes no memory.
+    /// Cuts the subscription with the number `sub`, if there is one: it is served no more, and keeps what waits. It
+    /// takes no memory.
     pub fn cut(&mut self, sub: u64)
-        ensures each { (q : ℕ) → at self.new q ≡ (if q == sub then option_map cut_off (at self.old q) else at self.old q) }
+        ensures each { (q : ℕ) → at self.new q
+            ≡ (if q == sub then option_map cut_off (at self.old q) else at self.old q) }
         ensures served { self.new.served ≡ filter (λ q. not (q == sub)) self.old.served }
     {
         self.live.cut(sub);
         take_out(&mut self.served, sub);
     }
 
-    /// Adds a subscription under this name, which gets what is given from now on.
+    /// Adds a live subscription with the number `sub` and the subscriber's `name`, neither of which is there, and with
+    /// its `stream`. It is served from now on.
     ///
     /// # Errors
     /// Want of memory, and then nothing has changed.
@@ -139,7 +147,8 @@ impl Subscriptions {
         requires name { is_name name.now ≡ true }
         requires new { at self.old sub ≡ None }
         requires free { (q : ℕ) → IfSome (at self.old q) (λ s. s.name ≢ name.now) }
-        ensures ok { OnOk result ((q : ℕ) → at self.new q ≡ (if q == sub then Some (record { name = name.now; is_cut = false; stream = stream }) else at self.old q)) }
+        ensures ok { OnOk result ((q : ℕ) → at self.new q ≡ (if q == sub then Some
+            (record { name = name.now; is_cut = false; stream = stream }) else at self.old q)) }
         ensures served { OnOk result (self.new.served ≡ self.old.served ++ sub ∷ []) }
         ensures err { OnErr result (SameTable self.old self.new) }
     {
@@ -158,7 +167,7 @@ impl Subscriptions {
         Ok(())
     }
 
-    /// Takes out a subscription with what waits for it. It takes no memory.
+    /// Takes out the subscription with the number `sub`, if there is one, with what waits for it. It takes no memory.
     pub fn remove(&mut self, sub: u64)
         ensures each { (q : ℕ) → at self.new q ≡ (if q == sub then None else at self.old q) }
         ensures served { self.new.served ≡ filter (λ q. not (q == sub)) self.old.served }
@@ -169,22 +178,25 @@ impl Subscriptions {
         }
     }
 
-    /// Builds a subscription's next message, as its stream's `pull` does.
+    /// Builds the next message of the live subscription with the number `sub`, out of what waits for it, and answers
+    /// `None` exactly where nothing waits. `now` is its Export Time, in seconds since 1970 (RFC 7011, section 3.1), and
+    /// `target` the most octets that it is to have: it is longer only where the next part alone is.
     ///
     /// # Errors
-    /// Want of memory, and then nothing has changed.
+    /// Want of memory for the message, and then nothing has changed.
     pub fn pull(&mut self, sub: u64, now: u32, target: u16) -> Result<Option<Bytes>, PullError>
         requires known { IsSome (at self.old sub) }
         ensures others { (q : ℕ) → q ≢ sub → at self.new q ≡ at self.old q }
         ensures served { self.new.served ≡ self.old.served }
-        ensures ok { IfOk result (λ m. Related (PullsOne now target m) (at self.old sub) (at self.new sub)) }
+        ensures ok { IfOk result (λ m.
+            Related (PullsOne now target m) (at self.old sub) (at self.new sub)) }
         ensures err { OnErr result (SameTable self.old self.new) }
     {
         self.live.pull(sub, now, target)
     }
 }
 
-/// Takes a number out of a list of numbers.
+/// Takes the number `sub` out of the list `numbers`.
 fn take_out(numbers: &mut Vec<u64>, sub: u64)
     ensures { numbers.new.items ≡ filter (λ q. not (q == sub)) numbers.old.items }
 {

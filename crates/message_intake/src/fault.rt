@@ -3,14 +3,14 @@
 use std::error::Error;
 use std::fmt::{self, Display, Formatter, Write};
 
-/// Why octets that were read are no stream of messages (RFC 7011, sections 3.1 and 10.4). Its text is its name.
+/// Why octets that were read are no stream of messages (RFC 7011, sections 3.1 and 10.4). A fault's text is its name.
 #[derive(Clone, Copy, Debug, PartialEq, Eq)]
 pub enum FramingFault {
-    /// A header with another version than 10.
+    /// A message's header has another version than 10 (RFC 7011, section 3.1).
     BadVersion,
-    /// A header with a length under 16.
+    /// A message's header has a length under 16 octets, which are those of the header alone (RFC 7011, section 3.1).
     BadLength,
-    /// The input ends inside a message.
+    /// The stream ends inside a message.
     CutOff,
 }
 
@@ -31,14 +31,14 @@ impl Display for FramingFault {
     }
 }
 
-/// Why an intake hands out nothing more.
+/// Why an intake hands out nothing more. Of each fault [`Intake::next`](crate::Intake::next) says what it leaves.
 #[derive(Clone, Copy, Debug, PartialEq, Eq)]
 pub enum IntakeFault {
     /// The reader failed.
     Read,
     /// What was read is no stream of messages.
     Framing(FramingFault),
-    /// So many reads were made as are allowed, and the end was not read.
+    /// As many reads were made as are allowed, and the end was not read.
     Turns,
     /// Want of memory. The piece that was read last is no part of the stream.
     OutOfMemory,

@@ -1,4 +1,4 @@
-//! The messages of a source, in their order.
+//! The intake: the messages of a source, in their order.
 ghost use Rattle.std.specs.Prelude.{◌≡◌, ◌≤◌, ◌<◌, [], length, take, IfOk, IfErr, OnOk, MatchOption};
 ghost use Rattle.std.specs.Io.KnownBytes.{Consumes, IsAtEnd};
 ghost use Rattle.message_intake.specs.Intake.{nothing_read, Takes, Ends, Stops, reader_after};
@@ -13,7 +13,9 @@ use std::marker::Model;
 /// The most octets of one read.
 const PIECE: usize = 65_536;
 
-/// Reads a source in pieces, and hands out the messages that they make whole. It allows so many reads.
+/// Reads a source in pieces of at most 65,536 octets, and hands out the messages that they make whole. It makes at most
+/// as many reads as it is allowed. Contracts see the octets of a message that isn't whole yet, the fault of the stream,
+/// and the reads that are left.
 #[derive(Drop)]
 pub struct Intake {
     framer: Framer,
@@ -35,7 +37,8 @@ impl Model for Intake {
 }
 
 impl Intake {
-    /// An intake at the start of a stream, which makes at most so many reads.
+    /// An intake at the start of a stream, which makes at most `turns` reads. It takes memory from `alloc`: room for a
+    /// piece now, and what messages need as they are read.
     ///
     /// # Errors
     /// Want of memory.
@@ -49,19 +52,26 @@ impl Intake {
         })
     }
 
-    /// Reads once more, and hands out the messages that became whole by it, which may be none; `None` where the stream
-    /// ended, and no message was begun. Messages of one call share one block of memory.
+    /// Reads from `reader` once more, at most 65,536 octets, and hands out the messages that became whole by it, which
+    /// may be none; or answers `None` where the stream has ended and no message was begun. A message begins directly
+    /// where the one before it ends (RFC 7011, sections 3.1 and 10.4). The messages of one call share one block of
+    /// memory. `reader` is the same at each call.
     ///
     /// # Errors
-    /// The reader failed; or the stream is faulty, which is answered after the messages before the fault were handed
-    /// out, or ends inside a message; or no read is left; or memory ran out, and then what was read last is lost.
+    /// - [`IntakeFault::Read`]: the reader failed. Nothing was read.
+    /// - [`IntakeFault::Framing`]: the stream is faulty. All messages before the fault were handed out by then, and
+    ///   each later call answers this too. With `CutOff` the stream ended inside a message.
+    /// - [`IntakeFault::Turns`]: no read is left. Nothing was read.
+    /// - [`IntakeFault::OutOfMemory`]: what was read last is lost.
     pub fn next<R: Source>(&mut self, reader: &mut R) -> Result<Option<Vec<Bytes>>, IntakeFault>
         ensures ok { IfOk result (λ found. MatchOption found
-            (Ends self.old (R.remaining reader.old) (R.remaining reader.new) self.new)
-            (λ out. Takes self.old (R.remaining reader.old) (R.remaining reader.new) out.items self.new)) }
+            (Ends self.old (R.remaining reader.old) (R.remaining reader.new) self.new) (λ out.
+            Takes self.old (R.remaining reader.old) (R.remaining reader.new) out.items self.new)) }
         ensures sound { OnOk result (R.has_failed reader.new ≡ R.has_failed reader.old) }
-        ensures fails { IfErr result (λ e. R.has_failed reader.new ≡ reader_after e (R.has_failed reader.old)) }
-        ensures err { IfErr result (λ e. Stops e self.old (R.remaining reader.old) (R.remaining reader.new) self.new) }
+        ensures fails { IfErr result (λ e.
+            R.has_failed reader.new ≡ reader_after e (R.has_failed reader.old)) }
+        ensures err { IfErr result (λ e.
+            Stops e self.old (R.remaining reader.old) (R.remaining reader.new) self.new) }
     {
         if let Some(fault) = self.framer.fault() {
             return Err(stream_fault(fault));
@@ -80,10 +90,15 @@ impl Intake {
         }
     }
 
-    /// The end of the stream, which is none of a message that was begun.
+    /// The answer where the stream has ended: `None` where no message was begun.
+    ///
+    /// # Errors
+    /// `CutOff` where the stream ended inside a message.
     fn end(&self) -> Result<Option<Vec<Bytes>>, IntakeFault>
-        ensures ok { IfOk result (λ found. (is_none found ≡ true) × (self.now.framing.pending ≡ [])) }
-        ensures err { IfErr result (λ e. (e ≡ Framing CutOff) × (0 < length self.now.framing.pending)) }
+        ensures ok { IfOk result (λ found. (is_none found ≡ true)
+            × (self.now.framing.pending ≡ [])) }
+        ensures err { IfErr result (λ e. (e ≡ Framing CutOff)
+            × (0 < length self.now.framing.pending)) }
     {
         if self.framer.pending() == 0 {
             Ok(None)
@@ -99,17 +114,20 @@ ghost use Rattle.message_intake.specs.declared.fault.IntakeFault.TheVariants.{Re
 ghost use Rattle.message_intake.specs.declared.fault.FramingFault.TheVariants.{CutOff};
 ghost use Rattle.message_intake.specs.Intake.{named};
 
-/// Reads octets into the front of the buffer, and says how many; none only at the end.
+/// Reads octets from `reader` into the front of `buffer`, which has some, and answers how many: none only at the end.
 ///
 /// # Errors
-/// The reader failed.
+/// `Read` where the reader failed, and nothing was read.
 fn read_piece<R: Source>(reader: &mut R, buffer: &mut Vec<u8>) -> Result<usize, IntakeFault>
     requires { 0 < length buffer.old.items }
     ensures length { length buffer.new.items ≡ length buffer.old.items }
-    ensures ok { IfOk result (λ n. (n ≤ length buffer.new.items) × Consumes (R.remaining reader.old) (R.remaining reader.new) (take n buffer.new.items)) }
+    ensures ok { IfOk result (λ n. (n ≤ length buffer.new.items)
+        × Consumes (R.remaining reader.old) (R.remaining reader.new) (take n buffer.new.items)) }
     ensures end { IfOk result (λ n. n ≡ 0 → IsAtEnd (R.remaining reader.new)) }
     ensures stays { OnOk result (R.has_failed reader.new ≡ R.has_failed reader.old) }
-    ensures err { IfErr result (λ e. (e ≡ Read) × Keeps (R.remaining reader.old) (R.remaining reader.new) × (R.has_failed reader.new ≡ true)) }
+    ensures err { IfErr result (λ e. (e ≡ Read)
+        × Keeps (R.remaining reader.old) (R.remaining reader.new)
+        × (R.has_failed reader.new ≡ true)) }
 {
     match reader.read(buffer.as_mut_slice()) {
         Ok(count) => Ok(count),
@@ -117,7 +135,7 @@ fn read_piece<R: Source>(reader: &mut R, buffer: &mut Vec<u8>) -> Result<usize, 
     }
 }
 
-/// What a framer's refusal is called here.
+/// The fault of an intake for `fault`, the refusal of its framer.
 fn stream_fault(fault: FrameError) -> IntakeFault
     ensures { result ≡ named fault }
 {

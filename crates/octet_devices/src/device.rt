@@ -1,3 +1,4 @@
+//! A device: a reader or a writer of std as a source or a sink.
 ghost use Rattle.std.specs.Prelude.{◌≡◌, Bool, true, false, OnOk, IfSome};
 ghost use Rattle.std.specs.Io.KnownBytes.{Appends, Keeps};
 ghost use Rattle.octet_devices.specs.Device.{device_inner, device_failed, device_fault};
@@ -11,8 +12,8 @@ use std::io::{self, ErrorKind, Read, Write};
 
 /// A reader or a writer of std as a source or a sink. It tells the octets that its reader or writer tells.
 ///
-/// It retries nothing: each error of the reader or writer is a failure, and so is a write that takes none
-/// of a slice that is not empty. Within a text alone std tries an interrupted write again.
+/// It retries nothing: each error of the reader or writer is a failure, and so is a write that takes none of a slice
+/// that is not empty. Within a text alone std tries an interrupted write again.
 #[derive(Drop)]
 pub struct Device<T> {
     inner: T,
@@ -21,7 +22,7 @@ pub struct Device<T> {
 }
 
 impl<T> Device<T> {
-    /// A device that has not failed yet.
+    /// A device over the reader or writer `inner`, which has not failed yet.
     pub fn new(inner: T) -> Device<T>
         ensures inner { device_inner result ≡ inner }
         ensures failed { device_failed result ≡ false }
@@ -29,14 +30,14 @@ impl<T> Device<T> {
         Device { inner, fault: None }
     }
 
-    /// Whether a read or a write has failed.
+    /// Whether a read, a write or a flush has failed.
     pub fn has_failed(&self) -> bool
         ensures { result ≡ device_failed self.now }
     {
         self.fault.is_some()
     }
 
-    /// Why it failed first; `Other` where it has not failed.
+    /// Why it failed first; an error of the kind `Other` where it has not failed.
     pub fn why(&self) -> io::Error
         ensures { IfSome (device_fault self.now) (λ fault. result ≡ fault) }
     {
@@ -46,7 +47,8 @@ impl<T> Device<T> {
         }
     }
 
-    /// Keeps that the device has failed, and why, unless it had failed before.
+    /// Notes that the device has failed, and `why`, unless it had failed before. It answers [`Failed`], for the caller
+    /// to give.
     fn fail(&mut self, why: io::Error) -> Failed
         ensures failed { device_failed self.new ≡ true }
         ensures inner { device_inner self.new ≡ device_inner self.old }
@@ -57,7 +59,7 @@ impl<T> Device<T> {
         Failed
     }
 
-    /// The reader or writer again.
+    /// The reader or writer again. Why it failed is dropped.
     pub fn into_inner(self) -> T
         ensures { result ≡ device_inner self }
     {
@@ -67,12 +69,13 @@ impl<T> Device<T> {
 }
 
 impl<T: Write> Device<T> {
-    /// Writes a text: what `write!` and `writeln!` call.
+    /// Writes `text`, whole: what `write!` and `writeln!` call.
     ///
     /// # Errors
-    /// The writer has failed; how much of the text was written before is not known.
+    /// [`Failed`] where the writer has failed. How much of the text was written before is not known.
     pub fn write_fmt<D: Display + Drop>(&mut self, text: D) -> Result<(), Failed>
-        ensures octets { OnOk result (IfSome (D.output text) (Appends (T.contents (device_inner self.old)) (T.contents (device_inner self.new)))) }
+        ensures octets { OnOk result (IfSome (D.output text)
+            (Appends (T.contents (device_inner self.old)) (T.contents (device_inner self.new)))) }
         ensures failed { FailsOnErr (device_failed self.old) (device_failed self.new) result }
     {
         match self.inner.write_fmt(text) {
@@ -81,12 +84,13 @@ impl<T: Write> Device<T> {
         }
     }
 
-    /// Sees that what was written has left.
+    /// Sees that what was written has left the writer's own buffers.
     ///
     /// # Errors
-    /// The writer has failed.
+    /// [`Failed`] where the writer has failed.
     pub fn flush(&mut self) -> Result<(), Failed>
-        ensures octets { Keeps (T.contents (device_inner self.old)) (T.contents (device_inner self.new)) }
+        ensures octets { Keeps
+            (T.contents (device_inner self.old)) (T.contents (device_inner self.new)) }
         ensures failed { FailsOnErr (device_failed self.old) (device_failed self.new) result }
     {
         match self.inner.flush() {

@@ -1,6 +1,8 @@
+//! The one answer of a source or a sink that has failed.
+
 use thiserror::Error;
 
-/// The device has failed. What it read or wrote before stays as it was.
+/// The source or sink has failed. What was read or written before stays as it was.
 #[derive(Clone, Copy, Debug, PartialEq, Eq, Error)]
 #[error("Failed")]
 pub struct Failed;

@@ -1,3 +1,4 @@
+//! A source, from which octets are read.
 ghost use Rattle.std.specs.Prelude.{ℕ, List, Bool, Option};
 ghost use Rattle.std.specs.Io.{ReadsAtMost};
 ghost use Rattle.std.specs.Io.KnownBytes.{ReadConsumes};
@@ -5,7 +6,8 @@ ghost use Rattle.octet_devices.specs.Failing.{FailsOnErr};
 
 use crate::failed::Failed;
 
-/// From where octets are read.
+/// From where octets are read. Contracts see the octets that reads will give, where they are known, and whether it has
+/// failed.
 pub trait Source {
     // The octets that reads will give from here on, where they are known.
     ghost remaining: { Self → Option (List ℕ) };
@@ -13,11 +15,11 @@ pub trait Source {
     // Whether it has failed.
     ghost has_failed: { Self → Bool };
 
-    /// Reads octets into the front of the buffer, and says how many. None are read only at the end, or
-    /// into an empty buffer.
+    /// Reads octets into the front of `buffer`, and answers how many. None are read only at the end, or into an empty
+    /// buffer. Behind those that were read the buffer may have changed.
     ///
     /// # Errors
-    /// The source has failed, and no octet was read.
+    /// [`Failed`] where the source has failed, and no octet was read.
     fn read(&mut self, buffer: &mut [u8]) -> Result<usize, Failed>
         ensures bound { ReadsAtMost result buffer.new }
         ensures octets { ReadConsumes (remaining self.old) (remaining self.new) result buffer.new }

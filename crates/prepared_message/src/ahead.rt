@@ -1,4 +1,4 @@
-//! What is judged of a message ahead of its session, which reads the message itself.
+//! What is judged ahead of the lock of a message that its session reads itself.
 ghost use Rattle.std.specs.Prelude.{◌≡◌, true, IfOk, IfSome, IsTrue};
 ghost use Rattle.record_sharing.specs.Judgements.{IsJudgementOf};
 ghost use Rattle.prepared_message.specs.Holding.{IsAheadOf};
@@ -13,9 +13,9 @@ use mediator_tables::Share;
 use record_sharing::{Judgement, Workspace};
 use std::marker::Model;
 
-/// What was judged of the records that a message holds by a snapshot, whatever sets it has. Its type keeps that this is what
-/// these records give by the snapshot's terms; whether the session finds the same records in the message, it asks then.
-/// Contracts see the Observation Domain and the records.
+/// What was judged of the records that a message holds by a snapshot, whatever sets it has. Its type keeps that this is
+/// what these records give by the snapshot's terms; whether the session finds the same records in the message is asked
+/// later. Contracts see the Observation Domain and the records.
 pub struct JudgedAhead {
     domain: u32,
     records: Records,
@@ -45,12 +45,14 @@ impl Model for JudgedAhead {
 }
 
 impl JudgedAhead {
-    /// Reads a message against a snapshot, and judges its records on the snapshot's terms. Nothing where the snapshot has none,
-    /// or where there are more records than a message has octets. The session is not asked, and nothing of it changes.
+    /// Reads `message` by the templates of `snapshot`, and those that the message brings, and judges its records on the
+    /// snapshot's terms, with what `workspace` has worked out for messages before. It answers `None` where the snapshot
+    /// has no terms, or where there are more records than the message has octets. The session is not asked, and nothing
+    /// of it changes.
     ///
     /// # Errors
-    /// Malformed where the octets are no message, or a data record goes past its set, by the snapshot's templates; or want of
-    /// memory.
+    /// [`PrepareFault::Malformed`] where the octets are no message, or a data record goes past its set by these
+    /// templates; or [`PrepareFault::OutOfMemory`].
     pub fn of(
         snapshot: &Snapshot,
         message: &Bytes,
@@ -77,12 +79,13 @@ impl JudgedAhead {
         }))
     }
 
-    /// What the records would give to each subscription on the snapshot's terms.
+    /// What the records would give to each subscription on the snapshot's terms, in their order.
     pub fn shares(&self) -> &[Share] {
         self.judgement.shares()
     }
 
-    /// The judgement, where it is of these records of this domain. It takes no memory.
+    /// The judgement, where it is of `records` and of the Observation Domain `domain`; else `None`. It compares all
+    /// octets of the records, and takes no memory.
     pub fn judgement_of(self, domain: u32, records: &Records) -> Option<Judgement>
         ensures { IfSome result (IsJudgementOf domain records.now) }
     {
@@ -99,7 +102,7 @@ impl JudgedAhead {
     }
 }
 
-/// Whether both are the same records, kept as the same runs.
+/// Whether `some` and `others` are the same records, kept as the same runs.
 fn are_same(some: &Records, others: &Records) -> bool
     ensures { IsTrue result → some.now ≡ others.now }
 {
@@ -115,7 +118,7 @@ fn are_same(some: &Records, others: &Records) -> bool
     true
 }
 
-/// Whether both have the same template and the same texts of records.
+/// Whether `run` and `other` have the same template and the same texts of records.
 fn is_same(run: &Run, other: &Run) -> bool
     ensures { IsTrue result → run.now ≡ other.now }
 {
@@ -130,7 +133,7 @@ fn is_same(run: &Run, other: &Run) -> bool
     true
 }
 
-/// Whether the records of both are of the same template.
+/// Whether the records of `run` and of `other` have the same template.
 fn have_same_template(run: &Run, other: &Run) -> bool
     ensures { result ≡ true → run.now.template ≡ other.now.template }
 {

@@ -8,13 +8,13 @@ use thiserror::Error;
 /// Why a message is not prepared. Where the octets are a message, a set of templates is named before any other fault.
 #[derive(Clone, Copy, Debug, PartialEq, Eq, Error)]
 pub enum PrepareFault {
-    /// The message has a Template Set or an Options Template Set: a set with ID 2 or 3 (RFC 7011, section 3.3.2).
+    /// The message has a Template Set or an Options Template Set: a set with the ID 2 or 3 (RFC 7011, section 3.3.2).
     #[error("HasTemplates")]
     HasTemplates,
     /// The octets are no message, or a data record goes past its set.
     #[error("Malformed")]
     Malformed,
-    /// Want of memory: it says nothing of the message.
+    /// Want of memory. It says nothing of the message.
     #[error("OutOfMemory")]
     OutOfMemory,
 }
@@ -80,7 +80,7 @@ pub enum ApplyFault {
     /// message can be prepared anew.
     #[error("Stale")]
     Stale,
-    /// Want of memory: it says nothing of the message.
+    /// Want of memory. It says nothing of the message.
     #[error("OutOfMemory")]
     OutOfMemory,
 }

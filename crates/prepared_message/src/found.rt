@@ -1,4 +1,4 @@
-//! What is found in a message by the templates of a snapshot.
+//! What a message holds by the templates of a snapshot.
 ghost use Rattle.std.specs.Prelude.{◌≤◌, ℕ, List, length, IfOk};
 ghost use Rattle.ipfix_octets.specs.MessageFormat.{header_octets};
 ghost use Rattle.ipfix_session.specs.Answers.{held};
@@ -22,12 +22,13 @@ pub(crate) struct Found {
     pub(crate) uses: Vec<Used>,
 }
 
-/// Reads a message by these templates. The values of its records are cut from the message, and not copied.
+/// Reads `message` by `templates`. The values of its records are cut from the message, and not copied.
 ///
 /// # Errors
 /// Those of [`prepare`](crate::Prepared::prepare).
 pub(crate) fn read_by(templates: &Templates, message: &Bytes) -> Result<Found, PrepareFault>
-    ensures gives { (older : List (List ℕ)) → Knows templates.now older → Gives (λ f. held f.contents) result (prepared_from older message.now) }
+    ensures gives { (older : List (List ℕ)) → Knows templates.now older
+        → Gives (λ f. held f.contents) result (prepared_from older message.now) }
     ensures found { IfOk result (IsFound templates.now message.now) }
 {
     let octets: &[u8] = message;
@@ -43,10 +44,10 @@ pub(crate) fn read_by(templates: &Templates, message: &Bytes) -> Result<Found, P
     })
 }
 
-/// The items of a message that has no set of templates.
+/// The items of the message `octets`, which has at least a header, in memory from `alloc`.
 ///
 /// # Errors
-/// HasTemplates where it has one, Malformed where the octets are no message, or want of memory.
+/// `Malformed` where the octets are no message, else `HasTemplates` where it has a set of templates; or want of memory.
 fn items_without_templates(alloc: Global, octets: &[u8]) -> Result<Vec<Item>, PrepareFault>
     requires { header_octets ≤ length octets.now }
     ensures { Gives (λ v. v.items) result (items_wanted octets.now) }

@@ -1,4 +1,4 @@
-//! A message that was read against a snapshot.
+//! A message that was read against a snapshot of its session's templates, to be taken in later.
 ghost use Rattle.std.specs.Prelude.{◌≡◌, ◌≤◌, ◌^◌, ◌↔◌, ℕ, List, ◌∷◌, Ok, IsTrue, IfOk, IfSome, OnOk, OnErr, length};
 ghost use Rattle.ipfix_session.specs.Answers.{held, shown};
 ghost use Rattle.ipfix_session.specs.Meaning.{domain_of, meaning_of};
@@ -63,29 +63,37 @@ impl Model for Prepared {
 
     ghost view = { λ p. record { message = p.message; contents = held p.contents; used = map seen p.uses.items } };
 
-    ghost invariant = { λ p. IsKept (record { message = p.message; contents = held p.contents; used = map seen p.uses.items }) p.header p.count
+    ghost invariant = { λ p. IsKept (record {
+      message = p.message;
+      contents = held p.contents;
+      used = map seen p.uses.items;
+    }) p.header p.count
         × IsJudged p.header (held p.contents) p.judgement };
 }
 
 impl Prepared {
-    /// Reads a message against a snapshot. The values of its records are cut from the message, and not copied. Where the
-    /// snapshot has terms, the records are judged on them too.
+    /// Reads `message` by the templates of `snapshot`. The values of its records are cut from the message, and not
+    /// copied. Where the snapshot has terms, the records are judged on them too, which shows in no other answer.
     ///
     /// # Errors
-    /// HasTemplates where the octets are a message with a Set 2 or 3; Malformed where they are no message, or a data
-    /// record goes past its set; or want of memory.
+    /// [`PrepareFault::HasTemplates`] where the octets are a message with a set of the ID 2 or 3;
+    /// [`PrepareFault::Malformed`] where they are no message, or a data record goes past its set; or
+    /// [`PrepareFault::OutOfMemory`].
     pub fn prepare(snapshot: &Snapshot, message: Bytes) -> Result<Prepared, PrepareFault>
         // The answer is what the message holds after the messages that the snapshot stands for, or which fault it has.
-        ensures gives { (older : List (List ℕ)) → Knows snapshot.now older → Gives (λ p. p.contents) result (prepared_from older message) }
+        ensures gives { (older : List (List ℕ)) → Knows snapshot.now older
+            → Gives (λ p. p.contents) result (prepared_from older message) }
         ensures whole { IfOk result (λ p. p.message ≡ message) }
         // It agrees with a session exactly where that has the snapshot's templates for the Set IDs that the message uses.
-        ensures used { IfOk result (λ p. (older : List (List ℕ)) → AgreesWith older p ↔ TablesAgree snapshot.now older message) }
+        ensures used { IfOk result (λ p. (older : List (List ℕ)) → AgreesWith older p
+            ↔ TablesAgree snapshot.now older message) }
         ensures prepared { IfOk result IsPrepared }
     {
         Prepared::prepare_in(snapshot, message, &mut Workspace::new())
     }
 
-    /// The same, with what the thread worked out for the messages that it prepared before.
+    /// Prepares `message` against `snapshot`, as [`prepare`](Prepared::prepare) does, with what the thread's
+    /// `workspace` has worked out for the messages that it judged before.
     ///
     /// # Errors
     /// Those of [`prepare`](Prepared::prepare).
@@ -94,9 +102,11 @@ impl Prepared {
         message: Bytes,
         workspace: &mut Workspace,
     ) -> Result<Prepared, PrepareFault>
-        ensures gives { (older : List (List ℕ)) → Knows snapshot.now older → Gives (λ p. p.contents) result (prepared_from older message) }
+        ensures gives { (older : List (List ℕ)) → Knows snapshot.now older
+            → Gives (λ p. p.contents) result (prepared_from older message) }
         ensures whole { IfOk result (λ p. p.message ≡ message) }
-        ensures used { IfOk result (λ p. (older : List (List ℕ)) → AgreesWith older p ↔ TablesAgree snapshot.now older message) }
+        ensures used { IfOk result (λ p. (older : List (List ℕ)) → AgreesWith older p
+            ↔ TablesAgree snapshot.now older message) }
         ensures prepared { IfOk result IsPrepared }
     {
         let Found {
@@ -117,7 +127,7 @@ impl Prepared {
         })
     }
 
-    /// The message.
+    /// The octets of the message.
     pub fn message(&self) -> &Bytes
         ensures value { result.now ≡ self.now.message }
         ensures prepared { IsPrepared self.now }
@@ -125,7 +135,7 @@ impl Prepared {
         &self.message
     }
 
-    /// The message alone.
+    /// The octets of the message, without what was read.
     pub fn into_message(self) -> Bytes
         ensures { result ≡ self.message }
     {
@@ -140,7 +150,8 @@ impl Prepared {
         message
     }
 
-    /// What the records would give to each subscription on the snapshot's terms; nothing where they were not judged.
+    /// What the records would give to each subscription on the snapshot's terms, in their order; nothing where they
+    /// were not judged, and after [`take_judgement`](Prepared::take_judgement).
     pub fn shares(&self) -> &[Share] {
         match &self.judgement {
             Some(judgement) => judgement.shares(),
@@ -148,25 +159,29 @@ impl Prepared {
         }
     }
 
-    /// What was judged of the records on the snapshot's terms, if it wasn't taken yet. It takes no memory.
+    /// Takes what was judged of the records on the snapshot's terms, or answers `None` where nothing was judged or it
+    /// was taken before. It takes no memory.
     pub fn take_judgement(&mut self) -> Option<Judgement>
-        ensures judgement { IfSome result (IsJudgementOf (domain_of self.old.message) self.old.contents.records) }
+        ensures judgement { IfSome result
+            (IsJudgementOf (domain_of self.old.message) self.old.contents.records) }
         ensures same { self.new ≡ self.old }
     {
         self.judgement.take()
     }
 
-    /// Takes the message in as the session's next one, and answers what it means: as [`Session::apply`] does on it.
+    /// Takes the message in as the next one of `session`, and answers what it means, as [`Session::apply`] does for the
+    /// same octets.
     ///
     /// # Errors
-    /// Stale where an ID of the message has another template in the session, or none, or one where it had none; or want of
-    /// memory. Nothing has changed then.
+    /// [`ApplyFault::Stale`] where an ID of the message has another template in the session than in the snapshot, or
+    /// only one of them has one; or [`ApplyFault::OutOfMemory`]. Nothing has changed then.
     pub fn apply_to(&self, session: &mut Session) -> Result<Read, ApplyFault>
         ensures means { (older : List (List ℕ)) → StandsFor session.old older
             → IfOk result (λ r. meaning_of older self.now.message ≡ Ok (shown r)) }
         ensures stands { (older : List (List ℕ)) → StandsFor session.old older
             → OnOk result (StandsFor session.new (self.now.message ∷ older)) }
-        ensures stale { (older : List (List ℕ)) → StandsFor session.old older → IsStaleOnly result (AgreesWith older self.now) }
+        ensures stale { (older : List (List ℕ)) → StandsFor session.old older
+            → IsStaleOnly result (AgreesWith older self.now) }
         ensures err { OnErr result (session.new.standing ≡ session.old.standing) }
     {
         let records = self.records_in(session)?;
@@ -180,29 +195,35 @@ impl Prepared {
         })
     }
 
-    /// What was read of the message, as the session's next one: as [`Session::read`] gives it, for
-    /// [`make_room`](Session::make_room) and [`keep`](Session::keep).
+    /// What was read of the message, as the next one of `session`: what [`Session::read`] gives for the same octets, to
+    /// be handed to [`make_room`](Session::make_room) and [`keep`](Session::keep).
     ///
     /// # Errors
-    /// Stale as for [`apply_to`](Prepared::apply_to); or want of memory.
+    /// [`ApplyFault::Stale`] where an ID of the message has another template in the session than in the snapshot, or
+    /// only one of them has one; or [`ApplyFault::OutOfMemory`].
     pub fn reading_in(&self, session: &Session) -> Result<Reading, ApplyFault>
-        ensures reading { (older : List (List ℕ)) → StandsFor session.now older → IfOk result (IsReadingOf older self.now.message) }
+        ensures reading { (older : List (List ℕ)) → StandsFor session.now older
+            → IfOk result (IsReadingOf older self.now.message) }
         ensures domain { IfOk result (λ r. r.meaning.header.domain ≡ domain_of self.now.message) }
         ensures records { IfOk result (λ r. r.meaning.records ≡ self.now.contents.records) }
-        ensures stale { (older : List (List ℕ)) → StandsFor session.now older → IsStaleOnly result (AgreesWith older self.now) }
+        ensures stale { (older : List (List ℕ)) → StandsFor session.now older
+            → IsStaleOnly result (AgreesWith older self.now) }
     {
         let records = self.records_in(session)?;
         Ok(session.reading_of(self.header, records, self.contents.skips))
     }
 
-    /// The records, of which no octet is copied, where the session has the templates that the message used.
+    /// The records of the message, where `session` has the templates that the message used. No octet of them is copied.
     ///
     /// # Errors
-    /// Stale as for [`apply_to`](Prepared::apply_to); or want of memory.
+    /// [`ApplyFault::Stale`] where an ID of the message has another template in the session than in the snapshot, or
+    /// only one of them has one; or [`ApplyFault::OutOfMemory`].
     fn records_in(&self, session: &Session) -> Result<Records, ApplyFault>
         ensures records { IfOk result (λ r. r ≡ self.now.contents.records) }
-        ensures agrees { (older : List (List ℕ)) → StandsFor session.now older → OnOk result (AgreesWith older self.now) }
-        ensures stale { (older : List (List ℕ)) → StandsFor session.now older → IsStaleOnly result (AgreesWith older self.now) }
+        ensures agrees { (older : List (List ℕ)) → StandsFor session.now older
+            → OnOk result (AgreesWith older self.now) }
+        ensures stale { (older : List (List ℕ)) → StandsFor session.now older
+            → IsStaleOnly result (AgreesWith older self.now) }
     {
         if !self.agrees_with(session) {
             return Err(ApplyFault::Stale);
@@ -210,16 +231,20 @@ impl Prepared {
         Ok(self.contents.records.clone()?)
     }
 
-    /// Whether each ID of the message has the same template in the session, or none.
+    /// Whether each ID of a Data Set of the message has in `session` the template that it had in the snapshot, or none
+    /// where it had none.
     pub fn agrees_with(&self, session: &Session) -> bool
-        ensures agrees { (older : List (List ℕ)) → StandsFor session.now older → IsTrue result ↔ AgreesWith older self.now }
+        ensures agrees { (older : List (List ℕ)) → StandsFor session.now older
+            → IsTrue result ↔ AgreesWith older self.now }
         ensures prepared { IsPrepared self.now }
     {
         are_in_force(&self.uses, self.header.domain, session)
     }
 }
 
-/// What is judged of a message's records on the snapshot's terms, where it has some.
+/// What is judged of the records in `contents`, at most 2^32, of the message with this `header`, on the terms of
+/// `snapshot`, with what `workspace` has worked out before; or `None` where the snapshot has no terms. What is
+/// disclosed is in memory from `alloc`.
 ///
 /// # Errors
 /// Want of memory.

@@ -1,4 +1,4 @@
-//! The sets of a message, by their headers.
+//! Whether a message has a set of templates, found by the headers of its sets.
 ghost use Rattle.std.specs.Prelude.{◌≡◌, ◌+◌, ◌≤◌, ◌<◌, [], ◌∷◌, length, IsOk, IfSome};
 ghost use Rattle.ipfix_octets.specs.MessageFormat.{header_octets};
 ghost use Rattle.ipfix_octets.specs.Octets.{number_at};
@@ -9,7 +9,8 @@ use ipfix_octets::message_format::{
     HEADER_OCTETS, OPTIONS_TEMPLATE_SET, SET_HEADER_OCTETS, TEMPLATE_SET,
 };
 
-/// Whether a message has a Template Set or an Options Template Set, also one without a template.
+/// Whether `message`, whose header and sets are whole, has a Template Set or an Options Template Set, also one without
+/// a template: a set with the ID 2 or 3 (RFC 7011, section 3.3.2).
 pub(crate) fn has_template_set(message: &[u8]) -> bool
     requires header { header_octets ≤ length message.now }
     requires sets { IsOk (set_ids message.now) }
@@ -25,14 +26,14 @@ pub(crate) fn has_template_set(message: &[u8]) -> bool
     false
 }
 
-/// Whether a set with this ID is one of templates.
+/// Whether a set with the ID `id` is a Template Set or an Options Template Set.
 fn is_of_templates(id: u16) -> bool
     ensures { result ≡ is_of_templates id }
 {
     id == TEMPLATE_SET || id == OPTIONS_TEMPLATE_SET
 }
 
-/// The ID of the set at the front, and the octets after the set; nothing where no set stands.
+/// The ID of the set at the front of `octets`, and the octets after the set; or `None` where no whole set stands there.
 #[tactic(auto, unfolding(crate::specs::SetIds::id_front))]
 fn first_set(octets: &[u8]) -> Option<(u16, &[u8])>
     ensures { ShowsSet result (id_front octets.now) }
@@ -47,7 +48,7 @@ fn first_set(octets: &[u8]) -> Option<(u16, &[u8])>
     Some((u16_at(octets, 0), octets.split_at(size).1))
 }
 
-/// The number in the two octets at a place.
+/// The number in the two of `octets` at `place`, in network byte order.
 fn u16_at(octets: &[u8], place: usize) -> u16
     requires { place + 2 ≤ length octets.now }
     ensures { result ≡ number_at place 2 octets.now }

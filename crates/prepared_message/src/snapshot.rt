@@ -1,4 +1,4 @@
-//! The templates of a session as they stood.
+//! The templates of a session as they stood, with the terms on which records were shared.
 ghost use Rattle.std.specs.Prelude.{◌≡◌, ℕ, List, IfOk};
 ghost use Rattle.ipfix_session.specs.Standing.{StandsFor, Knows};
 
@@ -8,10 +8,10 @@ use std::alloc::AllocError;
 use std::marker::Model;
 use std::sync::Arc;
 
-/// The templates of a session as they stood when it was made, and the terms on which records were shared then, if it was
-/// given some. Messages are prepared against it while the session and the policy go their own way. Contracts see the list
-/// of domains with the templates of each, and say by `Knows` after which messages they are in force; the terms change no
-/// answer, since what was judged by them is taken only where they still hold.
+/// The templates of a session as they stood when this was made, and the terms on which records were shared then, if it
+/// was given some. Messages are prepared against it while the session and the policy go their own way. Contracts see
+/// the list of Observation Domains with the templates of each, and say by `Knows` after which messages they are in
+/// force. The terms change no answer, since what was judged by them is taken only where they still hold.
 pub struct Snapshot {
     pub(crate) templates: Templates,
     pub(crate) terms: Option<Arc<Terms>>,
@@ -37,15 +37,16 @@ impl Model for Snapshot {
 }
 
 impl Snapshot {
-    /// The templates of a session as they stand now. Where the session shares them ([`Session::share`]) this costs one
-    /// owner more, whatever their number, and else a copy.
+    /// The templates of `session` as they stand now, without terms. Where the session shares them ([`Session::share`]),
+    /// this costs one owner more, however many they are, and else a copy.
     ///
     /// # Errors
     /// Want of memory.
     pub fn of(session: &Session) -> Result<Snapshot, AllocError>
         ensures same { IfOk result (λ s. s ≡ session.now.standing.templates) }
         // After the messages that the session stands for these templates are in force.
-        ensures knows { (older : List (List ℕ)) → StandsFor session.now older → IfOk result (λ s. Knows s older) }
+        ensures knows { (older : List (List ℕ)) → StandsFor session.now older
+            → IfOk result (λ s. Knows s older) }
     {
         Ok(Snapshot {
             templates: session.templates()?,
@@ -53,7 +54,7 @@ impl Snapshot {
         })
     }
 
-    /// The same, by which messages are judged too, on these terms. It takes no memory.
+    /// The snapshot with `terms`, on which the records of messages are judged too. It takes no memory.
     pub fn with_terms(self, terms: Arc<Terms>) -> Snapshot
         ensures { result ≡ self }
     {

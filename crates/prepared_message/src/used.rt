@@ -1,4 +1,4 @@
-//! The templates that a message used.
+//! The templates that a message used: those that the IDs of its Data Sets had.
 ghost use Rattle.std.specs.Prelude.{◌≡◌, ◌↔◌, ◌++◌, ◌∷◌, ℕ, List, map, None, IfOk, IsTrue, OnOk};
 ghost use Rattle.std.specs.Option.{option_copied, option_map};
 ghost use Rattle.std.specs.Arc.{arc_value};
@@ -21,7 +21,7 @@ pub(crate) struct Used {
 }
 
 impl Used {
-    /// The template, without the share in it.
+    /// The template that the ID had, or `None`.
     fn template(&self) -> Option<&Template>
         ensures { option_copied result ≡ (seen self.now).1 }
     {
@@ -31,15 +31,16 @@ impl Used {
         }
     }
 
-    /// Whether the ID has the same template in a domain of a session, or none.
+    /// Whether the ID has the same template in the Observation Domain `domain` of `session`, or none where it had none.
     fn is_in_force(&self, domain: u32, session: &Session) -> bool
-        ensures { (older : List (List ℕ)) → StandsFor session.now older → IsTrue result ↔ IsInForce domain older (seen self.now) }
+        ensures { (older : List (List ℕ)) → StandsFor session.now older
+            → IsTrue result ↔ IsInForce domain older (seen self.now) }
     {
         are_same(session.template(domain, self.id), self.template())
     }
 }
 
-/// Whether two templates are the same, or neither is there.
+/// Whether the templates `kept` and `used` are the same, or neither is there.
 fn are_same(kept: Option<&Template>, used: Option<&Template>) -> bool
     ensures { IsTrue result ↔ (option_copied kept.entry ≡ option_copied used.entry) }
 {
@@ -52,9 +53,11 @@ fn are_same(kept: Option<&Template>, used: Option<&Template>) -> bool
     }
 }
 
-/// Whether all these IDs have the same templates in a domain of a session.
+/// Whether each ID of `uses` has the same template in the Observation Domain `domain` of `session`, or none where it
+/// had none.
 pub(crate) fn are_in_force(uses: &[Used], domain: u32, session: &Session) -> bool
-    ensures { (older : List (List ℕ)) → StandsFor session.now older → IsTrue result ↔ AreInForce domain older (map seen uses.now) }
+    ensures { (older : List (List ℕ)) → StandsFor session.now older
+        → IsTrue result ↔ AreInForce domain older (map seen uses.now) }
 {
     for used in uses {
         if !used.is_in_force(domain, session) {
@@ -64,8 +67,9 @@ pub(crate) fn are_in_force(uses: &[Used], domain: u32, session: &Session) -> boo
     true
 }
 
-/// The IDs of the Data Sets among a message's items, with the templates that they have in a domain. Where Data Sets with one
-/// ID stand one after another, it is there once.
+/// The IDs of the Data Sets among the items `said` of a message, with those of `templates` that they have in the
+/// Observation Domain `domain`, in memory from `alloc`. Where Data Sets of one ID stand one after another, it is there
+/// once.
 ///
 /// # Errors
 /// Want of memory.
@@ -75,7 +79,8 @@ pub(crate) fn used_by(
     domain: u32,
     said: &[Item],
 ) -> Result<Vec<Used>, AllocError>
-    ensures { IfOk result (λ uses. map seen uses.items ≡ used_by (known_in domain templates.now) None said.now) }
+    ensures { IfOk result (λ uses.
+        map seen uses.items ≡ used_by (known_in domain templates.now) None said.now) }
 {
     let mut uses = Vec::new(alloc);
     let mut before = None;
@@ -85,8 +90,9 @@ pub(crate) fn used_by(
     Ok(uses)
 }
 
-/// Puts the ID of an item that is a Data Set behind the others, with its template, unless the Data Set before it had the
-/// same one.
+/// Puts the ID of `item`, where that is a Data Set, behind those in `uses`, with that of `templates` which it has in
+/// the Observation Domain `domain`; unless `before`, the ID of the Data Set before it, is the same. Then `before` is
+/// the ID of this Data Set.
 ///
 /// # Errors
 /// Want of memory.
@@ -97,8 +103,9 @@ fn put_used(
     before: &mut Option<u16>,
     uses: &mut Vec<Used>,
 ) -> Result<(), AllocError>
-    ensures { OnOk result ((items : List Item) → map seen uses.new.items ++ used_by (known_in domain templates.now) before.new items
-        ≡ map seen uses.old.items ++ used_by (known_in domain templates.now) before.old (item.now ∷ items)) }
+    ensures { OnOk result ((items : List Item) → map seen uses.new.items
+        ++ used_by (known_in domain templates.now) before.new items ≡ map seen uses.old.items
+        ++ used_by (known_in domain templates.now) before.old (item.now ∷ items)) }
 {
     match data_set_of(item) {
         Some(id) if !is_again(*before, id) => {
@@ -111,7 +118,7 @@ fn put_used(
     }
 }
 
-/// The ID of an item that is a Data Set.
+/// The ID of `item` where that is a Data Set, or `None`.
 fn data_set_of(item: &Item) -> Option<u16>
     ensures { result ≡ data_set_of item.now }
 {
@@ -121,7 +128,7 @@ fn data_set_of(item: &Item) -> Option<u16>
     }
 }
 
-/// Whether the Data Set before had this ID too.
+/// Whether `before`, the ID of the Data Set before, is `id` too.
 fn is_again(before: Option<u16>, id: u16) -> bool
     ensures { result ≡ is_again before id }
 {
@@ -131,7 +138,7 @@ fn is_again(before: Option<u16>, id: u16) -> bool
     }
 }
 
-/// An ID with its template.
+/// The ID `id` with that of `templates` which it has in the Observation Domain `domain`, if any.
 ///
 /// # Errors
 /// Want of memory.

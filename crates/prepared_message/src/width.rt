@@ -1,4 +1,4 @@
-//! How many values the Data Sets of a message may have.
+//! Whether the Data Sets of a message may have so many values that it is refused.
 ghost use Rattle.std.specs.Prelude.{◌≡◌, ℕ, ◌↔◌, ◌+◌, ◌-◌, ◌*◌, ◌/◌, ◌<◌, ◌==◌, ◌^◌, if◌then◌else◌, max, min, length, Some, None, IsTrue, IfOk, OnOk};
 ghost use Rattle.std.specs.Ordering.{nat_cmp};
 ghost use Rattle.std.specs.BTreeMap.{get};
@@ -14,11 +14,11 @@ use ipfix_template::Template;
 use std::alloc::{AllocError, Global};
 use std::collections::BTreeMap;
 
-/// How many values the Data Sets of a message that comes from a stranger may have at most for each octet of the message. Where each
-/// value takes an octet or more, and each Data Set has a record, they don't have more.
+/// How many values the Data Sets of a message from a stranger may have at most for each octet of the message: 2. Where
+/// each value takes an octet or more, and each Data Set has a record, they don't have more.
 pub const VALUES_AN_OCTET: u64 = 2;
 
-/// How many values a record of a template has, and the octets of its shortest one.
+/// How many values a record of a template has, and the octets of its shortest record.
 #[derive(Clone, Copy)]
 struct Width {
     fields: usize,
@@ -26,7 +26,7 @@ struct Width {
 }
 
 impl Width {
-    /// Of a template.
+    /// The width of records of `template`.
     fn of(template: &Template) -> Width
         ensures { result ≡ width_of template.now }
     {
@@ -36,8 +36,9 @@ impl Width {
         }
     }
 
-    /// How many values a Data Set of so many octets may have: those of as many records as fit in, and of one more, since the
-    /// fields are gone through for a set without records too.
+    /// How many values a Data Set with `octets` octets after its header may have: those of as many records as fit in,
+    /// and of one more, since the fields are gone through for a set without records too. It is 2^64-1 where there are
+    /// more.
     fn values(self, octets: usize) -> u64
         ensures { result ≡ min (2 ^ 64 - 1) (set_values (Some self) octets) }
     {
@@ -48,11 +49,11 @@ impl Width {
 }
 
 impl Snapshot {
-    /// Whether the Data Sets of a message may have more than [`VALUES_AN_OCTET`] values for each octet of the message, each by the
-    /// template that its ID was given last, in the message or else in the session.
+    /// Whether the Data Sets of `message` may have more than [`VALUES_AN_OCTET`] values for each octet of the message.
+    /// The template of each is the one that its ID was given last, in the message or else in the session.
     ///
     /// # Errors
-    /// Malformed where the octets are no message; or want of memory.
+    /// [`PrepareFault::Malformed`] where the octets are no message; or [`PrepareFault::OutOfMemory`].
     pub fn is_too_wide(&self, message: &Bytes) -> Result<bool, PrepareFault>
         ensures { IfOk result (λ wide. IsTrue wide ↔ IsTooWide self.now message.now) }
     {
@@ -65,7 +66,9 @@ impl Snapshot {
     }
 }
 
-/// Whether Data Sets may have more than so many values.
+/// Whether the Data Sets among the items `said` of a message may have more than `most` values, by those of `templates`
+/// that their IDs have in the Observation Domain `domain`, or that the message gives them before. What the message
+/// gives is kept in memory from `alloc`.
 ///
 /// # Errors
 /// Want of memory.
@@ -77,7 +80,8 @@ fn are_too_wide(
     most: u64,
 ) -> Result<bool, AllocError>
     requires few { most < 2 ^ 64 - 1 }
-    ensures { IfOk result (λ wide. IsTrue wide ↔ (most < values_of (widths_in domain templates.now) said.now)) }
+    ensures { IfOk result (λ wide. IsTrue wide
+        ↔ (most < values_of (widths_in domain templates.now) said.now)) }
 {
     let mut given = BTreeMap::new(alloc);
     let mut left = most;
@@ -97,18 +101,21 @@ fn are_too_wide(
     Ok(false)
 }
 
-/// Notes that an ID is given a template of this width.
+/// Notes in `given` that the ID `id` is given a template of this `width`.
 ///
 /// # Errors
 /// Want of memory.
 fn give(given: &mut BTreeMap<u16, Width>, id: u16, width: Width) -> Result<(), AllocError>
-    ensures { OnOk result ((other : ℕ) → get nat_cmp given.new other ≡ (if other == id then Some width else get nat_cmp given.old other)) }
+    ensures { OnOk result ((other : ℕ) → get nat_cmp given.new other ≡ (if other == id
+        then Some width else get nat_cmp given.old other)) }
 {
     given.insert(id, width)?;
     Ok(())
 }
 
-/// How many values a Data Set of so many octets may have, by the template that its ID was given last.
+/// How many values a Data Set of the ID `id`, with `octets` octets after its header, may have, by the template that its
+/// ID was given last: in the message, as `given` says, or else by `templates` in the Observation Domain `domain`.
+/// Without a template it has none.
 fn values_of_set(
     templates: &Templates,
     domain: u32,
@@ -116,7 +123,8 @@ fn values_of_set(
     id: u16,
     octets: usize,
 ) -> u64
-    ensures { result ≡ min (2 ^ 64 - 1) (set_values (given_or (get nat_cmp given.now) (widths_in domain templates.now) id) octets) }
+    ensures { result ≡ min (2 ^ 64 - 1)
+        (set_values (given_or (get nat_cmp given.now) (widths_in domain templates.now) id) octets) }
 {
     let width = match given.get(&id) {
         Some(width) => Some(*width),
@@ -128,7 +136,7 @@ fn values_of_set(
     }
 }
 
-/// Of the template that an ID of a domain has.
+/// The width of that of `templates` which the ID `id` has in the Observation Domain `domain`, or `None`.
 fn known(templates: &Templates, domain: u32, id: u16) -> Option<Width>
     ensures { result ≡ widths_in domain templates.now id }
 {

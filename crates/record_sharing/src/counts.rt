@@ -1,4 +1,4 @@
-//! How many records of a message count in aggregates.
+//! How many of the records that were judged count in aggregates.
 ghost use Rattle.std.specs.Prelude.{◌≡◌, ◌↔◌, ◌<◌, ℕ, List, map, IsTrue};
 ghost use Rattle.std.specs.Arc.{arc_value};
 ghost use Rattle.ipfix_template.specs.DataRecord.{DataRecord};
@@ -13,18 +13,22 @@ use crate::judgement::Judgement;
 use mediator_tables::Tally;
 
 impl Judgement {
-    /// Whether more than so many records count in aggregates, by its terms, added up over all subscriptions. It looks at one
-    /// number for each subscription.
+    /// Whether more than `most` records count in aggregates, by the terms of the judgement, where a record counts once
+    /// for each subscription in one of whose aggregates it is placed. It looks at one number for each subscription.
     pub fn counts_more_than(&self, most: u64) -> bool
-        ensures exact { (domain : ℕ) (f : InForce) (records : List DataRecord) (served : List Served) (notes : ℕ) → IsJudgementOf domain records self.now
-            → arc_value self.now.terms ≡ terms_of f served notes → IsTrue result ↔ (most < counts_in_all domain f records served) }
-        ensures some { (domain : ℕ) (records : List DataRecord) → IsJudgementOf domain records self.now → IsTrue result → MayCountMoreThan most domain records }
+        ensures exact { (domain : ℕ) (f : InForce) (records : List DataRecord)
+            (served : List Served) (notes : ℕ) → IsJudgementOf domain records self.now
+            → arc_value self.now.terms ≡ terms_of f served notes
+            → IsTrue result ↔ (most < counts_in_all domain f records served) }
+        ensures some { (domain : ℕ) (records : List DataRecord)
+            → IsJudgementOf domain records self.now → IsTrue result
+            → MayCountMoreThan most domain records }
     {
         add_more_than(&self.shares.tallies, most)
     }
 }
 
-/// Whether more than this is added to aggregates, for all subscriptions together.
+/// Whether `tallies` have more than `most` records together.
 fn add_more_than(tallies: &[Tally], most: u64) -> bool
     ensures { IsTrue result ↔ (most < total_of (map tallied tallies.now)) }
 {

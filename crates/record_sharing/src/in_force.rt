@@ -1,4 +1,4 @@
-//! What decides over the records of a message.
+//! What decides over the records of a message: the policy in force and the clock.
 ghost use Rattle.std.specs.Prelude.{◌≡◌, ◌↔◌, ◌++◌, ◌∷◌, IsTrue, None, map, IfOk, IfSome};
 ghost use Rattle.std.specs.Prelude.{List};
 ghost use Rattle.std.specs.List.{All};
@@ -17,7 +17,8 @@ use std::alloc::{AllocError, Global};
 use std::marker::Model;
 use std::sync::Arc;
 
-/// The policy in force, and the time to which the clock was advanced; with what was worked out for the messages that came last.
+/// The policy in force, and the time to which the clock was advanced; with what was worked out for the last messages,
+/// which serves later ones and shows in no answer. Contracts see the policy and the time.
 pub struct InForce {
     revision: Arc<Revision>,
     clock: u64,
@@ -36,10 +37,11 @@ impl Drop for InForce {
     }
 }
 
-/// For how many observation domains and templates is kept what judged their messages.
+/// The most observation domains and templates for which it is kept what judged their last messages.
 const MOST_KEPT: usize = 64;
 
-/// And for how many subscriptions in all of them together, since each has plans of its own; for one domain it is kept in any case.
+/// The most subscriptions, over all of these together, since each has plans of its own. For one domain it is kept in
+/// any case.
 const MOST_PLANS: usize = 8192;
 
 impl Model for InForce {
@@ -60,7 +62,8 @@ impl InForce {
     ghost use Rattle.record_sharing.specs.Judges.{JudgeFor, JudgesAny};
     ghost use Rattle.record_sharing.specs.Sharing.{blank};
 
-    /// Before the first edit and the first advance of the clock: a policy without rules.
+    /// What is in force before the first edit and the first advance of the clock: a policy without rules, and the time
+    /// 0. It is in memory from `alloc`.
     ///
     /// # Errors
     /// Want of memory.
@@ -73,7 +76,8 @@ impl InForce {
         }
     }
 
-    /// A policy, with the clock at a time in milliseconds since 1970.
+    /// The policy `policy` in force, with the clock at the time `clock`, in milliseconds since 1970. What is worked out
+    /// of the policy is in memory from `alloc`.
     ///
     /// # Errors
     /// Want of memory.
@@ -88,7 +92,8 @@ impl InForce {
         })
     }
 
-    /// The same for another thread, with nothing worked out yet.
+    /// The policy and the time for another thread, with nothing worked out yet. The policy is shared, and not copied;
+    /// what comes to be worked out is in memory from `alloc`.
     ///
     /// # Errors
     /// Want of memory.
@@ -102,16 +107,17 @@ impl InForce {
         })
     }
 
-    /// Whether the policies are the same.
+    /// Whether the policy is that of `other`, whatever the times.
     pub(crate) fn has_policy_of(&self, other: &InForce) -> bool
         ensures { IsTrue result ↔ self.now.policy ≡ other.now.policy }
     {
         self.revision.is_same(&other.revision)
     }
 
-    /// What decides over the records of a message of this observation domain, for these subscriptions, which were given nothing yet:
-    /// what decided over a message before, where that was of this domain too and for the same ones, and ended with records of the
-    /// template with which this one begins.
+    /// What decides over the records of a message of the Observation Domain `domain` for each of the subscriptions
+    /// `served`, which were given nothing yet. Where some are kept that decided for this domain and these
+    /// subscriptions, and whose last records had the template with which `runs`, the records of the message, begin, it
+    /// is these; else new ones, in memory from `alloc`.
     ///
     /// # Errors
     /// Want of memory.
@@ -132,7 +138,8 @@ impl InForce {
         }
     }
 
-    /// What decided over a message before, where it is for these.
+    /// Takes out what is kept and decided for the domain `domain` and the subscriptions `served`, last over records of
+    /// the template with which `runs` begin; or answers `None`.
     fn judges_again(&mut self, domain: u32, runs: &[Run], served: &[Served<'_>]) -> Option<Judges>
         ensures judges { IfSome result (λ judges. JudgesAny judges self.old domain served.now) }
         ensures shares { IfSome result (λ judges. judges.shares ≡ map blank served.now) }
@@ -142,7 +149,7 @@ impl InForce {
         Some(self.judges.remove(place))
     }
 
-    /// Keeps what decided over a message, for those to come, where there is memory.
+    /// Keeps `judges`, which decided over a message, for those to come, where there is memory for them.
     pub(crate) fn keep(&mut self, judges: Judges)
         requires { AreReady self.old.policy.rules judges }
         ensures { self.new ≡ self.old }
@@ -153,7 +160,8 @@ impl InForce {
         }
     }
 
-    /// What decides over records of this domain, for these subscriptions, made anew.
+    /// What decides over records of the domain `domain` for the subscriptions `served`, made anew in memory from
+    /// `alloc`.
     ///
     /// # Errors
     /// Want of memory.
@@ -174,21 +182,23 @@ impl InForce {
         Ok(judges)
     }
 
-    /// The time to which the clock was advanced, in milliseconds since 1970.
+    /// The time to which the clock was advanced, in milliseconds since 1970; 0 before the first advance.
     pub fn clock(&self) -> u64
         ensures { result ≡ self.now.clock }
     {
         self.clock
     }
 
-    /// Advances the clock.
+    /// Advances the clock to the time `t`, in milliseconds since 1970. The caller has seen to it that this is not
+    /// before the time of the clock.
     pub fn advance(&mut self, t: u64)
         ensures { self.new ≡ in_force_with self.old.policy t }
     {
         self.clock = t;
     }
 
-    /// Where a record counts in the aggregate at a place of the policy's list, or why it doesn't.
+    /// Where `flow_record` counts in the aggregate at `place` of the policy's list, counted from 0; or why it doesn't.
+    /// Where there is no such aggregate, it has no time.
     pub(crate) fn timing(&self, place: usize, flow_record: &Record) -> Timing
         ensures { result ≡ timing_by self.now place flow_record.now }
     {
@@ -198,7 +208,8 @@ impl InForce {
         }
     }
 
-    /// What it adds there, if it counts.
+    /// What `flow_record` adds to the aggregate at `place` of the policy's list, in memory from `alloc`; or `None`
+    /// where it doesn't count there.
     ///
     /// # Errors
     /// Want of memory.
@@ -220,9 +231,10 @@ impl InForce {
     }
 }
 
-/// Drops what is kept where it is as much as may be, of so many subscriptions each.
+/// Drops all of `kept` where it is as much as may be kept, if each of them judges for as many as `subscriptions`.
 fn make_room(kept: &mut Vec<Judges>, subscriptions: usize)
-    ensures { (rules : List Rule) → All (AreReady rules) kept.old.items → All (AreReady rules) kept.new.items }
+    ensures { (rules : List Rule) → All (AreReady rules) kept.old.items
+        → All (AreReady rules) kept.new.items }
 {
     if kept.len() >= MOST_KEPT || kept.len().saturating_mul(subscriptions) >= MOST_PLANS {
         kept.clear();

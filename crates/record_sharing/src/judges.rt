@@ -1,4 +1,4 @@
-//! What becomes of a message's records, for each subscription.
+//! What becomes of each record of a message, for each subscription.
 ghost use Rattle.std.specs.Prelude.{◌≡◌, ◌<◌, ◌++◌, ◌∷◌, [], ℕ, List, Some, None, true, map, length, slice_get, IfOk, IfSome, OnOk};
 ghost use Rattle.std.specs.Arc.{arc_value};
 ghost use Rattle.ipfix_template.specs.DataRecord.{DataRecord};
@@ -17,7 +17,7 @@ use std::alloc::{AllocError, Global};
 use std::marker::Model;
 use std::sync::Arc;
 
-/// What a policy discloses to a subscription, and what it was given so far.
+/// What a policy discloses to one subscription, and what that was given since it was last taken.
 #[derive(Drop)]
 pub(crate) struct Judge {
     /// The number of the subscription.
@@ -25,8 +25,8 @@ pub(crate) struct Judge {
     plans: Plans,
 }
 
-/// What a policy discloses of the records of an observation domain, to several subscriptions, and what each was given since that was
-/// taken. A subscription is named by its place among them.
+/// What a policy discloses of the records of one Observation Domain to several subscriptions, and what each was given
+/// since it was last taken. A subscription is named by its place among them, counted from 0.
 #[derive(Drop)]
 pub(crate) struct Judges {
     table: Arc<RuleTable>,
@@ -53,7 +53,8 @@ impl Model for Judges {
 impl Judges {
     ghost use Rattle.record_sharing.specs.Judges.{plans_for, of_template, AreFor, emptied};
 
-    /// By the rules of this table, and the classes that their prefixes make; for no subscription yet.
+    /// Judges by the rules of `table`, with `classes`, which the prefixes of these rules make, for records of the
+    /// Observation Domain `domain`; for no subscription yet. What comes to be worked out is in memory from `alloc`.
     pub(crate) fn new(
         alloc: Global,
         table: Arc<RuleTable>,
@@ -61,7 +62,14 @@ impl Judges {
         domain: u32,
     ) -> Judges
         requires { HaveCuts (arc_value classes) (arc_value table) }
-        ensures { result ≡ record { rules = arc_value table; cuts = arc_value classes; domain = domain; template = None; fors = []; shares = [] } }
+        ensures { result ≡ record {
+          rules = arc_value table;
+          cuts = arc_value classes;
+          domain = domain;
+          template = None;
+          fors = [];
+          shares = [];
+        } }
     {
         Judges {
             table,
@@ -72,12 +80,17 @@ impl Judges {
         }
     }
 
-    /// One subscription more, with this number, of a subscriber of this name.
+    /// Adds a subscription with the number `sub` and the subscriber's `name`, behind the others, with plans in memory
+    /// from `alloc`.
     ///
     /// # Errors
     /// Want of memory.
     pub(crate) fn add(&mut self, alloc: Global, sub: u64, name: &str) -> Result<(), AllocError>
-        ensures { OnOk result (self.new ≡ record self.old { fors = self.old.fors ++ plans_for self.old.rules self.old.cuts self.old.domain None name.now ∷ []; shares = self.old.shares ++ (sub, []) ∷ [] }) }
+        ensures { OnOk result (self.new ≡ record self.old {
+          fors = self.old.fors
+              ++ plans_for self.old.rules self.old.cuts self.old.domain None name.now ∷ [];
+          shares = self.old.shares ++ (sub, []) ∷ [];
+        }) }
     {
         let (table, classes) = (self.table.clone()?, self.classes.classes().clone()?);
         let plans = Plans::new(alloc, table, classes, name, self.domain)?;
@@ -85,7 +98,8 @@ impl Judges {
         Ok(())
     }
 
-    /// Begins with records of this template.
+    /// Makes ready for records of the template `template`. Where the addresses of such records stand is worked out in
+    /// memory from `alloc`, unless the records before were of this template too.
     ///
     /// # Errors
     /// Want of memory.
@@ -94,7 +108,10 @@ impl Judges {
         alloc: Global,
         template: &Arc<Template>,
     ) -> Result<(), AllocError>
-        ensures { OnOk result (self.new ≡ record self.old { template = Some (arc_value template.now); fors = map (of_template (arc_value template.now)) self.old.fors }) }
+        ensures { OnOk result (self.new ≡ record self.old {
+          template = Some (arc_value template.now);
+          fors = map (of_template (arc_value template.now)) self.old.fors;
+        }) }
     {
         if !self.is_for(template) {
             self.places = Some(AddressPlaces::of(alloc, template.clone()?)?);
@@ -102,7 +119,7 @@ impl Judges {
         begin_each(&mut self.judges, template)
     }
 
-    /// Whether records of this template come already.
+    /// Whether they are ready for records of the template `template`.
     fn is_for(&self, template: &Template) -> bool
         ensures { result ≡ true → self.now.template ≡ Some template.now }
     {
@@ -112,7 +129,7 @@ impl Judges {
         }
     }
 
-    /// The classes of a record's addresses.
+    /// The classes of the addresses of `flow_record`, for whose template they are ready.
     pub(crate) fn classes_of(&mut self, flow_record: &RecordView<'_>) -> Option<RecordClasses>
         requires { self.old.template ≡ Some flow_record.now.template }
         ensures value { result ≡ classes_of self.old.cuts flow_record.now }
@@ -124,8 +141,8 @@ impl Judges {
         }
     }
 
-    /// Judges a record, of whose addresses these are the classes, for the subscription at a place: gives what passes, and says what
-    /// became of it.
+    /// Judges `flow_record`, of whose addresses `classes` are the classes, for the subscription at `place`, which there
+    /// is. It gives the subscription what passes, in memory from `alloc`, and answers what became of the record.
     ///
     /// # Errors
     /// Want of memory.
@@ -137,12 +154,18 @@ impl Judges {
         flow_record: &RecordView<'_>,
     ) -> Result<Decision, AllocError>
         requires there { place < length self.old.fors }
-        requires template { (p : PlansFor) → slice_get self.old.fors place ≡ Some p → p.template ≡ Some flow_record.now.template }
-        requires cuts { (p : PlansFor) → slice_get self.old.fors place ≡ Some p → p.cuts ≡ self.old.cuts }
+        requires template { (p : PlansFor) → slice_get self.old.fors place ≡ Some p
+            → p.template ≡ Some flow_record.now.template }
+        requires cuts { (p : PlansFor) → slice_get self.old.fors place ≡ Some p
+            → p.cuts ≡ self.old.cuts }
         requires classes { classes ≡ classes_of self.old.cuts flow_record.now }
-        ensures decision { (p : PlansFor) → slice_get self.old.fors place ≡ Some p → IfOk result (λ d. d ≡ decision_of (outcome_for p flow_record.now)) }
-        ensures given { (p : PlansFor) (before after : List (ℕ × List DataRecord)) (s : ℕ × List DataRecord) → slice_get self.old.fors place ≡ Some p → self.old.shares ≡ before ++ s ∷ after → length before ≡ place
-            → OnOk result (self.new.shares ≡ before ++ (s.0, s.1 ++ passed (outcome_for p flow_record.now)) ∷ after) }
+        ensures decision { (p : PlansFor) → slice_get self.old.fors place ≡ Some p
+            → IfOk result (λ d. d ≡ decision_of (outcome_for p flow_record.now)) }
+        ensures given { (p : PlansFor) (before after : List (ℕ × List DataRecord))
+            (s : ℕ × List DataRecord) → slice_get self.old.fors place ≡ Some p
+            → self.old.shares ≡ before ++ s ∷ after
+            → length before ≡ place → OnOk result (self.new.shares
+            ≡ before ++ (s.0, s.1 ++ passed (outcome_for p flow_record.now)) ∷ after) }
         ensures fors { self.new.fors ≡ self.old.fors }
         ensures template { self.new.template ≡ self.old.template }
         ensures cuts { self.new.cuts ≡ self.old.cuts }
@@ -153,12 +176,12 @@ impl Judges {
             .disclose(alloc, classes, flow_record)
     }
 
-    /// How many subscriptions they judge for.
+    /// For how many subscriptions they judge.
     pub(crate) fn len(&self) -> usize {
         self.judges.len()
     }
 
-    /// Whether a message with these runs begins with records of the template that came last.
+    /// Whether a message with these `runs` has no record, or begins with one of the template for which they are ready.
     fn expect(&self, runs: &[Run]) -> bool {
         match runs.first() {
             Some(run) => self.is_for(run.template()),
@@ -166,20 +189,22 @@ impl Judges {
         }
     }
 
-    /// Whether they judge the records of this domain, for these subscriptions.
+    /// Whether they judge the records of the Observation Domain `domain`, for the subscriptions `served`: these numbers
+    /// and names, in this order.
     pub(crate) fn are_for(&self, domain: u32, served: &[Served<'_>]) -> bool
         ensures { result ≡ true → AreFor self.now domain served.now }
     {
         are_for(&self.judges, domain, served)
     }
 
-    /// Takes what each was given, in their order.
+    /// Takes what each subscription was given, in their order. The list is in memory from `alloc`.
     ///
     /// # Errors
     /// Want of memory.
     pub(crate) fn take_shares(&mut self, alloc: Global) -> Result<Vec<Share>, AllocError>
         ensures shares { IfOk result (λ shares. map shown shares.items ≡ self.old.shares) }
-        ensures taken { OnOk result (self.new ≡ record self.old { shares = map emptied self.old.shares }) }
+        ensures taken { OnOk result
+            (self.new ≡ record self.old { shares = map emptied self.old.shares }) }
     {
         take_shares(alloc, &mut self.judges)
     }
@@ -187,7 +212,8 @@ impl Judges {
 
 ghost use Rattle.record_sharing.specs.Judges.{Judges as JudgesOf, AreFor, for_of, given_to, of_template, is_of, whose, emptied};
 
-/// The place of those that judge the records of a domain, for these subscriptions, and expect a message with these runs.
+/// The place in `kept` of the first that judge the records of the Observation Domain `domain` for the subscriptions
+/// `served`, and are ready for a message with these `runs`; or `None`.
 pub(crate) fn place_for(
     kept: &[Judges],
     domain: u32,
@@ -195,7 +221,8 @@ pub(crate) fn place_for(
     served: &[Served<'_>],
 ) -> Option<usize>
     ensures within { IfSome result (λ place. place < length kept.now) }
-    ensures found { IfSome result (λ place. (judges : JudgesOf) → slice_get kept.now place ≡ Some judges → AreFor judges domain served.now) }
+    ensures found { IfSome result (λ place. (judges : JudgesOf)
+        → slice_get kept.now place ≡ Some judges → AreFor judges domain served.now) }
 {
     'kept: for place in 0..kept.len() {
         if kept[place].are_for(domain, served) && kept[place].expect(runs) {
@@ -205,12 +232,13 @@ pub(crate) fn place_for(
     None
 }
 
-/// Begins with records of this template, for each.
+/// Makes each of `judges` ready for records of the template `template`.
 ///
 /// # Errors
 /// Want of memory.
 fn begin_each(judges: &mut Vec<Judge>, template: &Arc<Template>) -> Result<(), AllocError>
-    ensures fors { OnOk result (map for_of judges.new.items ≡ map (of_template (arc_value template.now)) (map for_of judges.old.items)) }
+    ensures fors { OnOk result (map for_of judges.new.items
+        ≡ map (of_template (arc_value template.now)) (map for_of judges.old.items)) }
     ensures shares { OnOk result (map given_to judges.new.items ≡ map given_to judges.old.items) }
 {
     'judges: for place in 0..judges.len() {
@@ -219,14 +247,16 @@ fn begin_each(judges: &mut Vec<Judge>, template: &Arc<Template>) -> Result<(), A
     Ok(())
 }
 
-/// Takes what each was given, in their order.
+/// Takes what each of `judges` was given, in their order. The list is in memory from `alloc`.
 ///
 /// # Errors
 /// Want of memory.
 fn take_shares(alloc: Global, judges: &mut Vec<Judge>) -> Result<Vec<Share>, AllocError>
-    ensures shares { IfOk result (λ shares. map shown shares.items ≡ map given_to judges.old.items) }
+    ensures shares { IfOk result (λ shares.
+        map shown shares.items ≡ map given_to judges.old.items) }
     ensures fors { OnOk result (map for_of judges.new.items ≡ map for_of judges.old.items) }
-    ensures taken { OnOk result (map given_to judges.new.items ≡ map emptied (map given_to judges.old.items)) }
+    ensures taken { OnOk result (map given_to judges.new.items
+        ≡ map emptied (map given_to judges.old.items)) }
 {
     let mut shares = Vec::new(alloc);
     'judges: for place in 0..judges.len() {
@@ -236,10 +266,13 @@ fn take_shares(alloc: Global, judges: &mut Vec<Judge>) -> Result<Vec<Share>, All
     Ok(shares)
 }
 
-/// Whether these judge the records of a domain, for these subscriptions.
+/// Whether `judges` judge the records of the Observation Domain `domain`, for the subscriptions `served`: these numbers
+/// and names, in this order.
 fn are_for(judges: &[Judge], domain: u32, served: &[Served<'_>]) -> bool
-    ensures whose { result ≡ true → map whose (map for_of judges.now) ≡ map (λ who. (domain, who.name.now)) served.now }
-    ensures subs { result ≡ true → map (λ s. s.0) (map given_to judges.now) ≡ map (λ who. who.sub) served.now }
+    ensures whose { result ≡ true
+        → map whose (map for_of judges.now) ≡ map (λ who. (domain, who.name.now)) served.now }
+    ensures subs { result ≡ true
+        → map (λ s. s.0) (map given_to judges.now) ≡ map (λ who. who.sub) served.now }
 {
     if judges.len() != served.len() {
         return false;
@@ -254,7 +287,8 @@ fn are_for(judges: &[Judge], domain: u32, served: &[Served<'_>]) -> bool
 }
 
 impl Judge {
-    /// Whether it judges the records of a domain, for a subscription with this number and this subscriber.
+    /// Whether it judges the records of the Observation Domain `domain`, for the subscription with the number `sub` and
+    /// the subscriber's `name`.
     fn is_of(&self, sub: u64, domain: u32, name: &str) -> bool
         ensures { result ≡ is_of sub domain name.now self.now }
     {
@@ -263,7 +297,7 @@ impl Judge {
             && self.plans.name().as_bytes() == name.as_bytes()
     }
 
-    /// Takes what it was given.
+    /// Takes what the subscription was given.
     ///
     /// # Errors
     /// Want of memory.

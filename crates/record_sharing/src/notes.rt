@@ -1,4 +1,4 @@
-//! What the audit notes of a message.
+//! What the audit is to note of a message: as much of it as an audit may hold, and the number of all.
 ghost use Rattle.std.specs.Prelude.{◌≡◌, ◌<◌, ◌^◌, ◌∷◌, [], OnOk};
 ghost use Rattle.record_sharing.specs.Noting.{kept_of, and_more};
 
@@ -6,11 +6,11 @@ use disclosure_audit::Note;
 use std::alloc::{AllocError, Global};
 use std::marker::Model;
 
-/// How many notes can be counted.
+/// How many notes can be counted. No memory holds as many.
 const MOST_COUNTED: u64 = 1 << 62;
 
-/// The notes of a message, in their order. So many at most are kept, as an audit may hold, and all are counted: so a message that
-/// keeps back more than the audit has room for takes no more memory than that.
+/// The notes of a message, in their order. At most as many are kept as an audit may hold, the first ones, and all are
+/// counted. So a message of which the audit has more to note than it has room for takes no more memory than that.
 #[derive(Drop)]
 pub struct Notes {
     kept: Vec<Note>,
@@ -30,7 +30,7 @@ impl Model for Notes {
 }
 
 impl Notes {
-    /// No note, and so many may be kept.
+    /// No note; of those to come at most `most` are kept, in memory from `alloc`.
     pub(crate) fn new(alloc: Global, most: u64) -> Notes
         ensures { result ≡ kept_of most [] }
     {
@@ -41,7 +41,7 @@ impl Notes {
         }
     }
 
-    /// How many there are, with those that weren't kept.
+    /// How many notes there are, with those that weren't kept.
     pub fn count(&self) -> u64
         ensures value { result ≡ self.now.count }
         ensures few { result < 2 ^ 63 }
@@ -49,14 +49,14 @@ impl Notes {
         self.count
     }
 
-    /// Those that were kept, lent.
+    /// The notes that were kept, in their order, lent.
     pub fn as_slice(&self) -> &[Note]
         ensures { result.now ≡ self.now.notes }
     {
         self.kept.as_slice()
     }
 
-    /// Those that were kept.
+    /// The notes that were kept, in their order.
     pub fn into_kept(self) -> Vec<Note>
         ensures kept { result.items ≡ self.notes }
         ensures few { self.count < 2 ^ 63 }
@@ -69,7 +69,7 @@ impl Notes {
         kept
     }
 
-    /// Makes room in memory for so many more, as far as they may be kept.
+    /// Makes room in memory for `more` further notes, as far as they may be kept.
     ///
     /// # Errors
     /// Want of memory.
@@ -80,7 +80,7 @@ impl Notes {
         self.kept.reserve((more as u64).min(room) as usize)
     }
 
-    /// Adds a note, which is kept where it may be.
+    /// Adds `note` behind the others. It is kept where it may be, and counted in any case.
     ///
     /// # Errors
     /// Want of memory; or there are 2^62 notes, which no memory holds.

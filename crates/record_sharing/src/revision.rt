@@ -1,4 +1,4 @@
-//! A policy, with what is worked out of it once.
+//! A policy, with what is worked out of it once, for all messages that it judges.
 ghost use Rattle.std.specs.Prelude.{◌≡◌, ◌↔◌, true, IsTrue, IfOk};
 ghost use Rattle.std.specs.Prelude.{List, map};
 ghost use Rattle.std.specs.List.{AllByRecursion};
@@ -14,8 +14,8 @@ use std::alloc::{AllocError, Global};
 use std::marker::Model;
 use std::sync::Arc;
 
-/// A policy, with its text, its rules in a table, the classes that their prefixes make, and its aggregates as groups share them.
-/// Threads share it. Contracts see the policy.
+/// A policy, with its printed text, its rules in a table, the classes that their prefixes make, and its aggregates as
+/// groups share them. Threads share it. Contracts see the policy.
 pub(crate) struct Revision {
     policy: Policy,
     /// The policy's printed text: two policies are the same where their texts are.
@@ -49,13 +49,16 @@ impl Model for Revision {
 
     ghost view = { λ r. r.policy };
 
-    ghost invariant = { λ r. IsKept r.policy (string_bytes r.text) (arc_value r.table) (arc_value r.classes) r.definitions.items };
+    ghost invariant = { λ r. IsKept r.policy (string_bytes r.text) (arc_value r.table)
+        (arc_value r.classes) r.definitions.items };
 }
 
 impl Revision {
     ghost use Rattle.std.specs.Prelude.{slice_get};
     ghost use Rattle.std.specs.Option.{option_copied};
 
+    /// The policy `policy`, with what is worked out of it, in memory from `alloc`.
+    ///
     /// # Errors
     /// Want of memory.
     pub(crate) fn of(alloc: Global, policy: Policy) -> Result<Revision, AllocError>
@@ -76,14 +79,14 @@ impl Revision {
         })
     }
 
-    /// Whether the policies are the same: their texts are compared.
+    /// Whether the policy is that of `other`. Their printed texts are compared.
     pub(crate) fn is_same(&self, other: &Revision) -> bool
         ensures { IsTrue result ↔ self.now ≡ other.now }
     {
         self.text.as_bytes() == other.text.as_bytes()
     }
 
-    /// The rules as a table, and the classes that their prefixes make.
+    /// The rules as a table, and the classes that their prefixes make, shared.
     ///
     /// # Errors
     /// Want of memory.
@@ -94,14 +97,14 @@ impl Revision {
         Ok((self.table.clone()?, self.classes.clone()?))
     }
 
-    /// The aggregate at a place of the policy's list.
+    /// The aggregate at `place` of the policy's list, counted from 0, or `None` past the last one.
     pub(crate) fn aggregate(&self, place: usize) -> Option<&AggregateDef>
         ensures { option_copied result ≡ slice_get self.now.aggregates place }
     {
         self.policy.aggregates().get(place)
     }
 
-    /// The same, as groups share it.
+    /// The aggregate at `place` of the policy's list, as groups share it, or `None` past the last one.
     pub(crate) fn definition(&self, place: usize) -> Option<&Definition>
         ensures { option_copied result ≡ slice_get self.now.aggregates place }
     {
@@ -109,8 +112,13 @@ impl Revision {
     }
 }
 
+/// The definitions `aggregates`, as groups share them, in memory from `alloc`.
+///
+/// # Errors
+/// Want of memory.
 fn definitions_of(alloc: Global, aggregates: &[AggregateDef]) -> Result<Vec<Definition>, AllocError>
-    requires { AllByRecursion (λ a. AllByRecursion (λ e. is_key_kind (kind_of e) ≡ true) a.key) aggregates.now }
+    requires { AllByRecursion (λ a. AllByRecursion (λ e. is_key_kind (kind_of e) ≡ true) a.key)
+        aggregates.now }
     ensures { IfOk result (λ v. v.items ≡ aggregates.now) }
 {
     let mut definitions = Vec::new(alloc);

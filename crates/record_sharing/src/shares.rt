@@ -1,4 +1,4 @@
-//! What each subscription is given of one message, and what is kept back from it.
+//! What each subscription is given of one message, what counts in its aggregates, and what the audit notes of it.
 ghost use Rattle.std.specs.Prelude.{◌≡◌, ◌++◌, ◌∷◌, ◌≤◌, ◌<◌, ◌+◌, ◌^◌, ℕ, List, [], Some, None, length, map, IfOk, OnOk};
 ghost use Rattle.std.specs.List.{flat_map, enumerate_from};
 ghost use Rattle.ipfix_template.specs.DataRecord.{DataRecord};
@@ -23,20 +23,22 @@ use ipfix_template::RecordView;
 use mediator_tables::{Served, Share, Tally};
 use std::alloc::{AllocError, Global};
 
-/// What a message gives to the subscriptions that are served.
+/// What one message gives to the subscriptions that are served, and what it leaves for the audit.
 #[derive(Drop)]
 pub struct Shares {
-    /// A share for each subscription, in their order.
+    /// What each subscription is given, in their order.
     pub shares: Vec<Share>,
-    /// What is added to the aggregates of each, in the same order.
+    /// What is added to the aggregates of each subscription, in their order.
     pub tallies: Vec<Tally>,
-    /// What is kept back, by record and then by subscription.
+    /// What is kept back, or counts, by record and then by subscription.
     pub notes: Notes,
 }
 
 impl Shares {
-    /// Judges the records of one message, of this Observation Domain, for each subscription, by what is in force. So many notes at
-    /// most are kept.
+    /// Judges `records`, which are those of one message of the Observation Domain `domain`, at most 2^32, for each of
+    /// the subscriptions `served`, by what `in_force` says. At most `most` notes are kept. What is disclosed of the
+    /// records is in memory from `alloc`. The policy and the time of `in_force` stay; what is worked out serves later
+    /// messages.
     ///
     /// # Errors
     /// Want of memory.
@@ -49,9 +51,12 @@ impl Shares {
         most: u64,
     ) -> Result<Shares, AllocError>
         requires few { length records.now ≤ 2 ^ 32 }
-        ensures shares { IfOk result (λ s. map shown s.shares.items ≡ shares_of domain in_force.old records.now served.now) }
-        ensures tallies { IfOk result (λ s. map tallied s.tallies.items ≡ tallies_of domain in_force.old records.now served.now) }
-        ensures notes { IfOk result (λ s. s.notes ≡ kept_of most (notes_of domain in_force.old records.now served.now)) }
+        ensures shares { IfOk result (λ s.
+            map shown s.shares.items ≡ shares_of domain in_force.old records.now served.now) }
+        ensures tallies { IfOk result (λ s.
+            map tallied s.tallies.items ≡ tallies_of domain in_force.old records.now served.now) }
+        ensures notes { IfOk result (λ s.
+            s.notes ≡ kept_of most (notes_of domain in_force.old records.now served.now)) }
         ensures stay { in_force.new ≡ in_force.old }
     {
         let mut judges = in_force.judges(alloc, domain, records.runs(), served)?;
@@ -76,7 +81,11 @@ pub(crate) struct Sums {
 }
 
 impl Sums {
-    /// Of no record, with so many notes at most to be kept.
+    /// That of no record, for each of the subscriptions `served`, with at most `most` notes to be kept, in memory from
+    /// `alloc`.
+    ///
+    /// # Errors
+    /// Want of memory.
     fn of_none(alloc: Global, served: &[Served<'_>], most: u64) -> Result<Sums, AllocError>
         ensures tallies { IfOk result (λ s. map tallied s.tallies.items ≡ map blank served.now) }
         ensures notes { IfOk result (λ s. s.notes ≡ kept_of most []) }
@@ -94,7 +103,12 @@ impl Sums {
         })
     }
 
-    /// Judges the records of runs, one run after another, for each subscription.
+    /// Judges the records of `runs`, one run after another, for each of the subscriptions `served`: `judges` say what
+    /// is disclosed of a record of the Observation Domain `domain`, and are given what passes; `in_force` says where it
+    /// counts. What is worked out is in memory from `alloc`.
+    ///
+    /// # Errors
+    /// Want of memory.
     fn add_runs(
         &mut self,
         alloc: Global,
@@ -108,9 +122,12 @@ impl Sums {
         requires judges { JudgesAny judges.old in_force.now domain served.now }
         requires blank { judges.old.shares ≡ map blank served.now }
         requires blank_tallies { map tallied self.old.tallies.items ≡ map blank served.now }
-        ensures shares { OnOk result (judges.new.shares ≡ shares_of domain in_force.now (records_in runs.now) served.now) }
-        ensures tallies { OnOk result (map tallied self.new.tallies.items ≡ tallies_of domain in_force.now (records_in runs.now) served.now) }
-        ensures notes { OnOk result (self.new.notes ≡ and_more self.old.notes (notes_of domain in_force.now (records_in runs.now) served.now)) }
+        ensures shares { OnOk result (judges.new.shares
+            ≡ shares_of domain in_force.now (records_in runs.now) served.now) }
+        ensures tallies { OnOk result (map tallied self.new.tallies.items
+            ≡ tallies_of domain in_force.now (records_in runs.now) served.now) }
+        ensures notes { OnOk result (self.new.notes ≡ and_more self.old.notes
+            (notes_of domain in_force.now (records_in runs.now) served.now)) }
         ensures judges { OnOk result (JudgesAny judges.new in_force.now domain served.now) }
     {
         let mut before = 0;
@@ -121,7 +138,11 @@ impl Sums {
         Ok(())
     }
 
-    /// Judges the records of a run, before which there are so many, for each subscription.
+    /// Judges the records of `run`, before which the message has `before` records, for each of the subscriptions
+    /// `served`, as [`add_runs`](Sums::add_runs) does.
+    ///
+    /// # Errors
+    /// Want of memory.
     fn add_run(
         &mut self,
         alloc: Global,
@@ -136,11 +157,17 @@ impl Sums {
         requires judges { JudgesAny judges.old in_force.now domain served.now }
         requires each { length judges.old.shares ≡ length served.now }
         requires each_tally { length self.old.tallies.items ≡ length served.now }
-        ensures shares { (done : List DataRecord) → judges.old.shares ≡ shares_of domain in_force.now done served.now
-            → OnOk result (judges.new.shares ≡ shares_of domain in_force.now (done ++ records_of run.now) served.now) }
-        ensures tallies { (done : List DataRecord) → map tallied self.old.tallies.items ≡ tallies_of domain in_force.now done served.now
-            → OnOk result (map tallied self.new.tallies.items ≡ tallies_of domain in_force.now (done ++ records_of run.now) served.now) }
-        ensures notes { OnOk result (self.new.notes ≡ and_more self.old.notes (flat_map (noted_of_each domain in_force.now served.now) (enumerate_from before (records_of run.now)))) }
+        ensures shares { (done : List DataRecord)
+            → judges.old.shares ≡ shares_of domain in_force.now done served.now
+            → OnOk result (judges.new.shares
+            ≡ shares_of domain in_force.now (done ++ records_of run.now) served.now) }
+        ensures tallies { (done : List DataRecord)
+            → map tallied self.old.tallies.items ≡ tallies_of domain in_force.now done served.now
+            → OnOk result (map tallied self.new.tallies.items
+            ≡ tallies_of domain in_force.now (done ++ records_of run.now) served.now) }
+        ensures notes { OnOk result (self.new.notes
+            ≡ and_more self.old.notes (flat_map (noted_of_each domain in_force.now served.now)
+            (enumerate_from before (records_of run.now)))) }
         ensures judges { OnOk result (JudgesAny judges.new in_force.now domain served.now) }
         ensures stay { OnOk result (length judges.new.shares ≡ length served.now) }
         ensures stay_tallies { OnOk result (length self.new.tallies.items ≡ length served.now) }
@@ -155,7 +182,11 @@ impl Sums {
         Ok(())
     }
 
-    /// Judges one record more, with this index, for each subscription.
+    /// Judges the record `flow_record`, which stands at `index` in its message, counted from 0, for each of the
+    /// subscriptions `served`, as [`add_runs`](Sums::add_runs) does.
+    ///
+    /// # Errors
+    /// Want of memory.
     fn add_record(
         &mut self,
         alloc: Global,
@@ -166,17 +197,24 @@ impl Sums {
         flow_record: &RecordView<'_>,
         served: &[Served<'_>],
     ) -> Result<(), AllocError>
-        requires judges { JudgeFor judges.old in_force.now domain (Some flow_record.now.template) served.now }
+        requires judges { JudgeFor judges.old in_force.now domain
+            (Some flow_record.now.template) served.now }
         requires each { length judges.old.shares ≡ length served.now }
         requires each_tally { length self.old.tallies.items ≡ length served.now }
-        ensures shares { (done : List DataRecord) → judges.old.shares ≡ shares_of domain in_force.now done served.now
-            → OnOk result (judges.new.shares ≡ shares_of domain in_force.now (done ++ flow_record.now ∷ []) served.now) }
-        ensures tallies { (done : List DataRecord) → map tallied self.old.tallies.items ≡ tallies_of domain in_force.now done served.now
-            → OnOk result (map tallied self.new.tallies.items ≡ tallies_of domain in_force.now (done ++ flow_record.now ∷ []) served.now) }
-        ensures judges { OnOk result (JudgeFor judges.new in_force.now domain (Some flow_record.now.template) served.now) }
+        ensures shares { (done : List DataRecord)
+            → judges.old.shares ≡ shares_of domain in_force.now done served.now
+            → OnOk result (judges.new.shares
+            ≡ shares_of domain in_force.now (done ++ flow_record.now ∷ []) served.now) }
+        ensures tallies { (done : List DataRecord)
+            → map tallied self.old.tallies.items ≡ tallies_of domain in_force.now done served.now
+            → OnOk result (map tallied self.new.tallies.items
+            ≡ tallies_of domain in_force.now (done ++ flow_record.now ∷ []) served.now) }
+        ensures judges { OnOk result (JudgeFor judges.new in_force.now domain
+            (Some flow_record.now.template) served.now) }
         ensures stay { OnOk result (length judges.new.shares ≡ length served.now) }
         ensures stay_tallies { OnOk result (length self.new.tallies.items ≡ length served.now) }
-        ensures notes { OnOk result (self.new.notes ≡ and_more self.old.notes (noted_of_each domain in_force.now served.now (index, flow_record.now))) }
+        ensures notes { OnOk result (self.new.notes ≡ and_more self.old.notes
+            (noted_of_each domain in_force.now served.now (index, flow_record.now))) }
     {
         let classes = judges.classes_of(flow_record);
         'served: for (place, who) in served.iter().enumerate() {
@@ -186,7 +224,12 @@ impl Sums {
         Ok(())
     }
 
-    /// Adds what became of the record with this index for the subscription at a place.
+    /// Adds what became of the record `flow_record`, which stands at `index` in its message, for the subscription with
+    /// the number `sub`, at `place` among those served. `found` is what the rules decided, and `in_force` says where
+    /// the record counts.
+    ///
+    /// # Errors
+    /// Want of memory.
     fn add(
         &mut self,
         alloc: Global,
@@ -198,10 +241,18 @@ impl Sums {
         found: Decision,
     ) -> Result<(), AllocError>
         requires within { place < length self.old.tallies.items }
-        ensures tallies { (before after : List (ℕ × List OneCount)) (s : ℕ × List OneCount) → map tallied self.old.tallies.items ≡ before ++ s ∷ after → length before ≡ place
-            → OnOk result (map tallied self.new.tallies.items ≡ before ++ (s.0, s.1 ++ map count_of (counts_by in_force.now.policy.aggregates in_force.now.clock flow_record.now found)) ∷ after) }
+        ensures tallies { (before after : List (ℕ × List OneCount)) (s : ℕ × List OneCount)
+            → map tallied self.old.tallies.items ≡ before ++ s ∷ after → length before ≡ place
+            → OnOk result (map tallied self.new.tallies.items ≡ before ++ (
+              s.0,
+              s.1 ++ map count_of (counts_by in_force.now.policy.aggregates
+                  in_force.now.clock flow_record.now found),
+            ) ∷ after) }
         ensures stay { OnOk result (length self.new.tallies.items ≡ length self.old.tallies.items) }
-        ensures notes { OnOk result (self.new.notes ≡ and_more self.old.notes (map (note_of index sub) (kept_back_by in_force.now.policy.aggregates in_force.now.clock flow_record.now found))) }
+        ensures notes { OnOk result (self.new.notes
+            ≡ and_more self.old.notes (map (note_of index sub)
+            (kept_back_by in_force.now.policy.aggregates in_force.now.clock
+            flow_record.now found))) }
     {
         match found {
             Decision::Passed { removed } => self.note_removed(index, sub, removed),
@@ -221,11 +272,16 @@ impl Sums {
         }
     }
 
-    /// Adds what counts to the aggregates of the subscription at a place.
+    /// Adds `count` to what counts in aggregates of the subscription at `place`.
+    ///
+    /// # Errors
+    /// Want of memory.
     fn tally(&mut self, place: usize, count: Count) -> Result<(), AllocError>
         requires within { place < length self.old.tallies.items }
-        ensures tallies { (before after : List (ℕ × List OneCount)) (s : ℕ × List OneCount) → map tallied self.old.tallies.items ≡ before ++ s ∷ after → length before ≡ place
-            → OnOk result (map tallied self.new.tallies.items ≡ before ++ (s.0, s.1 ++ count ∷ []) ∷ after) }
+        ensures tallies { (before after : List (ℕ × List OneCount)) (s : ℕ × List OneCount)
+            → map tallied self.old.tallies.items ≡ before ++ s ∷ after
+            → length before ≡ place → OnOk result (map tallied self.new.tallies.items
+            ≡ before ++ (s.0, s.1 ++ count ∷ []) ∷ after) }
         ensures stay { OnOk result (length self.new.tallies.items ≡ length self.old.tallies.items) }
         ensures notes { self.new.notes ≡ self.old.notes }
     {
@@ -233,14 +289,19 @@ impl Sums {
         Ok(())
     }
 
-    /// Notes the fields that a record loses, where there are some.
+    /// Notes the fields `removed` that the record at `index` loses for the subscription with the number `sub`, where
+    /// there are some.
+    ///
+    /// # Errors
+    /// Want of memory.
     fn note_removed(
         &mut self,
         index: u32,
         sub: u64,
         removed: RemovedFields,
     ) -> Result<(), AllocError>
-        ensures notes { OnOk result (self.new.notes ≡ and_more self.old.notes (map (note_of index sub) (removed_of removed))) }
+        ensures notes { OnOk result (self.new.notes
+            ≡ and_more self.old.notes (map (note_of index sub) (removed_of removed))) }
         ensures tallies { self.new.tallies ≡ self.old.tallies }
     {
         if removed.is_empty() {
@@ -249,15 +310,20 @@ impl Sums {
         self.note(index, sub, What::Removed { fields: removed })
     }
 
+    /// Notes that `what` became of the record at `index` for the subscription with the number `sub`.
+    ///
+    /// # Errors
+    /// Want of memory.
     fn note(&mut self, index: u32, sub: u64, what: What) -> Result<(), AllocError>
-        ensures notes { OnOk result (self.new.notes ≡ and_more self.old.notes (note_of index sub what ∷ [])) }
+        ensures notes { OnOk result (self.new.notes
+            ≡ and_more self.old.notes (note_of index sub what ∷ [])) }
         ensures tallies { self.new.tallies ≡ self.old.tallies }
     {
         self.notes.push(Note { index, sub, what })
     }
 }
 
-/// The audit's word for a reason.
+/// The audit's word for `reason`, for which a record is withheld by the rules.
 fn named(reason: flow_anonymize::Reason) -> disclosure_audit::Reason
     ensures { result ≡ reason_named reason }
 {
@@ -268,7 +334,8 @@ fn named(reason: flow_anonymize::Reason) -> disclosure_audit::Reason
     }
 }
 
-/// What the audit says of a record that an aggregate rule names.
+/// What the audit says of a record that the aggregate rule with the number `rule` names, where `timing` is what became
+/// of it.
 fn told(rule: u32, timing: Timing) -> What
     ensures { result ≡ told_of rule timing }
 {

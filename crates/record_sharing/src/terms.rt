@@ -1,4 +1,4 @@
-//! What decides over a message's records for all that are served.
+//! The terms on which records are judged for all that are served, as they stood at one moment.
 ghost use Rattle.std.specs.Prelude.{◌≡◌, ◌↔◌, IsTrue, IfOk, map, length};
 ghost use Rattle.mediator_tables.specs.SubscriptionTable.{told};
 ghost use Rattle.record_sharing.specs.Terms.{terms_of, owned};
@@ -8,15 +8,16 @@ use mediator_tables::Served;
 use std::alloc::{AllocError, Global};
 use std::marker::Model;
 
-/// The terms on which records are shared: the policy in force, the time of the clock, the subscriptions that are served, and how many
-/// notes may be kept, as they stood when it was made. Threads can judge by it while the mediator goes its own way.
+/// The terms on which records are shared: the policy in force, the time of the clock, the subscriptions that are
+/// served, and how many notes may be kept of a message, as they stood when this was made. Threads can judge by it while
+/// the mediator goes its own way.
 pub struct Terms {
     pub(crate) in_force: InForce,
     served: Vec<Subscriber>,
     most: u64,
 }
 
-/// A subscription that is served.
+/// A subscription that is served, with a copy of its subscriber's name.
 #[derive(Drop)]
 pub(crate) struct Subscriber {
     pub(crate) sub: u64,
@@ -44,7 +45,8 @@ impl Model for Terms {
 }
 
 impl Terms {
-    /// What is in force, these subscriptions, and so many notes at most.
+    /// The terms of what `in_force` says, for the subscriptions `served`, with at most `most` notes kept of a message.
+    /// The policy is shared, and the names are copied to memory from `alloc`.
     ///
     /// # Errors
     /// Want of memory.
@@ -70,8 +72,8 @@ impl Terms {
         })
     }
 
-    /// Whether these are the terms of what is in force, these subscriptions, and so many notes at most. All is compared, so terms of
-    /// another mediator are told apart too.
+    /// Whether these are the terms of what `in_force` says, for the subscriptions `served`, with at most `most` notes
+    /// kept of a message. All of it is compared, so the terms of another mediator are told apart too.
     pub fn are(&self, in_force: &InForce, served: &[Served<'_>], most: u64) -> bool
         ensures { IsTrue result ↔ self.now ≡ terms_of in_force.now served.now most }
     {
@@ -88,7 +90,7 @@ impl Terms {
         self.most
     }
 
-    /// The subscriptions.
+    /// The subscriptions that are served, in their order. The list is in memory from `alloc`.
     ///
     /// # Errors
     /// Want of memory.
@@ -99,7 +101,7 @@ impl Terms {
     }
 }
 
-/// Subscribers as they are lent.
+/// The subscriptions of `subscribers`, in their order. The list is in memory from `alloc`.
 ///
 /// # Errors
 /// Want of memory.
@@ -116,7 +118,7 @@ fn lent<'a>(alloc: Global, subscribers: &'a [Subscriber]) -> Result<Vec<Served<'
     Ok(served)
 }
 
-/// Whether these are the subscriptions, with these numbers and names, in this order.
+/// Whether `subscribers` have the numbers and names of the subscriptions `served`, in their order.
 fn are_those(subscribers: &[Subscriber], served: &[Served<'_>]) -> bool
     ensures { IsTrue result ↔ map owned subscribers.now ≡ map told served.now }
 {
@@ -132,7 +134,7 @@ fn are_those(subscribers: &[Subscriber], served: &[Served<'_>]) -> bool
 }
 
 impl Subscriber {
-    /// Whether it is this subscription.
+    /// Whether it has the number and the name of `who`.
     fn is(&self, who: &Served<'_>) -> bool
         ensures { IsTrue result ↔ owned self.now ≡ told who.now }
     {

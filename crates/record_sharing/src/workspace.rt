@@ -1,4 +1,4 @@
-//! What a thread judges with.
+//! What a thread judges records with, by terms that it is lent.
 ghost use Rattle.std.specs.Prelude.{◌≡◌, ◌≤◌, ◌^◌, length, IfOk};
 ghost use Rattle.std.specs.Arc.{arc_value};
 ghost use Rattle.record_sharing.specs.Judgements.{IsJudgementOf};
@@ -11,19 +11,20 @@ use ipfix_records::Records;
 use std::alloc::{AllocError, Global};
 use std::sync::Arc;
 
-/// What a thread works out while it judges messages, and keeps for those to come. Each thread has its own.
+/// What one thread works out while it judges messages, and keeps for those to come. Each thread has its own.
 #[derive(Drop)]
 pub struct Workspace {
     in_force: Option<InForce>,
 }
 
 impl Workspace {
-    /// With nothing worked out yet.
+    /// A workspace with nothing worked out yet. It takes no memory.
     pub const fn new() -> Workspace {
         Workspace { in_force: None }
     }
 
-    /// Judges the records of one message, of this Observation Domain, by these terms.
+    /// Judges `records`, which are those of one message of the Observation Domain `domain`, at most 2^32, by `terms`.
+    /// What is disclosed of the records is in memory from `alloc`.
     ///
     /// # Errors
     /// Want of memory.
@@ -49,7 +50,8 @@ impl Workspace {
         })
     }
 
-    /// What is in force by these terms, with what was worked out where the policy is still the same.
+    /// What is in force by `terms`, with what was worked out before where the policy is still the same; else anew, in
+    /// memory from `alloc`.
     ///
     /// # Errors
     /// Want of memory.

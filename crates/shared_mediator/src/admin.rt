@@ -94,7 +94,8 @@ impl<E: EntryLedger> AdminHandle<E> {
         shared: &SharedMediator<E, H>,
         name: &str,
     ) -> Result<SubId, Fault>
-        ensures kept { IfOk result (λ sub. KeepsEntry self.old (Subscribe sub.0 name.now) self.new) }
+        ensures kept { IfOk result (λ sub.
+            KeepsEntry self.old (Subscribe sub.0 name.now) self.new) }
         ensures same { OnErr result (self.new ≡ self.old) }
     {
         if !is_name(name) {

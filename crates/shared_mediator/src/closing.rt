@@ -46,11 +46,14 @@ impl<E: EntryLedger, H: RecordLedger> SharedMediator<E, H> {
         admins: Vec<AdminHandle<E>>,
     ) -> Result<Closed, CloseFault>
         requires all { (E.parts ≡ E.all) × (H.parts ≡ H.all) }
-        ensures receipts { IfOk result (λ closed. HasReceipts E.before closed.mediator.history (receipts_of exporters.items admins.items)) }
+        ensures receipts { IfOk result (λ closed. HasReceipts E.before closed.mediator.history
+            (receipts_of exporters.items admins.items)) }
         ensures messages { OnOk result (AllByRecursion KeepsMessages exporters.items) }
-        ensures accepted { IfOk result (λ closed. closed.accepted ≡ messages_accepted exporters.items) }
+        ensures accepted { IfOk result (λ closed.
+            closed.accepted ≡ messages_accepted exporters.items) }
         ensures handed { IfOk result (λ closed. closed.handed ≡ records_handed deliveries.items) }
-        ensures names { length exporters.items + length admins.items < 2 ^ 64 → IfErr result (λ e. NamesReceiptBehind E.before e (receipts_of exporters.items admins.items)) }
+        ensures names { length exporters.items + length admins.items < 2 ^ 64 → IfErr result (λ e.
+            NamesReceiptBehind E.before e (receipts_of exporters.items admins.items)) }
     {
         self.desk
             .into_inner()
@@ -69,15 +72,21 @@ impl<E: EntryLedger, H: RecordLedger> Desk<E, H> {
     ) -> Result<Closed, CloseFault>
         requires all { (E.parts ≡ E.all) × (H.parts ≡ H.all) }
         ensures mediator { IfOk result (λ closed. closed.mediator ≡ self.counted.core) }
-        ensures receipts { IfOk result (λ closed. HasReceipts E.before closed.mediator.history (receipts_of exporters.items admins.items)) }
+        ensures receipts { IfOk result (λ closed. HasReceipts E.before closed.mediator.history
+            (receipts_of exporters.items admins.items)) }
         ensures messages { OnOk result (AllByRecursion KeepsMessages exporters.items) }
-        ensures accepted { IfOk result (λ closed. closed.accepted ≡ messages_accepted exporters.items) }
+        ensures accepted { IfOk result (λ closed.
+            closed.accepted ≡ messages_accepted exporters.items) }
         ensures handed { IfOk result (λ closed. closed.handed ≡ records_handed deliveries.items) }
         ensures full { IfOk result (λ closed. closed.full ≡ self.full) }
-        ensures book { OnOk result (entries_kept exporters.items admins.items ≡ entries_of self.counted) }
-        ensures all { OnOk result (AreAll self (length exporters.items) (length deliveries.items) (length admins.items)) }
-        ensures names { length exporters.items + length admins.items < 2 ^ 64 → IfErr result (λ e. NamesReceiptBehind E.before e (receipts_of exporters.items admins.items)) }
-        ensures err { IfErr result (λ e. RefusesClosing e self (length exporters.items) (length deliveries.items) (length admins.items)) }
+        ensures book { OnOk result (entries_kept exporters.items admins.items
+            ≡ entries_of self.counted) }
+        ensures all { OnOk result (AreAll self (length exporters.items) (length deliveries.items)
+            (length admins.items)) }
+        ensures names { length exporters.items + length admins.items < 2 ^ 64 → IfErr result (λ e.
+            NamesReceiptBehind E.before e (receipts_of exporters.items admins.items)) }
+        ensures err { IfErr result (λ e. RefusesClosing e self (length exporters.items)
+            (length deliveries.items) (length admins.items)) }
     {
         if exporters.len() as u64 != self.exporters
             || deliveries.len() as u64 != self.deliveries
@@ -121,11 +130,14 @@ fn check<E: EntryLedger>(
     exporters: &[ExporterHandle<E>],
     admins: &[AdminHandle<E>],
 ) -> Result<u64, CloseFault>
-    ensures marked { OnOk result ((marks : Marked) × (marks.from ≡ counted.now.from) × AreMarked marks counted.now.core.history (receipts_of exporters.now admins.now)) }
+    ensures marked { OnOk result ((marks : Marked) × (marks.from ≡ counted.now.from)
+        × AreMarked marks counted.now.core.history (receipts_of exporters.now admins.now)) }
     ensures messages { OnOk result (AllByRecursion KeepsMessages exporters.now) }
     ensures entries { OnOk result (AllByRecursion (AllByRecursion HasReceipt) admins.now) }
     ensures accepted { IfOk result (λ accepted. accepted ≡ messages_accepted exporters.now) }
-    ensures names { length exporters.now + length admins.now < 2 ^ 64 → IfErr result (λ e. NamesReceipt e counted.now.from counted.now.core.history (receipts_of exporters.now admins.now)) }
+    ensures names { length exporters.now + length admins.now < 2 ^ 64
+        → IfErr result (λ e. NamesReceipt e counted.now.from counted.now.core.history
+        (receipts_of exporters.now admins.now)) }
     ensures err { IfErr result (λ e. e ≢ MissingHandle) }
 {
     let journal = counted.mediator().journal();
@@ -144,9 +156,12 @@ fn mark_exporters<E: EntryLedger>(
     exporters: &[ExporterHandle<E>],
 ) -> Result<(), CloseFault>
     ensures from { marks.new.from ≡ marks.old.from }
-    ensures ok { OnOk result ((handles : List (List KeptEntry)) → AreMarked marks.old journal.now.entries handles → AreMarked marks.new journal.now.entries (handles ++ map (λ h. h.kept) exporters.now)) }
+    ensures ok { OnOk result ((handles : List (List KeptEntry))
+        → AreMarked marks.old journal.now.entries handles
+        → AreMarked marks.new journal.now.entries (handles ++ map (λ h. h.kept) exporters.now)) }
     ensures messages { OnOk result (AllByRecursion KeepsMessages exporters.now) }
-    ensures names { IfErr result (λ e. AreMarked marks.old journal.now.entries [] → NamesReceipt e marks.old.from journal.now.entries (map (λ h. h.kept) exporters.now)) }
+    ensures names { IfErr result (λ e. AreMarked marks.old journal.now.entries []
+        → NamesReceipt e marks.old.from journal.now.entries (map (λ h. h.kept) exporters.now)) }
     ensures err { IfErr result (λ e. e ≢ MissingHandle) }
 {
     let mut handle = 0u64;
@@ -168,9 +183,14 @@ fn mark_admins<E: EntryLedger>(
     admins: &[AdminHandle<E>],
 ) -> Result<(), CloseFault>
     ensures from { marks.new.from ≡ marks.old.from }
-    ensures ok { OnOk result ((handles : List (List KeptEntry)) → AreMarked marks.old journal.now.entries handles → AreMarked marks.new journal.now.entries (handles ++ admins.now)) }
+    ensures ok { OnOk result ((handles : List (List KeptEntry))
+        → AreMarked marks.old journal.now.entries handles
+        → AreMarked marks.new journal.now.entries (handles ++ admins.now)) }
     ensures entries { OnOk result (AllByRecursion (AllByRecursion HasReceipt) admins.now) }
-    ensures names { first + length admins.now < 2 ^ 64 → IfErr result (λ e. (handles : List (List KeptEntry)) → AreMarked marks.old journal.now.entries handles → length handles ≡ first → NamesReceipt e marks.old.from journal.now.entries (handles ++ admins.now)) }
+    ensures names { first + length admins.now < 2 ^ 64 → IfErr result (λ e.
+        (handles : List (List KeptEntry)) → AreMarked marks.old journal.now.entries handles
+        → length handles ≡ first
+        → NamesReceipt e marks.old.from journal.now.entries (handles ++ admins.now)) }
     ensures err { IfErr result (λ e. e ≢ MissingHandle) }
 {
     let mut handle = first;

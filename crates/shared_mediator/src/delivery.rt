@@ -102,7 +102,8 @@ impl<H: RecordLedger> DeliveryHandle<H> {
         now: u32,
         target: u16,
     ) -> Result<bool, PullFault>
-        ensures kept { IfOk result (λ some_message. KeepsHanded self.old.kept now target some_message self.new.kept) }
+        ensures kept { IfOk result (λ some_message.
+            KeepsHanded self.old.kept now target some_message self.new.kept) }
         ensures sub { self.new.sub ≡ self.old.sub }
         ensures same { OnErr result (self.new ≡ self.old) }
     {
@@ -122,7 +123,8 @@ impl<H: RecordLedger> DeliveryHandle<H> {
         target: u16,
         most: u64,
     ) -> Result<u64, PullFault>
-        ensures kept { IfOk result (λ count. KeepsSome self.old.kept now target count self.new.kept) }
+        ensures kept { IfOk result (λ count.
+            KeepsSome self.old.kept now target count self.new.kept) }
         ensures most { IfOk result (λ count. count ≤ most) }
         ensures sub { self.new.sub ≡ self.old.sub }
         ensures same { OnErr result (self.new ≡ self.old) }
@@ -146,7 +148,8 @@ impl<H: RecordLedger> DeliveryHandle<H> {
         now: u32,
         target: u16,
     ) -> Result<bool, PullFault>
-        ensures kept { IfOk result (λ some_message. KeepsHanded self.old.kept now target some_message self.new.kept) }
+        ensures kept { IfOk result (λ some_message.
+            KeepsHanded self.old.kept now target some_message self.new.kept) }
         ensures sub { self.new.sub ≡ self.old.sub }
         ensures same { OnErr result (self.new ≡ self.old) }
     {

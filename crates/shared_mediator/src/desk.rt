@@ -51,7 +51,10 @@ impl<E: EntryLedger, H: RecordLedger> Model for Desk<E, H> {
 
     ghost view = { λ d. locked_as d.counted d.handles d.exporters d.deliveries d.admins d.stopped d.full };
 
-    ghost invariant = { λ d. IsKept E.all E.before H.all (locked_as d.counted d.handles d.exporters d.deliveries d.admins d.stopped d.full) (ledgered_as d.entries.total d.entries_left.parts d.entries_left.amount) (ledgered_as d.handed.total d.handed_left.parts d.handed_left.amount) };
+    ghost invariant = { λ d. IsKept E.all E.before H.all
+        (locked_as d.counted d.handles d.exporters d.deliveries d.admins d.stopped d.full)
+        (ledgered_as d.entries.total d.entries_left.parts d.entries_left.amount)
+        (ledgered_as d.handed.total d.handed_left.parts d.handed_left.amount) };
 }
 
 /// A session that was opened: its number, the position in the journal at which it begins, and its exporter's share.
@@ -75,10 +78,13 @@ impl<E: EntryLedger, H: RecordLedger> Desk<E, H> {
         requires fresh { handed_live mediator ≡ 0 }
         requires before { E.before ≡ mediator.history }
         requires entries_name { entries.name ≡ E.name }
-        requires entries_parts { (entries.parts ≡ E.parts) × (E.parts ≡ E.all) × (E.all ≡ 2 * handles + 1) }
+        requires entries_parts { (entries.parts ≡ E.parts) × (E.parts ≡ E.all)
+            × (E.all ≡ 2 * handles + 1) }
         requires handed_name { handed.name ≡ H.name }
-        requires handed_parts { (handed.parts ≡ H.parts) × (H.parts ≡ H.all) × (H.all ≡ handles + 1) }
-        ensures { result ≡ locked_as (counted_as mediator (length mediator.history) 0) handles 0 0 0 false false }
+        requires handed_parts { (handed.parts ≡ H.parts) × (H.parts ≡ H.all)
+            × (H.all ≡ handles + 1) }
+        ensures { result ≡ locked_as (counted_as mediator (length mediator.history) 0)
+            handles 0 0 0 false false }
     {
         let (entries, entries_left) = entries.open::<E>();
         let (handed, handed_left) = handed.open::<H>();
@@ -99,10 +105,13 @@ impl<E: EntryLedger, H: RecordLedger> Desk<E, H> {
 
     /// Opens a session, with a share for its exporter.
     pub(crate) fn exporter(&mut self) -> Result<OpenedSession<E>, HandleFault>
-        ensures ok { IfOk result (λ opened. Opens self.old.counted.core opened.session.0 self.new.counted.core) }
+        ensures ok { IfOk result (λ opened.
+            Opens self.old.counted.core opened.session.0 self.new.counted.core) }
         ensures counts { OnOk result (Makes 0 0 0 1 0 0 self.old self.new) }
-        ensures share { IfOk result (λ opened. (opened.share.parts ≡ 1) × (opened.share.amount ≡ 0)) }
-        ensures position { IfOk result (λ opened. opened.position ≡ length self.old.counted.core.history) }
+        ensures share { IfOk result (λ opened. (opened.share.parts ≡ 1)
+            × (opened.share.amount ≡ 0)) }
+        ensures position { IfOk result (λ opened.
+            opened.position ≡ length self.old.counted.core.history) }
         ensures same { IfErr result (λ e. self.new ≡ noted (is_full_handle e) self.old) }
         ensures err { IfErr result (λ e. RefusesExporter e self.old) }
     {
@@ -164,12 +173,15 @@ impl<E: EntryLedger, H: RecordLedger> Desk<E, H> {
         ahead: Option<JudgedAhead>,
     ) -> Result<Receipt, Fault>
         requires part { 0 < share.old.parts }
-        ensures ok { IfOk result (λ receipt. Receives self.old.counted.core session.0 number message receipt self.new.counted.core) }
+        ensures ok { IfOk result (λ receipt.
+            Receives self.old.counted.core session.0 number message receipt self.new.counted.core) }
         ensures counts { OnOk result (Adds 1 0 0 self.old self.new) }
         ensures share { OnOk result (share.new.amount ≡ share.old.amount + 1) }
         ensures part { share.new.parts ≡ share.old.parts }
-        ensures same { IfErr result (λ e. (self.new ≡ noted (is_full e) self.old) × (share.new ≡ share.old)) }
-        ensures err { IfErr result (λ e. RefusesReceive e self.old.counted.core session.0 number message) }
+        ensures same { IfErr result (λ e. (self.new ≡ noted (is_full e) self.old)
+            × (share.new ≡ share.old)) }
+        ensures err { IfErr result (λ e.
+            RefusesReceive e self.old.counted.core session.0 number message) }
     {
         match self.counted.receive_judged(session, number, message, ahead) {
             Ok(receipt) => {
@@ -184,7 +196,8 @@ impl<E: EntryLedger, H: RecordLedger> Desk<E, H> {
     pub(crate) fn snapshot(&mut self, session: SessionId) -> Result<Snapshot, Fault>
         ensures ok { IfOk result (IsSnapshot self.old.counted.core.history session.0) }
         ensures same { self.new ≡ self.old }
-        ensures err { IfErr result (λ e. RefusesSnapshot e self.old.counted.core.history session.0) }
+        ensures err { IfErr result (λ e.
+            RefusesSnapshot e self.old.counted.core.history session.0) }
     {
         self.counted.snapshot(session)
     }
@@ -198,12 +211,15 @@ impl<E: EntryLedger, H: RecordLedger> Desk<E, H> {
         prepared: Prepared,
     ) -> Result<Receipt, (Fault, Prepared)>
         requires part { 0 < share.old.parts }
-        ensures ok { IfOk result (λ receipt. Receives self.old.counted.core session.0 number prepared.message receipt self.new.counted.core) }
+        ensures ok { IfOk result (λ receipt. Receives self.old.counted.core session.0 number
+            prepared.message receipt self.new.counted.core) }
         ensures counts { OnOk result (Adds 1 0 0 self.old self.new) }
         ensures share { OnOk result (share.new.amount ≡ share.old.amount + 1) }
         ensures part { share.new.parts ≡ share.old.parts }
-        ensures same { IfErr result (λ e. (self.new ≡ noted (is_full e.0) self.old) × (share.new ≡ share.old)) }
-        ensures err { IfErr result (λ e. RefusesReceivePrepared e.0 self.old.counted.core session.0 number prepared) }
+        ensures same { IfErr result (λ e. (self.new ≡ noted (is_full e.0) self.old)
+            × (share.new ≡ share.old)) }
+        ensures err { IfErr result (λ e.
+            RefusesReceivePrepared e.0 self.old.counted.core session.0 number prepared) }
         ensures handed_back { IfErr result (λ e. e.1 ≡ prepared) }
     {
         match self.counted.receive_prepared(session, number, prepared) {
@@ -220,7 +236,8 @@ impl<E: EntryLedger, H: RecordLedger> Desk<E, H> {
         ensures ok { OnOk result (Closes self.old.counted.core session.0 self.new.counted.core) }
         ensures counts { OnOk result (Adds 0 0 0 self.old self.new) }
         ensures same { IfErr result (λ e. self.new ≡ noted (is_full e) self.old) }
-        ensures err { IfErr result (λ e. RefusesClose e (journal_limits self.old.counted.core.limits) self.old.counted.core.history session.0) }
+        ensures err { IfErr result (λ e. RefusesClose e
+            (journal_limits self.old.counted.core.limits) self.old.counted.core.history session.0) }
     {
         match self.counted.close(session) {
             Ok(()) => Ok(()),
@@ -238,9 +255,11 @@ impl<E: EntryLedger, H: RecordLedger> Desk<E, H> {
     ) -> Result<Option<Handed>, PullFault>
         requires part { 0 < share.old.parts }
         ensures sound { IsSound self.old.counted.core }
-        ensures ok { IfOk result (λ answer. HandsOut self.old.counted sub.0 now target answer self.new.counted) }
+        ensures ok { IfOk result (λ answer.
+            HandsOut self.old.counted sub.0 now target answer self.new.counted) }
         ensures counts { IfOk result (λ answer. Adds 0 (records_of answer) 0 self.old self.new) }
-        ensures share { IfOk result (λ answer. share.new.amount ≡ share.old.amount + records_of answer) }
+        ensures share { IfOk result (λ answer.
+            share.new.amount ≡ share.old.amount + records_of answer) }
         ensures part { share.new.parts ≡ share.old.parts }
         ensures same { OnErr result ((self.new ≡ self.old) × (share.new ≡ share.old)) }
         ensures err { IfErr result (λ e. RefusesHanding e self.old.counted sub.0) }
@@ -272,13 +291,17 @@ impl<E: EntryLedger, H: RecordLedger> Desk<E, H> {
     /// Puts a policy in force, and adds the edit to a share.
     pub(crate) fn edit(&mut self, share: &mut Share<E>, text: &str) -> Result<Accepted, Fault>
         requires part { 0 < share.old.parts }
-        ensures ok { IfOk result (λ accepted. Edits self.old.counted.core text.now accepted.number self.new.counted.core) }
-        ensures last { IfOk result (λ accepted. accepted.position + 1 ≡ length self.new.counted.core.history) }
+        ensures ok { IfOk result (λ accepted.
+            Edits self.old.counted.core text.now accepted.number self.new.counted.core) }
+        ensures last { IfOk result (λ accepted.
+            accepted.position + 1 ≡ length self.new.counted.core.history) }
         ensures counts { OnOk result (Adds 1 0 0 self.old self.new) }
         ensures share { OnOk result (share.new.amount ≡ share.old.amount + 1) }
         ensures part { share.new.parts ≡ share.old.parts }
-        ensures same { IfErr result (λ e. (self.new ≡ noted (is_full e) self.old) × (share.new ≡ share.old)) }
-        ensures err { IfErr result (λ e. RefusesEdit e (journal_limits self.old.counted.core.limits) self.old.counted.core.history text.now) }
+        ensures same { IfErr result (λ e. (self.new ≡ noted (is_full e) self.old)
+            × (share.new ≡ share.old)) }
+        ensures err { IfErr result (λ e. RefusesEdit e (journal_limits self.old.counted.core.limits)
+            self.old.counted.core.history text.now) }
     {
         let position = self.counted.len();
         match self.counted.edit(text) {
@@ -293,13 +316,17 @@ impl<E: EntryLedger, H: RecordLedger> Desk<E, H> {
     /// Begins a subscription, and adds that to a share.
     pub(crate) fn subscribe(&mut self, share: &mut Share<E>, name: &str) -> Result<Accepted, Fault>
         requires part { 0 < share.old.parts }
-        ensures ok { IfOk result (λ accepted. Subscribes self.old.counted.core name.now accepted.number self.new.counted.core) }
-        ensures last { IfOk result (λ accepted. accepted.position + 1 ≡ length self.new.counted.core.history) }
+        ensures ok { IfOk result (λ accepted.
+            Subscribes self.old.counted.core name.now accepted.number self.new.counted.core) }
+        ensures last { IfOk result (λ accepted.
+            accepted.position + 1 ≡ length self.new.counted.core.history) }
         ensures counts { OnOk result (Adds 1 0 0 self.old self.new) }
         ensures share { OnOk result (share.new.amount ≡ share.old.amount + 1) }
         ensures part { share.new.parts ≡ share.old.parts }
-        ensures same { IfErr result (λ e. (self.new ≡ noted (is_full e) self.old) × (share.new ≡ share.old)) }
-        ensures err { IfErr result (λ e. RefusesSubscribe e (journal_limits self.old.counted.core.limits) self.old.counted.core.history name.now) }
+        ensures same { IfErr result (λ e. (self.new ≡ noted (is_full e) self.old)
+            × (share.new ≡ share.old)) }
+        ensures err { IfErr result (λ e. RefusesSubscribe e
+            (journal_limits self.old.counted.core.limits) self.old.counted.core.history name.now) }
     {
         let position = self.counted.len();
         match self.counted.subscribe(name) {
@@ -316,12 +343,16 @@ impl<E: EntryLedger, H: RecordLedger> Desk<E, H> {
     pub(crate) fn unsubscribe(&mut self, share: &mut Share<E>, sub: SubId) -> Result<u64, Fault>
         requires part { 0 < share.old.parts }
         ensures ok { OnOk result (Unsubscribes self.old.counted.core sub.0 self.new.counted.core) }
-        ensures last { IfOk result (λ position. position + 1 ≡ length self.new.counted.core.history) }
-        ensures counts { OnOk result (Adds 1 0 (handed_at self.old.counted.core sub.0) self.old self.new) }
+        ensures last { IfOk result (λ position.
+            position + 1 ≡ length self.new.counted.core.history) }
+        ensures counts { OnOk result
+            (Adds 1 0 (handed_at self.old.counted.core sub.0) self.old self.new) }
         ensures share { OnOk result (share.new.amount ≡ share.old.amount + 1) }
         ensures part { share.new.parts ≡ share.old.parts }
-        ensures same { IfErr result (λ e. (self.new ≡ noted (is_full e) self.old) × (share.new ≡ share.old)) }
-        ensures err { IfErr result (λ e. RefusesUnsubscribe e (journal_limits self.old.counted.core.limits) self.old.counted.core.history sub.0) }
+        ensures same { IfErr result (λ e. (self.new ≡ noted (is_full e) self.old)
+            × (share.new ≡ share.old)) }
+        ensures err { IfErr result (λ e. RefusesUnsubscribe e
+            (journal_limits self.old.counted.core.limits) self.old.counted.core.history sub.0) }
     {
         let position = self.counted.len();
         match self.counted.unsubscribe(sub) {
@@ -338,11 +369,13 @@ impl<E: EntryLedger, H: RecordLedger> Desk<E, H> {
     pub(crate) fn advance(&mut self, share: &mut Share<E>, t: u64) -> Result<u64, Fault>
         requires part { 0 < share.old.parts }
         ensures ok { OnOk result (Advances self.old.counted.core t self.new.counted.core) }
-        ensures last { IfOk result (λ position. position + 1 ≡ length self.new.counted.core.history) }
+        ensures last { IfOk result (λ position.
+            position + 1 ≡ length self.new.counted.core.history) }
         ensures counts { OnOk result (Adds 1 0 0 self.old self.new) }
         ensures share { OnOk result (share.new.amount ≡ share.old.amount + 1) }
         ensures part { share.new.parts ≡ share.old.parts }
-        ensures same { IfErr result (λ e. (self.new ≡ noted (is_full e) self.old) × (share.new ≡ share.old)) }
+        ensures same { IfErr result (λ e. (self.new ≡ noted (is_full e) self.old)
+            × (share.new ≡ share.old)) }
         ensures err { IfErr result (λ e. RefusesAdvance e self.old.counted.core t) }
     {
         match self.counted.advance(t) {
@@ -356,7 +389,8 @@ impl<E: EntryLedger, H: RecordLedger> Desk<E, H> {
 
     /// Hands out audit entries.
     pub(crate) fn drain_audit(&mut self, most: u32) -> Result<Vec<AuditEntry>, AllocError>
-        ensures ok { IfOk result (λ out. Drains self.old.counted.core most out.items self.new.counted.core) }
+        ensures ok { IfOk result (λ out.
+            Drains self.old.counted.core most out.items self.new.counted.core) }
         ensures counts { OnOk result (Adds 0 0 0 self.old self.new) }
         ensures same { OnErr result (self.new ≡ self.old) }
         ensures none { take most (noted_at self.old.counted.core) ≡ [] → IsOk result }
@@ -394,7 +428,8 @@ impl<E: EntryLedger, H: RecordLedger> Desk<E, H> {
 
     /// All is to stop: a wait for which nothing is queued ends.
     pub(crate) fn stop(&mut self)
-        ensures { self.new ≡ locked_as self.old.counted self.old.handles self.old.exporters self.old.deliveries self.old.admins true self.old.full }
+        ensures { self.new ≡ locked_as self.old.counted self.old.handles self.old.exporters
+            self.old.deliveries self.old.admins true self.old.full }
     {
         self.stopped = true;
     }

@@ -93,7 +93,11 @@ impl<E: EntryLedger> ExporterHandle<E> {
         shared: &SharedMediator<E, H>,
         message: Bytes,
     ) -> Result<Receipt, Fault>
-        ensures kept { IfOk result (λ receipt. self.new.kept ≡ self.old.kept ++ record { position = receipt.position; entry = Message self.old.session (length self.old.kept) message } ∷ []) }
+        ensures kept { IfOk result (λ receipt.
+            self.new.kept ≡ self.old.kept ++ record {
+              position = receipt.position;
+              entry = Message self.old.session (length self.old.kept) message;
+            } ∷ []) }
         ensures session { self.new.session ≡ self.old.session }
         ensures same { OnErr result (self.new ≡ self.old) }
     {
@@ -112,7 +116,11 @@ impl<E: EntryLedger> ExporterHandle<E> {
         shared: &SharedMediator<E, H>,
         message: Bytes,
     ) -> Result<Receipt, Fault>
-        ensures kept { IfOk result (λ receipt. self.new.kept ≡ self.old.kept ++ record { position = receipt.position; entry = Message self.old.session (length self.old.kept) message } ∷ []) }
+        ensures kept { IfOk result (λ receipt.
+            self.new.kept ≡ self.old.kept ++ record {
+              position = receipt.position;
+              entry = Message self.old.session (length self.old.kept) message;
+            } ∷ []) }
         ensures session { self.new.session ≡ self.old.session }
         ensures same { OnErr result (self.new ≡ self.old) }
     {
@@ -131,7 +139,11 @@ impl<E: EntryLedger> ExporterHandle<E> {
         message: Bytes,
         ahead: Option<JudgedAhead>,
     ) -> Result<Receipt, Fault>
-        ensures kept { IfOk result (λ receipt. self.new.kept ≡ self.old.kept ++ record { position = receipt.position; entry = Message self.old.session (length self.old.kept) message } ∷ []) }
+        ensures kept { IfOk result (λ receipt.
+            self.new.kept ≡ self.old.kept ++ record {
+              position = receipt.position;
+              entry = Message self.old.session (length self.old.kept) message;
+            } ∷ []) }
         ensures session { self.new.session ≡ self.old.session }
         ensures same { OnErr result (self.new ≡ self.old) }
     {
@@ -176,7 +188,11 @@ impl<E: EntryLedger> ExporterHandle<E> {
         shared: &SharedMediator<E, H>,
         prepared: Prepared,
     ) -> Result<Receipt, (Fault, Prepared)>
-        ensures kept { IfOk result (λ receipt. self.new.kept ≡ self.old.kept ++ record { position = receipt.position; entry = Message self.old.session (length self.old.kept) prepared.message } ∷ []) }
+        ensures kept { IfOk result (λ receipt.
+            self.new.kept ≡ self.old.kept ++ record {
+              position = receipt.position;
+              entry = Message self.old.session (length self.old.kept) prepared.message;
+            } ∷ []) }
         ensures session { self.new.session ≡ self.old.session }
         ensures same { OnErr result (self.new ≡ self.old) }
         ensures handed_back { IfErr result (λ e. e.1 ≡ prepared) }
@@ -196,7 +212,11 @@ impl<E: EntryLedger> ExporterHandle<E> {
         shared: &SharedMediator<E, H>,
         prepared: Prepared,
     ) -> Result<Receipt, (Fault, Prepared)>
-        ensures kept { IfOk result (λ receipt. self.new.kept ≡ self.old.kept ++ record { position = receipt.position; entry = Message self.old.session (length self.old.kept) prepared.message } ∷ []) }
+        ensures kept { IfOk result (λ receipt.
+            self.new.kept ≡ self.old.kept ++ record {
+              position = receipt.position;
+              entry = Message self.old.session (length self.old.kept) prepared.message;
+            } ∷ []) }
         ensures session { self.new.session ≡ self.old.session }
         ensures same { OnErr result (self.new ≡ self.old) }
         ensures handed_back { IfErr result (λ e. e.1 ≡ prepared) }

@@ -43,9 +43,11 @@ impl<E: EntryLedger, H: RecordLedger> SharedMediator<E, H> {
         requires fresh { handed_live mediator ≡ 0 }
         requires before { E.before ≡ mediator.history }
         requires entries_name { entries.name ≡ E.name }
-        requires entries_parts { (entries.parts ≡ E.parts) × (E.parts ≡ E.all) × (E.all ≡ 2 * handles + 1) }
+        requires entries_parts { (entries.parts ≡ E.parts) × (E.parts ≡ E.all)
+            × (E.all ≡ 2 * handles + 1) }
         requires handed_name { handed.name ≡ H.name }
-        requires handed_parts { (handed.parts ≡ H.parts) × (H.parts ≡ H.all) × (H.all ≡ handles + 1) }
+        requires handed_parts { (handed.parts ≡ H.parts) × (H.parts ≡ H.all)
+            × (H.all ≡ handles + 1) }
     {
         SharedMediator {
             alloc,
