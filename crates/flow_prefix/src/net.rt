@@ -1,3 +1,4 @@
+//! What prefixes of the two families hold: an address, and how many of its first bits count.
 ghost use Rattle.std.specs.Prelude.{◌≡◌, Bool, ◌==◌, ◌&&◌, ◌/◌, ◌%◌, ◌^◌, ◌<◌, length, IfOk, string_bytes};
 ghost use Rattle.sequences.specs.Octets.{be_value};
 ghost use Rattle.flow_prefix.specs.Net.{is_inside, IsNet};
@@ -8,6 +9,7 @@ use crate::family::{Family, IPV4_OCTETS, IPV6_OCTETS};
 use std::alloc::{AllocError, Global};
 use std::marker::Model;
 
+/// How many values a group of 16 bits can have.
 const GROUP_VALUES: u128 = 0x1_0000;
 
 /// A prefix of IPv4: an address whose bits past the length, of at most 32, are 0.
@@ -71,7 +73,7 @@ impl Prefix4 {
         self.length
     }
 
-    /// Whether the first bits of the value are those of the prefix.
+    /// Whether `octets` are an address of IPv4 whose first bits are those of the prefix.
     pub(crate) fn contains(&self, octets: &[u8]) -> bool
         ensures { result ≡ (length octets.now == 4 && is_inside 32 self.now (be_value octets.now)) }
     {
@@ -82,7 +84,10 @@ impl Prefix4 {
         first_bits(width, u32::from(self.length), number(octets)) == u128::from(self.address)
     }
 
-    /// The text in dotted decimal.
+    /// The text in dotted decimal, in memory from `alloc`.
+    ///
+    /// # Errors
+    /// Want of memory.
     pub(crate) fn print(&self, alloc: Global) -> Result<String, AllocError>
         ensures text { IfOk result (λ text. string_bytes text ≡ net_text Family.Ipv4 self.now) }
         ensures sound { IsNet 32 self.now.address self.now.length }
@@ -116,7 +121,7 @@ impl Prefix6 {
         self.length
     }
 
-    /// Whether the first bits of the value are those of the prefix.
+    /// Whether `octets` are an address of IPv6 whose first bits are those of the prefix.
     pub(crate) fn contains(&self, octets: &[u8]) -> bool
         ensures { result
             ≡ (length octets.now == 16 && is_inside 128 self.now (be_value octets.now)) }
@@ -128,7 +133,10 @@ impl Prefix6 {
         first_bits(width, u32::from(self.length), number(octets)) == self.address
     }
 
-    /// The text of eight groups in lower case.
+    /// The text of eight groups in lower case, in memory from `alloc`.
+    ///
+    /// # Errors
+    /// Want of memory.
     pub(crate) fn print(&self, alloc: Global) -> Result<String, AllocError>
         ensures text { IfOk result (λ text. string_bytes text ≡ net_text Family.Ipv6 self.now) }
         ensures sound { IsNet 128 self.now.address self.now.length }
