@@ -1,3 +1,4 @@
+//! A record's source and destination addresses, and whether they are inside a prefix.
 ghost use Rattle.std.specs.Prelude.{◌≡◌, ◌&&◌, ◌||◌, not};
 ghost use Rattle.std.specs.List.{list_any, list_all, zip};
 ghost use Rattle.flow_prefix.specs.Prefixes.{contains};
@@ -8,28 +9,31 @@ use flow_prefix::Prefix;
 use ipfix_element::ElementId;
 use ipfix_template::{FieldSpec, Record};
 
-// Elements of IANA's registry, by their numbers.
+/// The number of the element `sourceIPv4Address`, in IANA's registry as the others here are.
 const SOURCE_IPV4_ADDRESS: u16 = 8;
 
+/// The number of the element `destinationIPv4Address`.
 const DESTINATION_IPV4_ADDRESS: u16 = 12;
 
+/// The number of the element `sourceIPv6Address`.
 const SOURCE_IPV6_ADDRESS: u16 = 27;
 
+/// The number of the element `destinationIPv6Address`.
 const DESTINATION_IPV6_ADDRESS: u16 = 28;
 
-/// Which of a record's addresses.
+/// Which of a record's addresses: those of one end of the flow.
 #[derive(Clone, Copy)]
 pub enum Side {
-    /// Where it comes from.
+    /// Where the flow comes from.
     Source,
-    /// Where it goes to.
+    /// Where the flow goes to.
     Destination,
 }
 
 impl Side {
     ghost use Rattle.policy_judge.specs.Sides.{is_of};
 
-    /// Whether fields of the element hold such addresses.
+    /// Whether fields of `element` hold addresses of this side.
     pub fn has(self, element: ElementId) -> bool
         ensures { result ≡ is_of self element }
     {
