@@ -1,3 +1,4 @@
+//! That of a rule's marks that fewest rules have.
 ghost use Rattle.std.specs.Prelude.{◌≡◌, ◌⊎◌, [], MatchOption};
 ghost use Rattle.std.specs.List.{Contains};
 ghost use Rattle.rule_table.specs.Marks.{present, marks_of, either};
