@@ -57,8 +57,8 @@ impl Clone for RemovedFields {
 }
 
 impl RemovedFields {
-    /// The removed fields `fields`, by ascending place. What is shared of them is in memory from
-    /// `alloc`.
+    /// Takes `fields`, by ascending place, as the fields that were removed. What is shared of them
+    /// is in memory from `alloc`.
     ///
     /// # Errors
     /// Want of memory.

@@ -5,10 +5,10 @@ ghost use Rattle.ipfix_octets.specs.Variable.{IsVarText, longest_value, shortest
 use crate::number::be_number;
 use std::alloc::AllocError;
 
-/// The longest value that a length of two octets can announce.
+/// The longest value that a length of two octets can announce (RFC 7011, section 7).
 pub const LONGEST_VALUE: usize = 65535;
 
-/// The length octet that says: the length follows in two octets.
+/// The length octet that says: the length follows in two octets (RFC 7011, section 7).
 const LONG_FORM: u8 = 255;
 
 /// Finds the value of variable length at the front of `octets`: the place where it starts, which is

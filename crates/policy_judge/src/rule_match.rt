@@ -10,9 +10,9 @@ use ipfix_template::Record;
 use policy_text::{Action, Name, Rule};
 
 /// Whether `rule` is one on records and matches the record `flow_record` of the Observation Domain
-/// `domain`, for the subscriber called `name`. A rule that denies matches where, for each prefix
-/// that it names, some address of that side is inside. A rule that permits matches where an address
-/// is there and each is inside.
+/// `domain`, for the subscriber called `name`. For each prefix that it names, a rule that denies
+/// needs some address of that side inside. A rule that permits needs an address of that side, and
+/// each of them inside.
 pub fn matches_record(rule: &Rule, name: &[u8], domain: u32, flow_record: &Record) -> bool
     ensures { result ≡ matches_record name.now domain flow_record.now rule.now }
 {
@@ -20,8 +20,8 @@ pub fn matches_record(rule: &Rule, name: &[u8], domain: u32, flow_record: &Recor
 }
 
 /// Whether `rule` is one on fields and matches fields of `element` in the record `flow_record` of
-/// the Observation Domain `domain`, for the subscriber called `name`. Its prefixes are looked at as
-/// [`matches_record`] does.
+/// the Observation Domain `domain`, for the subscriber called `name`. What it needs for each prefix
+/// that it names, [`matches_record`] says.
 pub fn matches_field(
     rule: &Rule,
     name: &[u8],

@@ -38,7 +38,7 @@ pub(crate) fn rarest_mark(rule: &Rule, all: &[u64]) -> u64
     }
 }
 
-/// Of these marks that which fewest rules have, and of such ones the first.
+/// Of these marks the one that fewest rules have; of several such marks the first.
 fn rarest(marks: &[Option<u64>], all: &[u64]) -> Option<u64>
     ensures { MatchOption result
         (present marks.now ≡ []) (λ mark. Contains (present marks.now) mark) }
