@@ -1,3 +1,4 @@
+//! The queue of what was kept back, until it is drained.
 ghost use Rattle.std.specs.Prelude.{◌≡◌, ◌≤◌, ◌<◌, ◌+◌, ◌-◌, ◌^◌, ◌++◌, [], ◌∷◌, length, map, take, drop, vec_capacity, IsOk, IfOk, OnOk, OnErr};
 ghost use Rattle.std.specs.VecDeque.{deque_capacity};
 ghost use Rattle.disclosure_audit.specs.Chunks.{entries_of};
@@ -18,8 +19,11 @@ pub struct Audit {
     queue: VecDeque<Chunk>,
     /// How many entries there are in the queue.
     waiting: u32,
+    /// How many entries may wait.
     limit: u32,
+    /// How many entries were drained.
     drained: u64,
+    /// For how many more places of the queue room is reserved.
     spare: u32,
 }
 
@@ -94,7 +98,8 @@ impl Audit {
         self.drained
     }
 
-    /// Makes room in memory for so many more entries, whatever the limit. The notes of a message want the room of one.
+    /// Makes room in memory for `more` further entries, whatever the limit. All notes of a message
+    /// want the room of one entry.
     ///
     /// # Errors
     /// Want of memory, and then nothing has changed.
@@ -115,7 +120,7 @@ impl Audit {
         Ok(())
     }
 
-    /// Takes an entry into the reserved room, behind those that wait. It takes no memory.
+    /// Takes `entry` into the reserved room, behind those that wait. It takes no memory.
     pub fn push_reserved(&mut self, entry: AuditEntry)
         requires room { length self.old.standing.entries < self.old.limit }
         requires reserved { 0 < self.old.spare }
@@ -133,8 +138,9 @@ impl Audit {
         self.spare -= 1;
     }
 
-    /// Takes what the message at a position keeps back into the reserved room of one entry, in its order behind those that
-    /// wait. It takes no memory, and as long for many as for few.
+    /// Takes `notes`, what is kept back of the message at `position` in the history, counted from
+    /// 0, into the reserved room of one entry. They become entries in their order, behind those
+    /// that wait. It takes no memory, and no more time for many notes than for few.
     pub fn push_notes(&mut self, position: u64, notes: Vec<Note>)
         requires room { length self.old.standing.entries + length notes.items ≤ self.old.limit }
         requires reserved { 0 < self.old.spare }
@@ -156,7 +162,8 @@ impl Audit {
         }
     }
 
-    /// Hands out the oldest `most` entries, or all if there are fewer, oldest first.
+    /// Hands out the oldest `most` entries, or all if there are fewer, oldest first. They don't
+    /// wait any more then.
     ///
     /// # Errors
     /// Want of memory for the list, and then nothing has changed.
@@ -183,12 +190,14 @@ impl Audit {
     }
 }
 
-/// Moves so many entries from the front of the queue into the list, which has room for them.
+/// Moves `count` entries from the front of the queue into the list, which has room for them.
 fn move_oldest(queue: &mut VecDeque<Chunk>, out: &mut Vec<AuditEntry>, count: usize)
     requires there { count ≤ length (entries_of queue.old.items) }
     requires room { length out.old.items + count ≤ vec_capacity out.old }
+    // What was the front of the queue stands behind the list.
     ensures moved { out.new.items ≡ out.old.items ++ take count (entries_of queue.old.items) }
     ensures left { entries_of queue.new.items ≡ drop count (entries_of queue.old.items) }
+    // The queue has no more pieces than before, and keeps its room.
     ensures fewer { length queue.new.items ≤ length queue.old.items }
     ensures capacity { deque_capacity queue.new ≡ deque_capacity queue.old }
 {

@@ -11,6 +11,7 @@ use std::vec::IntoIter;
 /// Entries in a row.
 #[derive(Drop)]
 pub(crate) enum Chunk {
+    /// One entry.
     One(AuditEntry),
     /// What is left of the notes of the message at a position, each of which is an entry.
     Message {
@@ -41,8 +42,10 @@ impl Chunk {
     pub(crate) fn move_oldest(self, most: usize, out: &mut Vec<AuditEntry>) -> Option<Chunk>
         requires some { 1 ≤ most }
         requires room { length out.old.items + most ≤ vec_capacity out.old }
+        // What was its front stands behind the list.
         ensures moved { out.new.items ≡ out.old.items ++ take most (entries_in self) }
         ensures left { entries_of (option_to_list result) ≡ drop most (entries_in self) }
+        // Something is left only where `most` entries were moved, and the list takes no memory.
         ensures full { IsSome result → length out.new.items ≡ length out.old.items + most }
         ensures capacity { vec_capacity out.new ≡ vec_capacity out.old }
     {
@@ -70,6 +73,7 @@ impl Chunk {
 fn move_notes(position: u64, notes: &mut IntoIter<Note>, count: usize, out: &mut Vec<AuditEntry>)
     requires there { count ≤ length (into_iter_items notes.old) }
     requires room { length out.old.items + count ≤ vec_capacity out.old }
+    // What was the front of the notes stands behind the list, which takes no memory.
     ensures moved { out.new.items
         ≡ out.old.items ++ map (stamp position) (take count (into_iter_items notes.old)) }
     ensures left { into_iter_items notes.new ≡ drop count (into_iter_items notes.old) }

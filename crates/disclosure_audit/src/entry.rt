@@ -1,3 +1,4 @@
+//! What was kept back from a subscription: of one record, or from one place on.
 ghost use Rattle.std.specs.Prelude.{◌≡◌, ◌==◌, length, IfOk};
 
 use crate::reason::Reason;
@@ -26,6 +27,7 @@ pub struct RemovedFields {
 enum Listed {
     /// One field, as most records lose it that lose any, is copied.
     One([RemovedField; 1]),
+    /// Other lists are shared.
     Shared(Arc<Vec<RemovedField>>),
 }
 
@@ -55,7 +57,8 @@ impl Clone for RemovedFields {
 }
 
 impl RemovedFields {
-    /// The fields of a list.
+    /// Takes `fields`, by ascending place, as the fields that were removed. What is shared of them
+    /// is in memory from `alloc`.
     ///
     /// # Errors
     /// Want of memory.
@@ -69,6 +72,7 @@ impl RemovedFields {
         Ok(RemovedFields { listed })
     }
 
+    /// The removed fields, by ascending place.
     pub fn as_slice(&self) -> &[RemovedField]
         ensures { result.now ≡ self.now }
     {
@@ -78,6 +82,7 @@ impl RemovedFields {
         }
     }
 
+    /// Whether no field was removed.
     pub fn is_empty(&self) -> bool
         ensures { result ≡ (length self.now == 0) }
     {
@@ -107,6 +112,7 @@ pub struct AuditEntry {
     pub index: u32,
     /// The number of the subscription.
     pub sub: u64,
+    /// What was kept back of it, and by which rule.
     pub what: What,
 }
 
@@ -117,5 +123,6 @@ pub struct Note {
     pub index: u32,
     /// The number of the subscription.
     pub sub: u64,
+    /// What was kept back of it, and by which rule.
     pub what: What,
 }

@@ -1,3 +1,4 @@
+//! The lines of text of audit entries.
 ghost use Rattle.std.specs.Prelude.{◌≡◌, ◌++◌, ◌∷◌, [], ◌<◌, OnOk, IfOk, string_bytes};
 ghost use Rattle.std.specs.Fmt.{decimal};
 ghost use Rattle.std.specs.List.{join_with_byte};
@@ -7,8 +8,8 @@ use crate::entry::{AuditEntry, RemovedField, What};
 use itoa::Buffer;
 use std::alloc::{AllocError, Global};
 
-/// The line of an entry, with its line feed: position, index and subscription, then what was kept back,
-/// words parted by one space.
+/// The line of `entry` with its line feed, in memory from `alloc`: the position, the index and the
+/// subscription, then what was kept back, words parted by one space.
 ///
 /// # Errors
 /// Want of memory.
@@ -20,10 +21,10 @@ pub fn line(alloc: Global, entry: &AuditEntry) -> Result<String, AllocError>
     Ok(text)
 }
 
-/// Adds the line of an entry to a text.
+/// Adds the line of `entry`, as [`line`] answers it, to `text`.
 ///
 /// # Errors
-/// Want of memory.
+/// Want of memory, and then a part of the line may stand there.
 pub fn put_line(text: &mut String, entry: &AuditEntry) -> Result<(), AllocError>
     ensures { OnOk result (string_bytes text.new ≡ string_bytes text.old ++ line_of entry.now) }
 {

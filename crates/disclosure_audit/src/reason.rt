@@ -1,3 +1,4 @@
+//! Why a whole record was withheld.
 ghost use Rattle.std.specs.Prelude.{◌≡◌};
 
 /// Why a whole record was withheld.

@@ -29,20 +29,23 @@ impl ClosedAggregate {
     ghost use Rattle.flow_aggregate.specs.Running.{closed_one};
     ghost use Rattle.flow_aggregate.specs.Closing.{record_of};
 
+    /// The closed group with these sums.
     pub(crate) fn new(group: Group, sums: Sums) -> ClosedAggregate
         ensures { result ≡ closed_one group sums }
     {
         ClosedAggregate { group, sums }
     }
 
+    /// The group, without its sums.
     pub(crate) fn group(&self) -> &Group
         ensures { result.now ≡ self.now.group }
     {
         &self.group
     }
 
-    /// The record of the group: the key's values at full width, where the interval starts and ends, in milliseconds
-    /// since 1970, and the octets, packets and flows of its records, in 8 octets each.
+    /// The record of the group, in memory from `alloc`: the key's values at full width, where the
+    /// interval starts and ends, in milliseconds since 1970, and the octets, packets and flows of
+    /// its records, in 8 octets each (RFC 7015, sections 5.3.1, 7.1 and 7.2).
     ///
     /// # Errors
     /// Want of memory.

@@ -13,7 +13,9 @@ use std::marker::Model;
 
 /// What a record adds, and to which group.
 pub struct Count {
+    /// The group in which the record counts.
     pub(crate) group: Group,
+    /// What it adds to the group's sums.
     pub(crate) counters: Sums,
 }
 
@@ -36,7 +38,8 @@ impl Model for Count {
 }
 
 impl Count {
-    /// What a record adds to the aggregate, of which `judge_time` says that it places it.
+    /// What the record `flow_record` adds to the aggregate `definition`, in which
+    /// [`judge_time`](crate::judge_time) places it. The group's key is in memory from `alloc`.
     ///
     /// # Errors
     /// Want of memory.

@@ -58,7 +58,8 @@ impl Model for Definition {
 }
 
 impl Definition {
-    /// A copy of the definition.
+    /// A copy of `definition` for records to be counted in, in memory from `alloc`. The elements of
+    /// its key are of kinds that a key may have, as those of a policy's aggregates are.
     ///
     /// # Errors
     /// Want of memory.
@@ -110,6 +111,7 @@ impl Definition {
         self.parts.name.as_slice()
     }
 
+    /// The elements of its key.
     pub(crate) fn key(&self) -> &[ElementId]
         ensures value { result.now ≡ self.now.key }
         ensures sound { IsSummed self.now }
@@ -117,6 +119,7 @@ impl Definition {
         self.parts.key.as_slice()
     }
 
+    /// The length of an interval, in seconds.
     pub(crate) fn interval(&self) -> u32
         ensures value { result ≡ self.now.interval }
         ensures some { 1 ≤ result }
@@ -125,6 +128,7 @@ impl Definition {
         self.parts.interval
     }
 
+    /// How long an interval stays open behind its end, in seconds.
     pub(crate) fn grace(&self) -> u32
         ensures value { result ≡ self.now.grace }
         ensures few { result ≤ 86400 }

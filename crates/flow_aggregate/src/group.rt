@@ -15,7 +15,8 @@ use smallvec::SmallVec;
 use std::alloc::{AllocError, Global};
 use std::marker::Model;
 
-/// So many octets of a key are kept in the group itself: the addresses, ports and protocol of an IPv6 flow have 37.
+/// Keys of at most this many octets are kept in the group itself: the addresses, ports and protocol
+/// of an IPv6 flow have 37.
 const KEY_OCTETS: usize = 40;
 
 /// The records of one aggregate that start in one interval and agree in the key: where the interval starts, in
@@ -85,6 +86,7 @@ impl Group {
         self.start
     }
 
+    /// The aggregate in which its records count.
     pub(crate) fn definition(&self) -> &Definition
         ensures value { result.now ≡ self.now.definition }
         ensures sound { IsGroup self.now }
@@ -100,7 +102,7 @@ impl Group {
         self.key.as_slice()
     }
 
-    /// The same group once more, with another hold of its definition.
+    /// This group once more, with another hold of its definition.
     ///
     /// # Errors
     /// Want of memory for the octets of a long key, or for the count of the definition's holds.

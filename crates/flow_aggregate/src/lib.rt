@@ -7,7 +7,7 @@
 //! - `definition`: [`Definition`], an aggregate's definition, made ready for records to be counted in it. [`AggregateDef`] is
 //!   handed on from `policy_text`.
 //! - `count`: [`Count`], what a record adds, and to which group.
-//! - `addition`: [`Addition`], the same at the place of the group, once that was made ready.
+//! - `addition`: [`Addition`], what a record adds, at the place of its group, once that was made ready.
 //! - `closed`, `closed_template`: [`ClosedAggregate`], a closed group with its sums, and its record.
 //! - `group`, `group_order`: what groups are, which are one, and their order.
 //! - `sums`, `values`: the counters, and the first value of an element in a record.

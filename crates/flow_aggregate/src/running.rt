@@ -60,14 +60,16 @@ impl Model for Running {
 }
 
 impl Running {
-    /// No group.
+    /// No group. What it comes to keep is taken from `alloc`. Groups are hashed with keys that
+    /// everybody knows.
     pub fn new(alloc: Global) -> Running
         ensures { result ≡ nothing_held }
     {
         Running::hashed(alloc, HashKeys::known())
     }
 
-    /// No group, and those to come are hashed with these keys.
+    /// No group. What it comes to keep is taken from `alloc`. The groups to come are hashed with
+    /// `keys`, so that no exporter can choose groups that collide where these are secret.
     pub fn hashed(alloc: Global, keys: HashKeys) -> Running
         ensures { result ≡ nothing_held }
     {
@@ -89,8 +91,9 @@ impl Running {
         self.groups.len()
     }
 
-    /// Makes ready for all of these to be added: finds the places of their groups, and makes those that are wanting. What
-    /// was reserved before is so no more.
+    /// Makes ready for all of `counts` to be added: finds the places of their groups, and makes
+    /// those that are wanting. It answers what [`add_reserved`](Running::add_reserved) then adds,
+    /// count by count. What was reserved before is so no more.
     ///
     /// # Errors
     /// Want of memory; then nothing is reserved.
@@ -115,7 +118,8 @@ impl Running {
         self.groups.truncate(self.counted);
     }
 
-    /// Adds what the last `reserve` made ready. It takes no memory and looks for no group.
+    /// Adds `additions`, which the last [`reserve`](Running::reserve) made ready. It takes no
+    /// memory and looks for no group.
     pub fn add_reserved(&mut self, additions: Vec<Addition>)
         requires { (counts : List OneCount) × AreReady self.old additions.items counts }
         ensures adds { (before more : List Counted) → StandsFor self.old.groups before
@@ -127,7 +131,8 @@ impl Running {
         add_all(&mut self.groups, additions);
     }
 
-    /// Drops the groups that an advance of the clock to `t` closes. What was reserved before is so no more.
+    /// Drops the groups that an advance of the clock to `t`, in milliseconds since 1970, closes. It
+    /// takes no memory. What was reserved before is so no more.
     pub fn close(&mut self, t: u64)
         ensures stays { (counted : List Counted) → StandsFor self.old.groups counted
             → StandsFor self.new.groups (staying t counted) }
@@ -140,8 +145,9 @@ impl Running {
         }
     }
 
-    /// The groups that an advance of the clock to `t` closes: those whose interval's end, and the grace behind it, it
-    /// comes to. They stand in the order of start, interval, grace, name, key and the key's octets.
+    /// The groups that an advance of the clock to `t`, in milliseconds since 1970, closes: those
+    /// whose interval's end, and the grace behind it, it comes to. They stand in the order of
+    /// start, interval, grace, name, key and the key's octets.
     ///
     /// # Errors
     /// Want of memory.

@@ -9,8 +9,11 @@ use ipfix_template::Record;
 /// How much the records of a group count together. Each sum stops at the greatest number of 64 bits.
 #[derive(Clone, Copy, Debug, PartialEq, Eq)]
 pub(crate) struct Sums {
+    /// The octets of the flows.
     pub(crate) octets: u64,
+    /// The packets of the flows.
     pub(crate) packets: u64,
+    /// How many flows there are.
     pub(crate) flows: u64,
 }
 

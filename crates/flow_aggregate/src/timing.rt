@@ -25,8 +25,10 @@ pub enum Timing {
 /// The first time that is too late to be a start.
 const NO_TIME: u64 = 1 << 62;
 
-/// Where the record counts in the aggregate, once the clock was advanced to `closed_to`, in milliseconds since
-/// 1970. An interval counts records until the clock comes to its end and the grace behind it.
+/// Where the record `flow_record` counts in the aggregate `definition`, once the clock was advanced
+/// to `closed_to`, in milliseconds since 1970. It counts in the interval in which its flow started
+/// (RFC 7015, section 5.1.1). An interval counts records until the clock comes to its end and the
+/// grace behind it.
 #[tactic(auto, unfolding(crate::specs::Placing::timing_of))]
 pub fn judge_time(definition: &AggregateDef, flow_record: &Record, closed_to: u64) -> Timing
     ensures { result ≡ timing_of definition.now flow_record.now closed_to }
@@ -49,7 +51,7 @@ pub fn judge_time(definition: &AggregateDef, flow_record: &Record, closed_to: u6
     }
 }
 
-/// Where the interval that holds this time starts, of intervals of so many seconds.
+/// Where the interval that holds this time starts, of intervals of `interval` seconds.
 pub(crate) fn interval_start(interval: u32, time: u64) -> u64
     requires { 1 ≤ interval }
     ensures value { result ≡ time / (interval * 1000) * (interval * 1000) }

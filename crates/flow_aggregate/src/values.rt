@@ -7,17 +7,22 @@ use ipfix_element::ElementId;
 use ipfix_octets::be_number;
 use ipfix_template::{FieldSpec, Record};
 
-// Elements of IANA's registry, by their numbers.
+/// The number of the element `octetDeltaCount`, in IANA's registry as the others here are.
 pub(crate) const OCTET_DELTA_COUNT: u16 = 1;
 
+/// The number of the element `packetDeltaCount`.
 pub(crate) const PACKET_DELTA_COUNT: u16 = 2;
 
+/// The number of the element `deltaFlowCount`.
 pub(crate) const DELTA_FLOW_COUNT: u16 = 3;
 
+/// The number of the element `flowStartSeconds`.
 pub(crate) const FLOW_START_SECONDS: u16 = 150;
 
+/// The number of the element `flowStartMilliseconds`.
 pub(crate) const FLOW_START_MILLISECONDS: u16 = 152;
 
+/// The number of the element `flowEndMilliseconds`.
 pub(crate) const FLOW_END_MILLISECONDS: u16 = 153;
 
 /// The value of the record's first field of the element.
@@ -46,11 +51,13 @@ fn is_same_element(element: ElementId, other: ElementId) -> bool
     element.pen() == other.pen() && element.number() == other.number()
 }
 
-/// That value as a number, of an element that is one.
+/// The value of the record's first field of the element of this number, as a number. The element is
+/// one whose values are numbers.
 pub(crate) fn first_number(flow_record: &Record, number: u16) -> Option<u64>
     requires below { number < 32768 }
     requires some { 1 ≤ full_width (registered number) }
     requires few { full_width (registered number) ≤ 8 }
+    // It is the value of the first such field, and one that the element can have.
     ensures exact { result ≡ first_number (registered number) flow_record.now }
     ensures below { IfSome result (λ n. n < 256 ^ full_width (registered number)) }
 {

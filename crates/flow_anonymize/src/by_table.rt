@@ -1,4 +1,4 @@
-//! The same by a table of the policy's rules.
+//! What the policy of a table's rules discloses of a record.
 ghost use Rattle.std.specs.Prelude.{◌≡◌, ◌≢◌, IsOk, IfOk};
 ghost use Rattle.policy_judge.specs.declared.verdict.RecordAction.TheVariants as on_record;
 ghost use Rattle.policy_judge.specs.Verdicts.{record_verdict_of};
@@ -12,8 +12,10 @@ use ipfix_template::Record;
 use rule_table::RuleTable;
 use std::alloc::{AllocError, Global};
 
-/// What the policy of a table's rules discloses of a record of this observation domain to the subscriber of this name: what
-/// [`disclose`](crate::disclose) answers by that policy, for which few of its rules are looked at.
+/// What the policy of the rules of `table` discloses of the record `flow_record` of the Observation
+/// Domain `domain`, to the subscriber called `name`. It is what [`disclose`](crate::disclose)
+/// answers by that policy, and few of its rules are looked at. What passes is in memory from
+/// `alloc`.
 ///
 /// # Errors
 /// Want of memory, which says nothing of the record.

@@ -20,7 +20,7 @@ const MILLIS_OCTETS: usize = 8;
 pub(crate) enum Change {
     /// The first bits stay, and the others become 0.
     Truncate(usize),
-    /// A time is lowered to a multiple of so many seconds.
+    /// A time is lowered to a multiple of this many seconds.
     Degrade(u32),
 }
 
@@ -54,7 +54,8 @@ fn put_first_bits(octets: &[u8], bits: usize, text: &mut Vec<u8>) -> Result<(), 
     keep_bits(octets, bits.min(most), text)
 }
 
-/// The same for four octets, as an IPv4 address has.
+/// Appends four octets, as an IPv4 address has, with their first bits and the others 0; all of them
+/// where they have no more bits.
 fn put_bits_of_four(octets: [u8; 4], bits: usize, text: &mut Vec<u8>) -> Result<(), AllocError>
     ensures ok { OnOk result (text.new.items ≡ text.old.items ++ kept_octets bits octets) }
     ensures err { OnErr result (text.new.items ≡ text.old.items) }
@@ -72,8 +73,9 @@ fn first_bits(number: u32, bits: usize) -> u32
     ((u64::from(number) >> dropped) << dropped) as u32
 }
 
-/// Appends a time that is lowered to a multiple of so many seconds since 1970. No time has another length than 4 octets, in
-/// seconds, or 8, in milliseconds; of such a value zeros are shown.
+/// Appends a time that is lowered to a multiple of `seconds` since 1970 (RFC 6235, section 4.3.1).
+/// No time has another length than 4 octets, in seconds, or 8, in milliseconds; of such a value
+/// zeros are shown.
 fn put_degraded(octets: &[u8], seconds: u32, text: &mut Vec<u8>) -> Result<(), AllocError>
     ensures ok { OnOk result
         (text.new.items ≡ text.old.items ++ degraded_octets seconds octets.now) }
@@ -87,7 +89,8 @@ fn put_degraded(octets: &[u8], seconds: u32, text: &mut Vec<u8>) -> Result<(), A
     write_be(time, width, text)
 }
 
-/// So many seconds, in the units of a time of so many octets; `None` where no time has so many.
+/// The number of `seconds`, in the units of a time of this many octets. `None` where no time has as
+/// many.
 fn step_of_time(octets: usize, seconds: u32) -> Option<u64>
     ensures value { IfSome result (λ step. step ≡ step_of_time octets seconds) }
     ensures width { IfSome result (λ step. (1 ≤ octets) × (octets ≤ 8)) }

@@ -35,8 +35,9 @@ pub fn later_rules_never_matter()
     ensures { LaterNeverMatter }
 {}
 
-/// What is shown of a time that is degraded, by the kind of its element: of a time v in seconds, to w seconds, it is
-/// floor(v / w) * w, and of one in milliseconds floor(v / (1000 * w)) * 1000 * w, in as many octets as came in.
+/// What is shown of a time that is degraded, by the kind of its element (RFC 6235, section 4.3.1).
+/// Of a time v in seconds, to w seconds, it is floor(v / w) * w. Of a time v in milliseconds it is
+/// floor(v / (1000 * w)) * 1000 * w. It has as many octets as came in.
 pub fn times_are_degraded()
     ensures { TimesAreDegraded }
 {}

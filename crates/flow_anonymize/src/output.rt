@@ -14,16 +14,19 @@ use std::marker::Model;
 use std::mem;
 use std::sync::Arc;
 
-/// A run that has come to so many octets is closed, and another is begun.
+/// A run that has come to this many octets is closed, and another is begun.
 const LONG_RUN: usize = 65536;
 
-/// Records that pass, one after another, as they are written. Contracts see them, and the template of the run that is being written.
+/// Records that pass, one after another, as they are written. Contracts see them, and the template
+/// of the run that is being written.
 #[derive(Drop)]
 pub(crate) struct Output {
     alloc: Global,
     /// The runs that are whole.
     done: Records,
+    /// The template of the run that is being written, if one is.
     template: Option<Arc<Template>>,
+    /// The octets of its records.
     text: Vec<u8>,
     /// Where each record ends in the text.
     ends: Vec<u32>,

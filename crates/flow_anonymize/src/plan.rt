@@ -143,10 +143,13 @@ impl Plan {
         text: &mut Vec<u8>,
     ) -> Result<(), AllocError>
         requires { IsShowable self.now flow_record.now }
+        // All of it is appended, or nothing.
         ensures ok { OnOk result (text.new.items
             ≡ text.old.items ++ passed_text (planned self.now flow_record.now.values)) }
         ensures err { OnErr result (text.new.items ≡ text.old.items) }
+        // What is appended is kept as a record is.
         ensures kept { IsKeptAsText (planned self.now flow_record.now.values) }
+        // What is said of a record that isn't shown takes no memory.
         ensures at_once { ShowsNone self.now → IsOk result }
     {
         match self {

@@ -19,8 +19,9 @@ use std::alloc::{AllocError, Global};
 use std::marker::Model;
 use std::sync::Arc;
 
-/// What a policy discloses to one subscriber of the records of an observation domain, and what passed since they were taken. What becomes of
-/// a record is worked out once for the classes of its addresses, and kept for records of the same template that are alike in them.
+/// What a policy discloses to one subscriber of the records of an observation domain, and what
+/// passed since they were taken. What becomes of a record is worked out once for the classes of its
+/// addresses, and kept for records of the same template that are alike in them.
 pub struct Plans {
     table: Arc<RuleTable>,
     classes: Arc<AddressClasses>,
@@ -65,10 +66,12 @@ impl Model for Plans {
 }
 
 impl Plans {
-    /// Plans for the subscriber of this name, by the rules of this table and the classes that their prefixes make. None is made yet.
+    /// Plans for the records of the Observation Domain `domain` and for the subscriber called
+    /// `name`, by the rules of `table` and by `classes`, those that the prefixes of these rules
+    /// make. None is made yet. What is kept is in memory from `alloc`.
     ///
     /// # Errors
-    /// Want of memory.
+    /// Want of memory for the name.
     pub fn new(
         alloc: Global,
         table: Arc<RuleTable>,
@@ -108,14 +111,15 @@ impl Plans {
         self.name.as_str()
     }
 
-    /// The observation domain.
+    /// The Observation Domain whose records are judged.
     pub fn domain(&self) -> u32
         ensures { result ≡ self.now.for.domain }
     {
         self.domain
     }
 
-    /// Begins with records of this template.
+    /// Begins with records of `template`. The plans that are kept are dropped where they are for
+    /// another one. What passed stays.
     ///
     /// # Errors
     /// Want of memory, and then nothing has changed.
@@ -148,11 +152,14 @@ impl Plans {
         }
     }
 
-    /// Judges a record, of whose addresses these are the classes: gives what [`disclose_by`] discloses of it, and says what became
-    /// of it.
+    /// Judges the record `flow_record`, which has the template that was begun with. It gives what
+    /// [`disclose_by`] discloses of it, and says what became of it. `classes` are the classes of
+    /// its addresses, as [`RecordClasses::at`] answers them. A plan that is made is in memory from
+    /// `alloc`.
     ///
     /// # Errors
-    /// Want of memory. Then nothing is left of what passed before: the caller begins anew, with the first record.
+    /// Want of memory. Then nothing is left of what passed before: the caller begins anew, with the
+    /// first record.
     pub fn disclose(
         &mut self,
         alloc: Global,
@@ -161,10 +168,12 @@ impl Plans {
     ) -> Result<Decision, AllocError>
         requires template { self.old.for.template ≡ Some flow_record.now.template }
         requires classes { classes ≡ classes_of self.old.for.cuts flow_record.now }
+        // What passes comes behind the other records, and what is said of the record is so.
         ensures given { OnOk result
             (self.new.given ≡ self.old.given ++ passed (outcome_for self.old.for flow_record.now)) }
         ensures decision { IfOk result
             (λ d. d ≡ decision_of (outcome_for self.old.for flow_record.now)) }
+        // The plans are still for that subscriber, by those rules.
         ensures same { self.new.for ≡ self.old.for }
         ensures dropped { OnErr result (self.new.given ≡ []) }
     {
@@ -175,7 +184,10 @@ impl Plans {
         decision
     }
 
-    /// The same, but that at an error some of what passed before may be left.
+    /// Judges a record as [`disclose`](Plans::disclose) does.
+    ///
+    /// # Errors
+    /// Want of memory. Then some of what passed before may be left.
     fn judge(
         &mut self,
         alloc: Global,
@@ -184,6 +196,7 @@ impl Plans {
     ) -> Result<Decision, AllocError>
         requires template { self.old.for.template ≡ Some flow_record.now.template }
         requires classes { classes ≡ classes_of self.old.for.cuts flow_record.now }
+        // What passes comes behind the other records, and what is said of the record is so.
         ensures given { OnOk result
             (self.new.given ≡ self.old.given ++ passed (outcome_for self.old.for flow_record.now)) }
         ensures decision { IfOk result
@@ -201,7 +214,10 @@ impl Plans {
         }
     }
 
-    /// The same for a record for which no plan is kept, and keeps the plan.
+    /// Judges a record for which no plan is kept, and keeps the plan.
+    ///
+    /// # Errors
+    /// Want of memory. Then some of what passed before may be left.
     fn disclose_anew(
         &mut self,
         alloc: Global,
@@ -210,6 +226,7 @@ impl Plans {
     ) -> Result<Decision, AllocError>
         requires template { self.old.for.template ≡ Some flow_record.now.template }
         requires classes { Some classes ≡ classes_of self.old.for.cuts flow_record.now }
+        // What passes comes behind the other records, and what is said of the record is so.
         ensures given { OnOk result
             (self.new.given ≡ self.old.given ++ passed (outcome_for self.old.for flow_record.now)) }
         ensures decision { IfOk result
@@ -280,7 +297,7 @@ impl Plans {
     /// Takes all records that passed, one after another. The plans stay.
     ///
     /// # Errors
-    /// Want of memory. Then too nothing is left of what passed.
+    /// Want of memory. Then nothing is left of what passed either.
     pub fn take_records(&mut self) -> Result<Records, AllocError>
         ensures given { IfOk result (λ all. all ≡ self.old.given) }
         ensures taken { self.new ≡ record { for = self.old.for; given = [] } }

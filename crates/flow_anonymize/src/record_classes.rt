@@ -8,13 +8,16 @@ use rule_table::{AddressPlaces, RecentClasses};
 /// The classes of a record's addresses, as one key for its sources and one for its destinations.
 #[derive(Clone, Copy, Debug)]
 pub struct RecordClasses {
+    /// The key of the classes of its sources.
     pub sources: u64,
+    /// The key of the classes of its destinations.
     pub destinations: u64,
 }
 
 impl RecordClasses {
-    /// The classes of a record's addresses, by the places that its template gives them; `None` where it has more than three on
-    /// a side.
+    /// The classes of the addresses of the record `flow_record`, among those that `classes` have.
+    /// `places` says where the addresses of its template's records stand. `None` where the record
+    /// has more than three addresses on a side.
     pub fn at(
         classes: &mut RecentClasses,
         places: &AddressPlaces,

@@ -15,7 +15,7 @@ use ipfix_template::{Record, RecordView};
 use std::alloc::{AllocError, Global};
 use std::marker::Model;
 
-/// How many plans are kept.
+/// The most plans that are kept.
 const MOST_PLANS: usize = 16;
 
 /// Plans for the records of one template, and the records that passed by these and by others. Contracts see both lists.
@@ -100,6 +100,7 @@ impl Shelf {
         requires showable { (slot : Slot) → slice_get self.old.slots place ≡ Some slot
             → IsShowable slot.plan flow_record.now }
         ensures slots { self.new.slots ≡ self.old.slots }
+        // What passes comes behind the other records, and what is said of the record is so.
         ensures given { (slot : Slot) → slice_get self.old.slots place ≡ Some slot
             → OnOk result
             (self.new.given ≡ self.old.given ++ passed (planned slot.plan flow_record.now.values)) }

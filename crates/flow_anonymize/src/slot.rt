@@ -8,11 +8,13 @@ use crate::record_classes::RecordClasses;
 /// The plan for the records whose addresses have these classes.
 #[derive(Drop)]
 pub(crate) struct Slot {
+    /// The classes of the addresses of these records.
     pub classes: RecordClasses,
+    /// What becomes of them.
     pub plan: Plan,
 }
 
-/// Whether it is for such records.
+/// Whether a plan is for records whose addresses have these classes.
 pub(crate) fn is_for(slot: &Slot, classes: RecordClasses) -> bool
     ensures { result ≡ is_for classes slot.now }
 {

@@ -13,15 +13,15 @@ use std::alloc::{AllocError, Global};
 /// A step over the octets of a record's values.
 #[derive(Clone, Copy)]
 pub(crate) enum Step {
-    /// So many octets are shown as they stand.
+    /// This many octets are shown as they stand.
     Show(usize),
-    /// So many octets are left out.
+    /// This many octets are left out.
     Skip(usize),
     /// A value of variable length is shown as it stands, behind its length (RFC 7011, section 7).
     ShowVariable,
     /// A value of variable length is left out, and its length too.
     SkipVariable,
-    /// A value of so many octets is shown with a change.
+    /// A value of `octets` octets is shown with a change.
     Changed { octets: usize, change: Change },
     /// A value of variable length is shown with a change, behind its length.
     ChangedVariable(Change),
@@ -141,7 +141,8 @@ pub(crate) fn put_by_steps(
     put
 }
 
-/// The same, and what stood there stays on an error.
+/// Appends what the steps show of octets. At an error, what stood there before is still at the
+/// front.
 fn put_steps(steps: &[Step], octets: &[u8], text: &mut Vec<u8>) -> Result<(), AllocError>
     ensures ok { OnOk result (text.new.items ≡ text.old.items ++ shown_by steps.now octets.now) }
     ensures err { OnErr result (take (length text.old.items) text.new.items ≡ text.old.items) }
@@ -196,7 +197,7 @@ fn put_step<'o>(step: Step, octets: &'o [u8], text: &mut Vec<u8>) -> Result<&'o 
     }
 }
 
-/// The first octets, so many or all, and those behind them.
+/// The first `count` octets, or all where there are fewer, and those behind them.
 fn split(octets: &[u8], count: usize) -> (&[u8], &[u8])
     ensures front { result.0.now ≡ take count octets.now }
     ensures back { result.1.now ≡ drop count octets.now }

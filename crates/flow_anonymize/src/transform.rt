@@ -13,13 +13,16 @@ use policy_judge::record_verdict;
 use policy_text::Policy;
 use std::alloc::{AllocError, Global};
 
-/// For a program of one stream, tests and laws: what a policy discloses of a record of this observation domain to the
-/// subscriber of this name.
+/// For a program of one stream, tests and laws: what `policy` discloses of the record `flow_record`
+/// of the Observation Domain `domain`, to the subscriber called `name`. What passes is in memory
+/// from `alloc`.
 ///
-/// A record that passes keeps, in their order, the fields that no rule removes; a truncated value keeps its
-/// first bits, and the others are 0 (RFC 6235, section 4.1.1). It is withheld where a scope field is removed,
-/// and else where no octets are left of its shortest record. Rules on fields are asked only of a record that
-/// passes. A value that stays as it is is not copied, and where no field is removed the template is shared.
+/// A record that passes keeps, in their order, the fields that no rule removes. A truncated value
+/// keeps its first bits, and the others are 0 (RFC 6235, section 4.1.1). A degraded time is lowered
+/// to a multiple of the rule's seconds (RFC 6235, section 4.3.1). The record is withheld where a
+/// scope field is removed, and else where no octets are left of its shortest record. Rules on
+/// fields are asked only of a record that passes. A value that stays as it is is not copied, and
+/// where no field is removed the template is shared.
 ///
 /// # Errors
 /// Want of memory, which says nothing of the record.

@@ -1,3 +1,4 @@
+//! Addresses, read from their texts (RFC 4291, section 2.2, for those of IPv6).
 ghost use Rattle.std.specs.Prelude.{◌≡◌, ◌+◌, ◌-◌, ◌*◌, ◌<◌, ◌^◌, IfSome};
 ghost use Rattle.flow_prefix.specs.Family.{width};
 ghost use Rattle.flow_prefix.specs.Reading.{address_of, whole_number_of};
@@ -7,6 +8,7 @@ use crate::family::{Family, GROUP_VALUES};
 use crate::parts::{Parts, read_groups, read_parts};
 use crate::scan::cut_at_double;
 
+/// How many groups of 16 bits an address of IPv6 has (RFC 4291, section 2.2).
 const GROUPS: usize = 8;
 
 /// The number of an address text of this family.
@@ -60,6 +62,7 @@ fn filled(left: Parts, right: Parts) -> u128
     requires left_counted { IsCounted Family.Ipv6 left }
     requires right_counted { IsCounted Family.Ipv6 right }
     requires room { left.count + right.count < 8 }
+    // The zeros stand between the two sides, and the whole is an address.
     ensures value { result ≡ left.value * 65536 ^ (8 - left.count) + right.value }
     ensures bound { result < 2 ^ 128 }
 {

@@ -1,3 +1,4 @@
+//! The two families of addresses, and how wide an address of each is.
 ghost use Rattle.std.specs.Prelude.{◌≡◌};
 
 /// The octets of an address of IPv4.
@@ -18,14 +19,16 @@ pub const IPV6_BITS: u32 = 128;
 /// The two families of addresses.
 #[derive(Clone, Copy, Debug, PartialEq, Eq)]
 pub enum Family {
+    /// IPv4: 4 octets, 32 bits.
     Ipv4,
+    /// IPv6: 16 octets, 128 bits (RFC 4291, section 2).
     Ipv6,
 }
 
 impl Family {
     ghost use Rattle.flow_prefix.specs.Family.{width, places, base, separator};
 
-    /// The bits of an address.
+    /// The bits of an address: 32 or 128.
     pub fn width(self) -> u32
         ensures { result ≡ width self }
     {
@@ -35,7 +38,7 @@ impl Family {
         }
     }
 
-    /// The parts of an address: octets of IPv4, groups of 16 bits of IPv6.
+    /// How many parts the text of an address has: octets of IPv4, groups of 16 bits of IPv6.
     pub(crate) fn places(self) -> usize
         ensures { result ≡ places self }
     {

@@ -1,3 +1,4 @@
+//! What prefixes of the two families hold: an address, and how many of its first bits count.
 ghost use Rattle.std.specs.Prelude.{◌≡◌, Bool, ◌==◌, ◌&&◌, ◌/◌, ◌%◌, ◌^◌, ◌<◌, length, IfOk, string_bytes};
 ghost use Rattle.sequences.specs.Octets.{be_value};
 ghost use Rattle.flow_prefix.specs.Net.{is_inside, IsNet};
@@ -69,7 +70,7 @@ impl Prefix4 {
         self.length
     }
 
-    /// Whether the first bits of the value are those of the prefix.
+    /// Whether `octets` are an address of IPv4 whose first bits are those of the prefix.
     pub(crate) fn contains(&self, octets: &[u8]) -> bool
         ensures { result ≡ (length octets.now == 4 && is_inside 32 self.now (be_value octets.now)) }
     {
@@ -80,7 +81,10 @@ impl Prefix4 {
         first_bits(width, u32::from(self.length), number(octets)) == u128::from(self.address)
     }
 
-    /// The text in dotted decimal.
+    /// The text in dotted decimal, in memory from `alloc`.
+    ///
+    /// # Errors
+    /// Want of memory.
     pub(crate) fn print(&self, alloc: Global) -> Result<String, AllocError>
         ensures text { IfOk result (λ text. string_bytes text ≡ net_text Family.Ipv4 self.now) }
         ensures sound { IsNet 32 self.now.address self.now.length }
@@ -114,7 +118,7 @@ impl Prefix6 {
         self.length
     }
 
-    /// Whether the first bits of the value are those of the prefix.
+    /// Whether `octets` are an address of IPv6 whose first bits are those of the prefix.
     pub(crate) fn contains(&self, octets: &[u8]) -> bool
         ensures { result
             ≡ (length octets.now == 16 && is_inside 128 self.now (be_value octets.now)) }
@@ -126,7 +130,10 @@ impl Prefix6 {
         first_bits(width, u32::from(self.length), number(octets)) == self.address
     }
 
-    /// The text of eight groups in lower case.
+    /// The text of eight groups in lower case, in memory from `alloc`.
+    ///
+    /// # Errors
+    /// Want of memory.
     pub(crate) fn print(&self, alloc: Global) -> Result<String, AllocError>
         ensures text { IfOk result (λ text. string_bytes text ≡ net_text Family.Ipv6 self.now) }
         ensures sound { IsNet 128 self.now.address self.now.length }

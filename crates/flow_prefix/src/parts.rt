@@ -1,3 +1,4 @@
+//! The parts of an address's text, between its separators.
 ghost use Rattle.std.specs.Prelude.{◌≡◌, ◌<◌, IfSome, IfSome, ◌∷◌, []};
 ghost use Rattle.flow_prefix.specs.Family.{base};
 ghost use Rattle.flow_prefix.specs.Reading.{part_of, parts_of, groups_of, each_part_of};
@@ -7,19 +8,25 @@ use crate::family::Family;
 use crate::scan::cut_at;
 use numerals::{read_digits, read_number};
 
+/// The greatest part of an address of IPv4.
 const GREATEST_OCTET: u32 = 0xff;
 
+/// The greatest part of an address of IPv6.
 const GREATEST_GROUP: u32 = 0xffff;
 
+/// The most digits of a part of an address of IPv6 (RFC 4291, section 2.2).
 const GROUP_DIGITS: usize = 4;
 
+/// The radix of these digits.
 const HEXADECIMAL: u32 = 16;
 
 /// The parts of an address read so far: how many, and the number that they make, the first the most
 /// significant.
 #[derive(Clone, Copy)]
 pub(crate) struct Parts {
+    /// How many parts were read.
     pub count: usize,
+    /// The number that they make.
     pub value: u128,
 }
 

@@ -1,3 +1,4 @@
+//! Prefixes of either family: read from texts, written as texts, and asked for values.
 ghost use Rattle.std.specs.Prelude.{◌≡◌, ◌↔◌, ℕ, Bool, ◌^◌, ◌<◌, Ok, Err, IfOk, IsErrOf, string_bytes};
 ghost use Rattle.flow_prefix.specs.Family.{width};
 ghost use Rattle.flow_prefix.specs.Reading.{prefix_of, judged};
@@ -11,12 +12,15 @@ use crate::scan::cut_at;
 use numerals::read_number;
 use std::alloc::{AllocError, Global};
 
+/// The greatest number of three digits, as many as a length may have.
 const GREATEST_LENGTH: u32 = 999;
 
 /// A prefix of either family.
 #[derive(Clone, Copy, Debug, PartialEq, Eq)]
 pub enum Prefix {
+    /// A prefix of IPv4.
     V4(Prefix4),
+    /// A prefix of IPv6.
     V6(Prefix6),
 }
 
@@ -25,25 +29,32 @@ impl Prefix {
     ghost use Rattle.flow_prefix.specs.Printing.{prefix_text};
     ghost use Rattle.flow_prefix.specs.Prefixes.{contains};
 
-    /// The prefix that a text writes: an address, `/` and a length (RFC 4291, section 2.3). An IPv4
-    /// address is four decimal numbers; an IPv6 address is eight groups of hexadecimal digits, where
-    /// one `::` may stand for one or more groups of zeros. `BadText` where the text has another form;
-    /// then `BadLength` where the length is above the family's width; then `HostBits` where a bit past
-    /// the length is set.
+    /// The prefix that `text` writes: an address, `/` and a length (RFC 4291, section 2.3). An IPv4
+    /// address is four decimal numbers. An IPv6 address is eight groups of hexadecimal digits,
+    /// where one `::` may stand for one or more groups of zeros (RFC 4291, section 2.2, without its
+    /// form with a dotted address).
+    ///
+    /// # Errors
+    /// - `BadText` where the text has another form.
+    /// - `BadLength`, else, where the length is above the family's width.
+    /// - `HostBits`, else, where a bit of the address behind the length is set.
     pub fn parse(text: &str) -> Result<Prefix, PrefixFault>
         ensures { IsReadAs text.now result }
     {
         Prefix::parse_ascii(text.as_bytes())
     }
 
-    /// The prefix that these octets of a text write, as `parse` reads it.
+    /// The prefix that the octets `text` write, as [`parse`](Prefix::parse) reads it.
+    ///
+    /// # Errors
+    /// Those of [`parse`](Prefix::parse).
     pub fn parse_ascii(text: &[u8]) -> Result<Prefix, PrefixFault>
         ensures { IsReadAs text.now result }
     {
         read_prefix(text)
     }
 
-    /// Whether the octets are a value of the prefix's family, 4 or 16 octets, whose first bits are
+    /// Whether `octets` are an address of the prefix's family, 4 or 16 octets, whose first bits are
     /// those of the prefix.
     pub fn contains(&self, octets: &[u8]) -> bool
         ensures { result ≡ contains self.now octets.now }
@@ -54,8 +65,11 @@ impl Prefix {
         }
     }
 
-    /// The canonical text: IPv4 in dotted decimal; IPv6 as eight groups in lower case without leading
-    /// zeros and without `::`. Fails only for want of memory.
+    /// The canonical text, in memory from `alloc`: IPv4 in dotted decimal; IPv6 as eight groups in
+    /// lower case without leading zeros and without `::`.
+    ///
+    /// # Errors
+    /// Want of memory for the text.
     pub fn print(&self, alloc: Global) -> Result<String, AllocError>
         ensures text { IfOk result (λ text. string_bytes text ≡ prefix_text self.now) }
         ensures reads_back { IfOk result (λ text. prefix_of (string_bytes text) ≡ Ok self.now) }

@@ -1,8 +1,10 @@
+//! Texts that are cut in two where an octet stands.
 ghost use Rattle.std.specs.Prelude.{◌≡◌, ◌==◌, ◌<◌, length, position, IfSome};
 ghost use Rattle.std.specs.Option.{option_map};
 ghost use Rattle.flow_prefix.specs.Reading.{cut_at, at_double};
 
-/// What stands before the first such byte, and behind it.
+/// What stands in `text` before its first octet `byte`, and what stands behind it. `None` where it
+/// has no such octet.
 #[tactic(auto, unfolding(crate::specs::Reading::cut_at))]
 pub fn cut_at(text: &[u8], byte: u8) -> Option<(&[u8], &[u8])>
     ensures { option_map (λ sides. (sides.0.now, sides.1.now)) result ≡ cut_at byte text.now }
@@ -18,7 +20,7 @@ fn place_of(text: &[u8], byte: u8) -> Option<usize>
     text.iter().position(|c| *c == byte)
 }
 
-/// What stands before the first `::`, and behind it.
+/// What stands before the first `::`, and what stands behind it. `None` where there is none.
 pub(crate) fn cut_at_double(text: &[u8]) -> Option<(&[u8], &[u8])>
     ensures { option_map (λ sides. (sides.0.now, sides.1.now)) result ≡ at_double text.now }
 {

@@ -56,9 +56,8 @@ impl Framer {
     ///
     /// # Errors
     /// - `BadVersion` where a header's version isn't 10, and else `BadLength` where its length is
-    ///   less than
-    /// the 16 octets of a header. Each comes where no message became whole before it in this call.
-    /// It ends the stream: every later call answers it.
+    ///   less than the 16 octets of a header. Each comes where no message became whole before it in
+    ///   this call. It ends the stream: every later call answers it.
     /// - `OutOfMemory` for want of memory. The piece is then no part of the stream, and nothing has
     ///   changed.
     pub fn feed(&mut self, piece: &[u8]) -> Result<Vec<Bytes>, FrameError>

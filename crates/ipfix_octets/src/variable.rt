@@ -6,7 +6,7 @@ use crate::message_format::LONG_FORM;
 use crate::number::be_number;
 use std::alloc::AllocError;
 
-/// The longest value that a length of two octets can announce.
+/// The longest value that a length of two octets can announce (RFC 7011, section 7).
 pub const LONGEST_VALUE: usize = 65535;
 
 /// Finds the value of variable length at the front of `octets`: the place where it starts, which is

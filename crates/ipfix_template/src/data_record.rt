@@ -42,7 +42,7 @@ impl Model for Values {
 }
 
 impl Values {
-    /// A list of values, of `values` in their order. Nothing is copied.
+    /// Takes `values`, in their order, as the values of a record. Nothing is copied.
     pub fn from_vec(values: Vec<Bytes>) -> Values
         ensures { result ≡ values.items }
     {

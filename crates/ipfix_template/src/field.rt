@@ -79,7 +79,7 @@ impl Model for Fields {
 }
 
 impl Fields {
-    /// The fields of a template, of `specs` in their order.
+    /// Takes `specs`, in their order, as the fields of a template. Nothing is copied.
     ///
     /// # Errors
     /// The list itself, exactly where it has more than 65,535 fields.

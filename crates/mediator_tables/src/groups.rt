@@ -68,15 +68,15 @@ impl RunningGroups {
         }
     }
 
-    /// Hashes the groups of subscriptions that have none yet with these keys.
+    /// Hashes the groups of subscriptions that have none yet with `keys`.
     pub fn hash_by(&mut self, keys: HashKeys)
         ensures { self.new ≡ self.old }
     {
         self.keys = keys;
     }
 
-    /// How many groups are kept for a subscription, with those that were made for what is yet to be added. There are no more
-    /// than records that count or are to be added.
+    /// How many groups are kept for the subscription `sub`, with those that were made for what is
+    /// yet to be added. There are no more than records that count or are to be added.
     pub fn len(&self, sub: u64) -> usize
         ensures value { result ≡ length (places (held_at self.now sub)) }
         ensures few { (counted : List Counted) → StandsFor (groups_at self.now sub) counted
@@ -99,8 +99,10 @@ impl RunningGroups {
         self.by_number.keys().copied().collect(self.alloc)
     }
 
-    /// Makes ready for all that one message adds, where no subscription stands twice: finds the places of the groups, and makes
-    /// those that are wanting. What was reserved before is so no more.
+    /// Makes ready for all of `tallies`, what one message adds, where no subscription stands twice.
+    /// It finds the places of the groups, and makes those that are wanting. It answers what
+    /// [`add_reserved`](RunningGroups::add_reserved) then adds, subscription by subscription. What
+    /// was reserved before is so no more.
     ///
     /// # Errors
     /// Want of memory; then nothing is reserved. No sum changes, whatever the answer.
@@ -136,7 +138,8 @@ impl RunningGroups {
         );
     }
 
-    /// Adds what the last `reserve` made ready. It looks nothing up and takes no memory.
+    /// Adds `reserved`, which the last [`reserve`](RunningGroups::reserve) made ready. It looks
+    /// nothing up and takes no memory.
     pub fn add_reserved(&mut self, reserved: Vec<Reserved>)
         requires { AreCountable self.old (map reserved_for reserved.items) }
         ensures adds { (tallies : List (ℕ × List Count))
@@ -158,7 +161,8 @@ impl RunningGroups {
         }
     }
 
-    /// The records of the groups that an advance of the clock to `t` closes of a subscription, in their order.
+    /// The records of the groups of the subscription `sub` that an advance of the clock to `t`, in
+    /// milliseconds since 1970, closes, in their order.
     ///
     /// # Errors
     /// Want of memory.
@@ -172,8 +176,8 @@ impl RunningGroups {
         }
     }
 
-    /// Drops the groups that an advance of the clock to `t` closes. It takes no memory. What was reserved before is so no
-    /// more.
+    /// Drops the groups that an advance of the clock to `t`, in milliseconds since 1970, closes. It
+    /// takes no memory. What was reserved before is so no more.
     pub fn close(&mut self, t: u64)
         ensures stays { (q : ℕ) (counted : List Counted) → StandsFor (groups_at self.old q) counted
             → StandsFor (groups_at self.new q) (staying t counted) }
@@ -191,7 +195,8 @@ impl RunningGroups {
         );
     }
 
-    /// Drops the groups of a subscription. It takes no memory, and what was reserved for others stays so.
+    /// Drops the groups of the subscription `sub`. It takes no memory, and what was reserved for
+    /// others stays so.
     pub fn remove(&mut self, sub: u64)
         ensures gone { held_at self.new sub ≡ nothing_held }
         ensures others { (q : ℕ) → q ≢ sub → held_at self.new q ≡ held_at self.old q }
@@ -223,10 +228,12 @@ impl RunningGroups {
     /// Makes ready for what is added to the groups of one subscription. What was reserved for it before is so no more.
     fn reserve_one(&mut self, tally: &Tally) -> Result<Reserved, AllocError>
         ensures same { (q : ℕ) → groups_at self.new q ≡ groups_at self.old q }
+        // What it adds has its place, and no more groups are made than it has counts.
         ensures ok { IfOk result
             (λ reserved. IsReadyFor self.new (reserved_for reserved) (tallied tally.now)) }
         ensures few { length (held_at self.new tally.now.sub).ready
             ≤ length tally.now.counts.items }
+        // What was made ready for other subscriptions stays so.
         ensures others { (q : ℕ) → q ≢ tally.now.sub → held_at self.new q ≡ held_at self.old q }
         ensures places { (place q : ℕ) → StandsAt self.old place q → StandsAt self.new place q }
     {
@@ -266,6 +273,7 @@ impl RunningGroups {
             → IsReadyFor self.old (reserved_for reserved) (sub, map count_of more)
             → StandsFor (groups_at self.old sub) before
             → StandsFor (groups_at self.new sub) (before ++ more) }
+        // Nothing is ready then for this subscription, and others are held as before.
         ensures ready { (sub : ℕ) → StandsAt self.old reserved.place sub
             → (held_at self.new sub).ready ≡ [] }
         ensures others { (sub q : ℕ) → StandsAt self.old reserved.place sub

@@ -6,12 +6,15 @@ use flow_aggregate::{Addition, Count};
 pub struct Tally {
     /// The number of the subscription.
     pub sub: u64,
+    /// What the message's records add, one after another.
     pub counts: Vec<Count>,
 }
 
 /// What was made ready for the groups of a subscription, whose place is known.
 #[derive(Drop)]
 pub struct Reserved {
+    /// The place of the subscription's groups.
     pub(crate) place: usize,
+    /// What is added to them.
     pub(crate) additions: Vec<Addition>,
 }

@@ -1,3 +1,4 @@
+//! The judge: the first rule of a policy that matches a record, or a field of it, and what it does.
 ghost use Rattle.std.specs.Prelude.{◌≡◌, ◌<◌, ◌≤◌, Some, IfSome, length, position};
 ghost use Rattle.policy_judge.specs.Match.{matches_record, matches_field};
 ghost use Rattle.policy_judge.specs.Verdicts.{record_action, element_action, record_verdict_of, element_verdict_of, record_verdict_at, element_verdict_at};
@@ -8,8 +9,9 @@ use ipfix_element::ElementId;
 use ipfix_template::Record;
 use policy_text::{Action, Policy, Rule};
 
-/// The verdict of a policy on a record of this observation domain, for the subscriber of this name: that of
-/// the first matching rule on records, or rule 0, which withholds.
+/// The verdict of `policy` on the record `flow_record` of the Observation Domain `domain`, for the
+/// subscriber called `name`: that of the first matching rule on records, or rule 0, which
+/// withholds.
 pub fn record_verdict(
     policy: &Policy,
     name: &str,
@@ -21,8 +23,9 @@ pub fn record_verdict(
     record_verdict_of(policy.rules(), name, domain, flow_record)
 }
 
-/// The verdict of a policy on the field of a record at this place, counted from 0, for the subscriber of this
-/// name: that of the first matching rule on fields, or rule 0, which removes.
+/// The verdict of `policy` on the field at the place `field`, counted from 0, of the record
+/// `flow_record` of the Observation Domain `domain`, for the subscriber called `name`: that of the
+/// first matching rule on fields, or rule 0, which removes.
 pub fn element_verdict(
     policy: &Policy,
     name: &str,
@@ -36,7 +39,9 @@ pub fn element_verdict(
     element_verdict_of(policy.rules(), name, domain, flow_record, field)
 }
 
-/// The same on a record, by a policy's rules.
+/// The verdict of a policy's `rules`, at most 4,096, on the record `flow_record` of the Observation
+/// Domain `domain`, for the subscriber called `name`: that of the first matching rule on records,
+/// or rule 0, which withholds.
 pub fn record_verdict_of(
     rules: &[Rule],
     name: &str,
@@ -50,7 +55,9 @@ pub fn record_verdict_of(
     record_verdict_at(rules, first)
 }
 
-/// The same on a field, by a policy's rules.
+/// The verdict of a policy's `rules`, at most 4,096, on the field at the place `field`, counted
+/// from 0, of the record `flow_record` of the Observation Domain `domain`, for the subscriber
+/// called `name`: that of the first matching rule on fields, or rule 0, which removes.
 pub fn element_verdict_of(
     rules: &[Rule],
     name: &str,
@@ -67,7 +74,8 @@ pub fn element_verdict_of(
     element_verdict_at(rules, first)
 }
 
-/// The verdict of the rule on records at this place, the first that matches; that of rule 0 where none does.
+/// The verdict on a record, where `first` is the place among `rules`, at most 4,096, of the first
+/// rule on records that matches it. Where there is none, it is that of rule 0, which withholds.
 pub fn record_verdict_at(rules: &[Rule], first: Option<usize>) -> RecordVerdict
     requires few { length rules.now ≤ 4096 }
     requires within { IfSome first (λ place. place < length rules.now) }
@@ -85,7 +93,8 @@ pub fn record_verdict_at(rules: &[Rule], first: Option<usize>) -> RecordVerdict
     }
 }
 
-/// The verdict of the rule on fields at this place, the first that matches; that of rule 0 where none does.
+/// The verdict on a field, where `first` is the place among `rules`, at most 4,096, of the first
+/// rule on fields that matches it. Where there is none, it is that of rule 0, which removes.
 pub fn element_verdict_at(rules: &[Rule], first: Option<usize>) -> ElementVerdict
     requires few { length rules.now ≤ 4096 }
     requires within { IfSome first (λ place. place < length rules.now) }

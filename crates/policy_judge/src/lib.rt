@@ -2,7 +2,7 @@
 //! on each of its fields, and what that rule does. It changes no record, and takes no memory.
 //!
 //! - `verdict`: [`RecordVerdict`] with [`RecordAction`], [`ElementVerdict`] with [`ElementAction`].
-//! - `judge`: [`record_verdict`] and [`element_verdict`]; the same by a policy's rules ([`record_verdict_of`],
+//! - `judge`: [`record_verdict`] and [`element_verdict`]; these verdicts by a policy's rules ([`record_verdict_of`],
 //!   [`element_verdict_of`]), and by the place of the first that matches ([`record_verdict_at`], [`element_verdict_at`]).
 //! - `rule_match`: [`matches_record`] and [`matches_field`], whether a rule matches; and what they ask of it, one by one
 //!   ([`is_on_records`], [`denies`], [`is_for`]).

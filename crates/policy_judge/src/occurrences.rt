@@ -1,3 +1,4 @@
+//! A record's source and destination addresses, and whether they are inside a prefix.
 ghost use Rattle.std.specs.Prelude.{◌≡◌, ◌&&◌, ◌||◌, not};
 ghost use Rattle.std.specs.List.{list_any, list_all, zip};
 ghost use Rattle.flow_prefix.specs.Prefixes.{contains};
@@ -11,19 +12,19 @@ use ipfix_element::addresses::{
 };
 use ipfix_template::{FieldSpec, Record};
 
-/// Which of a record's addresses.
+/// Which of a record's addresses: those of one end of the flow.
 #[derive(Clone, Copy)]
 pub enum Side {
-    /// Where it comes from.
+    /// Where the flow comes from.
     Source,
-    /// Where it goes to.
+    /// Where the flow goes to.
     Destination,
 }
 
 impl Side {
     ghost use Rattle.policy_judge.specs.Sides.{is_of};
 
-    /// Whether fields of the element hold such addresses.
+    /// Whether fields of `element` hold addresses of this side.
     pub fn has(self, element: ElementId) -> bool
         ensures { result ≡ is_of self element }
     {

@@ -1,3 +1,4 @@
+//! Whether a rule matches a record or a field, and what it asks for that.
 ghost use Rattle.std.specs.Prelude.{◌≡◌, ◌==◌, Some};
 ghost use Rattle.std.specs.Str.{bytes_eq};
 ghost use Rattle.policy_judge.specs.Occurrences.{sources, destinations};
@@ -8,14 +9,19 @@ use ipfix_element::ElementId;
 use ipfix_template::Record;
 use policy_text::{Action, Name, Rule};
 
-/// Whether the rule is one on records that matches this record for the subscriber.
+/// Whether `rule` is one on records and matches the record `flow_record` of the Observation Domain
+/// `domain`, for the subscriber called `name`. For each prefix that it names, a rule that denies
+/// needs some address of that side inside. A rule that permits needs an address of that side, and
+/// each of them inside.
 pub fn matches_record(rule: &Rule, name: &[u8], domain: u32, flow_record: &Record) -> bool
     ensures { result ≡ matches_record name.now domain flow_record.now rule.now }
 {
     is_on_records(rule.action) && is_for(rule, name, domain) && covers(rule, flow_record)
 }
 
-/// Whether the rule is one on fields that matches a field of this element of the record for the subscriber.
+/// Whether `rule` is one on fields and matches fields of `element` in the record `flow_record` of
+/// the Observation Domain `domain`, for the subscriber called `name`. What it needs for each prefix
+/// that it names, [`matches_record`] says.
 pub fn matches_field(
     rule: &Rule,
     name: &[u8],
@@ -31,7 +37,7 @@ pub fn matches_field(
         && covers(rule, flow_record)
 }
 
-/// Whether a rule of this action is one on records, or else one on fields.
+/// Whether a rule whose action is `action` is one on records, or else one on fields.
 pub fn is_on_records(action: Action) -> bool
     ensures { result ≡ is_on_records action }
 {
@@ -41,7 +47,7 @@ pub fn is_on_records(action: Action) -> bool
     }
 }
 
-/// Whether a rule of this action denies, or else permits.
+/// Whether a rule whose action is `action` denies, or else permits.
 pub fn denies(action: Action) -> bool
     ensures { result ≡ denies action }
 {
@@ -55,7 +61,8 @@ pub fn denies(action: Action) -> bool
     }
 }
 
-/// Whether the rule is for the subscriber of this name and for this observation domain, whatever else it asks.
+/// Whether `rule` is for the subscriber called `name` and for the Observation Domain `domain`,
+/// whatever else it asks.
 pub fn is_for(rule: &Rule, name: &[u8], domain: u32) -> bool
     ensures { result ≡ is_for name.now domain rule.now }
 {

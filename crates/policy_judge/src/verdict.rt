@@ -1,3 +1,4 @@
+//! Verdicts on records and on fields.
 /// What is done with a record.
 #[derive(Clone, Copy, Debug, PartialEq, Eq)]
 pub enum RecordAction {
@@ -26,7 +27,9 @@ pub enum ElementAction {
 /// matches it is rule 0, which withholds.
 #[derive(Clone, Copy, Debug, PartialEq, Eq)]
 pub struct RecordVerdict {
+    /// The number of the rule that decides, or 0.
     pub rule: u32,
+    /// What is done with the record.
     pub action: RecordAction,
 }
 
@@ -34,6 +37,8 @@ pub struct RecordVerdict {
 /// matches it is rule 0, which removes.
 #[derive(Clone, Copy, Debug, PartialEq, Eq)]
 pub struct ElementVerdict {
+    /// The number of the rule that decides, or 0.
     pub rule: u32,
+    /// What is done with the field.
     pub action: ElementAction,
 }

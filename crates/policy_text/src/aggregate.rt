@@ -1,3 +1,4 @@
+//! Aggregates as a policy defines them, with the ranges of their numbers.
 ghost use Rattle.std.specs.Prelude.{◌≡◌, length, vec_len};
 ghost use Rattle.policy_text.specs.Policies.{Aggregate, IsRanged};
 
@@ -28,6 +29,7 @@ impl Model for AggregateDef {
 }
 
 impl AggregateDef {
+    /// The aggregate of this name, key, interval and grace, which are in their ranges.
     pub(crate) fn new(name: Name, key: Vec<ElementId>, interval: u32, grace: u32) -> AggregateDef
         requires { IsRanged (length key.items) interval grace }
         ensures { result
@@ -48,7 +50,8 @@ impl AggregateDef {
         &self.name
     }
 
-    /// The elements in which counted records agree.
+    /// The elements in whose values counted records agree, 1 to 16 of them, in the order of the
+    /// text.
     pub fn key(&self) -> &[ElementId]
         ensures value { result.now ≡ self.now.key }
         ensures sound { IsRanged (length self.now.key) self.now.interval self.now.grace }
@@ -56,14 +59,14 @@ impl AggregateDef {
         self.key.as_slice()
     }
 
-    /// The length of an interval, in seconds.
+    /// The length of an interval, in seconds: 1 to 86400.
     pub fn interval(&self) -> u32
         ensures { result ≡ self.now.interval }
     {
         self.interval
     }
 
-    /// How long an interval stays open behind its end, in seconds.
+    /// How long an interval stays open behind its end, in seconds: 0 to 86400.
     pub fn grace(&self) -> u32
         ensures { result ≡ self.now.grace }
     {

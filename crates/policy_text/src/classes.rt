@@ -1,3 +1,5 @@
+//! The classes of words that a line may have at its places: names, numbers, elements, prefixes,
+//! keys.
 ghost use Rattle.std.specs.Prelude.{◌≡◌, ◌≤◌, ◌==◌, length, IfOk, OnOk, IfErr, true, false};
 ghost use Rattle.std.specs.List.{list_any};
 ghost use Rattle.std.specs.Str.{bytes_eq};
@@ -25,6 +27,7 @@ const MOST_SECONDS: u32 = 86_400;
 /// The greatest number of three digits.
 const THREE_DIGITS: u32 = 999;
 
+/// The most elements that a key may have.
 const MOST_KEY_ELEMENTS: usize = 16;
 
 fn is_star(word: &[u8]) -> bool

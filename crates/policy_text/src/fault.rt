@@ -1,3 +1,4 @@
+//! Why a text is no policy, and the texts of these faults.
 use std::alloc::{AllocError, AllocFailed};
 use std::error::Error;
 use std::fmt::{self, Display, Formatter, Write};
@@ -83,7 +84,9 @@ impl<T: Drop> From<AllocFailed<T>> for FaultKind {
 /// in it that doesn't fit. The line is 0 where memory ran out. Its text is the kind's name.
 #[derive(Clone, Copy, Debug, PartialEq, Eq)]
 pub struct PolicyFault {
+    /// The number of the faulty line, from 1. It is 0 where memory ran out.
     pub line: usize,
+    /// What is wrong in it.
     pub kind: FaultKind,
 }
 

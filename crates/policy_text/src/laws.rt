@@ -1,3 +1,4 @@
+//! Laws over the definitions that the calls of this crate cite: no code stands behind them.
 ghost use Rattle.policy_text.specs.Printing.{ReadsBack};
 ghost use Rattle.policy_text.specs.Spelling.{OnePolicy};
 ghost use Rattle.policy_text.specs.FirstFault.{FirstFault, PolicyOrFault};

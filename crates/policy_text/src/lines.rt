@@ -1,3 +1,4 @@
+//! The lines of a policy, read word by word: what a rule says, and what an aggregate is.
 ghost use Rattle.std.specs.Prelude.{◌≡◌, ◌≤◌, length, IfOk, IfErr, true, false};
 ghost use Rattle.policy_text.specs.Policies.{IsKeyLength};
 ghost use Rattle.policy_text.specs.Results.{Gives, is_memory};

@@ -1,3 +1,4 @@
+//! Names of subscribers and of aggregates.
 ghost use Rattle.std.specs.Prelude.{◌≡◌, true, length, IfOk, nat_eq};
 ghost use Rattle.std.specs.List.{list_all};
 ghost use Rattle.std.specs.Cmp.Lexicographic.{pointwise, nat_list_eq_equiv};
@@ -8,9 +9,11 @@ use std::alloc::{AllocError, Global};
 use std::marker::Model;
 use std::str::from_utf8;
 
+/// The most octets of a name.
 const LONGEST_NAME: usize = 32;
 
-/// Whether the text is a name: 1 to 32 of `a` to `z`, `0` to `9`, `-` and `_`, the first a letter.
+/// Whether `text` is a name: 1 to 32 of `a` to `z`, `0` to `9`, `-` and `_`, the first of them a
+/// letter.
 #[tactic(auto, unfolding(crate::specs::Naming::is_name))]
 pub fn is_name(text: &str) -> bool
     ensures { result ≡ is_name text.now }
@@ -18,7 +21,7 @@ pub fn is_name(text: &str) -> bool
     is_name_word(text.as_bytes())
 }
 
-/// The same of a word.
+/// Whether the word is a name, as [`is_name`] says it of a text.
 #[tactic(auto, unfolding(crate::specs::Naming::is_name))]
 pub(crate) fn is_name_word(word: &[u8]) -> bool
     ensures { result ≡ is_name word.now }
@@ -37,7 +40,7 @@ fn are_name_octets(word: &[u8]) -> bool
     word.iter().all(|c| c.is_ascii_lowercase() || c.is_ascii_digit() || *c == b'-' || *c == b'_')
 }
 
-/// The name of a subscriber or of an aggregate, which `is_name` accepts.
+/// The name of a subscriber or of an aggregate: a word that [`is_name`] accepts.
 #[derive(Debug, Drop)]
 pub struct Name {
     octets: Vec<u8>,
@@ -55,10 +58,11 @@ impl Model for Name {
 }
 
 impl Name {
-    /// The name that the word is.
+    /// The name that `word` is, of which it is known that it is one. It is copied into memory from
+    /// `alloc`.
     ///
     /// # Errors
-    /// Want of memory.
+    /// Want of memory for the copy.
     pub fn new(alloc: Global, word: &[u8]) -> Result<Name, AllocError>
         requires { is_name word.now ≡ true }
         ensures { IfOk result (λ name. name ≡ word.now) }

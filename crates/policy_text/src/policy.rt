@@ -1,3 +1,4 @@
+//! Policies: read from their texts, line by line, and written as texts.
 ghost use Rattle.std.specs.Prelude.{◌≡◌, false, true, Ok, IfOk, IfErr, string_bytes};
 ghost use Rattle.policy_text.specs.Grammar.{IsPolicy};
 ghost use Rattle.policy_text.specs.Policies.{Meaning, without_lines};
@@ -22,8 +23,10 @@ use numerals::is_word;
 use std::alloc::{AllocError, Global};
 use std::marker::Model;
 
+/// The most rules that a policy may have.
 const MOST_RULES: usize = 4096;
 
+/// The most aggregates that a policy may have.
 const MOST_AGGREGATES: usize = 256;
 
 /// An ordered list of rules, with the aggregates that they name, in a version of the language.
@@ -58,10 +61,15 @@ impl Model for Policy {
 }
 
 impl Policy {
-    /// The policy that a text spells: `policy 1` or `policy 2`, and then a line for each aggregate and each
-    /// rule, each aggregate before the rules that name it. Lines without words and lines that begin with
-    /// `#` are skipped. A fault is that of the first faulty line, and in it of the first word that doesn't fit;
-    /// where memory runs out the fault has line 0.
+    /// The policy that `text` spells, in memory from `alloc`. A text has the line `policy 1` or
+    /// `policy 2`, and then a line for each aggregate and each rule, each aggregate before the
+    /// rules that name it. Lines without words and lines that begin with `#` are skipped.
+    ///
+    /// # Errors
+    /// The fault of the first faulty line: its number from 1, and what is wrong with the first word
+    /// in it that doesn't fit, or with its end ([`FaultKind`]). A text whose lines are all skipped
+    /// has `NoHeader` in line 1. Where memory runs out before that fault, it is `OutOfMemory` in
+    /// line 0.
     pub fn parse(alloc: Global, text: &str) -> Result<Policy, PolicyFault>
         // What is read is spelled so.
         ensures found { IfOk result (λ policy. Spells text.now policy) }
@@ -137,8 +145,11 @@ impl Policy {
         self.rules.as_slice()
     }
 
-    /// The one printed text: the header, the aggregates and the rules, each in their order, one space
-    /// between words and a line feed behind each line. Fails only for want of memory.
+    /// The one printed text of the policy, in memory from `alloc`: the header, the aggregates and
+    /// the rules, each in their order, one space between words and a line feed behind each line.
+    ///
+    /// # Errors
+    /// Want of memory for the text.
     pub fn print(&self, alloc: Global) -> Result<String, AllocError>
         ensures text { IfOk result (λ text. string_bytes text ≡ policy_text self.now) }
         ensures spelled { IfOk result (λ text. Spells (string_bytes text) self.now) }

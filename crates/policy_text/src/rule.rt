@@ -1,3 +1,4 @@
+//! What a rule of a policy says. It is plain data.
 use crate::name::Name;
 use flow_prefix::Prefix;
 use ipfix_element::ElementId;
@@ -24,15 +25,16 @@ pub enum Action {
 /// One rule. `None` is `*`, no condition.
 #[derive(Debug, Drop)]
 pub struct Rule {
-    /// The subscriber's name.
+    /// The subscriber's name, or any subscriber.
     pub who: Option<Name>,
-    /// The observation domain.
+    /// The Observation Domain ID, or any domain.
     pub domain: Option<u32>,
-    /// Where the source addresses are.
+    /// The prefix in which the source addresses are, or anywhere.
     pub from: Option<Prefix>,
-    /// Where the destination addresses are.
+    /// The prefix in which the destination addresses are, or anywhere.
     pub to: Option<Prefix>,
-    /// The element of the fields; `None` also in rules on records.
+    /// The element of the fields; `None` for any element, and in rules on records.
     pub element: Option<ElementId>,
+    /// What is done with the records or fields that match.
     pub action: Action,
 }

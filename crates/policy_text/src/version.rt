@@ -1,3 +1,4 @@
+//! The versions of the policy language.
 ghost use Rattle.std.specs.Prelude.{◌≡◌};
 ghost use Rattle.policy_text.specs.Policies.{has_degrade};
 

@@ -1,3 +1,4 @@
+//! The words of a line, one after another.
 ghost use Rattle.std.specs.Prelude.{◌≡◌, ◌∷◌, List, ℕ, ◌<◌, ◌≤◌, length, Ok, IfSome, position, not, IfErr, false};
 ghost use Rattle.std.specs.Option.{option_map};
 ghost use Rattle.policy_text.specs.Words.{words_of, first_of, is_blank};

@@ -1,3 +1,4 @@
+//! A record's addresses as numbers, and the shapes of the prefixes that rules name.
 ghost use Rattle.std.specs.Prelude.{◌≡◌, ◌==◌, ◌&&◌, if◌then◌else◌, None, IfOk, IfSome, OnOk};
 ghost use Rattle.std.specs.List.{Contains, list_any};
 ghost use Rattle.flow_prefix.specs.Bits.{truncated};
@@ -15,14 +16,18 @@ use std::alloc::{AllocError, Global};
 /// An address: how many bits it has, and its number.
 #[derive(Clone, Copy, Debug)]
 pub(crate) struct Address {
+    /// How many bits it has: 32 or 128.
     pub width: u32,
+    /// The number that its octets are.
     pub number: u128,
 }
 
 /// What a prefix is without its address: how many bits an address has, and how many of them count.
 #[derive(Clone, Copy, Debug)]
 pub(crate) struct Shape {
+    /// How many bits an address has: 32 or 128.
     pub width: u32,
+    /// How many of them count.
     pub length: u32,
 }
 
@@ -70,7 +75,7 @@ fn address_of(octets: &[u8]) -> Option<Address>
     None
 }
 
-/// A number of so many bits with its first ones kept, and the others 0.
+/// A number of `width` bits with its first `kept` bits, and the others set to 0.
 pub(crate) fn first_bits(width: u32, kept: u32, number: u128) -> u128
     ensures { result ≡ truncated width kept number }
 {

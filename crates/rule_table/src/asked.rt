@@ -1,3 +1,4 @@
+//! The marks that are looked up for a record.
 ghost use Rattle.std.specs.Prelude.{◌≡◌, ◌∷◌, [], ◌++◌, IfOk, OnOk};
 ghost use Rattle.std.specs.List.{filter_map};
 ghost use Rattle.policy_judge.specs.declared.occurrences.Side.TheVariants.{Source, Destination};

@@ -1,3 +1,4 @@
+//! The rules that apply to a record, of which the first of each kind is kept.
 ghost use Rattle.std.specs.Prelude.{◌≡◌, ◌==◌, ℕ, ◌<◌, if◌then◌else◌, Some, None, IfOk, OnOk, length};
 ghost use Rattle.std.specs.Option.{option_or};
 ghost use Rattle.std.specs.List.{find};
@@ -27,9 +28,9 @@ pub struct Candidates<'a> {
     flow_record: &'a Record,
     /// The place of the first rule on records that applies.
     on_record: Option<usize>,
-    /// Of the first on fields of any element.
+    /// The place of the first rule on fields of any element that applies.
     on_any: Option<usize>,
-    /// For each element that is named, of the first on its fields.
+    /// For each element that is named, the place of the first rule on its fields that applies.
     on_named: BTreeMap<u64, usize>,
 }
 
@@ -67,7 +68,10 @@ impl<'a> Model for Candidates<'a> {
 }
 
 impl<'a> Candidates<'a> {
-    /// By the places of the rules that apply to the record.
+    /// The candidates by `places`, those of the rules that apply to the record.
+    ///
+    /// # Errors
+    /// Want of memory.
     pub(crate) fn new(
         alloc: Global,
         rules: &'a [Rule],
@@ -109,8 +113,8 @@ impl<'a> Candidates<'a> {
         record_verdict_at(self.rules, self.on_record)
     }
 
-    /// The verdict on the field at this place, counted from 0: that of the first matching rule on fields, or rule 0, which
-    /// removes.
+    /// The verdict on the field at the place `field`, counted from 0: that of the first matching
+    /// rule on fields, or rule 0, which removes.
     pub fn element_verdict(&self, field: usize) -> ElementVerdict
         requires { field < length self.now.flow_record.template.fields }
         ensures { result ≡ element_verdict_of

@@ -1,3 +1,4 @@
+//! The classes of addresses that the prefixes of rules make.
 ghost use Rattle.std.specs.Prelude.{◌≡◌, ◌≤◌, length, Some, IfOk};
 ghost use Rattle.std.specs.List.{fold, zip};
 ghost use Rattle.std.specs.List.Sorted.{IsNonDecreasing};
@@ -54,7 +55,7 @@ impl Model for AddressClasses {
 }
 
 impl AddressClasses {
-    /// The classes that the prefixes of these rules make.
+    /// The classes that the prefixes of `rules`, at most 4,096, make, in memory from `alloc`.
     ///
     /// # Errors
     /// Want of memory.
@@ -75,7 +76,8 @@ impl AddressClasses {
         self.cuts.as_slice()
     }
 
-    /// The key of the classes of a record's addresses on a side; `None` where there are more than three.
+    /// The key of the classes of those addresses of the record `flow_record` that are of `side`, in
+    /// their order. `None` where there are more than three.
     pub fn key(&self, side: Side, flow_record: &Record) -> Option<u64>
         ensures few { length self.now ≤ most_cuts }
         ensures key { result ≡ key_of self.now (values_of (is_of side) flow_record.now) }

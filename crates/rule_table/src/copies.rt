@@ -1,9 +1,10 @@
+//! A table's own copies of a policy's rules.
 ghost use Rattle.std.specs.Prelude.{◌≡◌, IfOk};
 
 use policy_text::{Name, Rule};
 use std::alloc::{AllocError, Global};
 
-/// The same rules, in new memory.
+/// Copies of the rules, in their order, in new memory.
 pub(crate) fn copied(alloc: Global, rules: &[Rule]) -> Result<Vec<Rule>, AllocError>
     ensures { IfOk result (λ copies. copies.items ≡ rules.now) }
 {

@@ -1,3 +1,4 @@
+//! A record's addresses in order, so that a prefix is held against all of them at once.
 ghost use Rattle.std.specs.Prelude.{◌≡◌, length, filter, IfOk};
 ghost use Rattle.std.specs.List.{list_any, list_all, filter_map};
 ghost use Rattle.std.specs.List.Sorted.{IsNonDecreasing, IsPermutation};
@@ -23,7 +24,7 @@ pub(crate) struct Sorted<'a> {
     count: usize,
     /// The numbers of those of 4 octets, ascending.
     narrow: Vec<u128>,
-    /// Of those of 16 octets.
+    /// The numbers of those of 16 octets, ascending.
     wide: Vec<u128>,
 }
 
@@ -111,7 +112,7 @@ fn count_in(fields: &[FieldSpec], side: Side) -> usize
         .count()
 }
 
-/// The numbers of the addresses of so many bits, ascending.
+/// The numbers of those addresses that have `width` bits, ascending.
 fn ascending(alloc: Global, addresses: &[Address], width: u32) -> Result<Vec<u128>, AllocError>
     ensures each { IfOk result
         (λ numbers. IsPermutation (filter_map (number_in width) addresses.now) numbers.items) }
@@ -122,7 +123,7 @@ fn ascending(alloc: Global, addresses: &[Address], width: u32) -> Result<Vec<u12
     Ok(numbers)
 }
 
-/// The same numbers, in the order of the addresses.
+/// The numbers of those addresses that have `width` bits, in their order.
 fn listed(alloc: Global, addresses: &[Address], width: u32) -> Result<Vec<u128>, AllocError>
     ensures { IfOk result (λ numbers. numbers.items ≡ filter_map (number_in width) addresses.now) }
 {
@@ -132,7 +133,7 @@ fn listed(alloc: Global, addresses: &[Address], width: u32) -> Result<Vec<u128>,
         .collect(alloc)
 }
 
-/// The number of an address of so many bits.
+/// The number of an address, if it has `width` bits.
 fn number_in(address: Address, width: u32) -> Option<u128>
     ensures { result ≡ number_in width address }
 {
@@ -143,8 +144,9 @@ fn number_in(address: Address, width: u32) -> Option<u128>
     }
 }
 
-/// Whether numbers are such as a rule needs for a prefix: some of them is inside, or else they are all of so many values, and
-/// each is inside.
+/// Whether numbers are such as a rule needs for a prefix. A rule that denies needs one inside.
+/// Another one needs that there are `count` numbers, one for each value of the side, and that each
+/// is inside.
 fn are_in(
     numbers: &[u128],
     count: usize,

@@ -1,3 +1,4 @@
+//! The cuts among all addresses: where a prefix that a rule names begins or ends.
 ghost use Rattle.std.specs.Prelude.{◌≡◌, ◌≤◌, ◌+◌, ◌-◌, ◌*◌, ◌^◌, ◌++◌, length, min, IfOk, OnOk};
 ghost use Rattle.std.specs.List.{flat_map};
 ghost use Rattle.std.specs.List.Sorted.{IsNonDecreasing};
@@ -10,7 +11,9 @@ use std::alloc::{AllocError, Global};
 /// The first address and the last one inside a prefix.
 #[derive(Clone, Copy, Debug)]
 pub(crate) struct Bounds {
+    /// The first address, as a number.
     pub first: u128,
+    /// The last address, as a number.
     pub last: u128,
 }
 
@@ -76,7 +79,8 @@ fn bounds_of(prefix: &Prefix) -> Bounds
     }
 }
 
-/// The bounds of a prefix whose addresses have so many bits.
+/// The bounds of a prefix of `length` bits from the address `first` on, whose addresses have
+/// `width` bits.
 fn bounds_in(width: u32, first: u128, length: u8) -> Bounds
     requires { width ≤ 128 }
     ensures { result
@@ -89,7 +93,7 @@ fn bounds_in(width: u32, first: u128, length: u8) -> Bounds
     }
 }
 
-/// The number whose binary digits are so many ones.
+/// The number whose binary digits are `bits` ones.
 fn ones(bits: u32) -> u128
     requires { bits ≤ 128 }
     ensures { result ≡ 2 ^ bits - 1 }

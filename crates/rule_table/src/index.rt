@@ -1,3 +1,4 @@
+//! A table's entries, each a mark with a rule's place, in which a mark is found by halving.
 ghost use Rattle.std.specs.Prelude.{◌≡◌, ◌<◌, ◌≤◌, ℕ, ◌%◌, ◌^◌, ◌++◌, length, map, slice_index, IfOk, OnOk};
 ghost use Rattle.std.specs.List.{Contains};
 ghost use Rattle.std.specs.List.Sorted.{IsNonDecreasing};
@@ -56,7 +57,7 @@ pub(crate) fn places_under(
     Ok(places)
 }
 
-/// The same marks, each once.
+/// The marks, each once.
 fn each_once(marks: Vec<u64>) -> Vec<u64>
     ensures { (mark : ℕ) → Contains marks.items mark → Contains result.items mark }
 {
@@ -66,7 +67,7 @@ fn each_once(marks: Vec<u64>) -> Vec<u64>
     marks
 }
 
-/// The same places, mark by mark.
+/// The places that stand under these marks, mark by mark.
 fn gathered(alloc: Global, entries: &[u128], marks: &[u64]) -> Result<Vec<usize>, AllocError>
     requires { IsNonDecreasing entries.now }
     ensures { IfOk result (λ places. (mark place : ℕ) → place < 4096 → Contains marks.now mark
@@ -106,6 +107,7 @@ fn under(entries: &[u128], mark: u64) -> &[u128]
 pub(crate) fn from_bound(entries: &[u128], bound: u128) -> &[u128]
     requires { IsNonDecreasing entries.now }
     ensures ascending { IsNonDecreasing result.now }
+    // They are those of the entries that aren't below the bound, and all of these.
     ensures among { (entry : ℕ) → Contains result.now entry → Contains entries.now entry }
     ensures above { (entry : ℕ) → Contains result.now entry → bound ≤ entry }
     ensures kept { (entry : ℕ) → bound ≤ entry

@@ -19,8 +19,8 @@ use ipfix_template::RecordView;
 use std::marker::Model;
 use std::sync::Arc;
 
-/// The classes of addresses, for records one after another: where no cut is between an address of IPv4 and the last one of its side, its
-/// class is that one's. Contracts see the cuts.
+/// The classes of addresses, for records one after another: where no cut is between an address of
+/// IPv4 and the last one of its side, its class is that one's. Contracts see the cuts.
 #[derive(Drop)]
 pub struct RecentClasses {
     classes: Arc<AddressClasses>,
@@ -43,7 +43,7 @@ impl Model for RecentClasses {
 }
 
 impl RecentClasses {
-    /// Before the first record.
+    /// What is known before the first record, with the cuts of `classes`.
     pub fn new(classes: Arc<AddressClasses>) -> RecentClasses
         ensures { result ≡ arc_value classes }
     {
@@ -61,8 +61,9 @@ impl RecentClasses {
         &self.classes
     }
 
-    /// The keys of the classes of a record's sources and of its destinations, as [`AddressClasses::key`] answers them.
-    /// Only the places of addresses are looked at.
+    /// The keys of the classes of a record's sources and of its destinations, as
+    /// [`AddressClasses::key`] answers them for the record `flow_record`. `places` says where the
+    /// addresses of its template's records stand; only these places are looked at.
     pub fn keys(
         &mut self,
         places: &AddressPlaces,
@@ -70,6 +71,7 @@ impl RecentClasses {
     ) -> (Option<u64>, Option<u64>)
         requires same { flow_record.now.template ≡ places.now }
         ensures few { length self.old ≤ most_cuts }
+        // Each key is that of the record's addresses of this side, whatever records came before.
         ensures sources { result.0 ≡ key_of self.old (values_of (is_of Source) flow_record.now) }
         ensures destinations { result.1
             ≡ key_of self.old (values_of (is_of Destination) flow_record.now) }
@@ -94,7 +96,7 @@ impl RecentClasses {
     }
 }
 
-/// As many digits as a key has room for.
+/// The most digits that a key has room for.
 const MOST_DIGITS: usize = 3;
 
 /// The key of the values at these places, of which the last one that was looked up lies in the span.
@@ -135,7 +137,8 @@ fn digit_by(classes: &AddressClasses, span: &mut Span, octets: &[u8]) -> u16
     classes.digit(octets)
 }
 
-/// The class of an address of IPv4: that of the span where the address is in it, and else the span is that of the address from now on.
+/// The class of an address of IPv4: that of the span where the address is in it. Else the span is
+/// that of the address from now on.
 fn class_by(classes: &AddressClasses, span: &mut Span, address: u32) -> u16
     requires { IsSpan classes.now span.old }
     ensures class { result ≡ class_of classes.now address }

@@ -1,3 +1,4 @@
+//! The marks of rules: numbers, each made of a rule's subscriber and of one of its conditions.
 ghost use Rattle.std.specs.Prelude.{◌≡◌, option_map};
 ghost use Rattle.rule_table.specs.Marks.{mixed, name_mark, side_number, inside_mark, prefix_mark, domain_mark, condition_marks, who_mark, element_mark, pen_number, element_of};
 
@@ -58,6 +59,7 @@ pub(crate) fn element_mark(who: u64, element: ElementId) -> u64
     mixed(mark, u64::from(element.number()))
 }
 
+/// A number for the enterprise of an element: 0 where it has none.
 fn pen_number(element: ElementId) -> u64
     ensures { result ≡ pen_number element.pen }
 {
@@ -67,6 +69,7 @@ fn pen_number(element: ElementId) -> u64
     }
 }
 
+/// A number for a side.
 fn side_number(side: Side) -> u64
     ensures { result ≡ side_number side }
 {

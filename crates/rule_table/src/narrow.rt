@@ -13,8 +13,8 @@ use std::marker::Model;
 /// One above the highest address of IPv4.
 const ABOVE4: u128 = 0x1_0000_0000;
 
-/// How many cuts stand from one top to the next. So many are counted faster than they are searched by halves, where a
-/// processor guesses at each step which half is next.
+/// How many cuts stand from one top to the next. This many are counted faster than they are
+/// searched by halves, where a processor guesses at each step which half is next.
 const BLOCK: usize = 16;
 
 /// How many cuts stand from one summit to the next.
@@ -88,11 +88,12 @@ impl NarrowCuts {
     }
 }
 
-/// The addresses between the cuts beside an address, below which there are so many.
+/// The addresses between the cuts beside an address, which has `class` cuts below it.
 fn span_at(cuts: &[u32], class: u16, address: u32) -> Span
     requires ascending { IsNonDecreasing cuts.now }
     requires few { length cuts.now ≤ most_cuts }
     requires class { class ≡ class_of cuts.now address }
+    // They have one class, and the address is among them.
     ensures span { IsSpan cuts.now result }
     ensures among { IsAmong address result }
 {
@@ -157,11 +158,12 @@ fn whole_blocks(count: usize) -> usize
     }
 }
 
-/// Appends the highest address until there are so many.
+/// Appends the highest address until there are `count` cuts.
 fn fill(cuts: &mut Vec<u32>, count: usize) -> Result<(), AllocError>
     requires ascending { IsNonDecreasing cuts.old.items }
     requires low { (k : ℕ) → k < length cuts.old.items → slice_index cuts.old.items k < 2 ^ 32 }
     requires room { length cuts.old.items ≤ count }
+    // No address has more cuts below it than before.
     ensures ascending { OnOk result (IsNonDecreasing cuts.new.items) }
     ensures count { OnOk result (length cuts.new.items ≡ count) }
     ensures same { (address : ℕ) → address < 2 ^ 32
@@ -185,7 +187,7 @@ fn tops_of(alloc: Global, cuts: &[u32]) -> Result<Vec<u32>, AllocError>
     Ok(tops)
 }
 
-/// Where the block begins whose first cut is the last of so many tops.
+/// Where the block begins whose first cut is the last of the first `tops` tops.
 fn block_of(tops: usize) -> usize
     requires { tops ≤ most_cuts }
     ensures { result ≡ 16 * (tops - 1) }
@@ -193,11 +195,13 @@ fn block_of(tops: usize) -> usize
     tops.saturating_sub(1) * BLOCK
 }
 
-/// How many of ascending cuts are below an address, where they end in the block that begins here.
+/// How many of ascending cuts are below an address, where they end in the block that begins at
+/// `from`.
 fn count_from(cuts: &[u32], from: usize, address: u32) -> usize
     requires ascending { IsNonDecreasing cuts.now }
     requires few { length cuts.now ≤ most_cuts }
     requires block { IsBlock cuts.now address from }
+    // That is the class of the address.
     ensures class { result ≡ class_of cuts.now address }
     ensures within { result ≤ length cuts.now }
 {

@@ -35,7 +35,7 @@ impl Model for AddressPlaces {
 }
 
 impl AddressPlaces {
-    /// The places of a template's addresses.
+    /// Where the addresses of the records of `template` stand, in memory from `alloc`.
     ///
     /// # Errors
     /// Want of memory.

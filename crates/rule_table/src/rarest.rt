@@ -1,3 +1,4 @@
+//! That of a rule's marks that fewest rules have.
 ghost use Rattle.std.specs.Prelude.{◌≡◌, ◌⊎◌, [], MatchOption};
 ghost use Rattle.std.specs.List.{Contains};
 ghost use Rattle.rule_table.specs.Marks.{present, marks_of, either};
@@ -37,7 +38,7 @@ pub(crate) fn rarest_mark(rule: &Rule, all: &[u64]) -> u64
     }
 }
 
-/// Of these marks that which fewest rules have, and of such ones the first.
+/// Of these marks the one that fewest rules have; of several such marks the first.
 fn rarest(marks: &[Option<u64>], all: &[u64]) -> Option<u64>
     ensures { MatchOption result
         (present marks.now ≡ []) (λ mark. Contains (present marks.now) mark) }

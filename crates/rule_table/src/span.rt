@@ -2,11 +2,15 @@
 ghost use Rattle.std.specs.Prelude.{◌≡◌, ℕ, List, true};
 ghost use Rattle.rule_table.specs.Spans.{IsSpan, IsAmong};
 
-/// The addresses of IPv4 from the first to the last, and the class of each of them. There are none where the first is above the last.
+/// The addresses of IPv4 from the first to the last, and the class of each of them. There are none
+/// where the first is above the last.
 #[derive(Clone, Copy, Debug)]
 pub(crate) struct Span {
+    /// The first address, as a number.
     pub first: u32,
+    /// The last address, as a number.
     pub last: u32,
+    /// How many cuts are below each of them.
     pub class: u16,
 }
 

@@ -1,3 +1,4 @@
+//! A policy's rules with an index, by which those are found that may match a record.
 ghost use Rattle.std.specs.Prelude.{◌≡◌, ◌≤◌, ◌<◌, ℕ, List, length, filter, IfOk};
 ghost use Rattle.ipfix_template.specs.DataRecord.{DataRecord};
 ghost use Rattle.policy_judge.specs.Verdicts.{record_verdict_of, element_verdict_of};
@@ -24,8 +25,8 @@ use policy_text::{Policy, Rule};
 use std::alloc::{AllocError, Global};
 use std::marker::Model;
 
-/// Of so few rules all are looked at, and also of rules that are fewer than the marks that would be looked up: that costs
-/// less than to find those that may match.
+/// Of at most this many rules all are looked at, and also of rules that are fewer than the marks
+/// that would be looked up: that costs less than to find those that may match.
 const FEW_RULES: usize = 32;
 
 /// The rules of a policy, with an index by which those are found that may match a record. Contracts see the rules.
@@ -66,7 +67,7 @@ impl Model for RuleTable {
 }
 
 impl RuleTable {
-    /// The table of a policy's rules. It holds its own copies of them.
+    /// The table of the rules of `policy`. It holds its own copies of them, in memory from `alloc`.
     ///
     /// # Errors
     /// Want of memory.
@@ -86,7 +87,7 @@ impl RuleTable {
         })
     }
 
-    /// The rules, in the order of the policy.
+    /// The rules, in the order of the policy, at most 4,096.
     pub fn rules(&self) -> &[Rule]
         ensures value { result.now ≡ self.now }
         ensures sound { AreOfPolicy self.now }
@@ -95,15 +96,20 @@ impl RuleTable {
         self.rules.as_slice()
     }
 
-    /// The verdict on a record, as `policy_judge` gives it, by a look at one rule after another. It takes no memory.
+    /// The verdict on the record `flow_record` of the Observation Domain `domain`, for the
+    /// subscriber called `name`, as `policy_judge` gives it. It looks at one rule after another,
+    /// and takes no memory.
     pub fn record_verdict(&self, name: &str, domain: u32, flow_record: &Record) -> RecordVerdict
         ensures { result ≡ record_verdict_of name.now domain flow_record.now self.now }
     {
         record_verdict_of(self.rules(), name, domain, flow_record)
     }
 
-    /// The verdict on a field, for a program that asks for few of them: the others ask [`candidates`](RuleTable::candidates).
-    /// The field is that at this place, counted from 0. It is found as the verdict on a record is, and takes no memory.
+    /// The verdict on the field at the place `field`, counted from 0, of the record `flow_record`
+    /// of the Observation Domain `domain`, for the subscriber called `name`, as `policy_judge`
+    /// gives it. It is for a program that asks for few fields: the others ask
+    /// [`candidates`](RuleTable::candidates). It looks at one rule after another, and takes no
+    /// memory.
     pub fn element_verdict(
         &self,
         name: &str,
@@ -117,8 +123,9 @@ impl RuleTable {
         element_verdict_of(self.rules(), name, domain, flow_record, field)
     }
 
-    /// The rules that may match a record of this observation domain, for the subscriber of this name: few of them, to be
-    /// asked for the verdicts on the record and on each of its fields.
+    /// The rules that may match the record `flow_record` of the Observation Domain `domain`, for
+    /// the subscriber called `name`: few of them, to be asked for the verdicts on the record and on
+    /// each of its fields. They are in memory from `alloc`.
     ///
     /// # Errors
     /// Want of memory.
@@ -173,7 +180,8 @@ impl RuleTable {
         self.marked_places(alloc, name, domain, flow_record, from, to)
     }
 
-    /// Whether the rules are so few that all are looked at, for a record of so many fields, sources and destinations.
+    /// Whether all rules are looked at, since they are few, for a record with this many fields,
+    /// sources and destinations.
     fn are_few(&self, fields: usize, from: usize, to: usize) -> bool {
         let from = from.saturating_mul(self.sources.len());
         let to = to.saturating_mul(self.destinations.len());
@@ -181,7 +189,8 @@ impl RuleTable {
         self.rules.len() <= marks.max(FEW_RULES)
     }
 
-    /// The same, of those alone that stand under a mark of the record.
+    /// The places of the rules that may match, ascending: of those alone that stand under a mark of
+    /// the record.
     fn marked_places(
         &self,
         alloc: Global,
@@ -259,7 +268,8 @@ fn applying(
     kept(alloc, rules, places, name.as_bytes(), domain, from, to)
 }
 
-/// The same, by each place.
+/// Those of these places, in their order, at which a rule stands that applies to the subscriber,
+/// the domain and these addresses.
 fn kept(
     alloc: Global,
     rules: &[Rule],

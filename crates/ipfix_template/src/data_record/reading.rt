@@ -15,10 +15,10 @@ use std::sync::Arc;
 impl Record {
     ghost use Rattle.ipfix_template.specs.DataRecord.{IsSound, kept_record};
 
-    /// The record whose values the fields of `template` find in `text`, as
-    /// [`measure`](crate::measure) found them there. `is_shortest` is what it said of the text:
-    /// whether each value stands in its shortest text. The text itself is kept where that is so.
-    /// Else the values are written again, in memory from `alloc`.
+    /// The record of `template` that stands in `text`, as [`measure`](crate::measure) found it.
+    /// `is_shortest` is what it said of the text: whether each value stands in its shortest text.
+    /// The text itself is kept where that is so. Else the values are written again, in memory from
+    /// `alloc`.
     ///
     /// # Errors
     /// Want of memory, only where a value doesn't stand in its shortest text.

@@ -11,7 +11,7 @@ use std::marker::Model;
 use std::sync::Arc;
 
 /// A Data Record with its template (RFC 7011, section 3.4.3) as it stands among other octets, such as those of its Data
-/// Set: nothing is held, cut out or copied. Its type keeps what [`Record`] keeps, and contracts see the same.
+/// Set: nothing is held, cut out or copied. Its type keeps what [`Record`] keeps, and contracts see what they see of one.
 #[derive(Drop)]
 pub struct RecordView<'r> {
     template: &'r Arc<Template>,
