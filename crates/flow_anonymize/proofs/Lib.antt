@@ -7,7 +7,7 @@ pub mod OtherLaws
 pub mod PermittedLaws
 pub mod Planning
 pub mod PlanLaws
-pub mod ShelfLaws
+pub mod CacheLaws
 pub mod OutputLaws
 pub mod TextLaws
 pub mod StepLaws

@@ -36,7 +36,7 @@ use Rattle.flow_anonymize.specs.Secrecy.{AreInsideAlike, AreCoveredAlike}
 use Rattle.flow_anonymize.specs.Classes.{both, classes_of}
 use Rattle.flow_anonymize.specs.Planning.{planned, IsShowable, IsPlan}
 use Rattle.flow_anonymize.specs.Plans.{PlansFor, is_for, Discloses, IsSlot, AreKept}
-use Rattle.flow_anonymize.specs.Shelf.{IsPut}
+use Rattle.flow_anonymize.specs.PlanCache.{IsPut}
 use Rattle.flow_anonymize.proofs.Bounds.{verdicts_are_judged}
 use Rattle.flow_anonymize.proofs.SecrecyLaws.{record_alike, verdicts_alike}
 use Rattle.flow_anonymize.proofs.Planning.{showable}
@@ -174,9 +174,9 @@ kept_put for old slot k new kept is put = elim put.others [
 ]
 
 -- the plan that was found, or made anew
-pub found_shelf : (for value : PlansFor) (slots : List Slot) (classes : RecordClasses) (asked : Option RecordClasses) (r : DataRecord) (k : ℕ) (slot : Slot) → AreKept for slots → for ≡ value
+pub found_in_cache : (for value : PlansFor) (slots : List Slot) (classes : RecordClasses) (asked : Option RecordClasses) (r : DataRecord) (k : ℕ) (slot : Slot) → AreKept for slots → for ≡ value
     → Some k ≡ position (is_for classes) slots → slice_get slots k ≡ Some slot → value.template ≡ Some r.template → IsSound r → asked ≡ Some classes → asked ≡ classes_of value.cuts r → Discloses value r slot
-found_shelf for value slots classes asked r k slot kept same place at template sound is keys =
+found_in_cache for value slots classes asked r k slot kept same place at template sound is keys =
     let P : PlansFor → Type 0 = λ f. All (IsSlot f) slots in
     slot_at value slots classes r k slot (subst P same kept.each) place at template sound (sym is ∙ keys)
 

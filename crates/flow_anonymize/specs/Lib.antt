@@ -27,7 +27,7 @@ pub mod Classes
 pub mod Plans
 pub mod Texts
 pub mod Output
-pub mod Shelf
+pub mod PlanCache
 pub use Rattle.ipfix_records.specs.Runs
 pub use Rattle.ipfix_records.specs.Pieces
 pub mod Steps

@@ -9,7 +9,7 @@
 //! - `fields`: the verdict on each field, and which fields stay; `plan`: what becomes of all
 //!   records for which the verdicts are equal; `steps`, `change`, `values`: what is shown of a
 //!   record's octets.
-//! - `plans`: [`Plans`], which keeps plans for records that come again, on a `shelf` of slots, for
+//! - `plans`: [`Plans`], which keeps plans for records that come again, in a `plan_cache` of slots, for
 //!   as long as it lives; `output`: the records that pass, as runs; `record_classes`:
 //!   [`RecordClasses`].
 //! - `laws`: [`only_permitted_passes`], [`passed_is_sound`], [`denied_is_secret`],
@@ -37,9 +37,9 @@ mod fields;
 mod laws;
 mod output;
 mod plan;
+mod plan_cache;
 mod plans;
 mod record_classes;
-mod shelf;
 mod slot;
 mod steps;
 mod transform;

@@ -9,8 +9,8 @@ ghost use Rattle.flow_anonymize.specs.Plans.{outcome_for, IsSlot};
 use crate::by_table::{disclose_by, plan_by};
 use crate::decision::Decision;
 use crate::disclosure::Disclosure;
+use crate::plan_cache::PlanCache;
 use crate::record_classes::RecordClasses;
-use crate::shelf::Shelf;
 use crate::slot::Slot;
 use ipfix_records::Records;
 use ipfix_template::{Record, RecordView, Template};
@@ -29,7 +29,7 @@ pub struct Plans {
     domain: u32,
     /// The template of the records that come.
     template: Option<Arc<Template>>,
-    shelf: Shelf,
+    cache: PlanCache,
 }
 
 impl Drop for Plans {
@@ -41,7 +41,7 @@ impl Drop for Plans {
             name: _,
             domain: _,
             template: _,
-            shelf: _,
+            cache: _,
         } = self;
     }
 }
@@ -54,7 +54,7 @@ impl Model for Plans {
 
     ghost Value = { PlansOf };
 
-    ghost view = { λ p. record { for = record { rules = arc_value p.table; cuts = arc_value p.classes; name = string_bytes p.name; domain = p.domain; template = option_map arc_value p.template }; given = p.shelf.given } };
+    ghost view = { λ p. record { for = record { rules = arc_value p.table; cuts = arc_value p.classes; name = string_bytes p.name; domain = p.domain; template = option_map arc_value p.template }; given = p.cache.given } };
 
     ghost invariant = { λ p. AreKept (record {
       rules = arc_value p.table;
@@ -62,7 +62,7 @@ impl Model for Plans {
       name = string_bytes p.name;
       domain = p.domain;
       template = option_map arc_value p.template;
-    }) p.shelf.slots };
+    }) p.cache.slots };
 }
 
 impl Plans {
@@ -100,7 +100,7 @@ impl Plans {
             name,
             domain,
             template: None,
-            shelf: Shelf::new(alloc),
+            cache: PlanCache::new(alloc),
         })
     }
 
@@ -134,7 +134,7 @@ impl Plans {
             return Ok(());
         }
         let shared = template.clone()?;
-        self.shelf.clear();
+        self.cache.clear();
         self.template = Some(shared);
         Ok(())
     }
@@ -179,7 +179,7 @@ impl Plans {
     {
         let decision = self.judge(alloc, classes, flow_record);
         if decision.is_err() {
-            self.shelf.drop_records();
+            self.cache.drop_records();
         }
         decision
     }
@@ -208,8 +208,8 @@ impl Plans {
         };
         // A record keeps that it is sound.
         let _template = flow_record.template();
-        match self.shelf.place_of(classes) {
-            Some(place) => self.shelf.give(place, flow_record),
+        match self.cache.place_of(classes) {
+            Some(place) => self.cache.give(place, flow_record),
             None => self.disclose_anew(alloc, classes, flow_record),
         }
     }
@@ -236,8 +236,8 @@ impl Plans {
         // A record keeps that it is sound.
         let _template = flow_record.template();
         let slot = self.planned(alloc, classes, flow_record)?;
-        let place = self.shelf.keep(slot)?;
-        self.shelf.give(place, flow_record)
+        let place = self.cache.keep(slot)?;
+        self.cache.give(place, flow_record)
     }
 
     /// The plan for a record, to be kept.
@@ -284,7 +284,7 @@ impl Plans {
             flow_record,
         )? {
             Disclosure::Passed { kept, removed } => {
-                self.shelf.push(kept)?;
+                self.cache.push(kept)?;
                 Ok(Decision::Passed { removed })
             }
             Disclosure::Aggregated { rule, definition } => {
@@ -302,9 +302,9 @@ impl Plans {
         ensures given { IfOk result (λ all. all ≡ self.old.given) }
         ensures taken { self.new ≡ record { for = self.old.for; given = [] } }
     {
-        let records = self.shelf.take_records();
+        let records = self.cache.take_records();
         if records.is_err() {
-            self.shelf.drop_records();
+            self.cache.drop_records();
         }
         records
     }

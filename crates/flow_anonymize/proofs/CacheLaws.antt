@@ -1,9 +1,9 @@
--- Plans that are put on a shelf.
+-- Plans that are put into a cache.
 use Rattle.std.proofs.Common.{◌≡◌, ℕ, zero, suc, ◌<◌, List, [], ◌∷◌, ◌++◌, length, set, slice_get, Option, Some, None, IsSomeAnd, refl, arith}
 use mathlib.Core.Logic.{inl, inr}
 use Rattle.ipfix_template.specs.declared.template.Template.{Template}
 use Rattle.flow_anonymize.specs.declared.slot.Slot.{Slot}
-use Rattle.flow_anonymize.specs.Shelf.{IsOpen, IsPut}
+use Rattle.flow_anonymize.specs.PlanCache.{IsOpen, IsPut}
 
 got_push : {A : Type 0} (P : A → Type 0) (xs : List A) (x : A) (k : ℕ) → IsSomeAnd (slice_get xs k) P → IsSomeAnd (slice_get (xs ++ x ∷ []) k) P
 got_push P [] x k is = absurd is

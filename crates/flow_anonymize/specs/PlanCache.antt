@@ -5,7 +5,7 @@ use Rattle.ipfix_template.specs.DataRecord.{DataRecord}
 use Rattle.flow_anonymize.specs.declared.slot.Slot.{Slot}
 use Rattle.flow_anonymize.specs.Planning.{shown_template}
 
-pub record ShelfOf : Type 0 where
+pub record CacheOf : Type 0 where
   pub slots : List Slot
   pub given : List DataRecord
 

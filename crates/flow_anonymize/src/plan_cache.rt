@@ -3,7 +3,7 @@ ghost use Rattle.std.specs.Prelude.{◌≡◌, ◌<◌, ◌++◌, ◌∷◌, [],
 ghost use Rattle.flow_anonymize.specs.Outcome.{passed, decision_of};
 ghost use Rattle.flow_anonymize.specs.Planning.{planned, IsShowable};
 ghost use Rattle.flow_anonymize.specs.Plans.{is_for};
-ghost use Rattle.flow_anonymize.specs.Shelf.{IsPut};
+ghost use Rattle.flow_anonymize.specs.PlanCache.{IsPut};
 
 use crate::decision::Decision;
 use crate::output::Output;
@@ -20,31 +20,31 @@ const MOST_PLANS: usize = 16;
 
 /// Plans for the records of one template, and the records that passed by these and by others. Contracts see both lists.
 #[derive(Drop)]
-pub(crate) struct Shelf {
+pub(crate) struct PlanCache {
     slots: Vec<Slot>,
     output: Output,
     /// The place of the plan by which the run is written that is open, if that plan is still kept.
     open: Option<usize>,
 }
 
-impl Model for Shelf {
-    ghost use Rattle.flow_anonymize.specs.Shelf.{ShelfOf, IsOpen};
+impl Model for PlanCache {
+    ghost use Rattle.flow_anonymize.specs.PlanCache.{CacheOf, IsOpen};
 
-    ghost Value = { ShelfOf };
+    ghost Value = { CacheOf };
 
     ghost view = { λ s. record { slots = s.slots.items; given = s.output.given } };
 
     ghost invariant = { λ s. IsOpen s.slots.items s.output.writing s.open };
 }
 
-impl Shelf {
+impl PlanCache {
     ghost use Rattle.flow_anonymize.specs.declared.slot.Slot.{Slot};
 
     /// No plan, and no record.
-    pub(crate) fn new(alloc: Global) -> Shelf
+    pub(crate) fn new(alloc: Global) -> PlanCache
         ensures { result ≡ record { slots = []; given = [] } }
     {
-        Shelf {
+        PlanCache {
             slots: Vec::new(alloc),
             output: Output::new(alloc),
             open: None,
@@ -155,7 +155,7 @@ impl Shelf {
 
 ghost use Rattle.std.specs.Prelude.{true};
 ghost use Rattle.flow_anonymize.specs.Planning.{shown_template};
-ghost use Rattle.flow_anonymize.specs.Shelf.{WritesOn};
+ghost use Rattle.flow_anonymize.specs.PlanCache.{WritesOn};
 
 /// Adds what passes of a record by a plan, to the run that is written by this plan already or to a new one.
 ///
