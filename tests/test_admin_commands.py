@@ -1,5 +1,5 @@
 """The lines of the admin connection: commands, lines that are none, and what each is answered. Answers that no run is brought to
-give are shown by the tests of `crates/program_tests`."""
+give are shown by the tests of `crates/tests_program`."""
 import unittest
 
 from messages import FLOW, Template, address, message

@@ -25,7 +25,7 @@ RIGHT = {
     + "abbrev pub IsSeven : {A : Type 0} → A → A → (ℕ → ℕ → ℕ) → ℕ → (m n : ℕ)\n    → ℕ → Type 0\nIsSeven a b f n m o p = n ≡ m\n",
     "crates/high/src/lib.rt": HEAD
     + "use low::HEADER_OCTETS;\n\nconst PIECE: usize = 65_536;\n\nconst LEAST: u64 = HEADER_OCTETS as u64;\n\nconst TEMPLATE_OCTETS: usize = 16;\n",
-    "crates/high_tests/src/lib.rt": HEAD + "const HEADER_OCTETS: usize = 0x10;\n",
+    "crates/tests_high/src/lib.rt": HEAD + "const HEADER_OCTETS: usize = 0x10;\n",
     "docs/PAGE.md": "# A page\n\n" + "y" * 50 + " " + "z" * 49 + "\n",
 }
 
@@ -82,7 +82,7 @@ class CheckStyle(unittest.TestCase):
         (self.top / "tools").mkdir()
         for name in ("check_style", "check_pages"):
             shutil.copy(TOOLS / name, self.top / "tools")
-        (self.top / "crates.txt").write_text("high: low  # above\nlow:\nhigh_tests: high\n")
+        (self.top / "crates.txt").write_text("high: low  # above\nlow:\ntests_high: high\n")
         for path, text in RIGHT.items():
             self.write(path, text)
 

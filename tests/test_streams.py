@@ -1,5 +1,5 @@
 """Files and streams that fail: each is named on a line with the system's words for why, and then comes `ipmd: device`, with
-status 3, unless a fault came before. Reads and writes that fail in mid-stream are shown by the tests of `crates/program_tests`."""
+status 3, unless a fault came before. Reads and writes that fail in mid-stream are shown by the tests of `crates/tests_program`."""
 import errno
 import os
 import pathlib

@@ -5,7 +5,7 @@ ghost use Rattle.answer_writing.specs.Written.{drained_octets, WritesAll, StopsW
 use crate::buffer::AnswerBuffer;
 use crate::pieces::{Rest, put_count, put_next};
 use disclosure_audit::AuditEntry;
-use octet_devices::{Sink, write_all};
+use octet_io::{Sink, write_all};
 use thiserror::Error;
 
 /// Why an answer was not written whole.

@@ -4,8 +4,8 @@ ghost use Rattle.decode_workers.specs.Workers.{IsAnswer, AreAnswers};
 
 use crate::gate::Gate;
 use bytes::Bytes;
+use mediator_shares::Workspace;
 use prepared_message::{PrepareFault, Prepared, Snapshot};
-use record_sharing::Workspace;
 use std::alloc::{AllocError, Global};
 use std::snapshot::Snapshot as Remembered;
 use std::thread::Promise;

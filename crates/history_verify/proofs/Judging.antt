@@ -38,11 +38,11 @@ use Rattle.mediator_history.proofs.CutLaws.{policy-cuts, name-cuts, messages-cut
 use Rattle.mediator_history.proofs.CountingLaws.{clock-cuts, counted-served, counted_unserved}
 use Rattle.mediator_tables.specs.declared.served.Served.{Served}
 use Rattle.mediator_tables.specs.SubscriptionTable.{told, shown, given_to}
-use Rattle.record_sharing.specs.InForce.{InForce, in_force_with}
+use Rattle.mediator_shares.specs.InForce.{InForce, in_force_with}
 use Rattle.mediator_tables.specs.Adding.{tallied}
 use Rattle.disclosure_audit.specs.declared.entry.Note.{Note}
-use Rattle.record_sharing.specs.Noting.{Kept, kept_of}
-use Rattle.record_sharing.specs.Sharing.{share_of, given_by, added_by, kept_by, shares_of, tallies_of, note_of, noted, noted_of_each, notes_of}
+use Rattle.mediator_shares.specs.Noting.{Kept, kept_of}
+use Rattle.mediator_shares.specs.Sharing.{share_of, given_by, added_by, kept_by, shares_of, tallies_of, note_of, noted, noted_of_each, notes_of}
 use Rattle.history_verify.specs.declared.judged.Judged.{Judged}
 use Rattle.history_verify.specs.declared.replay.Replay.{Replay}
 use Rattle.history_verify.specs.declared.subscribers.Subscribers.{Subscribers}

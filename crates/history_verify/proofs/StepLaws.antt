@@ -25,7 +25,7 @@ use Rattle.mediator_history.specs.Auditing.{audit_entry, audit_list}
 use Rattle.mediator_history.specs.Cuts.{after_cuts}
 use Rattle.mediator_history.proofs.CountingLaws.{running-open, running-close, running-edit, running-subscribe, running-cut, running_cut, running_begun, running_unserved, running-unsubscribe, running_ended}
 use Rattle.mediator_history.proofs.EntryLaws.{given_same, audit_same}
-use Rattle.record_sharing.specs.InForce.{InForce, in_force_with}
+use Rattle.mediator_shares.specs.InForce.{InForce, in_force_with}
 use Rattle.flow_aggregate.specs.Running.{StandsFor as StandsForRecords}
 use Rattle.mediator_tables.specs.GroupTable.{groups_at}
 use Rattle.history_verify.specs.declared.exporters.Exporters.{Exporters}

@@ -35,7 +35,7 @@ use Rattle.mediator_history.proofs.CutLaws.{is_served-cuts}
 use Rattle.mediator_history.proofs.CountingLaws.{clock-push, counted_unserved, running_unserved, running-cuts, running-message, running-advance}
 use Rattle.mediator_tables.specs.SubscriptionTable.{given_to, shown}
 use Rattle.history_verify.specs.Legal.{IsAccepted}
-use Rattle.record_sharing.specs.InForce.{in_force_with}
+use Rattle.mediator_shares.specs.InForce.{in_force_with}
 use Rattle.history_verify.specs.declared.judged.Judged.{Judged}
 use Rattle.history_verify.specs.declared.exporters.Exporters.{Exporters}
 use Rattle.history_verify.specs.declared.subscribers.Subscribers.{Subscribers}

@@ -14,8 +14,8 @@ use crate::verified::Verified;
 use bytes::Bytes;
 use disclosure_audit::{AuditEntry, What};
 use ipfix_session::{ReadError, Reading};
+use mediator_shares::{InForce, Shares};
 use policy_text::{FaultKind, Name, Policy};
-use record_sharing::{InForce, Shares};
 use std::alloc::{AllocError, Global};
 
 /// What is kept of a history: what decides of its next entry, and what it disclosed. Contracts say by `Stands` of which

@@ -6,9 +6,9 @@ use Rattle.ipmd_command_line.specs.declared.task.OfflineOptions.{OfflineOptions}
 use Rattle.ipmd_command_line.specs.declared.task.VerifyOptions.{VerifyOptions}
 use Rattle.ipmd_command_line.specs.declared.task.ExplainOptions.{ExplainOptions}
 use Rattle.ipmd_command_line.specs.declared.task.Task.TheVariants.{Offline, Serve, Verify, Explain}
-use Rattle.ipmd_offline.specs.declared.fault.ProgramFault.{ProgramFault}
-use Rattle.ipmd_offline.specs.Runs.{RefusesToFilter}
-use Rattle.ipmd_offline.specs.Status.{Blames}
+use Rattle.ipmd_commands.specs.declared.fault.ProgramFault.{ProgramFault}
+use Rattle.ipmd_commands.specs.Runs.{RefusesToFilter}
+use Rattle.ipmd_commands.specs.Status.{Blames}
 use Rattle.ipmd_verify.specs.Verifying.{RefusesToVerifyFile}
 use Rattle.ipmd_explain.specs.Answers.{RefusesToExplainFile}
 use Rattle.ipmd.specs.Program.{FailsFor, IsFault}

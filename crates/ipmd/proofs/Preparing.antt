@@ -1,9 +1,9 @@
 -- Files that can't be read before anything is served.
 use Rattle.std.proofs.Common.{◌≡◌, ℕ, List, Ok, inl, inr, refl, subst, sym}
-use Rattle.serve_settings.specs.Asked.{Asked}
-use Rattle.serve_settings.specs.Reading.{settings_of}
-use Rattle.ipmd_offline.specs.declared.fault.ProgramFault.{ProgramFault}
-use Rattle.ipmd_offline.specs.Failures.{IsFileFault}
+use Rattle.ipmd_settings.specs.Asked.{Asked}
+use Rattle.ipmd_settings.specs.Reading.{settings_of}
+use Rattle.ipmd_commands.specs.declared.fault.ProgramFault.{ProgramFault}
+use Rattle.ipmd_commands.specs.Failures.{IsFileFault}
 use Rattle.ipmd.specs.Serving.{RefusesToPrepare}
 
 -- the settings

@@ -4,15 +4,15 @@ use Rattle.std.specs.Prelude.{IfSome}
 use Rattle.std.specs.Borrow.{Bor}
 use Rattle.std.proofs.KnownBytes.{Keeps-refl}
 use Rattle.ipmd_command_line.specs.declared.task.ReplayOptions.{ReplayOptions}
-use Rattle.ipmd_offline.specs.declared.fault.ProgramFault.{ProgramFault}
-use Rattle.ipmd_offline.specs.declared.failure.Place.TheVariants.{File, Output}
-use Rattle.ipmd_offline.specs.Failures.{FailedAt, FailedAtFile, IsFileFault, failed_at}
+use Rattle.ipmd_commands.specs.declared.fault.ProgramFault.{ProgramFault}
+use Rattle.ipmd_commands.specs.declared.failure.Place.TheVariants.{File, Output}
+use Rattle.ipmd_commands.specs.Failures.{FailedAt, FailedAtFile, IsFileFault, failed_at}
 use Rattle.mediator_calls.specs.declared.fault.RunFault.{RunFault}
 use Rattle.mediator_calls.specs.declared.fault.RunFault.TheVariants.{BadLimits, OutOfMemory}
 use Rattle.mediator_calls.specs.Limited.{RefusesLimits}
-use Rattle.call_lists.specs.declared.call_list.CallList.{CallList}
-use Rattle.call_lists.specs.Lists.{asked, list_of}
-use Rattle.ipmd_offline.specs.Status.{run_fault_of}
+use Rattle.replay_text.specs.declared.call_list.CallList.{CallList}
+use Rattle.replay_text.specs.Lists.{asked, list_of}
+use Rattle.ipmd_commands.specs.Status.{run_fault_of}
 use Rattle.ipmd.specs.Replays.{BeginsToAnswer, RefusesText, RefusesToReplay}
 
 -- its limits are at fault, or memory ran out

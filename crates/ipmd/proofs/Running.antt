@@ -5,7 +5,7 @@ use Rattle.std.specs.List.{flat_map}
 use Rattle.std.proofs.KnownBytes.{Appends-trans, Appends-nil, Keeps-refl}
 use Rattle.std.proofs.lemmas.List.{length-append}
 use Rattle.std.proofs.lemmas.List.Concat.{flat_map-append}
-use Rattle.serve_settings.specs.Asked.{Asked}
+use Rattle.ipmd_settings.specs.Asked.{Asked}
 use Rattle.mediator_server.specs.declared.plan.Plan.{Plan}
 use Rattle.mediator_server.specs.Listening.{IsServed}
 use Rattle.mediator_calls.specs.declared.fault.RunFault.{RunFault}
@@ -14,14 +14,14 @@ use Rattle.mediator_calls.specs.declared.limits.Limits.{Limits}
 use Rattle.mediator_calls.specs.Limited.{AreAllowed, RefusesLimits}
 use Rattle.mediator_state.specs.declared.fault.Fault.TheVariants as fault
 use Rattle.mediator_server.specs.declared.listening.ListenFault.TheVariants as listen
-use Rattle.ipmd_offline.specs.declared.fault.ProgramFault.{ProgramFault}
-use Rattle.ipmd_offline.specs.declared.fault.ProgramFault.TheVariants.{OutOfMemory}
-use Rattle.ipmd_offline.specs.declared.failure.Place.TheVariants.{Output, RandomNumbers}
-use Rattle.ipmd_offline.specs.Failures.{FailedAt}
-use Rattle.ipmd_offline.specs.HexText.{WritesSome}
-use Rattle.ipmd_offline.specs.Status.{run_fault_of}
-use Rattle.run_journals.specs.Keeping.{IsKeepingFault, IsSomeFileFault, part_name}
-use Rattle.run_journals.specs.Numbering.{file_name}
+use Rattle.ipmd_commands.specs.declared.fault.ProgramFault.{ProgramFault}
+use Rattle.ipmd_commands.specs.declared.fault.ProgramFault.TheVariants.{OutOfMemory}
+use Rattle.ipmd_commands.specs.declared.failure.Place.TheVariants.{Output, RandomNumbers}
+use Rattle.ipmd_commands.specs.Failures.{FailedAt}
+use Rattle.ipmd_commands.specs.HexText.{WritesSome}
+use Rattle.ipmd_commands.specs.Status.{run_fault_of}
+use Rattle.ipmd_run_journals.specs.Keeping.{IsKeepingFault, IsSomeFileFault, part_name}
+use Rattle.ipmd_run_journals.specs.Numbering.{file_name}
 use Rattle.ipmd.specs.declared.serve.Service.{Service}
 use Rattle.ipmd.specs.Serving.{IsAskedFor, Run, IsRun, AreFull, policy_after, served, MakesRun, Serves, StopsBehind, StopsRun, StopsServing, IsBeginFault, IsListenFault, RefusesToTell, IsToRun}
 

@@ -1,8 +1,8 @@
 -- A fault's status is never that of a run that was done.
 use Rattle.std.proofs.Common.{arith, ◌≡◌}
-use Rattle.ipmd_offline.specs.declared.fault.ProgramFault.{ProgramFault}
-use Rattle.ipmd_offline.specs.declared.fault.ProgramFault.TheVariants.{CommandLine, Settings, Policy, Hex, Framing, Core, Cut, Calls, BadLimits, Journal, History, Absent, Close, OutOfMemory, Device}
-use Rattle.ipmd_offline.specs.Status.{status_of}
+use Rattle.ipmd_commands.specs.declared.fault.ProgramFault.{ProgramFault}
+use Rattle.ipmd_commands.specs.declared.fault.ProgramFault.TheVariants.{CommandLine, Settings, Policy, Hex, Framing, Core, Cut, Calls, BadLimits, Journal, History, Absent, Close, OutOfMemory, Device}
+use Rattle.ipmd_commands.specs.Status.{status_of}
 
 pub no_fault_is_done : (e : ProgramFault) → status_of e ≡ 0 → ⊥
 no_fault_is_done (CommandLine error) h = absurd (omega arith)

@@ -4,7 +4,7 @@ use Rattle.std.specs.Borrow.{Bor}
 use Rattle.std.specs.Io.KnownBytes.{Keeps}
 use Rattle.clap.specs.Words.{kind_of}
 use Rattle.clap.specs.declared.error.Error.{Error}
-use Rattle.offline_filter.specs.declared.job.OfflineReport.{OfflineReport}
+use Rattle.mediator_offline.specs.declared.job.OfflineReport.{OfflineReport}
 use Rattle.ipmd_command_line.specs.CommandLine.{AsksFor, RefusesWords}
 use Rattle.ipmd_command_line.specs.declared.fault.CommandLineFault.{CommandLineFault}
 use Rattle.ipmd_command_line.specs.declared.task.ReplayOptions.{ReplayOptions}
@@ -13,9 +13,9 @@ use Rattle.ipmd_command_line.specs.declared.task.VerifyOptions.{VerifyOptions}
 use Rattle.ipmd_command_line.specs.declared.task.ExplainOptions.{ExplainOptions}
 use Rattle.ipmd_command_line.specs.declared.task.Task.TheVariants.{Offline, CheckPolicy, Replay, Serve, Verify, Explain, Show}
 use Rattle.ipmd_command_line.specs.declared.task.PolicySource.{PolicySource}
-use Rattle.ipmd_offline.specs.declared.fault.ProgramFault.{ProgramFault}
-use Rattle.ipmd_offline.specs.Runs.{CountsPolicy, Filters, RefusesToCount, RefusesToFilter, RefusesToShow, Shows, line_of_report}
-use Rattle.ipmd_offline.specs.Status.{command_line_fault_of, Blames, Tells}
+use Rattle.ipmd_commands.specs.declared.fault.ProgramFault.{ProgramFault}
+use Rattle.ipmd_commands.specs.Runs.{CountsPolicy, Filters, RefusesToCount, RefusesToFilter, RefusesToShow, Shows, line_of_report}
+use Rattle.ipmd_commands.specs.Status.{command_line_fault_of, Blames, Tells}
 use Rattle.ipmd_verify.specs.Verifying.{VerifiesFile, RefusesToVerifyFile}
 use Rattle.ipmd_explain.specs.Answers.{ExplainsFile, RefusesToExplainFile, question_of}
 use Rattle.ipmd.specs.Replays.{Replays, RefusesToReplay}

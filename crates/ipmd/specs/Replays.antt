@@ -3,18 +3,18 @@ use Rattle.std.specs.Prelude.{◌≡◌, ◌⊎◌, ℕ, List, Option, Some, IfS
 use Rattle.std.specs.Io.KnownBytes.{Appends, Keeps}
 use Rattle.mediator_calls.specs.declared.call.Reply.{Reply}
 use Rattle.mediator_calls.specs.Limited.{AreAllowed}
-use Rattle.call_lists.specs.declared.call_list.CallList.{CallList}
-use Rattle.call_lists.specs.Lists.{asked, list_of}
-use Rattle.call_lists.specs.Answers.{answers_text}
+use Rattle.replay_text.specs.declared.call_list.CallList.{CallList}
+use Rattle.replay_text.specs.Lists.{asked, list_of}
+use Rattle.replay_text.specs.Answers.{answers_text}
 use Rattle.mediator_calls.specs.Mediation.{Mediation, started}
 use Rattle.mediator_core.specs.Runs.{Runs}
 use Rattle.mediator_core.specs.Headline.{HistoryIsTheCalls, HandedIsDisclosed, HandedIsFront, DrainedIsAudited, IsBuiltFromDisclosed}
-use Rattle.ipmd_offline.specs.declared.fault.ProgramFault.{ProgramFault}
-use Rattle.ipmd_offline.specs.declared.fault.ProgramFault.TheVariants.{CommandLine, Settings, Policy, Hex, Framing, Core, Cut, Calls, BadLimits, Journal, History, Absent, Close, OutOfMemory, Device}
+use Rattle.ipmd_commands.specs.declared.fault.ProgramFault.{ProgramFault}
+use Rattle.ipmd_commands.specs.declared.fault.ProgramFault.TheVariants.{CommandLine, Settings, Policy, Hex, Framing, Core, Cut, Calls, BadLimits, Journal, History, Absent, Close, OutOfMemory, Device}
 use Rattle.ipmd_command_line.specs.declared.task.ReplayOptions.{ReplayOptions}
-use Rattle.ipmd_offline.specs.declared.failure.Place.TheVariants.{Output}
-use Rattle.ipmd_offline.specs.Failures.{FailedAt, FailedAtFile}
-use Rattle.ipmd_offline.specs.HexText.{WritesSome}
+use Rattle.ipmd_commands.specs.declared.failure.Place.TheVariants.{Output}
+use Rattle.ipmd_commands.specs.Failures.{FailedAt, FailedAtFile}
+use Rattle.ipmd_commands.specs.HexText.{WritesSome}
 
 -- These are the replies to the calls that the text lists, made one after another on a new mediator; and all that is promised of a
 -- run holds of them.

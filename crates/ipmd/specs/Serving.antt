@@ -7,22 +7,22 @@ use Rattle.std.specs.Io.KnownBytes.{Appends, Keeps}
 use Rattle.event_journal.specs.declared.entry.Entry.{Entry}
 use Rattle.event_journal.specs.LastEdit.{last_edit}
 use Rattle.mediator_calls.specs.Limited.{AreAllowed}
-use Rattle.serve_settings.specs.Asked.{Asked, Pair}
-use Rattle.serve_settings.specs.Faults.{IsFaultOf}
-use Rattle.serve_settings.specs.Reading.{settings_of}
+use Rattle.ipmd_settings.specs.Asked.{Asked, Pair}
+use Rattle.ipmd_settings.specs.Faults.{IsFaultOf}
+use Rattle.ipmd_settings.specs.Reading.{settings_of}
 use Rattle.mediator_server.specs.Listening.{IsServed}
 use Rattle.mediator_server.specs.declared.plan.Plan.{Plan}
 use Rattle.mediator_server.specs.declared.plan.Collector.{Collector}
 use Rattle.mediator_server.specs.declared.listening.Ended.{Ended}
 use Rattle.mediator_server.specs.declared.listening.ListenFault.{ListenFault}
 use Rattle.mediator_server.specs.declared.listening.ListenFault.TheVariants as listen
-use Rattle.ipmd_offline.specs.declared.fault.ProgramFault.{ProgramFault}
-use Rattle.ipmd_offline.specs.declared.fault.ProgramFault.TheVariants.{CommandLine, Settings, Policy, Hex, Framing, Core, Cut, Calls, BadLimits, Journal, History, Absent, Close, OutOfMemory, Device}
-use Rattle.ipmd_offline.specs.declared.failure.Place.TheVariants as placed
-use Rattle.ipmd_offline.specs.Failures.{FailedAt, FailedAtFile, IsFileFault}
-use Rattle.ipmd_offline.specs.HexText.{WritesSome}
-use Rattle.ipmd_offline.specs.Status.{core_fault_of}
-use Rattle.run_journals.specs.Keeping.{IsSomeFileFault}
+use Rattle.ipmd_commands.specs.declared.fault.ProgramFault.{ProgramFault}
+use Rattle.ipmd_commands.specs.declared.fault.ProgramFault.TheVariants.{CommandLine, Settings, Policy, Hex, Framing, Core, Cut, Calls, BadLimits, Journal, History, Absent, Close, OutOfMemory, Device}
+use Rattle.ipmd_commands.specs.declared.failure.Place.TheVariants as placed
+use Rattle.ipmd_commands.specs.Failures.{FailedAt, FailedAtFile, IsFileFault}
+use Rattle.ipmd_commands.specs.HexText.{WritesSome}
+use Rattle.ipmd_commands.specs.Status.{core_fault_of}
+use Rattle.ipmd_run_journals.specs.Keeping.{IsSomeFileFault}
 use Rattle.ipmd.specs.declared.serve.Service.{Service}
 
 -- ---- before anything is served

@@ -8,12 +8,12 @@
 //! - `system`: [`System`], what the program asks of the system.
 //!
 //! What may be asked for, and what words ask for, is `ipmd_command_line`'s. What is done for one stream, one policy or one text
-//! is `ipmd_offline`'s, with the texts and the exit statuses of faults; for a journal's file it is `ipmd_verify`'s and
+//! is `ipmd_commands`'s, with the texts and the exit statuses of faults; for a journal's file it is `ipmd_verify`'s and
 //! `ipmd_explain`'s.
 //!
 //! Proved of `program`: it is safe, and what it calls for all commands but `serve` returns. Its status is 0 only where it did
 //! what the words ask for (`done`): the whole input, as octets or as what its hexadecimal text spells, was filtered with the
-//! policy, the name, the time and the target that the words give, the output got exactly the octets that `offline_filter` says of
+//! policy, the name, the time and the target that the words give, the output got exactly the octets that `mediator_offline` says of
 //! these messages, with `--hex` a line of digits for each message that is due, and the report counts them; or the text is a
 //! policy, and its counts were written; or the calls of a list were made, and their answers written; or settings were read, the
 //! plan that they ask for was served to its end, and the counts of what was accepted and handed out were written, of a journal in
@@ -28,9 +28,9 @@
 #![tactic(auto)]
 
 ghost use Rattle.std.specs.Prelude.{◌≡◌, ◌≢◌, map, IfErr, IfOk};
-ghost use Rattle.octet_devices.specs.Device.{device_failed, device_inner};
-ghost use Rattle.ipmd_offline.specs.Status.{status_of};
-ghost use Rattle.ipmd_offline.specs.declared.fault.ProgramFault.{ProgramFault};
+ghost use Rattle.octet_io.specs.Device.{device_failed, device_inner};
+ghost use Rattle.ipmd_commands.specs.Status.{status_of};
+ghost use Rattle.ipmd_commands.specs.declared.fault.ProgramFault.{ProgramFault};
 ghost use Rattle.ipmd.specs.Program.{Does, FailsFor, IsDone, IsFault};
 
 mod descriptors;
@@ -45,11 +45,11 @@ use crate::replay::replay;
 use crate::serve::serve;
 use crate::system::System;
 use ipmd_command_line::{Task, read_command_line};
+use ipmd_commands::{Place, ProgramFault, check_policy, filter, show, tell};
 use ipmd_explain::explain;
-use ipmd_offline::{Place, ProgramFault, check_policy, filter, show, tell};
 use ipmd_verify::{OnTerminal, Progress, verify};
-use octet_devices::Device;
-use offline_filter::OfflineReport;
+use mediator_offline::OfflineReport;
+use octet_io::Device;
 use std::convert::AsStr;
 use std::env;
 use std::io::{self, ErrorKind, IsTerminal, Read, Write};
@@ -138,7 +138,7 @@ pub fn program<
 ///
 /// # Errors
 /// Those of the command.
-#[tactic(auto, using(ipmd_offline::proofs::Lines::kept))]
+#[tactic(auto, using(ipmd_commands::proofs::Lines::kept))]
 fn run<
     R: System + Net<Listener = TcpListener, Stream = TcpStream>,
     S: AsStr,

@@ -7,7 +7,7 @@ use log::span::Spans;
 use log::{Line, Log, Metadata, Record};
 use mio::unix::SourceFd;
 use mio::{Events, Interest, Poll, Token};
-use octet_devices::{Device, write_all};
+use octet_io::{Device, write_all};
 use std::alloc::{AllocError, Global};
 use std::fmt::{self, Display, Formatter};
 use std::io::{self, Write};

@@ -1,17 +1,17 @@
 //! Does what `ipmd replay` is asked for.
 
 ghost use Rattle.std.specs.Prelude.{IfErr, IfOk, OnOk};
-ghost use Rattle.octet_devices.specs.Device.{device_inner};
-ghost use Rattle.ipmd_offline.specs.Failures.{IsFileFault};
+ghost use Rattle.octet_io.specs.Device.{device_inner};
+ghost use Rattle.ipmd_commands.specs.Failures.{IsFileFault};
 ghost use Rattle.ipmd.specs.Replays.{RefusesText, RefusesToReplay, Replays, RunsText};
 
-use call_lists::{answers_text, read_call_list};
 use event_journal::Journal;
 use ipmd_command_line::ReplayOptions;
-use ipmd_offline::{ProgramFault, of_file, read_text, write_text};
+use ipmd_commands::{ProgramFault, of_file, read_text, write_text};
+use ipmd_run_journals::put_journal;
 use mediator_core::{Transcript, run};
-use octet_devices::Device;
-use run_journals::put_journal;
+use octet_io::Device;
+use replay_text::{answers_text, read_call_list};
 use std::alloc::Global;
 use std::fs;
 use std::io::{BufWriter, Write};
@@ -28,7 +28,7 @@ const JOURNAL_BUFFER: usize = 65_536;
 /// `Device`, of the list's file where that can't be read or isn't UTF-8, of the journal's where that can't be written, or of the
 /// output; `Calls` where the text is no list of calls; `BadLimits` where the limits that it sets are out of their ranges; or
 /// `OutOfMemory`. Only where the output fails a front of the answers may have been written.
-#[tactic(auto, using(ipmd_offline::proofs::Lines::kept, crate::proofs::Replaying::no_calls, crate::proofs::Replaying::no_journal, crate::proofs::Replaying::no_answer))]
+#[tactic(auto, using(ipmd_commands::proofs::Lines::kept, crate::proofs::Replaying::no_calls, crate::proofs::Replaying::no_journal, crate::proofs::Replaying::no_answer))]
 pub fn replay<R: Files + AllocGlobal, O: Write>(
     rt: &R,
     options: &ReplayOptions<'_>,

@@ -4,21 +4,21 @@ ghost use Rattle.std.specs.Prelude.{◌≡◌, ℕ, List, [], IfErr, IfOk, OnOk,
 ghost use Rattle.std.specs.Io.KnownBytes.{Appends};
 ghost use Rattle.mediator_calls.specs.Limited.{AreAllowed};
 ghost use Rattle.mediator_server.specs.Listening.{IsServed};
-ghost use Rattle.octet_devices.specs.Device.{device_inner};
-ghost use Rattle.serve_settings.specs.Asked.{Asked};
-ghost use Rattle.run_journals.specs.Keeping.{IsSomeFileFault};
+ghost use Rattle.octet_io.specs.Device.{device_inner};
+ghost use Rattle.ipmd_settings.specs.Asked.{Asked};
+ghost use Rattle.ipmd_run_journals.specs.Keeping.{IsSomeFileFault};
 ghost use Rattle.ipmd.specs.Serving.{IsAskedFor, IsBeginFault, IsListenFault, IsMadeOf, IsPlanOf, MakesRun, RefusesToTell, Serves, StopsRun, StopsServing, is_followed, policy_after, run_of, served};
 
 use crate::serve::Service;
 use crate::system::System;
 use event_journal::Journal;
 use hash_keys::HashKeys;
-use ipmd_offline::{Place, ProgramFault, write_text};
+use ipmd_commands::{Place, ProgramFault, write_text};
+use ipmd_run_journals::{first_free, keep_run};
 use log::{Log, info};
 use mediator_calls::{Limits, Mediator};
 use mediator_server::{Ended, ListenFault, Plan, listen};
-use octet_devices::Device;
-use run_journals::{first_free, keep_run};
+use octet_io::Device;
 use std::alloc::{AllocError, Global};
 use std::hash::RandomState;
 use std::io::{self, Write};
@@ -44,7 +44,7 @@ struct Keeping {
 /// # Errors
 /// `Device` for the journals' folder, or for want of random numbers; then of a run the refusals of `listen`; `Device` where the
 /// output fails, and, behind the run's line, where its journal can't be kept; `OutOfMemory`.
-#[tactic(auto, using(ipmd_offline::proofs::Lines::kept))]
+#[tactic(auto, using(ipmd_commands::proofs::Lines::kept))]
 pub(crate) fn serve_runs<
     R: System,
     N: Net<Listener = TcpListener, Stream = TcpStream> + Threads + Wait + Clock + Log + Sync,
@@ -83,7 +83,7 @@ pub(crate) fn serve_runs<
 ///
 /// # Errors
 /// Those of [`serve_runs`] for a run.
-#[tactic(auto, using(ipmd_offline::proofs::Lines::kept, crate::proofs::Running::told_all))]
+#[tactic(auto, using(ipmd_commands::proofs::Lines::kept, crate::proofs::Running::told_all))]
 fn serve_run<
     R: Files + AllocGlobal,
     N: Net<Listener = TcpListener, Stream = TcpStream> + Threads + Wait + Clock + Log + Sync,
@@ -200,7 +200,7 @@ fn fault_of(fault: ListenFault) -> ProgramFault
 ///
 /// # Errors
 /// `Device` where the output fails or the journal can't be kept; `OutOfMemory`.
-#[tactic(auto, using(ipmd_offline::proofs::Lines::kept, crate::proofs::Running::told_some, crate::proofs::Running::told_all))]
+#[tactic(auto, using(ipmd_commands::proofs::Lines::kept, crate::proofs::Running::told_some, crate::proofs::Running::told_all))]
 fn end_run<R: Files + AllocGlobal, O: Write>(
     rt: &R,
     noting: &impl Log,

@@ -1,9 +1,9 @@
 //! Does what `ipmd serve` is asked for.
 
 ghost use Rattle.std.specs.Prelude.{◌≡◌, IfErr, IfOk, OnOk, string_bytes};
-ghost use Rattle.octet_devices.specs.Device.{device_inner};
-ghost use Rattle.serve_settings.specs.Asked.{asked, pairs};
-ghost use Rattle.ipmd_offline.specs.declared.fault.ProgramFault.TheVariants.{OutOfMemory};
+ghost use Rattle.octet_io.specs.Device.{device_inner};
+ghost use Rattle.ipmd_settings.specs.Asked.{asked, pairs};
+ghost use Rattle.ipmd_commands.specs.declared.fault.ProgramFault.TheVariants.{OutOfMemory};
 ghost use Rattle.ipmd.specs.Serving.{FailsToServe, IsAskedFor, IsServiceOf, RefusesToPrepare, Serves, collectors_in};
 
 use crate::descriptors::warn_of_few;
@@ -11,12 +11,12 @@ use crate::notes::Notes;
 use crate::noting::Noting;
 use crate::runs::serve_runs;
 use crate::system::System;
-use ipmd_offline::{ProgramFault, read_text};
+use ipmd_commands::{ProgramFault, read_text};
+use ipmd_settings::{Settings, read_settings};
 use log::Log;
 use mediator_calls::Limits;
 use mediator_server::{Collector, Plan};
-use octet_devices::Device;
-use serve_settings::{Settings, read_settings};
+use octet_io::Device;
 use std::alloc::{AllocError, Global};
 use std::env::{self, Env};
 use std::io::Write;
@@ -48,7 +48,7 @@ pub(crate) struct Service {
 /// and the journals' folder, each with its path; then of a run the refusals of `listen`: `Policy` or `Core` where the mediator
 /// refuses the policy or a subscriber, `Device` where an address can't be listened on or connected to or a thread is refused,
 /// `Close`; `Device` where the output fails, and, behind the run's line, where its journal can't be kept; `OutOfMemory`.
-#[tactic(auto, using(ipmd_offline::proofs::Lines::kept))]
+#[tactic(auto, using(ipmd_commands::proofs::Lines::kept))]
 pub(crate) fn serve<
     R: System + Net<Listener = TcpListener, Stream = TcpStream>,
     O: Write,
@@ -147,13 +147,13 @@ fn service_of(alloc: Global, settings: Settings, policy: String) -> Result<Servi
 /// The collectors of settings as those of a plan.
 fn collectors_of(
     alloc: Global,
-    named: Vec<serve_settings::Collector>,
+    named: Vec<ipmd_settings::Collector>,
 ) -> Result<Vec<Collector>, AllocError>
     ensures { IfOk result (λ collectors. collectors_in collectors ≡ pairs named) }
 {
     let mut collectors = Vec::with_capacity(alloc, named.len())?;
     'collectors: for one in named {
-        let serve_settings::Collector {
+        let ipmd_settings::Collector {
             subscriber,
             address,
         } = one;

@@ -20,11 +20,11 @@ use Rattle.history_verify.specs.Standing.{IsFed}
 use Rattle.history_verify.proofs.FeedLaws.{laid}
 use Rattle.history_verify.proofs.LegalLaws.{accepted_legal}
 use Rattle.ipmd_command_line.specs.declared.task.ExplainOptions.{ExplainOptions}
-use Rattle.ipmd_offline.specs.declared.fault.ProgramFault.{ProgramFault}
-use Rattle.ipmd_offline.specs.declared.fault.ProgramFault.TheVariants.{Absent, Device}
-use Rattle.ipmd_offline.specs.declared.failure.Place.TheVariants.{Output}
-use Rattle.ipmd_offline.specs.Failures.{FailedAt, IsFileFault, IsNamed}
-use Rattle.ipmd_offline.specs.HexText.{WritesSome}
+use Rattle.ipmd_commands.specs.declared.fault.ProgramFault.{ProgramFault}
+use Rattle.ipmd_commands.specs.declared.fault.ProgramFault.TheVariants.{Absent, Device}
+use Rattle.ipmd_commands.specs.declared.failure.Place.TheVariants.{Output}
+use Rattle.ipmd_commands.specs.Failures.{FailedAt, IsFileFault, IsNamed}
+use Rattle.ipmd_commands.specs.HexText.{WritesSome}
 use Rattle.ipmd_verify.specs.Found.{Says, RefusesFile}
 use Rattle.ipmd_verify.specs.Reading.{IsReadTo}
 use Rattle.ipmd_verify.proofs.ReadingLaws.{end_refuses}

@@ -28,7 +28,7 @@ use Rattle.mediator_history.specs.Counting.{clock_in, clock_of}
 use Rattle.mediator_history.proofs.EntryLaws.{messages_few}
 use Rattle.mediator_tables.specs.declared.open_session.OpenSession.{OpenSession}
 use Rattle.mediator_tables.specs.SessionTable.{Seen, seen}
-use Rattle.record_sharing.proofs.SharingLaws.{enumerate-append}
+use Rattle.mediator_shares.proofs.SharingLaws.{enumerate-append}
 use Rattle.history_verify.specs.declared.exporters.Exporters.{Exporters}
 use Rattle.history_verify.proofs.ExporterLaws.{exporters_stay}
 use Rattle.history_verify.specs.Legal.{IsNextMessage}

@@ -4,12 +4,12 @@ use Rattle.std.specs.Io.KnownBytes.{Appends, Keeps}
 use Rattle.event_journal.specs.declared.entry.Entry.{Entry}
 use Rattle.history_verify.specs.Legal.{IsLegal}
 use Rattle.ipmd_command_line.specs.declared.task.ExplainOptions.{ExplainOptions}
-use Rattle.ipmd_offline.specs.declared.fault.Absent.{Absent as NotThere}
-use Rattle.ipmd_offline.specs.declared.fault.ProgramFault.{ProgramFault}
-use Rattle.ipmd_offline.specs.declared.fault.ProgramFault.TheVariants.{Absent}
-use Rattle.ipmd_offline.specs.declared.failure.Place.TheVariants.{Output}
-use Rattle.ipmd_offline.specs.Failures.{FailedAt, IsNamed}
-use Rattle.ipmd_offline.specs.HexText.{WritesSome}
+use Rattle.ipmd_commands.specs.declared.fault.Absent.{Absent as NotThere}
+use Rattle.ipmd_commands.specs.declared.fault.ProgramFault.{ProgramFault}
+use Rattle.ipmd_commands.specs.declared.fault.ProgramFault.TheVariants.{Absent}
+use Rattle.ipmd_commands.specs.declared.failure.Place.TheVariants.{Output}
+use Rattle.ipmd_commands.specs.Failures.{FailedAt, IsNamed}
+use Rattle.ipmd_commands.specs.HexText.{WritesSome}
 use Rattle.ipmd_verify.specs.Found.{Says, RefusesFile}
 use Rattle.ipmd_verify.specs.Reading.{IsRest}
 use Rattle.ipmd_explain.specs.declared.question.Question.{Question}

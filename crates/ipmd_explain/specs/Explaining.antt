@@ -11,8 +11,8 @@ use Rattle.event_journal.specs.declared.entry.Entry.TheVariants.{Message}
 use Rattle.mediator_history.specs.Subscriptions.{policy_in_force, name_of, named, is_served}
 use Rattle.mediator_history.specs.Accepted.{Accepted, accepted_at, records_at}
 use Rattle.mediator_history.specs.Counting.{clock_of}
-use Rattle.ipmd_offline.specs.declared.fault.Absent.{Absent}
-use Rattle.ipmd_offline.specs.declared.fault.Absent.TheVariants as absent
+use Rattle.ipmd_commands.specs.declared.fault.Absent.{Absent}
+use Rattle.ipmd_commands.specs.declared.fault.Absent.TheVariants as absent
 use Rattle.ipmd_explain.specs.declared.question.Question.{Question}
 use Rattle.ipmd_explain.specs.FlowWords.{flow_words}
 use Rattle.ipmd_explain.specs.Wording.{explanation}

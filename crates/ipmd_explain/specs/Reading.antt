@@ -8,9 +8,9 @@ use Rattle.history_verify.specs.declared.fault.VerifyFault.{VerifyFault}
 use Rattle.history_verify.specs.Answers.{NamesFirst}
 use Rattle.history_verify.specs.Legal.{IsLegal}
 use Rattle.history_verify.specs.Standing.{IsFed}
-use Rattle.ipmd_offline.specs.declared.fault.Absent.{Absent as NotThere}
-use Rattle.ipmd_offline.specs.declared.fault.ProgramFault.{ProgramFault}
-use Rattle.ipmd_offline.specs.declared.fault.ProgramFault.TheVariants.{Absent}
+use Rattle.ipmd_commands.specs.declared.fault.Absent.{Absent as NotThere}
+use Rattle.ipmd_commands.specs.declared.fault.ProgramFault.{ProgramFault}
+use Rattle.ipmd_commands.specs.declared.fault.ProgramFault.TheVariants.{Absent}
 use Rattle.ipmd_verify.specs.Faults.{verify_fault_of}
 use Rattle.ipmd_verify.specs.Reading.{IsReadTo}
 use Rattle.ipmd_explain.specs.declared.question.Question.{Question}

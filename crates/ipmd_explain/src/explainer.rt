@@ -22,7 +22,7 @@ use event_journal::Entry;
 use history_verify::Exporters;
 use ipfix_session::Reading;
 use ipfix_template::Record;
-use ipmd_offline::Absent;
+use ipmd_commands::Absent;
 use policy_text::{Name, Policy};
 use std::alloc::{AllocError, Global};
 

@@ -1,14 +1,14 @@
 //! Does what `ipmd explain` is asked for.
 ghost use Rattle.std.specs.Prelude.{◌≡◌, IfErr, OnOk};
-ghost use Rattle.octet_devices.specs.Device.{device_inner};
+ghost use Rattle.octet_io.specs.Device.{device_inner};
 ghost use Rattle.ipmd_explain.specs.Answers.{Explains, ExplainsFile, RefusesToExplain, RefusesToExplainFile, question_of};
 
 use crate::question::Question;
 use crate::reading::explain_source;
 use ipmd_command_line::ExplainOptions;
-use ipmd_offline::{ProgramFault, flush, of_file};
+use ipmd_commands::{ProgramFault, flush, of_file};
 use ipmd_verify::Progress;
-use octet_devices::Device;
+use octet_io::Device;
 use std::alloc::Global;
 use std::fs;
 use std::io::{BufReader, Read, Write, sink};
@@ -25,7 +25,7 @@ const FILE_BUFFER: usize = 65_536;
 /// # Errors
 /// `Device`, of the file, where it can't be opened, and what [`explain_input`] refuses. Only where the output fails, memory runs
 /// out or the file is another one when it is read again, a front of what was due may have been written.
-#[tactic(auto, using(crate::proofs::ReadingLaws::refuses_open, ipmd_offline::proofs::Lines::kept))]
+#[tactic(auto, using(crate::proofs::ReadingLaws::refuses_open, ipmd_commands::proofs::Lines::kept))]
 pub fn explain<R: Files + AllocGlobal, O: Write, P: Progress>(
     rt: &R,
     options: &ExplainOptions<'_>,

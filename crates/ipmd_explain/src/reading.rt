@@ -1,6 +1,6 @@
 //! Reads the history of a journal's file, entry by entry; verifies and explains it as it comes.
 ghost use Rattle.std.specs.Prelude.{◌≡◌, ◌≤◌, List, length, string_bytes, IfOk, IfErr, OnOk};
-ghost use Rattle.octet_devices.specs.Device.{device_inner};
+ghost use Rattle.octet_io.specs.Device.{device_inner};
 ghost use Rattle.event_journal.specs.declared.entry.Entry.{Entry as OneEntry};
 ghost use Rattle.event_journal.specs.declared.limits.TheConstants.{MOST_ENTRIES};
 ghost use Rattle.history_verify.specs.Answers.{NamesFirstOfAny};
@@ -16,10 +16,10 @@ use crate::explainer::Explainer;
 use crate::question::Question;
 use event_journal::Entry;
 use history_verify::{Verifier, VerifyFault};
-use ipmd_offline::{ProgramFault, put_text};
+use ipmd_commands::{ProgramFault, put_text};
 use ipmd_verify::{Progress, fault_of, refusal};
 use journal_files::JournalReader;
-use octet_devices::{Device, Source};
+use octet_io::{Device, Source};
 use std::alloc::Global;
 use std::io::Write;
 

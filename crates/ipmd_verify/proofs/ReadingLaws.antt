@@ -23,7 +23,7 @@ use Rattle.journal_files.proofs.Stopping.{step_by_step}
 use Rattle.history_verify.specs.declared.fault.VerifyFault.{VerifyFault}
 use Rattle.history_verify.specs.declared.fault.VerifyFault.TheVariants.{BadHistory, OutOfMemory as NoMemory}
 use Rattle.history_verify.specs.Answers.{NamesFirst}
-use Rattle.ipmd_offline.specs.Status.{read_fault_of}
+use Rattle.ipmd_commands.specs.Status.{read_fault_of}
 use Rattle.ipmd_verify.specs.Faults.{verify_fault_of}
 use Rattle.ipmd_verify.specs.Found.{IsNoFile, RefusesFile, Says}
 use Rattle.ipmd_verify.specs.Reading.{IsReadTo, IsRest}

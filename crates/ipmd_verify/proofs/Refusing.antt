@@ -2,9 +2,9 @@
 use Rattle.std.proofs.Common.{◌≡◌, ℕ, List, Bool, Option, None, inl, subst, sym}
 use Rattle.std.specs.Io.KnownBytes.{Keeps}
 use Rattle.ipmd_command_line.specs.declared.task.VerifyOptions.{VerifyOptions}
-use Rattle.ipmd_offline.specs.declared.fault.ProgramFault.{ProgramFault}
-use Rattle.ipmd_offline.specs.declared.fault.ProgramFault.TheVariants.{Device, OutOfMemory}
-use Rattle.ipmd_offline.specs.Failures.{IsFileFault, IsNamed}
+use Rattle.ipmd_commands.specs.declared.fault.ProgramFault.{ProgramFault}
+use Rattle.ipmd_commands.specs.declared.fault.ProgramFault.TheVariants.{Device, OutOfMemory}
+use Rattle.ipmd_commands.specs.Failures.{IsFileFault, IsNamed}
 use Rattle.ipmd_verify.specs.Found.{RefusesFile}
 use Rattle.ipmd_verify.specs.Verifying.{RefusesToVerify, RefusesToVerifyFile}
 

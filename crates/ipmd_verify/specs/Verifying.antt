@@ -11,10 +11,10 @@ use Rattle.history_verify.specs.declared.count.Count.{Count}
 use Rattle.history_verify.specs.Counts.{counts_of}
 use Rattle.history_verify.specs.Legal.{IsLegal}
 use Rattle.ipmd_command_line.specs.declared.task.VerifyOptions.{VerifyOptions}
-use Rattle.ipmd_offline.specs.declared.fault.ProgramFault.{ProgramFault}
-use Rattle.ipmd_offline.specs.declared.failure.Place.TheVariants.{Output}
-use Rattle.ipmd_offline.specs.Failures.{FailedAt, IsNamed}
-use Rattle.ipmd_offline.specs.HexText.{WritesSome}
+use Rattle.ipmd_commands.specs.declared.fault.ProgramFault.{ProgramFault}
+use Rattle.ipmd_commands.specs.declared.failure.Place.TheVariants.{Output}
+use Rattle.ipmd_commands.specs.Failures.{FailedAt, IsNamed}
+use Rattle.ipmd_commands.specs.HexText.{WritesSome}
 use Rattle.ipmd_verify.specs.Found.{Says, RefusesFile}
 
 -- ---- the text

@@ -1,6 +1,6 @@
 //! How far a file was read, told while it is.
 
-use octet_devices::Device;
+use octet_io::Device;
 use std::io::Write;
 
 /// The line is written anew each time that this many entries more were read.

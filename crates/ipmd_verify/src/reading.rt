@@ -2,7 +2,7 @@
 ghost use Rattle.std.specs.Prelude.{◌≡◌, List, ℕ, Option, IfOk, IfErr, OnOk};
 ghost use Rattle.event_journal.specs.declared.entry.Entry.{Entry as OneEntry};
 ghost use Rattle.history_verify.specs.Answers.{NamesFirstOfAny};
-ghost use Rattle.ipmd_offline.specs.Status.{read_fault_of};
+ghost use Rattle.ipmd_commands.specs.Status.{read_fault_of};
 ghost use Rattle.ipmd_verify.specs.Found.{IsFound, RefusesFile, SaysOn};
 ghost use Rattle.ipmd_verify.specs.Reading.{IsReadTo};
 ghost use Rattle.ipmd_verify.specs.Faults.{verify_fault_of};
@@ -10,9 +10,9 @@ ghost use Rattle.ipmd_verify.specs.Faults.{verify_fault_of};
 use crate::progress::Progress;
 use event_journal::Entry;
 use history_verify::{Verified, Verifier, VerifyFault};
-use ipmd_offline::ProgramFault;
+use ipmd_commands::ProgramFault;
 use journal_files::{JournalReader, ReadFault};
-use octet_devices::Source;
+use octet_io::Source;
 use std::alloc::Global;
 
 /// Reads a journal's file, and verifies its history as it comes. The audit's entries are kept where they are wanted; else memory

@@ -1,14 +1,14 @@
 //! Does what `ipmd verify` is asked for.
 ghost use Rattle.std.specs.Prelude.{IfErr, OnOk};
-ghost use Rattle.octet_devices.specs.Device.{device_inner};
+ghost use Rattle.octet_io.specs.Device.{device_inner};
 ghost use Rattle.ipmd_verify.specs.Verifying.{Verifies, VerifiesFile, RefusesToVerify, RefusesToVerifyFile};
 
 use crate::progress::Progress;
 use crate::reading::read_history;
 use crate::telling::text_of;
 use ipmd_command_line::VerifyOptions;
-use ipmd_offline::{ProgramFault, of_file, write_text};
-use octet_devices::Device;
+use ipmd_commands::{ProgramFault, of_file, write_text};
+use octet_io::Device;
 use std::alloc::Global;
 use std::fs;
 use std::io::{BufReader, Read, Write};
@@ -22,7 +22,7 @@ const FILE_BUFFER: usize = 65_536;
 ///
 /// # Errors
 /// `Device`, of the file, where it can't be opened, and what [`verify_input`] refuses.
-#[tactic(auto, using(crate::proofs::Refusing::unopened, ipmd_offline::proofs::Lines::kept))]
+#[tactic(auto, using(crate::proofs::Refusing::unopened, ipmd_commands::proofs::Lines::kept))]
 pub fn verify<R: Files + AllocGlobal, O: Write, P: Progress>(
     rt: &R,
     options: &VerifyOptions<'_>,
@@ -52,7 +52,7 @@ pub fn verify<R: Files + AllocGlobal, O: Write, P: Progress>(
 /// In this order: `Device`, of the file, where `input` fails, and `Journal`, the file's first fault; `History`, the first entry
 /// that may not stand where it does; then `Device`, of the output, where that fails, and a front of what was due may have been
 /// written; and `OutOfMemory`. At each of the others nothing was written.
-#[tactic(auto, using(crate::proofs::Refusing::refused, crate::proofs::Refusing::no_room, ipmd_offline::proofs::Lines::kept))]
+#[tactic(auto, using(crate::proofs::Refusing::refused, crate::proofs::Refusing::no_room, ipmd_commands::proofs::Lines::kept))]
 pub fn verify_input<I: Read + Drop, O: Write, P: Progress>(
     alloc: Global,
     quiet: bool,

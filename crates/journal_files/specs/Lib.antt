@@ -1,7 +1,7 @@
 pub use Rattle.policy_text.specs.Naming
 pub use Rattle.event_journal.specs.Spelled
 pub use Rattle.event_journal.specs.Sizes
-pub use Rattle.octet_devices.specs.Written
+pub use Rattle.octet_io.specs.Written
 pub mod Format
 pub mod FaultTexts
 pub mod Reading

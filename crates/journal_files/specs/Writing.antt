@@ -1,7 +1,7 @@
 -- What was written to a sink where a file could not be written further.
 use Rattle.std.specs.Prelude.{◌≡◌, ℕ, Bool, List, Option, take}
 use Rattle.std.specs.Io.KnownBytes.{Appends, Keeps}
-use Rattle.octet_devices.specs.Written.{WritesFront}
+use Rattle.octet_io.specs.Written.{WritesFront}
 use Rattle.journal_files.specs.declared.writing.WriteFault.{WriteFault}
 use Rattle.journal_files.specs.declared.writing.WriteFault.TheVariants.{Write, OutOfMemory}
 

@@ -9,7 +9,7 @@ use crate::format::{EDIT, MESSAGE, SUBSCRIBE};
 use crate::read_fault::ReadFault;
 use event_journal::MOST_OCTETS;
 use ipfix_octets::be_number;
-use octet_devices::{Failed, Source};
+use octet_io::{Failed, Source};
 
 /// The most octets of one read.
 const PIECE: usize = 65_536;

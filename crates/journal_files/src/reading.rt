@@ -10,7 +10,7 @@ use crate::fault::JournalFault;
 use crate::gathering::{fill, gather};
 use crate::read_fault::ReadFault;
 use event_journal::{Entry, MOST_ENTRIES, MOST_OCTETS};
-use octet_devices::Source;
+use octet_io::Source;
 use std::alloc::Global;
 use std::marker::Model;
 

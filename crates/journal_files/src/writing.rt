@@ -7,7 +7,7 @@ ghost use Rattle.journal_files.specs.Writing.{Stops, WritesSome};
 
 use crate::encoding::{put_entry, put_head};
 use event_journal::{Entry, Journal};
-use octet_devices::{Sink, write_all};
+use octet_io::{Sink, write_all};
 use std::alloc::{AllocError, Global};
 use std::marker::Model;
 

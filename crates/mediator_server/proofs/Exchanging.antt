@@ -5,21 +5,21 @@ use Rattle.std.specs.List.{AllByRecursion}
 use Rattle.std.specs.Io.KnownBytes.{Consumes, Appends, prepend_known}
 use Rattle.std.proofs.KnownBytes.{Appends-trans, Appends-nil, Consumes-trans, Consumes-nil, prepend_known-nil}
 use Rattle.sequences.proofs.ListLaws.{take-add-append}
-use Rattle.octet_devices.specs.Written.{WritesFront}
-use Rattle.message_intake.specs.declared.fault.FramingFault.TheVariants as framing
+use Rattle.octet_io.specs.Written.{WritesFront}
+use Rattle.ipfix_reader.specs.declared.fault.FramingFault.TheVariants as framing
 use Rattle.entry_receipts.specs.declared.kept.KeptEntry.{KeptEntry}
 use Rattle.mediator_history.proofs.HistoryLaws.{flat_map-push}
 use Rattle.mediator_state.specs.declared.fault.Fault.TheVariants as fault
 use Rattle.mediator_calls.specs.declared.fault.PullFault.TheVariants as pull
-use Rattle.admin_lines.specs.Sayings.{Saying}
-use Rattle.admin_lines.specs.Sayings.Saying.{to_edit, to_subscribe, to_unsubscribe, to_advance, to_tell_status, to_drain_audit, to_tell, to_stop}
-use Rattle.admin_lines.specs.Grammar.{longest_line, IsSubscription}
-use Rattle.admin_lines.specs.Reading.{command_of}
-use Rattle.call_lists.specs.Answers.{refusal_text}
-use Rattle.admin_lines.specs.Answers.{answer_text, refused_for_memory, IsTextOf, WritesAnswer}
-use Rattle.admin_lines.specs.declared.answer.Answer.{Answer}
-use Rattle.admin_lines.specs.declared.answer.Answer.TheVariants as answer
-use Rattle.admin_lines.proofs.LineLaws.{command_of-only}
+use Rattle.admin_text.specs.Sayings.{Saying}
+use Rattle.admin_text.specs.Sayings.Saying.{to_edit, to_subscribe, to_unsubscribe, to_advance, to_tell_status, to_drain_audit, to_tell, to_stop}
+use Rattle.admin_text.specs.Grammar.{longest_line, IsSubscription}
+use Rattle.admin_text.specs.Reading.{command_of}
+use Rattle.replay_text.specs.Answers.{refusal_text}
+use Rattle.admin_text.specs.Answers.{answer_text, refused_for_memory, IsTextOf, WritesAnswer}
+use Rattle.admin_text.specs.declared.answer.Answer.{Answer}
+use Rattle.admin_text.specs.declared.answer.Answer.TheVariants as answer
+use Rattle.admin_text.proofs.LineLaws.{command_of-only}
 use Rattle.mediator_server.specs.declared.fault.ServeFault.{ServeFault}
 use Rattle.mediator_server.specs.declared.fault.ServeFault.TheVariants.{Read, Write, Framing, Turns, Core}
 use Rattle.mediator_server.specs.Faults.{out_of_memory}

@@ -5,10 +5,10 @@ use Rattle.std.proofs.KnownBytes.{Consumes-trans, Consumes-nil}
 use Rattle.ipfix_message.specs.declared.frame_error.FrameError.{FrameError}
 use Rattle.ipfix_message.specs.declared.frame_error.FrameError.TheVariants as frame
 use Rattle.ipfix_message.specs.Framing.{IsFramed}
-use Rattle.message_intake.specs.declared.fault.FramingFault.TheVariants as framing
-use Rattle.message_intake.specs.declared.fault.IntakeFault.{IntakeFault}
-use Rattle.message_intake.specs.declared.fault.IntakeFault.TheVariants as intake
-use Rattle.message_intake.specs.Intake.{IntakeState, nothing_read, Takes, Ends, Stops, HasFault, reader_after as intake_reader}
+use Rattle.ipfix_reader.specs.declared.fault.FramingFault.TheVariants as framing
+use Rattle.ipfix_reader.specs.declared.fault.IntakeFault.{IntakeFault}
+use Rattle.ipfix_reader.specs.declared.fault.IntakeFault.TheVariants as intake
+use Rattle.ipfix_reader.specs.Intake.{IntakeState, nothing_read, Takes, Ends, Stops, HasFault, reader_after as intake_reader}
 use Rattle.shared_mediator.specs.Locked.{Exporting}
 use Rattle.mediator_calls.specs.declared.fault.PullFault.TheVariants as pull
 use Rattle.mediator_server.specs.declared.fault.ServeFault.{ServeFault}

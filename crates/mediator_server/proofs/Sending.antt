@@ -7,7 +7,7 @@ use Rattle.std.proofs.lemmas.List.{take-append-drop, take-append-le, take_more, 
 use Rattle.std.proofs.lemmas.List.Concat.{flat_map-append, flat_map-cons}
 use Rattle.std.proofs.lemmas.Option.{same_Some}
 use Rattle.sequences.proofs.ListLaws.{take-add-append}
-use Rattle.octet_devices.specs.Written.{WritesFront}
+use Rattle.octet_io.specs.Written.{WritesFront}
 use Rattle.ipfix_template.specs.DataRecord.{DataRecord}
 use Rattle.subscriber_stream.specs.Parts.{Part, parts, records_in}
 use Rattle.subscriber_stream.specs.Message.{next_message, built}

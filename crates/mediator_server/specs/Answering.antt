@@ -2,19 +2,19 @@
 use Rattle.std.specs.Prelude.{◌≡◌, ◌≢◌, ◌⊎◌, ◌↔◌, IsTrue, ℕ, ◌+◌, ◌≤◌, ◌<◌, ◌^◌, Bool, List, [], ◌∷◌, ◌++◌, length, Option, Some, None, IsSome, IsUtf8}
 use Rattle.std.specs.List.{flat_map, AllByRecursion}
 use Rattle.std.specs.Io.KnownBytes.{Consumes, Appends, IsAtEnd}
-use Rattle.octet_devices.specs.Written.{WritesFront}
+use Rattle.octet_io.specs.Written.{WritesFront}
 use Rattle.event_journal.specs.declared.entry.Entry.TheVariants.{Edit, Subscribe, Unsubscribe, Advance}
 use Rattle.entry_receipts.specs.declared.kept.KeptEntry.{KeptEntry}
-use Rattle.message_intake.specs.declared.fault.FramingFault.TheVariants as framing
+use Rattle.ipfix_reader.specs.declared.fault.FramingFault.TheVariants as framing
 use Rattle.mediator_state.specs.declared.fault.Fault.TheVariants as fault
 use Rattle.mediator_calls.specs.declared.fault.PullFault.TheVariants as pull
 use Rattle.shared_mediator.specs.Handles.{KeepsEntry}
-use Rattle.admin_lines.specs.Sayings.{Saying}
-use Rattle.admin_lines.specs.Sayings.Saying.{to_edit, to_subscribe, to_unsubscribe, to_advance, to_tell_status, to_drain_audit, to_tell, to_stop}
-use Rattle.admin_lines.specs.Reading.{command_of}
-use Rattle.admin_lines.specs.Answers.{IsTextOf}
-use Rattle.admin_lines.specs.declared.answer.Answer.{Answer}
-use Rattle.admin_lines.specs.declared.answer.Answer.TheVariants as answer
+use Rattle.admin_text.specs.Sayings.{Saying}
+use Rattle.admin_text.specs.Sayings.Saying.{to_edit, to_subscribe, to_unsubscribe, to_advance, to_tell_status, to_drain_audit, to_tell, to_stop}
+use Rattle.admin_text.specs.Reading.{command_of}
+use Rattle.admin_text.specs.Answers.{IsTextOf}
+use Rattle.admin_text.specs.declared.answer.Answer.{Answer}
+use Rattle.admin_text.specs.declared.answer.Answer.TheVariants as answer
 use Rattle.mediator_server.specs.declared.fault.ServeFault.{ServeFault}
 use Rattle.mediator_server.specs.declared.fault.ServeFault.TheVariants.{Read, Write, Framing, Turns, Core}
 use Rattle.mediator_server.specs.CommandInput.{InputState, HandsOut, IsLine, IsBegun, StopsReading}

@@ -2,7 +2,7 @@
 use Rattle.std.specs.Prelude.{◌≡◌, ◌⊎◌, ℕ, ◌+◌, ◌≤◌, Bool, List, ◌++◌, length, Option}
 use Rattle.std.specs.List.{flat_map, AllByRecursion}
 use Rattle.std.specs.Io.KnownBytes.{Appends}
-use Rattle.octet_devices.specs.Written.{WritesFront}
+use Rattle.octet_io.specs.Written.{WritesFront}
 use Rattle.event_journal.specs.declared.entry.Entry.TheVariants.{Unsubscribe}
 use Rattle.entry_receipts.specs.declared.kept.KeptEntry.{KeptEntry}
 use Rattle.mediator_calls.specs.declared.handed.Handed.{Handed}

@@ -2,8 +2,8 @@
 use Rattle.std.specs.Prelude.{Bool, true, false}
 use Rattle.mediator_state.specs.declared.fault.Fault.TheVariants as fault
 use Rattle.mediator_calls.specs.declared.fault.PullFault.TheVariants as pull
-use Rattle.message_intake.specs.declared.fault.IntakeFault.{IntakeFault}
-use Rattle.message_intake.specs.declared.fault.IntakeFault.TheVariants as intake
+use Rattle.ipfix_reader.specs.declared.fault.IntakeFault.{IntakeFault}
+use Rattle.ipfix_reader.specs.declared.fault.IntakeFault.TheVariants as intake
 use Rattle.mediator_server.specs.declared.fault.ServeFault.{ServeFault}
 use Rattle.mediator_server.specs.declared.fault.ServeFault.TheVariants.{Read, Write, Framing, Turns, Core}
 

@@ -1,4 +1,4 @@
-pub use Rattle.octet_devices.specs.Written
+pub use Rattle.octet_io.specs.Written
 pub use Rattle.ipfix_message.specs.Framing
 pub use Rattle.subscriber_stream.specs.Parts
 pub use Rattle.subscriber_stream.specs.Message
@@ -6,10 +6,10 @@ pub use Rattle.stream_meaning.specs.Served
 pub use Rattle.shared_mediator.specs.Locked
 pub use Rattle.shared_mediator.specs.Handles
 pub use Rattle.shared_mediator.specs.Closing
-pub use Rattle.admin_lines.specs.Sayings
-pub use Rattle.admin_lines.specs.Grammar as CommandGrammar
-pub use Rattle.admin_lines.specs.Reading as CommandReading
-pub use Rattle.admin_lines.specs.Answers as AdminAnswers
+pub use Rattle.admin_text.specs.Sayings
+pub use Rattle.admin_text.specs.Grammar as CommandGrammar
+pub use Rattle.admin_text.specs.Reading as CommandReading
+pub use Rattle.admin_text.specs.Answers as AdminAnswers
 pub mod Faults
 pub mod FaultTexts
 pub mod Serving

@@ -6,8 +6,8 @@ use Rattle.ipfix_template.specs.declared.template.Template.{Template}
 use Rattle.ipfix_message.specs.declared.frame_error.FrameError.{FrameError}
 use Rattle.ipfix_message.specs.declared.frame_error.FrameError.TheVariants as frame
 use Rattle.ipfix_message.specs.Framing.{IsFramed}
-use Rattle.message_intake.specs.declared.fault.FramingFault.TheVariants as framing
-use Rattle.message_intake.specs.Intake.{IntakeState}
+use Rattle.ipfix_reader.specs.declared.fault.FramingFault.TheVariants as framing
+use Rattle.ipfix_reader.specs.Intake.{IntakeState}
 use Rattle.event_journal.specs.declared.entry.Entry.{Entry}
 use Rattle.event_journal.specs.declared.entry.Entry.TheVariants.{Message}
 use Rattle.entry_receipts.specs.declared.kept.KeptEntry.{KeptEntry}

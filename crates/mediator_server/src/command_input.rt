@@ -6,9 +6,9 @@ ghost use Rattle.mediator_server.specs.Faults.{reader_after};
 ghost use Rattle.mediator_server.specs.CommandInput.{unread, Fills, HandsOut, EndsBehind, IsLine, IsBegun, StopsReading};
 
 use crate::fault::ServeFault;
-use admin_lines::LONGEST_LINE;
-use message_intake::FramingFault;
-use octet_devices::{Failed, Source};
+use admin_text::LONGEST_LINE;
+use ipfix_reader::FramingFault;
+use octet_io::{Failed, Source};
 use std::alloc::{AllocError, Global};
 use std::marker::Model;
 

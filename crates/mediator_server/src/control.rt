@@ -1,6 +1,6 @@
 //! What a connection asks of its server and tells it, beyond the calls on the mediator.
 
-use admin_lines::Topic;
+use admin_text::Topic;
 use entry_receipts::KeptEntry;
 use mediator_state::Receipt;
 use std::alloc::AllocError;

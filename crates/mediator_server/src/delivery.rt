@@ -7,7 +7,7 @@ ghost use Rattle.mediator_server.specs.Delivering.{Delivers, FailsToDeliver, Sen
 use crate::clock::Clock;
 use crate::fault::ServeFault;
 use mediator_calls::{Handed, PullFault, SubId, UnknownSub};
-use octet_devices::{Sink, write_all};
+use octet_io::{Sink, write_all};
 use shared_mediator::{
     AdminHandle, DeliveryHandle, EntryLedger, RecordLedger, SharedMediator, Waited,
 };

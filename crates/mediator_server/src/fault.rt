@@ -1,8 +1,8 @@
 //! Why a connection is served no more, for exporters, collectors and administrators alike.
 
+use ipfix_reader::{FramingFault, IntakeFault};
 use mediator_calls::PullFault;
 use mediator_state::Fault;
-use message_intake::{FramingFault, IntakeFault};
 use std::alloc::AllocError;
 use std::error::Error;
 use std::fmt::{self, Display, Formatter, Write};

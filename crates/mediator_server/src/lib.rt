@@ -1,7 +1,7 @@
 //! Serves a shared mediator over devices: reads and offers an exporter's stream, pulls and writes a subscription's messages, and
 //! reads and answers an administrator's commands. Each of these calls belongs to one thread and one connection, and is generic
-//! over a `Source` or a `Sink`; the mediating is `shared_mediator`'s, the cutting of a stream into messages `message_intake`'s,
-//! and what lines mean `admin_lines`'.
+//! over a `Source` or a `Sink`; the mediating is `shared_mediator`'s, the cutting of a stream into messages `ipfix_reader`'s,
+//! and what lines mean `admin_text`'.
 //!
 //! - `exporter`: [`serve_exporter`], the messages of a stream.
 //! - `delivery`: [`deliver`], the messages of a subscription.
@@ -47,7 +47,7 @@
 //! among all, and how many records were handed out (`served`). Beyond that it is safe. What goes over sockets, and that all ends,
 //! is shown by tests over loopback alone; `bench/interop` runs it with real tools.
 //!
-//! Shown by tests alone, in `server_tests`: that the session is closed and the subscription ended, which happens under the lock,
+//! Shown by tests alone, in `tests_server`: that the session is closed and the subscription ended, which happens under the lock,
 //! where no clause can look; and so why a call of an administrator is refused, how a subscription stands, what of the audit is
 //! handed out, and what waits for room in a queue; and what a server is told and tells, and how many records waited when a
 //! delivery failed. Nothing promises that a call returns.

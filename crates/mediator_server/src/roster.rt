@@ -1,7 +1,7 @@
 //! The subscriptions of a run, with their names, and whether the collector of each is connected.
 
-use call_lists::cut_word;
 use mediator_calls::SubId;
+use replay_text::cut_word;
 use shared_mediator::{EntryLedger, RecordLedger, SharedMediator};
 use std::alloc::{AllocError, Global};
 use std::sync::{Mutex, Wait};

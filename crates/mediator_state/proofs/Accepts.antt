@@ -42,7 +42,7 @@ use Rattle.mediator_state.specs.declared.plan.Plan.{Plan}
 use Rattle.mediator_state.specs.Standing.{Stands, place, IsSession, IsLiveAs, AreInRange}
 use Rattle.mediator_state.specs.Steps.{CutsInARow, HasAuditRoom}
 use Rattle.mediator_tables.specs.Adding.{AllReady, AreApart}
-use Rattle.record_sharing.specs.Noting.{Kept}
+use Rattle.mediator_shares.specs.Noting.{Kept}
 use Rattle.mediator_state.specs.Planning.{share_at, AreTallied, HasRoomIn, IsJudged, IsPlan}
 use Rattle.mediator_state.specs.Accepting.{HasRoomForPlan, IsPlannedFor, IsReadyToTake, IsMessage}
 use Rattle.mediator_state.specs.Advancing.{HasRoomToClose, IsClosingFor, IsReadyToClose, AreClosings}

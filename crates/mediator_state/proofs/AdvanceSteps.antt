@@ -26,7 +26,7 @@ use Rattle.mediator_history.proofs.CountingLaws.{counted_same, running_unserved,
 use Rattle.mediator_tables.specs.declared.open_session.OpenSession.{OpenSession}
 use Rattle.mediator_tables.specs.declared.subscription.Subscription.{Subscription}
 use Rattle.mediator_tables.specs.SubscriptionTable.{at, Related, TakesGiven, given_to}
-use Rattle.record_sharing.specs.InForce.{InForce, in_force_with}
+use Rattle.mediator_shares.specs.InForce.{InForce, in_force_with}
 use Rattle.mediator_tables.specs.GroupTable.{groups_at}
 use Rattle.mediator_state.specs.declared.engine.Engine.{Engine}
 use Rattle.mediator_state.specs.Ascending.{Ascend}

@@ -30,7 +30,7 @@ use Rattle.mediator_state.specs.declared.fault.Fault.TheVariants as fault
 use Rattle.mediator_state.specs.declared.state.State.{State}
 use Rattle.mediator_state.specs.Standing.{Stands, StandsSomewhere}
 use Rattle.mediator_state.specs.Seen.{waiting_of, IsSameEngine}
-use Rattle.record_sharing.specs.Noting.{Kept}
+use Rattle.mediator_shares.specs.Noting.{Kept}
 use Rattle.mediator_state.specs.Planning.{IsPlan, IsNext, IsNextReading, RefusesMessage}
 use Rattle.mediator_state.specs.Accepting.{LacksAudit, HasRoomForPlan, IsPlannedFor, receipt_of}
 use Rattle.mediator_state.specs.Calls.{StandsFor, StandsForSome, AuditHolds, Accepts, LacksRoom, LacksRoomAfter, with_cuts, HasMeaning, RefusesReceive, RefusesReceivePrepared, Receives, IsFree, RefusesEdit, RefusesSubscribe}

@@ -29,7 +29,7 @@ use Rattle.mediator_history.proofs.EntryLaws.{served-cut, messages_same, given_s
 use Rattle.mediator_tables.specs.declared.open_session.OpenSession.{OpenSession}
 use Rattle.mediator_tables.specs.declared.subscription.Subscription.{Subscription}
 use Rattle.mediator_tables.specs.SubscriptionTable.{at, cut_off}
-use Rattle.record_sharing.specs.InForce.{InForce}
+use Rattle.mediator_shares.specs.InForce.{InForce}
 use Rattle.mediator_tables.specs.GroupTable.{groups_at}
 use Rattle.mediator_state.specs.declared.engine.Engine.{Engine}
 use Rattle.mediator_state.specs.Ascending.{Ascend}

@@ -34,7 +34,7 @@ use Rattle.mediator_tables.specs.SessionTable.{IsFresh}
 use Rattle.mediator_tables.specs.declared.subscription.Subscription.{Subscription}
 use Rattle.mediator_tables.specs.SubscriptionTable.{Table, at}
 use Rattle.flow_aggregate.specs.Running.{Entries, StandsFor as StandsForRecords}
-use Rattle.record_sharing.specs.InForce.{InForce, in_force_with}
+use Rattle.mediator_shares.specs.InForce.{InForce, in_force_with}
 use Rattle.mediator_tables.specs.GroupTable.{groups_at}
 use Rattle.mediator_state.specs.declared.engine.Engine.{Engine}
 use Rattle.mediator_state.proofs.GroupLaws.{clock_stays, clock_kept, none_stand, groups_kept, groups_ended}

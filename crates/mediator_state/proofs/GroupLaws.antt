@@ -6,7 +6,7 @@ use Rattle.sequences.proofs.BeforeLaws.{last_of-push}
 use Rattle.flow_aggregate.specs.Running.{Entries, Held, nothing_held, StandsFor}
 use Rattle.event_journal.specs.declared.entry.Entry.{Entry}
 use Rattle.mediator_history.specs.Counting.{clock_in, clock_of, running}
-use Rattle.record_sharing.specs.InForce.{InForce}
+use Rattle.mediator_shares.specs.InForce.{InForce}
 use Rattle.mediator_tables.specs.GroupTable.{held_at, groups_at}
 use Rattle.mediator_state.specs.declared.engine.Engine.{Engine}
 use Rattle.mediator_state.specs.Standing.{Stands}

@@ -51,11 +51,11 @@ use Rattle.mediator_history.proofs.CountingLaws.{clock-cuts, counted-served}
 use Rattle.mediator_tables.specs.declared.served.Served.{Served}
 use Rattle.mediator_tables.specs.declared.share.Share.{Share}
 use Rattle.mediator_tables.specs.declared.tally.Tally.{Tally}
-use Rattle.record_sharing.specs.InForce.{InForce, in_force_with}
+use Rattle.mediator_shares.specs.InForce.{InForce, in_force_with}
 use Rattle.mediator_tables.specs.SubscriptionTable.{shown}
 use Rattle.mediator_tables.specs.Adding.{tallied}
-use Rattle.record_sharing.specs.Noting.{Kept as KeptNotes, kept_of}
-use Rattle.record_sharing.specs.Sharing.{given_by, added_by, kept_by, share_of, shares_of, tallies_of, note_of, noted, noted_of_each, notes_of}
+use Rattle.mediator_shares.specs.Noting.{Kept as KeptNotes, kept_of}
+use Rattle.mediator_shares.specs.Sharing.{given_by, added_by, kept_by, share_of, shares_of, tallies_of, note_of, noted, noted_of_each, notes_of}
 use Rattle.mediator_tables.specs.declared.open_session.OpenSession.{OpenSession}
 use Rattle.mediator_tables.specs.declared.subscription.Subscription.{Subscription}
 use Rattle.mediator_tables.specs.SubscriptionTable.{Table, at, told, told_in, lacks_room, lacks_room_at}

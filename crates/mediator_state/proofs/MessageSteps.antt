@@ -37,7 +37,7 @@ use Rattle.mediator_tables.specs.SubscriptionTable.{at, Related, TakesGiven, giv
 use Rattle.flow_aggregate.specs.Counts.{Count, count_of}
 use Rattle.flow_aggregate.specs.Groups.{Counted}
 use Rattle.flow_aggregate.specs.Running.{StandsFor as StandsForRecords}
-use Rattle.record_sharing.specs.InForce.{InForce}
+use Rattle.mediator_shares.specs.InForce.{InForce}
 use Rattle.mediator_tables.specs.GroupTable.{groups_at}
 use Rattle.mediator_state.specs.declared.engine.Engine.{Engine}
 use Rattle.mediator_state.specs.Ascending.{Ascend}

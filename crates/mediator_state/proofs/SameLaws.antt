@@ -24,13 +24,13 @@ use Rattle.mediator_tables.specs.declared.open_session.OpenSession.{OpenSession}
 use Rattle.mediator_tables.specs.SessionTable.{Seen as SeenSession, seen as session_seen}
 use Rattle.mediator_tables.specs.declared.subscription.Subscription.{Subscription}
 use Rattle.mediator_tables.specs.SubscriptionTable.{Seen, seen, at}
-use Rattle.record_sharing.specs.InForce.{InForce}
+use Rattle.mediator_shares.specs.InForce.{InForce}
 use Rattle.flow_aggregate.specs.Running.{Entries, StandsFor as StandsForRecords}
 use Rattle.mediator_state.specs.declared.engine.Engine.{Engine}
 use Rattle.mediator_state.specs.declared.plan.Plan.{Plan}
 use Rattle.mediator_state.specs.Standing.{place, IsSession, IsLiveAs, AreInRange, Stands}
 use Rattle.mediator_state.specs.Seen.{place_in, waiting_in, waiting_of, IsUntouched, IsSameEngine}
-use Rattle.record_sharing.specs.Noting.{kept_of}
+use Rattle.mediator_shares.specs.Noting.{kept_of}
 use Rattle.mediator_state.specs.Planning.{HasRoomIn, IsJudged, IsPlan}
 
 some_same : {A : Type 0} (x y : A) → Some x ≡ Some y → x ≡ y

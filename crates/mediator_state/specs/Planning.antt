@@ -20,11 +20,11 @@ use Rattle.mediator_history.specs.Disclosed.{given_at}
 use Rattle.mediator_history.specs.Auditing.{audit_at}
 use Rattle.mediator_history.specs.Cuts.{is_cut_by, after_cuts}
 use Rattle.mediator_tables.specs.declared.served.Served.{Served}
-use Rattle.record_sharing.specs.InForce.{InForce}
+use Rattle.mediator_shares.specs.InForce.{InForce}
 use Rattle.mediator_tables.specs.SubscriptionTable.{shown}
 use Rattle.mediator_tables.specs.Adding.{tallied}
-use Rattle.record_sharing.specs.Sharing.{share_of}
-use Rattle.record_sharing.specs.Noting.{kept_of}
+use Rattle.mediator_shares.specs.Sharing.{share_of}
+use Rattle.mediator_shares.specs.Noting.{kept_of}
 use Rattle.mediator_tables.specs.declared.open_session.OpenSession.{OpenSession}
 use Rattle.mediator_tables.specs.SubscriptionTable.{Table, at, lacks_room_at}
 use Rattle.prepared_message.specs.Preparation.{Preparation, AgreesWith}

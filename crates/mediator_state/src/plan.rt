@@ -2,15 +2,15 @@
 ghost use Rattle.std.specs.Prelude.{◌≡◌, ◌≤◌, ◌<◌, ◌+◌, ◌^◌, ◌++◌, ◌∷◌, [], ℕ, List, length, map, not, true, filter, IfOk, IfErr, IfSome, OnOk};
 ghost use Rattle.sequences.specs.Octets.{AreOctets};
 ghost use Rattle.ipfix_session.specs.Meaning.{domain_of};
-ghost use Rattle.record_sharing.specs.InForce.{InForce as Force};
+ghost use Rattle.mediator_shares.specs.InForce.{InForce as Force};
 ghost use Rattle.ipfix_template.specs.DataRecord.{DataRecord};
 ghost use Rattle.event_journal.specs.declared.limits.TheConstants.{MOST_ENTRIES};
 ghost use Rattle.event_journal.specs.declared.entry.Entry.{Entry};
 ghost use Rattle.mediator_tables.specs.SubscriptionTable.{shown};
 ghost use Rattle.mediator_tables.specs.Adding.{tallied};
-ghost use Rattle.record_sharing.specs.Sharing.{shares_of, tallies_of, notes_of};
-ghost use Rattle.record_sharing.specs.Noting.{kept_of};
-ghost use Rattle.record_sharing.specs.Judgements.{IsJudgementOf};
+ghost use Rattle.mediator_shares.specs.Sharing.{shares_of, tallies_of, notes_of};
+ghost use Rattle.mediator_shares.specs.Noting.{kept_of};
+ghost use Rattle.mediator_shares.specs.Judgements.{IsJudgementOf};
 ghost use Rattle.std.specs.List.{AllByRecursion};
 ghost use Rattle.mediator_state.specs.Planning.{AreStreamed};
 
@@ -19,9 +19,9 @@ use crate::fault::Fault;
 use bytes::Bytes;
 use ipfix_records::Records;
 use ipfix_session::Reading;
+use mediator_shares::{InForce, Judgement, Notes, Shares};
 use mediator_tables::{OpenSession, Served, Share, Subscriptions, Tally};
 use prepared_message::Prepared;
-use record_sharing::{InForce, Judgement, Notes, Shares};
 use std::alloc::{AllocError, Global};
 use stream_meaning::see_records;
 

@@ -6,7 +6,7 @@ ghost use Rattle.event_journal.specs.declared.entry.Entry.TheVariants.{Open, Clo
 ghost use Rattle.event_journal.specs.Room.{HasRoom};
 ghost use Rattle.mediator_history.specs.Subscriptions.{is_live};
 ghost use Rattle.mediator_history.specs.Auditing.{audit_list};
-ghost use Rattle.record_sharing.specs.Judgements.{IsJudgementOf};
+ghost use Rattle.mediator_shares.specs.Judgements.{IsJudgementOf};
 
 use crate::engine::Engine;
 use crate::fault::Fault;
@@ -17,10 +17,10 @@ use disclosure_audit::AuditEntry;
 use event_journal::{Chronicle, Entry, PolicyText};
 use hash_keys::HashKeys;
 use ipfix_session::Reading;
+use mediator_shares::Judgement;
 use mediator_tables::Share;
 use policy_text::{FaultKind, Name, Policy, PolicyFault, is_name};
 use prepared_message::{JudgedAhead, Prepared, Snapshot};
-use record_sharing::Judgement;
 use std::alloc::{AllocError, Global};
 use std::slice::from_ref;
 use subscriber_stream::PullError;

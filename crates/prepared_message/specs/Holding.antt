@@ -9,7 +9,7 @@ use Rattle.ipfix_session.specs.Contents.{Contents, contents_after}
 use Rattle.ipfix_session.specs.Keeping.{Keeps}
 use Rattle.ipfix_session.specs.Meaning.{domain_of}
 use Rattle.ipfix_session.specs.Standing.{templates_of}
-use Rattle.record_sharing.specs.Totals.{MayCountMoreThan}
+use Rattle.mediator_shares.specs.Totals.{MayCountMoreThan}
 use Rattle.prepared_message.specs.Ahead.{OfRecords}
 use Rattle.prepared_message.specs.declared.counting.TheConstants.{MOST_COUNTS}
 

@@ -3,8 +3,8 @@ pub use Rattle.ipfix_session.specs.Meaning
 pub use Rattle.ipfix_session.specs.Standing
 pub use Rattle.ipfix_session.specs.Unchanging
 pub use Rattle.ipfix_session.specs.ReadAhead
-pub use Rattle.record_sharing.specs.Judgements
-pub use Rattle.record_sharing.specs.Totals
+pub use Rattle.mediator_shares.specs.Judgements
+pub use Rattle.mediator_shares.specs.Totals
 pub mod SetIds
 pub mod Uses
 pub mod Preparation

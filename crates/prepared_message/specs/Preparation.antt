@@ -6,8 +6,8 @@ use Rattle.ipfix_message.specs.Reading.{header_of}
 use Rattle.ipfix_session.specs.Contents.{Contents}
 use Rattle.ipfix_session.specs.Meaning.{domain_of, contents_of}
 use Rattle.ipfix_session.specs.Unchanging.{HasNoTemplates}
-use Rattle.record_sharing.specs.Judgements.{IsJudgementOf}
-use Rattle.record_sharing.specs.declared.judgement.Judgement.{Judgement}
+use Rattle.mediator_shares.specs.Judgements.{IsJudgementOf}
+use Rattle.mediator_shares.specs.declared.judgement.Judgement.{Judgement}
 use Rattle.prepared_message.specs.Uses.{AreInForce}
 
 -- the message, what it was found to hold, and the IDs of its Data Sets with the templates by which it was read

@@ -1,6 +1,6 @@
 //! What is judged ahead of the lock of a message that its session reads itself.
 ghost use Rattle.std.specs.Prelude.{◌≡◌, true, IfOk, IfSome, IsTrue};
-ghost use Rattle.record_sharing.specs.Judgements.{IsJudgementOf};
+ghost use Rattle.mediator_shares.specs.Judgements.{IsJudgementOf};
 ghost use Rattle.prepared_message.specs.Holding.{IsAheadOf};
 
 use crate::fault::PrepareFault;
@@ -9,8 +9,8 @@ use bytes::Bytes;
 use ipfix_message::{items, read_header};
 use ipfix_records::{Records, Run};
 use ipfix_template::Template;
+use mediator_shares::{Judgement, Workspace};
 use mediator_tables::Share;
-use record_sharing::{Judgement, Workspace};
 use std::marker::Model;
 
 /// What was judged of the records that a message holds by a snapshot, whatever sets it has. Its type keeps that this is
@@ -35,7 +35,7 @@ impl Drop for JudgedAhead {
 
 impl Model for JudgedAhead {
     ghost use Rattle.prepared_message.specs.Ahead.{OfRecords};
-    ghost use Rattle.record_sharing.specs.Judgements.{IsJudgementOf};
+    ghost use Rattle.mediator_shares.specs.Judgements.{IsJudgementOf};
 
     ghost Value = { OfRecords };
 

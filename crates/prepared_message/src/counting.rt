@@ -1,7 +1,7 @@
 //! Whether so many records of a message count in aggregates that it is refused.
 ghost use Rattle.std.specs.Prelude.{ℕ, List, IsTrue};
 ghost use Rattle.ipfix_session.specs.Meaning.{domain_of};
-ghost use Rattle.record_sharing.specs.Totals.{MayCountMoreThan};
+ghost use Rattle.mediator_shares.specs.Totals.{MayCountMoreThan};
 ghost use Rattle.prepared_message.specs.Holding.{CountsTooMany, IsAheadOf};
 ghost use Rattle.prepared_message.specs.declared.counting.TheConstants.{MOST_COUNTS};
 

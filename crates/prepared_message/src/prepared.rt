@@ -6,7 +6,7 @@ ghost use Rattle.ipfix_session.specs.ReadAhead.{IsReadingOf};
 ghost use Rattle.ipfix_session.specs.Standing.{StandsFor, Knows};
 ghost use Rattle.prepared_message.specs.Faults.{Gives, IsStaleOnly, prepared_from};
 ghost use Rattle.prepared_message.specs.Preparation.{AgreesWith, IsPrepared, IsJudged};
-ghost use Rattle.record_sharing.specs.Judgements.{IsJudgementOf};
+ghost use Rattle.mediator_shares.specs.Judgements.{IsJudgementOf};
 ghost use Rattle.prepared_message.specs.Uses.{TablesAgree};
 
 use crate::fault::{ApplyFault, PrepareFault};
@@ -17,8 +17,8 @@ use bytes::Bytes;
 use ipfix_message::Header;
 use ipfix_records::Records;
 use ipfix_session::{Contents, Read, Reading, Session};
+use mediator_shares::{Judgement, Workspace};
 use mediator_tables::Share;
-use record_sharing::{Judgement, Workspace};
 use std::alloc::{AllocError, Global};
 use std::marker::Model;
 

@@ -3,7 +3,7 @@ ghost use Rattle.std.specs.Prelude.{◌≡◌, ℕ, List, IfOk};
 ghost use Rattle.ipfix_session.specs.Standing.{StandsFor, Knows};
 
 use ipfix_session::{Session, Templates};
-use record_sharing::Terms;
+use mediator_shares::Terms;
 use std::alloc::AllocError;
 use std::marker::Model;
 use std::sync::Arc;

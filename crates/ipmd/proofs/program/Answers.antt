@@ -1,5 +1,5 @@
 use Rattle.std.proofs.Common.{map}
-use Rattle.octet_devices.specs.Device.{device_failed, device_inner}
+use Rattle.octet_io.specs.Device.{device_failed, device_inner}
 use Rattle.ipmd.proofs.Endings.{blamed}
 use Rattle.ipmd.proofs.program.Goals as goal
 

@@ -1,8 +1,8 @@
 use Rattle.std.proofs.Common.{map, refl, subst, sym}
-use Rattle.octet_devices.specs.Device.{device_inner}
-use Rattle.offline_filter.proofs.Receiving.{err_gives}
+use Rattle.octet_io.specs.Device.{device_inner}
+use Rattle.mediator_offline.proofs.Receiving.{err_gives}
 use Rattle.ipmd.specs.Serving.{FailsToServe}
-use Rattle.ipmd_offline.specs.Runs.{RefusesToFilter}
+use Rattle.ipmd_commands.specs.Runs.{RefusesToFilter}
 use Rattle.ipmd_verify.specs.Verifying.{RefusesToVerifyFile}
 use Rattle.ipmd_explain.specs.Answers.{RefusesToExplainFile}
 use Rattle.ipmd.proofs.Endings.{unexplained, unfiltered, unserved, unverified}

@@ -1,5 +1,5 @@
 use Rattle.std.proofs.Common.{subst, sym}
-use Rattle.offline_filter.proofs.Receiving.{err_gives}
+use Rattle.mediator_offline.proofs.Receiving.{err_gives}
 use Rattle.ipmd.specs.Replays.{RefusesText}
 use Rattle.ipmd.proofs.Replaying.{no_run}
 use Rattle.ipmd.proofs.replay.run_text.Goals as goal

@@ -1,7 +1,7 @@
 use Rattle.std.proofs.Common.{◌∙◌, subst, sym}
 use Rattle.std.specs.Io.KnownBytes.{Appends}
-use Rattle.octet_devices.specs.Device.{device_inner}
-use Rattle.offline_filter.proofs.Receiving.{err_gives}
+use Rattle.octet_io.specs.Device.{device_inner}
+use Rattle.mediator_offline.proofs.Receiving.{err_gives}
 use Rattle.ipmd.specs.Serving.{RefusesToTell, run_of, served}
 use Rattle.ipmd.proofs.Running.{told_all, told_nothing}
 use Rattle.ipmd.proofs.runs.end_run.Goals as goal

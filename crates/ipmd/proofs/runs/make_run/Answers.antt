@@ -1,5 +1,5 @@
 use Rattle.std.proofs.Common.{subst, sym}
-use Rattle.offline_filter.proofs.Receiving.{err_gives}
+use Rattle.mediator_offline.proofs.Receiving.{err_gives}
 use Rattle.ipmd.specs.Serving.{IsListenFault}
 use Rattle.ipmd.proofs.Running.{new_refused}
 use Rattle.ipmd.proofs.runs.make_run.Goals as goal

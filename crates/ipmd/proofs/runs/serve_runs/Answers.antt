@@ -1,6 +1,6 @@
 use Rattle.std.proofs.Common.{arith, subst, sym}
-use Rattle.octet_devices.specs.Device.{device_inner}
-use Rattle.offline_filter.proofs.Receiving.{err_gives}
+use Rattle.octet_io.specs.Device.{device_inner}
+use Rattle.mediator_offline.proofs.Receiving.{err_gives}
 use Rattle.ipmd.specs.Serving.{MakesRun, StopsServing}
 use Rattle.ipmd.proofs.Running.{begins, ends_at_last, ends_early, goes_on, stops, stops_first}
 use Rattle.ipmd.proofs.runs.serve_runs.Goals as goal

@@ -1,5 +1,5 @@
 use Rattle.std.proofs.Common.{◌-◌}
-use Rattle.octet_devices.specs.Device.{device_inner}
+use Rattle.octet_io.specs.Device.{device_inner}
 use Rattle.mediator_calls.specs.Limited.{AreAllowed}
 use Rattle.ipmd.specs.Serving.{IsToRun}
 use Rattle.ipmd.proofs.runs.serve_runs.Given as goal

@@ -1,6 +1,6 @@
 use Rattle.std.proofs.Common.{◌≡◌, ◌++◌, map}
 use Rattle.std.specs.Vec.Iter.{into_iter_items}
-use Rattle.serve_settings.specs.Asked.{pair, pairs}
+use Rattle.ipmd_settings.specs.Asked.{pair, pairs}
 use Rattle.ipmd.specs.Serving.{collectors_in}
 use Rattle.ipmd.proofs.serve.collectors_of.Given as goal
 

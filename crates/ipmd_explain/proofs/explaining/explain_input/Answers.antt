@@ -1,4 +1,4 @@
-use Rattle.octet_devices.specs.Device.{device_inner}
+use Rattle.octet_io.specs.Device.{device_inner}
 use Rattle.ipmd_explain.proofs.ReadingLaws.{err_gives, refuses_flush}
 use Rattle.ipmd_explain.proofs.explaining.explain_input.Goals as goal
 

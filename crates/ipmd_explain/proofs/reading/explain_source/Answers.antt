@@ -2,10 +2,10 @@ use Rattle.std.proofs.Common.{[], ◌∷◌, ◌++◌, ◌≡◌, None, subst, s
 use Rattle.std.proofs.KnownBytes.{Appends-nil, Keeps-refl}
 use Rattle.std.specs.Prelude.{string_bytes}
 use Rattle.std.specs.Io.KnownBytes.{Appends}
-use Rattle.octet_devices.specs.Device.{device_inner}
-use Rattle.ipmd_offline.specs.declared.failure.Place.TheVariants.{Output}
-use Rattle.ipmd_offline.specs.Failures.{FailedAt}
-use Rattle.ipmd_offline.specs.HexText.{WritesSome}
+use Rattle.octet_io.specs.Device.{device_inner}
+use Rattle.ipmd_commands.specs.declared.failure.Place.TheVariants.{Output}
+use Rattle.ipmd_commands.specs.Failures.{FailedAt}
+use Rattle.ipmd_commands.specs.HexText.{WritesSome}
 use Rattle.history_verify.proofs.FeedLaws.{err_map}
 use Rattle.ipmd_verify.proofs.ReadingLaws.{all_said, begun, head_refuses, read_on, step_refuses}
 use Rattle.ipmd_verify.specs.Found.{RefusesFile}

@@ -1,5 +1,5 @@
 use Rattle.std.proofs.Common.{ℕ}
-use Rattle.octet_devices.specs.Device.{device_inner}
+use Rattle.octet_io.specs.Device.{device_inner}
 use Rattle.ipmd_explain.specs.Reading.{IsExplainedTo}
 use Rattle.ipmd_explain.proofs.reading.explain_source.Given as goal
 

@@ -1,5 +1,5 @@
 use Rattle.std.proofs.Common.{◌++◌, ◌∷◌, [], subst, sym, append_assoc}
-use Rattle.ipmd_offline.specs.Status.{read_fault_of}
+use Rattle.ipmd_commands.specs.Status.{read_fault_of}
 use Rattle.ipmd_verify.specs.Found.{RefusesFile}
 use Rattle.ipmd_verify.specs.Reading.{IsReadTo}
 use Rattle.ipmd_verify.proofs.ReadingLaws.{all_said, err_gives, read_on, step_refuses}

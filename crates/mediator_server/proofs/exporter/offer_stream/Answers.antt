@@ -1,6 +1,6 @@
 use Rattle.std.proofs.Common.{sym, ap, ◌∙◌, subst, arith, length, ◌-◌}
 use Rattle.std.specs.Prelude.{MatchOption}
-use Rattle.message_intake.specs.Intake.{Ends, Takes}
+use Rattle.ipfix_reader.specs.Intake.{Ends, Takes}
 use Rattle.mediator_server.specs.Serving.{StopsServing, RefusesAmong}
 use Rattle.mediator_server.proofs.Offering.{err_gives, receipts_count}
 use Rattle.mediator_server.proofs.Reading.{reading_starts, reads_on, reading_ends, begins_not, message_stops, intake_stops}

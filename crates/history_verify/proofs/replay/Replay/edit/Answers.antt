@@ -1,6 +1,6 @@
 use Rattle.std.proofs.Common.{sym, ap, ◌∙◌}
 use Rattle.std.specs.Prelude.{Ok}
-use Rattle.record_sharing.specs.InForce.{InForce}
+use Rattle.mediator_shares.specs.InForce.{InForce}
 use Rattle.history_verify.proofs.StepLaws.{taken_edit}
 use Rattle.history_verify.proofs.replay.Replay.edit.Goals as goal
 

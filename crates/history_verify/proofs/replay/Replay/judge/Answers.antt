@@ -1,7 +1,7 @@
 use Rattle.std.proofs.Common.{map, ap, ◌∙◌}
 use Rattle.std.specs.Prelude.{not}
-use Rattle.record_sharing.specs.Noting.{kept_of}
-use Rattle.record_sharing.specs.Sharing.{shares_of, tallies_of, notes_of}
+use Rattle.mediator_shares.specs.Noting.{kept_of}
+use Rattle.mediator_shares.specs.Sharing.{shares_of, tallies_of, notes_of}
 use Rattle.disclosure_audit.specs.Queue.{stamp}
 use Rattle.history_verify.proofs.UnborneLaws.{not_empty_where}
 use Rattle.history_verify.proofs.Judging.{is_judged, notes_wanted}

@@ -1,6 +1,6 @@
 use Rattle.std.proofs.Common.{map, ap, ◌∙◌}
 use Rattle.mediator_tables.specs.SubscriptionTable.{shown}
-use Rattle.record_sharing.specs.Sharing.{shares_of}
+use Rattle.mediator_shares.specs.Sharing.{shares_of}
 use Rattle.history_verify.proofs.UnborneLaws.{place_within}
 use Rattle.history_verify.proofs.Judging.{known, as_many, first_unborne}
 use Rattle.history_verify.proofs.replay.Replay.unborne_by.Goals as goal

@@ -1,7 +1,7 @@
 use Rattle.std.proofs.Common.{ap, sym, ◌∙◌}
-use Rattle.record_sharing.specs.InForce.{InForce}
-use Rattle.record_sharing.specs.Noting.{kept_of}
-use Rattle.record_sharing.specs.Sharing.{shares_of, tallies_of, notes_of}
+use Rattle.mediator_shares.specs.InForce.{InForce}
+use Rattle.mediator_shares.specs.Noting.{kept_of}
+use Rattle.mediator_shares.specs.Sharing.{shares_of, tallies_of, notes_of}
 use Rattle.mediator_state.proofs.Judging.{split_of, none_cut, judges}
 use Rattle.mediator_state.proofs.engine.Engine.judge.Goals as goal
 

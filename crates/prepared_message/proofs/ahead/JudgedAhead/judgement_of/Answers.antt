@@ -1,6 +1,6 @@
 use Rattle.std.proofs.Common.{◌≡◌, ℕ, List, subst, arith}
 use Rattle.ipfix_template.specs.DataRecord.{DataRecord}
-use Rattle.record_sharing.specs.Judgements.{IsJudgementOf}
+use Rattle.mediator_shares.specs.Judgements.{IsJudgementOf}
 use Rattle.prepared_message.proofs.ahead.JudgedAhead.judgement_of.Goals as goal
 
 pub returns-then-are_same : goal.returns-then-are_same

@@ -1,7 +1,0 @@
-//! The law that no line has two meanings.
-ghost use Rattle.admin_lines.specs.Grammar.{OneMeaning};
-
-/// No line asks for two things.
-pub fn one_meaning()
-    ensures { OneMeaning }
-{}

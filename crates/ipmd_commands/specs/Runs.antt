@@ -1,0 +1,237 @@
+-- What is done for one stream or one policy, and what its faults mean.
+use Rattle.std.specs.Prelude.{◌≡◌, ◌⊎◌, ◌^◌, ◌-◌, ℕ, Bool, true, false, List, [], ◌∷◌, ◌++◌, length, codes, Option, Some, None, is_some, IfSome, Ok, Err}
+use Rattle.std.specs.Borrow.{Bor}
+use Rattle.std.specs.declared.io.Error.{Error}
+use Rattle.std.specs.Fmt.{decimal}
+use Rattle.std.specs.Io.KnownBytes.{Appends, Keeps}
+use Rattle.clap.specs.declared.error.kind.ErrorKind.{ErrorKind}
+use Rattle.clap.specs.declared.error.kind.ErrorKind.TheVariants.{DisplayVersion}
+use Rattle.policy_text.specs.Policies.{Meaning as PolicyMeaning}
+use Rattle.policy_text.specs.Parsing.{policy_of}
+use Rattle.mediator_offline.specs.declared.job.OfflineJob.{OfflineJob}
+use Rattle.mediator_offline.specs.declared.job.OfflineReport.{OfflineReport}
+use Rattle.mediator_offline.specs.declared.job.OfflineFault.{OfflineFault}
+use Rattle.mediator_offline.specs.Filtering.{Ports, unfailed, FiltersAll, FailsToFilter}
+use Rattle.ipmd_command_line.specs.declared.command_line.TheConstants.{KIT, VERSION}
+use Rattle.ipmd_command_line.specs.declared.task.OfflineOptions.{OfflineOptions}
+use Rattle.ipmd_command_line.specs.declared.task.PolicySource.{PolicySource}
+use Rattle.ipmd_command_line.specs.declared.task.PolicySource.TheVariants.{File, Text}
+use Rattle.ipmd_commands.specs.declared.fault.ProgramFault.{ProgramFault}
+use Rattle.ipmd_commands.specs.declared.fault.ProgramFault.TheVariants.{CommandLine, Settings, Policy, Hex, Framing, Core, Cut, Calls, BadLimits, Journal, History, Absent, Close, OutOfMemory, Device}
+use Rattle.ipmd_commands.specs.declared.failure.Place.TheVariants as placed
+use Rattle.ipmd_commands.specs.Failures.{FailedAt, IsFileFault, IsNamed}
+use Rattle.ipmd_commands.specs.HexText.{SpelledBy, SpellsNothing, lines_of, WritesLines, WritesSome, WritesSomeLines}
+use Rattle.replay_text.specs.LineEnds.{with_line_ends}
+use Rattle.ipmd_commands.specs.Status.{offline_fault_of}
+
+-- ---- the policy
+
+-- the text of a policy, as words with a line feed for each semicolon; what a file holds isn't told here
+abbrev pub IsTextOf : PolicySource → List ℕ → Type 0
+IsTextOf (File path) text = Unit {0}
+IsTextOf (Text words) text = text ≡ with_line_ends words.now
+
+-- why there is no such text
+abbrev pub IsSourceFault : PolicySource → ProgramFault → Type 0
+IsSourceFault (File path) e = IsFileFault path.now e
+IsSourceFault (Text words) e = e ≡ OutOfMemory
+
+-- ---- check-policy
+
+-- what is said of a policy
+abbrev pub counted : PolicyMeaning → List ℕ
+counted policy = codes "rules " ++ decimal (length policy.rules) ++ codes " aggregates " ++ decimal (length policy.aggregates) ++ 10 ∷ []
+
+-- the text is a policy, and its counts were written
+pub record CountsPolicy (source : PolicySource) (held holds : Option (List ℕ)) : Type 0 where
+  pub text : List ℕ
+  pub source_is : IsTextOf source text
+  pub policy : PolicyMeaning
+  pub spelled : policy_of text ≡ Ok policy
+  pub written : Appends held holds (counted policy)
+
+-- the text is a policy, and a front of its counts was written, or all of them
+pub record BeginsToCount (source : PolicySource) (held holds : Option (List ℕ)) : Type 0 where
+  pub text : List ℕ
+  pub source_is : IsTextOf source text
+  pub policy : PolicyMeaning
+  pub spelled : policy_of text ≡ Ok policy
+  pub written : WritesSome (counted policy) held holds
+
+-- why a policy isn't counted, and what was written: its text has this fault, its file or the output failed, or memory ran out
+abbrev pub RefusesToCount : PolicySource → ProgramFault → Option (List ℕ) → Option (List ℕ) → Type 0
+RefusesToCount source (Policy why) held holds = (text : List ℕ) × IsTextOf source text × (policy_of text ≡ Err why) × Keeps held holds
+RefusesToCount source OutOfMemory held holds = Keeps held holds
+RefusesToCount source (Device which) held holds =
+    (IsSourceFault source (Device which) × Keeps held holds) ⊎ (FailedAt placed.Output (Device which) × BeginsToCount source held holds)
+RefusesToCount source (CommandLine e) held holds = ⊥
+RefusesToCount source (Settings why) held holds = ⊥
+RefusesToCount source Hex held holds = ⊥
+RefusesToCount source (Framing why) held holds = ⊥
+RefusesToCount source (Core why) held holds = ⊥
+RefusesToCount source Cut held holds = ⊥
+RefusesToCount source (Calls n) held holds = ⊥
+RefusesToCount source BadLimits held holds = ⊥
+RefusesToCount source (Journal why) held holds = ⊥
+RefusesToCount source (History position) held holds = ⊥
+RefusesToCount source (Absent what) held holds = ⊥
+RefusesToCount source Close held holds = ⊥
+
+-- ---- help and the version
+
+-- the version's line; the help's text is the parser's, and isn't told here
+abbrev pub IsTextShown : ErrorKind → List ℕ → Type 0
+IsTextShown DisplayVersion text = text ≡ codes "ipmd " ++ VERSION.now ++ codes ", proved with " ++ KIT.now ++ 10 ∷ []
+IsTextShown _ text = Unit {0}
+
+-- the help, or the version, was written
+pub record Shows (kind : ErrorKind) (held holds : Option (List ℕ)) : Type 0 where
+  pub text : List ℕ
+  pub text_is : IsTextShown kind text
+  pub written : Appends held holds text
+
+-- a front of it was written, or all of it
+pub record BeginsToShow (kind : ErrorKind) (held holds : Option (List ℕ)) : Type 0 where
+  pub text : List ℕ
+  pub text_is : IsTextShown kind text
+  pub written : WritesSome text held holds
+
+-- why it isn't shown: memory ran out before, or the output failed
+abbrev pub RefusesToShow : ErrorKind → ProgramFault → Option (List ℕ) → Option (List ℕ) → Type 0
+RefusesToShow kind e held holds = ((e ≡ OutOfMemory) × Keeps held holds) ⊎ (FailedAt placed.Output e × BeginsToShow kind held holds)
+
+-- ---- offline
+
+-- the job that the options ask for, by the policy of this text; an input ends, so it is read as often as can be said; the audit is
+-- asked for where it has a file
+pub record IsJobOf (options : OfflineOptions) (text : List ℕ) (job : OfflineJob) : Type 0 where
+  pub policy : job.policy.now ≡ text
+  pub name : job.name ≡ options.subscriber
+  pub now : job.now ≡ options.now
+  pub target : job.target ≡ options.target
+  pub turns : job.turns ≡ 2 ^ 64 - 1
+  pub audit : job.audit ≡ is_some options.audit
+
+-- a job that the options ask for
+pub record Asked (options : OfflineOptions) : Type 0 where
+  pub text : List ℕ
+  pub source_is : IsTextOf options.policy text
+  pub job : OfflineJob
+  pub job_is : IsJobOf options text job
+
+-- these octets were read to their end and filtered; the output and the audit held so much when all was done, and were flushed
+pub record FinishesOn (job : OfflineJob) (report : OfflineReport) (given held holds audit_held audit_holds : Option (List ℕ)) : Type 0 where
+  pub after : Ports
+  pub filters : FiltersAll job report (unfailed given held audit_held) after
+  pub flushed : Keeps after.written holds
+  pub audit_flushed : Keeps after.audited audit_holds
+
+-- the same, and each message that is due was written as a line
+pub record FinishesLines (job : OfflineJob) (report : OfflineReport) (octets : List ℕ) (held holds audit_held audit_holds : Option (List ℕ)) : Type 0 where
+  pub stream : List ℕ
+  pub finishes : FinishesOn job report (Some octets) (Some []) (Some stream) audit_held audit_holds
+  pub lines : Appends held holds (lines_of finishes.filters.done.written)
+
+-- the same of the octets that a text spells
+abbrev pub FinishesText : OfflineJob → OfflineReport → List ℕ → Option (List ℕ) → Option (List ℕ) → Option (List ℕ) → Option (List ℕ) → Type 0
+FinishesText job report text held holds audit_held audit_holds =
+    (octets : List ℕ) × SpelledBy text octets × FinishesLines job report octets held holds audit_held audit_holds
+
+-- the input was, as octets or as what its text spells
+abbrev pub FinishesInput : Bool → OfflineJob → OfflineReport → Option (List ℕ) → Option (List ℕ) → Option (List ℕ) → Option (List ℕ) → Option (List ℕ) → Type 0
+FinishesInput false job report given held holds audit_held audit_holds = FinishesOn job report given held holds audit_held audit_holds
+FinishesInput true job report given held holds audit_held audit_holds = IfSome given (λ text. FinishesText job report text held holds audit_held audit_holds)
+
+-- the same with some audit; what a file holds isn't told here, and so not what the audit does
+abbrev pub FinishesWithAudit : Bool → OfflineJob → OfflineReport → Option (List ℕ) → Option (List ℕ) → Option (List ℕ) → Type 0
+FinishesWithAudit hex job report given held holds =
+    (audit_held audit_holds : Option (List ℕ)) × FinishesInput hex job report given held holds audit_held audit_holds
+
+-- the whole input was filtered for a subscriber by a policy
+abbrev pub Filters : OfflineOptions → OfflineReport → Option (List ℕ) → Option (List ℕ) → Option (List ℕ) → Type 0
+Filters options report given held holds = (asked : Asked options) × FinishesWithAudit options.hex asked.job report given held holds
+
+-- the mediator stopped so, and what was written by then was flushed
+pub record StopsBy (fault : OfflineFault) (job : OfflineJob) (given held holds audit_held audit_holds : Option (List ℕ)) : Type 0 where
+  pub after : Ports
+  pub fails : FailsToFilter fault job (unfailed given held audit_held) after
+  pub flushed : Keeps after.written holds
+  pub audit_flushed : Keeps after.audited audit_holds
+
+-- the same, and this is what the program makes of it
+pub record StopsOn (e : ProgramFault) (job : OfflineJob) (given held holds audit_held audit_holds : Option (List ℕ)) : Type 0 where
+  pub fault : OfflineFault
+  pub input : Error
+  pub output : Error
+  pub is : e ≡ offline_fault_of input output fault
+  pub stops : StopsBy fault job given held holds audit_held audit_holds
+
+-- a run over octets ended, by its report or by a fault, and then the output and the audit were flushed, or one of them failed
+abbrev pub EndsOn : OfflineJob → Option (List ℕ) → Option (List ℕ) → Option (List ℕ) → Option (List ℕ) → Option (List ℕ) → Type 0
+EndsOn job given held holds audit_held audit_holds =
+    ((report : OfflineReport) × FinishesOn job report given held holds audit_held audit_holds)
+    ⊎ ((fault : OfflineFault) × StopsBy fault job given held holds audit_held audit_holds)
+
+-- the output failed, or the audit, whose file isn't known here
+abbrev pub IsWriteFault : ProgramFault → Type 0
+IsWriteFault e = FailedAt placed.Output e ⊎ (e ≡ Device None)
+
+-- why octets aren't filtered to their end: the mediator stopped so; or one of these failed, one that had failed before, so that nothing
+-- was written, or one that was flushed when the run had ended
+abbrev pub FailsOn : ProgramFault → OfflineJob → Option (List ℕ) → Option (List ℕ) → Option (List ℕ) → Option (List ℕ) → Option (List ℕ) → Type 0
+FailsOn e job given held holds audit_held audit_holds =
+    StopsOn e job given held holds audit_held audit_holds
+    ⊎ (IsWriteFault e × ((Keeps held holds × Keeps audit_held audit_holds) ⊎ EndsOn job given held holds audit_held audit_holds))
+
+-- the mediator stopped so, and each message that was written by then was written as a line
+pub record StopsLines (e : ProgramFault) (job : OfflineJob) (octets : List ℕ) (held holds audit_held audit_holds : Option (List ℕ)) : Type 0 where
+  pub stream : List ℕ
+  pub stops : StopsOn e job (Some octets) (Some []) (Some stream) audit_held audit_holds
+  pub lines : WritesLines stream held holds
+
+-- a run over these octets ended somehow, and wrote this stream
+abbrev pub EndsOver : OfflineJob → List ℕ → List ℕ → Option (List ℕ) → Option (List ℕ) → Type 0
+EndsOver job octets stream audit_held audit_holds =
+    ((report : OfflineReport) × FinishesOn job report (Some octets) (Some []) (Some stream) audit_held audit_holds)
+    ⊎ ((e : ProgramFault) × FailsOn e job (Some octets) (Some []) (Some stream) audit_held audit_holds)
+
+-- a run ended somehow, and a front of its lines was written, or all of them
+pub record EndsLines (job : OfflineJob) (octets : List ℕ) (held holds audit_held audit_holds : Option (List ℕ)) : Type 0 where
+  pub stream : List ℕ
+  pub ends : EndsOver job octets stream audit_held audit_holds
+  pub lines : WritesSomeLines stream held holds
+
+abbrev pub FailsLines : ProgramFault → OfflineJob → List ℕ → Option (List ℕ) → Option (List ℕ) → Option (List ℕ) → Option (List ℕ) → Type 0
+FailsLines e job octets held holds audit_held audit_holds =
+    StopsLines e job octets held holds audit_held audit_holds
+    ⊎ (((e ≡ OutOfMemory) ⊎ IsWriteFault e) × EndsLines job octets held holds audit_held audit_holds)
+
+-- why an input isn't filtered to its end, as octets or as what its text spells; a text that can't be read, or spells nothing, has
+-- nothing written
+abbrev pub RefusesInput : ProgramFault → Bool → OfflineJob → Option (List ℕ) → Option (List ℕ) → Option (List ℕ) → Option (List ℕ) → Option (List ℕ) → Type 0
+RefusesInput e false job given held holds audit_held audit_holds = FailsOn e job given held holds audit_held audit_holds
+RefusesInput e true job given held holds audit_held audit_holds =
+    ((((e ≡ Hex) × IfSome given SpellsNothing) ⊎ ((e ≡ OutOfMemory) ⊎ FailedAt placed.Input e)) × Keeps held holds × Keeps audit_held audit_holds)
+    ⊎ IfSome given (λ text. (octets : List ℕ) × SpelledBy text octets × FailsLines e job octets held holds audit_held audit_holds)
+
+-- the same with an audit in the file of this path: that can't be made, or where it failed it is named
+abbrev pub RefusesWithAudit : List ℕ → ProgramFault → Bool → OfflineJob → Option (List ℕ) → Option (List ℕ) → Option (List ℕ) → Type 0
+RefusesWithAudit path e hex job given held holds =
+    (IsFileFault path e × Keeps held holds)
+    ⊎ ((fault : ProgramFault) × IsNamed path fault e × (audit_held audit_holds : Option (List ℕ)) × RefusesInput fault hex job given held holds audit_held audit_holds)
+
+-- or with none
+abbrev pub RefusesByAudit : Option (Bor (List ℕ)) → ProgramFault → Bool → OfflineJob → Option (List ℕ) → Option (List ℕ) → Option (List ℕ) → Type 0
+RefusesByAudit None e hex job given held holds = (audit_held audit_holds : Option (List ℕ)) × RefusesInput e hex job given held holds audit_held audit_holds
+RefusesByAudit (Some path) e hex job given held holds = RefusesWithAudit path.now e hex job given held holds
+
+-- the same for a subscriber by a policy; the policy's source may fail before
+abbrev pub RefusesToFilter : OfflineOptions → ProgramFault → Option (List ℕ) → Option (List ℕ) → Option (List ℕ) → Type 0
+RefusesToFilter options e given held holds =
+    (IsSourceFault options.policy e × Keeps held holds)
+    ⊎ ((asked : Asked options) × RefusesByAudit options.audit e options.hex asked.job given held holds)
+
+-- what is said of a stream that was filtered
+abbrev pub line_of_report : OfflineReport → List ℕ
+line_of_report report =
+    codes "messages " ++ decimal report.messages ++ codes " records " ++ decimal report.records ++ codes " disclosed " ++ decimal report.disclosed ++ 10 ∷ []

@@ -1,0 +1,379 @@
+//! Why a run ends without having done what was asked, with the text and the exit status of each fault.
+ghost use Rattle.std.specs.Prelude.{◌≡◌};
+ghost use Rattle.octet_io.specs.Device.{device_failed, device_inner};
+ghost use Rattle.ipmd_commands.specs.declared.failure.Place.TheVariants as placed;
+ghost use Rattle.ipmd_commands.specs.Status.{NamesFailure};
+
+use crate::failure::{Failure, Place};
+use ipmd_command_line::CommandLineFault;
+use ipmd_settings::SettingsFault;
+use journal_files::{JournalFault, ReadFault};
+use mediator_calls::RunFault;
+use mediator_offline::{Fault, FramingFault};
+use octet_io::{Device, write_all};
+use policy_text::{FaultKind, PolicyFault};
+use replay_text::CallsFault;
+use std::alloc::{AllocError, AllocFailed, Global};
+use std::error::Error;
+use std::fmt::{self, Display, Formatter};
+use std::io::{self, ErrorKind, Write};
+
+/// The exit status where the input is refused, or memory runs out.
+const REFUSED: u8 = 1;
+
+/// The exit status of a refused command line.
+const BAD_COMMAND_LINE: u8 = 2;
+
+/// The exit status where a file or a stream fails.
+const DEVICE_FAILED: u8 = 3;
+
+/// What a journal was asked for, and doesn't have. Its text is its name, with the numbers that were asked for.
+#[derive(Clone, Copy, Debug, PartialEq, Eq)]
+pub enum Absent {
+    /// A subscription with this number never began.
+    Subscription(u64),
+    /// No message stands at this position.
+    Message(u64),
+    /// The message at this position has no record at this place.
+    Record { position: u64, index: u32 },
+}
+
+impl Error for Absent {}
+
+impl Display for Absent {
+    ghost use Rattle.std.specs.Prelude.{Some};
+    ghost use Rattle.ipmd_commands.specs.Absent.{text_of_absent};
+
+    ghost output = { λ absent. Some (text_of_absent absent) };
+
+    fn fmt<W: fmt::Write>(&self, f: &mut Formatter<W>) -> fmt::Result {
+        match self {
+            Absent::Subscription(sub) => write!(f, "NoSubscription {sub}"),
+            Absent::Message(position) => write!(f, "NoMessage {position}"),
+            Absent::Record { position, index } => write!(f, "NoRecord {position} {index}"),
+        }
+    }
+}
+
+/// Why a run ends without having done what was asked. Its text is what the program says of it.
+#[derive(Debug, Drop)]
+pub enum ProgramFault {
+    /// The command line asks for nothing that there is. The text is the parser's, with its line feeds.
+    CommandLine(clap::Error),
+    /// The text gives no settings.
+    Settings(SettingsFault),
+    /// The text is no policy.
+    Policy(PolicyFault),
+    /// The input is not hexadecimal.
+    Hex,
+    /// The input is no stream of messages.
+    Framing(FramingFault),
+    /// The mediator refused a call, and not for its policy or for want of memory, which have variants of their own.
+    Core(Fault),
+    /// The subscription was cut.
+    Cut,
+    /// The line of this number is no call.
+    Calls(usize),
+    /// The limits of a list of calls are out of their ranges.
+    BadLimits,
+    /// The octets are no journal's file, and this is the first fault of it.
+    Journal(JournalFault),
+    /// A journal's entry at this position is none that a mediator may have accepted there. All entries before it are.
+    History(u64),
+    /// A journal doesn't have what was to be explained.
+    Absent(Absent),
+    /// What was served isn't given back: a receipt doesn't stand in the journal.
+    Close,
+    /// Want of memory.
+    OutOfMemory,
+    /// A file can't be opened, read or written, is not text where text is read, or a stream failed; an address can't be
+    /// listened on or connected to, or a thread was refused. None: which it was isn't known here, or a note has said it.
+    Device(Option<Failure>),
+}
+
+impl Error for ProgramFault {}
+
+impl Display for ProgramFault {
+    ghost use Rattle.ipmd_commands.specs.Status.{text_of};
+
+    ghost output = { text_of };
+
+    fn fmt<W: fmt::Write>(&self, f: &mut Formatter<W>) -> fmt::Result {
+        match self {
+            ProgramFault::CommandLine(why) => write!(f, "{why}"),
+            ProgramFault::Settings(why) => write!(f, "ipmd: settings: {why}"),
+            ProgramFault::Policy(PolicyFault { line, kind }) => {
+                write!(f, "ipmd: policy line {line}: {kind}")
+            }
+            ProgramFault::Hex => f.write_str("ipmd: hex"),
+            ProgramFault::Framing(why) => write!(f, "ipmd: framing {why}"),
+            ProgramFault::Core(why) => write!(f, "ipmd: {why}"),
+            ProgramFault::Cut => f.write_str("ipmd: Cut"),
+            ProgramFault::Calls(line) => write!(f, "ipmd: calls line {line}"),
+            ProgramFault::BadLimits => f.write_str("ipmd: BadLimits"),
+            ProgramFault::Journal(why) => write!(f, "ipmd: journal {why}"),
+            ProgramFault::History(position) => { write!(f, "ipmd: journal BadHistory {position}") }
+            ProgramFault::Absent(what) => write!(f, "ipmd: journal {what}"),
+            ProgramFault::Close => f.write_str("ipmd: close"),
+            ProgramFault::OutOfMemory => f.write_str("ipmd: OutOfMemory"),
+            ProgramFault::Device(_) => f.write_str("ipmd: device"),
+        }
+    }
+}
+
+impl ProgramFault {
+    ghost use Rattle.octet_io.specs.Device.{device_failed, device_inner};
+    ghost use Rattle.ipmd_commands.specs.Status.{Blames, status_of};
+
+    #[tactic(auto, using(crate::proofs::Telling::blames))]
+    /// Says the fault on `errors`, and answers the exit status. Where what failed is known, and `alloc` has memory for it, a line
+    /// that names it stands before. What can't be written is dropped.
+    pub fn report<E: Write>(self, alloc: Global, errors: &mut Device<E>) -> u8
+        ensures status { result ≡ status_of self }
+        ensures told { Blames self (device_failed errors.new)
+            (E.contents (device_inner errors.old)) (E.contents (device_inner errors.new)) }
+    {
+        self.name_device(alloc, errors);
+        self.say(errors);
+        self.status()
+    }
+
+    ghost use Rattle.std.specs.Prelude.{false};
+    ghost use Rattle.ipmd_commands.specs.Status.{line_of_fault, Tells};
+
+    /// Says the fault.
+    fn say<E: Write>(&self, errors: &mut Device<E>)
+        ensures told { Tells (line_of_fault self.now) (device_failed errors.new)
+            (E.contents (device_inner errors.old)) (E.contents (device_inner errors.new)) }
+        ensures stays { device_failed errors.new ≡ false → device_failed errors.old ≡ false }
+    {
+        let _ = match self {
+            ProgramFault::CommandLine(_) => write!(errors, "{self}"),
+            _ => writeln!(errors, "{self}"),
+        };
+    }
+
+    ghost use Rattle.ipmd_commands.specs.Status.{NamesDevice};
+
+    /// Says what failed, where that is known and memory is left for it.
+    fn name_device<E: Write>(&self, alloc: Global, errors: &mut Device<E>)
+        ensures { NamesDevice self.now (device_failed errors.new)
+            (E.contents (device_inner errors.old)) (E.contents (device_inner errors.new)) }
+    {
+        match self {
+            ProgramFault::Device(Some(failure)) => tell_failure(failure, alloc, errors),
+            _ => {}
+        }
+    }
+
+    /// The exit status of a run that ends with this fault.
+    fn status(&self) -> u8
+        ensures { result ≡ status_of self.now }
+    {
+        match self {
+            ProgramFault::CommandLine(_) => BAD_COMMAND_LINE,
+            ProgramFault::Settings(_)
+            | ProgramFault::Policy(_)
+            | ProgramFault::Hex
+            | ProgramFault::Framing(_)
+            | ProgramFault::Core(_)
+            | ProgramFault::Cut
+            | ProgramFault::Calls(_)
+            | ProgramFault::BadLimits
+            | ProgramFault::Journal(_)
+            | ProgramFault::History(_)
+            | ProgramFault::Absent(_)
+            | ProgramFault::Close
+            | ProgramFault::OutOfMemory => REFUSED,
+            ProgramFault::Device(_) => DEVICE_FAILED,
+        }
+    }
+
+    ghost use Rattle.std.specs.Prelude.{◌≢◌, ◌⊎◌};
+    ghost use Rattle.std.specs.IoError.{error_kind};
+    ghost use Rattle.std.specs.declared.io.ErrorKind.TheVariants as io_error;
+    ghost use Rattle.ipmd_commands.specs.declared.fault.ProgramFault.TheVariants.{OutOfMemory};
+    ghost use Rattle.ipmd_commands.specs.Failures.{FailedAt, IsFileFault, IsNamed, failed_at};
+
+    /// The fault of `place`, which has failed with the error `why`.
+    pub fn failed(place: Place, why: io::Error) -> ProgramFault
+        ensures { result ≡ failed_at place why }
+    {
+        ProgramFault::Device(Some(Failure { place, why }))
+    }
+
+    /// What the program makes of the error `why` at `place`: `OutOfMemory` where it is want of memory, else `Device`.
+    pub fn at(place: Place, why: io::Error) -> ProgramFault
+        ensures kind { ((error_kind why ≡ io_error.OutOfMemory) × (result ≡ OutOfMemory))
+            ⊎ ((error_kind why ≢ io_error.OutOfMemory) × (result ≡ failed_at place why)) }
+        ensures either { (result ≡ OutOfMemory) ⊎ FailedAt place result }
+    {
+        match why.kind() {
+            ErrorKind::OutOfMemory => ProgramFault::OutOfMemory,
+            _ => ProgramFault::failed(place, why),
+        }
+    }
+
+    /// What the program makes of the error `why` at the file whose path is `path`: `OutOfMemory` where it is want of memory, or
+    /// `alloc` has none for the path; else `Device`.
+    pub fn at_file(alloc: Global, path: &str, why: io::Error) -> ProgramFault
+        ensures { IsFileFault path.now result }
+    {
+        match String::from_str(alloc, path) {
+            Ok(path) => ProgramFault::at(Place::File(path), why),
+            Err(AllocError) => ProgramFault::OutOfMemory,
+        }
+    }
+
+    /// What the program makes of standard output, `output`, that has failed: `Device`, with why it failed first.
+    pub fn at_output<O>(output: &Device<O>) -> ProgramFault
+        ensures { FailedAt placed.Output result }
+    {
+        ProgramFault::failed(Place::Output, output.why())
+    }
+
+    /// This fault, where it isn't `Device` of something unknown. Else the fault of the file whose path is `path`, which failed
+    /// with the error `why`.
+    pub fn named(self, alloc: Global, path: &str, why: io::Error) -> ProgramFault
+        ensures { IsNamed path.now self result }
+    {
+        match self {
+            ProgramFault::Device(None) => ProgramFault::at_file(alloc, path, why),
+            fault => fault,
+        }
+    }
+}
+
+/// Says what failed, unless no memory is left for it.
+fn tell_failure<E: Write>(failure: &Failure, alloc: Global, errors: &mut Device<E>)
+    ensures { NamesFailure failure.now (device_failed errors.new)
+        (E.contents (device_inner errors.old)) (E.contents (device_inner errors.new)) }
+{
+    if let Ok(line) = failure.line(alloc) {
+        let _ = write_all(errors, line.as_bytes());
+    }
+}
+
+impl From<AllocError> for ProgramFault {
+    ghost use Rattle.std.specs.Prelude.{◌≡◌};
+    ghost use Rattle.ipmd_commands.specs.declared.fault.ProgramFault.TheVariants.{OutOfMemory};
+
+    ghost from_gives = { λ _ e. e ≡ OutOfMemory };
+
+    fn from(_e: AllocError) -> ProgramFault {
+        ProgramFault::OutOfMemory
+    }
+}
+
+impl<T: Drop> From<AllocFailed<T>> for ProgramFault {
+    ghost use Rattle.std.specs.Prelude.{◌≡◌};
+    ghost use Rattle.ipmd_commands.specs.declared.fault.ProgramFault.TheVariants.{OutOfMemory};
+
+    ghost from_gives = { λ _ e. e ≡ OutOfMemory };
+
+    fn from(_e: AllocFailed<T>) -> ProgramFault {
+        ProgramFault::OutOfMemory
+    }
+}
+
+impl From<CommandLineFault> for ProgramFault {
+    ghost use Rattle.std.specs.Prelude.{◌≡◌};
+    ghost use Rattle.ipmd_commands.specs.Status.{command_line_fault_of};
+
+    ghost from_gives = { λ f e. e ≡ command_line_fault_of f };
+
+    fn from(fault: CommandLineFault) -> ProgramFault {
+        match fault {
+            CommandLineFault::Refused(why) => ProgramFault::CommandLine(why),
+            CommandLineFault::OutOfMemory => ProgramFault::OutOfMemory,
+        }
+    }
+}
+
+impl From<SettingsFault> for ProgramFault {
+    ghost use Rattle.std.specs.Prelude.{◌≡◌};
+    ghost use Rattle.ipmd_commands.specs.Status.{settings_fault_of};
+
+    ghost from_gives = { λ f e. e ≡ settings_fault_of f };
+
+    fn from(fault: SettingsFault) -> ProgramFault {
+        match fault {
+            SettingsFault::OutOfMemory => ProgramFault::OutOfMemory,
+            SettingsFault::TooLong => ProgramFault::Settings(SettingsFault::TooLong),
+            SettingsFault::Toml => ProgramFault::Settings(SettingsFault::Toml),
+            SettingsFault::Key(key) => ProgramFault::Settings(SettingsFault::Key(key)),
+        }
+    }
+}
+
+impl From<PolicyFault> for ProgramFault {
+    ghost use Rattle.std.specs.Prelude.{◌≡◌};
+    ghost use Rattle.ipmd_commands.specs.Status.{policy_fault_of};
+
+    ghost from_gives = { λ f e. e ≡ policy_fault_of f f.kind };
+
+    fn from(fault: PolicyFault) -> ProgramFault {
+        match fault.kind {
+            FaultKind::OutOfMemory => ProgramFault::OutOfMemory,
+            _ => ProgramFault::Policy(fault),
+        }
+    }
+}
+
+impl From<Fault> for ProgramFault {
+    ghost use Rattle.std.specs.Prelude.{◌≡◌};
+    ghost use Rattle.ipmd_commands.specs.Status.{core_fault_of};
+
+    ghost from_gives = { λ f e. e ≡ core_fault_of f };
+
+    fn from(fault: Fault) -> ProgramFault {
+        match fault {
+            Fault::Policy(why) => ProgramFault::from(why),
+            Fault::OutOfMemory => ProgramFault::OutOfMemory,
+            why => ProgramFault::Core(why),
+        }
+    }
+}
+
+impl From<CallsFault> for ProgramFault {
+    ghost use Rattle.std.specs.Prelude.{◌≡◌};
+    ghost use Rattle.ipmd_commands.specs.Status.{calls_fault_of};
+
+    ghost from_gives = { λ f e. e ≡ calls_fault_of f };
+
+    fn from(fault: CallsFault) -> ProgramFault {
+        match fault {
+            CallsFault::Line(line) => ProgramFault::Calls(line),
+            CallsFault::OutOfMemory => ProgramFault::OutOfMemory,
+        }
+    }
+}
+
+impl From<RunFault> for ProgramFault {
+    ghost use Rattle.std.specs.Prelude.{◌≡◌};
+    ghost use Rattle.ipmd_commands.specs.Status.{run_fault_of};
+
+    ghost from_gives = { λ f e. e ≡ run_fault_of f };
+
+    fn from(fault: RunFault) -> ProgramFault {
+        match fault {
+            RunFault::BadLimits => ProgramFault::BadLimits,
+            RunFault::OutOfMemory => ProgramFault::OutOfMemory,
+        }
+    }
+}
+
+impl From<ReadFault> for ProgramFault {
+    ghost use Rattle.std.specs.Prelude.{◌≡◌};
+    ghost use Rattle.ipmd_commands.specs.Status.{read_fault_of};
+
+    ghost from_gives = { λ f e. e ≡ read_fault_of f };
+
+    fn from(fault: ReadFault) -> ProgramFault {
+        match fault {
+            ReadFault::Read => ProgramFault::Device(None),
+            ReadFault::File(JournalFault::OutOfMemory) => ProgramFault::OutOfMemory,
+            ReadFault::File(why) => ProgramFault::Journal(why),
+        }
+    }
+}

@@ -1,8 +1,0 @@
-use Rattle.std.proofs.Common.{take}
-use Rattle.std.specs.Io.KnownBytes.{Appends}
-use Rattle.octet_devices.specs.Device.{device_inner}
-use Rattle.ipmd_offline.specs.HexText.{lines_of}
-use Rattle.ipmd_offline.proofs.output.write_each.Given as goal
-
-abbrev pub invariant-messages : goal.invariant-messages
-invariant-messages g l = Appends (g.O.Write.contents (device_inner l.fn.output)) (g.O.Write.contents (device_inner l.output)) (lines_of (take l.message-index l.messages))

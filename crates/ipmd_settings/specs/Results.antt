@@ -1,0 +1,21 @@
+-- Results of reading, and what a function returned against them.
+use Rattle.std.specs.Prelude.{Bool, true, false, Option, Some, None, Result, Ok, Err}
+use Rattle.sequences.specs.Results.{GivesBut}
+use Rattle.ipmd_settings.specs.declared.key.Key.{Key}
+use Rattle.ipmd_settings.specs.declared.fault.SettingsFault.{SettingsFault}
+use Rattle.ipmd_settings.specs.declared.fault.SettingsFault.TheVariants as fault
+
+-- what is read at a key, or the key's fault where nothing is
+abbrev pub needed : {A : Type 0} → Key → Option A → Result A SettingsFault
+needed k None = Err (fault.Key k)
+needed k (Some a) = Ok a
+
+abbrev pub is_memory : SettingsFault → Bool
+is_memory fault.TooLong = false
+is_memory fault.Toml = false
+is_memory (fault.Key k) = false
+is_memory fault.OutOfMemory = true
+
+-- what a function returned, seen by view, is what reading gives, unless memory ran out
+abbrev pub Gives : {X Y : Type 0} → (X → Y) → Result X SettingsFault → Result Y SettingsFault → Type 0
+Gives view answer read = GivesBut is_memory view answer read

@@ -1,7 +1,0 @@
-use Rattle.std.proofs.Common.{refl}
-use Rattle.policy_text.specs.Naming.{is_name}
-use Rattle.journal_tests.proofs.files.subscribe.Goals as goal
-
-pub new-requires : goal.new-requires
-unfolding is_name
-new-requires c = refl

@@ -1,0 +1,22 @@
+-- Whether a device has failed after a fault: the one that the fault names has, and each other is as it was.
+use Rattle.std.specs.Prelude.{◌≡◌, Bool, true, false}
+use Rattle.mediator_offline.specs.declared.job.OfflineFault.{OfflineFault}
+use Rattle.mediator_offline.specs.declared.job.OfflineFault.TheVariants.{Read, Write, AuditWrite}
+
+abbrev pub reader_after : OfflineFault → Bool → Bool
+reader_after Read was = true
+reader_after _ was = was
+
+abbrev pub writer_after : OfflineFault → Bool → Bool
+writer_after (Write sent) was = true
+writer_after _ was = was
+
+abbrev pub audit_after : OfflineFault → Bool → Bool
+audit_after AuditWrite was = true
+audit_after _ was = was
+
+-- the reader had not failed, and the writers had or not; so a device that fails is the one that is named
+pub record FailsOnly (e : OfflineFault) (had audit_had rfailed failed afailed : Bool) : Type 0 where
+  pub reader : rfailed ≡ reader_after e false
+  pub writer : failed ≡ writer_after e had
+  pub audit : afailed ≡ audit_after e audit_had

@@ -1,0 +1,220 @@
+//! Reads a whole stream, and handles each of its messages.
+ghost use Rattle.std.specs.Prelude.{◌≡◌, ◌<◌, ◌≤◌, false, None, length, IfOk, IfErr, OnOk};
+ghost use Rattle.mediator_offline.specs.Reaching.{HandlesAll, StopsAmong};
+ghost use Rattle.mediator_offline.specs.Reading.{Finishes, Halts};
+ghost use Rattle.mediator_offline.specs.Failing.{FailsOnly};
+ghost use Rattle.mediator_offline.specs.Running.{Runs};
+
+use crate::job::{OfflineFault, OfflineJob, OfflineReport};
+use crate::run::{Run, SUBSCRIPTION};
+use bytes::Bytes;
+use ipfix_reader::Intake;
+use mediator_state::Fault;
+use octet_io::{Sink, Source};
+use std::alloc::Global;
+
+impl<'a> Run<'a> {
+    /// Handles messages, one after another, with `writer` for the subscriber's messages and `audit_writer` for the audit.
+    ///
+    /// # Errors
+    /// Those of the first that is not handled.
+    fn handle_all<W: Sink, A: Sink>(
+        &mut self,
+        messages: Vec<Bytes>,
+        writer: &mut W,
+        audit_writer: &mut A,
+    ) -> Result<(), OfflineFault>
+        requires running { Runs self.old (W.contents writer.old) (A.contents audit_writer.old) }
+        // Each message was handled.
+        ensures ok { OnOk result (HandlesAll self.old self.new messages.items
+            (W.contents writer.old) (W.contents writer.new)
+            (A.contents audit_writer.old) (A.contents audit_writer.new)) }
+        ensures stays { OnOk result (W.has_failed writer.new ≡ W.has_failed writer.old) }
+        ensures audit_stays { OnOk result (A.has_failed audit_writer.new
+            ≡ A.has_failed audit_writer.old) }
+        // Which device has failed; and which messages were handled before.
+        ensures fails { IfErr result (λ e.
+            FailsOnly e (W.has_failed writer.old) (A.has_failed audit_writer.old) false
+            (W.has_failed writer.new) (A.has_failed audit_writer.new)) }
+        ensures err { IfErr result (λ e.
+            StopsAmong e self.old messages.items (W.contents writer.old) (W.contents writer.new)
+            (A.contents audit_writer.old) (A.contents audit_writer.new)
+            (W.has_failed writer.new) (A.has_failed audit_writer.new)) }
+    {
+        'messages: for message in messages {
+            self.handle(message, writer, audit_writer)?;
+        }
+        Ok(())
+    }
+}
+
+ghost use Rattle.ipfix_reader.specs.Intake.{nothing_read};
+ghost use Rattle.mediator_offline.specs.Running.{IsOpened};
+ghost use Rattle.mediator_offline.specs.Reaching.{ReachesEnd};
+ghost use Rattle.mediator_offline.specs.Reading.{StopsReading};
+
+impl<'a> Run<'a> {
+    /// Reads the stream to its end by `intake`, and handles its messages.
+    ///
+    /// # Errors
+    /// The reader failed, or the stream is faulty, does not end within the reads that are allowed, or ends inside a message; or
+    /// those of the first message that is not handled.
+    fn read_stream<R: Source, W: Sink, A: Sink>(
+        &mut self,
+        intake: &mut Intake,
+        reader: &mut R,
+        writer: &mut W,
+        audit_writer: &mut A,
+    ) -> Result<(), OfflineFault>
+        requires opened { IsOpened self.old self.old.job }
+        requires intake { intake.old ≡ nothing_read self.old.job.turns }
+        requires reader { R.has_failed reader.old ≡ false }
+        // The stream was read to its end, and each message was handled.
+        ensures ok { OnOk result (ReachesEnd self.new self.old.job
+            (R.remaining reader.old) (R.remaining reader.new)
+            (W.contents writer.old) (W.contents writer.new)
+            (A.contents audit_writer.old) (A.contents audit_writer.new)) }
+        ensures reads { OnOk result (R.has_failed reader.new ≡ false) }
+        ensures stays { OnOk result (W.has_failed writer.new ≡ W.has_failed writer.old) }
+        ensures audit_stays { OnOk result (A.has_failed audit_writer.new
+            ≡ A.has_failed audit_writer.old) }
+        // Which device has failed; and what was read and written by then.
+        ensures fails { IfErr result (λ e.
+            FailsOnly e (W.has_failed writer.old) (A.has_failed audit_writer.old)
+            (R.has_failed reader.new) (W.has_failed writer.new) (A.has_failed audit_writer.new)) }
+        ensures err { IfErr result (λ e.
+            StopsReading e self.old.job (R.remaining reader.old) (R.remaining reader.new)
+            (W.contents writer.old) (W.contents writer.new)
+            (A.contents audit_writer.old) (A.contents audit_writer.new)
+            (R.has_failed reader.new) (W.has_failed writer.new) (A.has_failed audit_writer.new)) }
+    {
+        'reads: loop {
+            let Some(messages) = intake.next(reader)? else {
+                return Ok(());
+            };
+            self.handle_all(messages, writer, audit_writer)?;
+        }
+    }
+}
+
+ghost use Rattle.std.specs.Prelude.{ℕ, List, take};
+ghost use Rattle.subscriber_stream.specs.Parts.{parts, records_in};
+ghost use Rattle.event_journal.specs.declared.entry.Entry.{Entry};
+ghost use Rattle.mediator_history.specs.Disclosed.{disclosed};
+ghost use Rattle.mediator_offline.specs.Runs.{IsServing, Stands};
+
+impl<'a> Run<'a> {
+    /// How much was read, accepted and written.
+    fn report(&self) -> OfflineReport
+        requires serving { IsServing self.now }
+        ensures messages { result.messages ≡ self.now.messages }
+        ensures records { result.records ≡ self.now.records }
+        ensures disclosed { (h : List Entry) (p : ℕ) → Stands self.now h p
+            → result.disclosed ≡ length (records_in (take p (parts (disclosed 1 h)))) }
+    {
+        let disclosed = match self.state.status(SUBSCRIPTION) {
+            Some(status) => status.handed,
+            None => 0,
+        };
+        OfflineReport {
+            messages: self.messages,
+            records: self.records,
+            disclosed,
+        }
+    }
+}
+
+/// Runs the job from its start to its end.
+///
+/// # Errors
+/// Those of [`offline`].
+fn run_through<R: Source, W: Sink, A: Sink>(
+    alloc: Global,
+    job: &OfflineJob<'_>,
+    reader: &mut R,
+    writer: &mut W,
+    audit_writer: &mut A,
+) -> Result<OfflineReport, OfflineFault>
+    requires reader { R.has_failed reader.old ≡ false }
+    requires writer { W.has_failed writer.old ≡ false }
+    requires audit { A.has_failed audit_writer.old ≡ false }
+    // All was read and accepted, and what is due was written.
+    ensures ok { IfOk result (λ report.
+        Finishes job.entry.now report (R.remaining reader.old) (R.remaining reader.new)
+        (W.contents writer.old) (W.contents writer.new)
+        (A.contents audit_writer.old) (A.contents audit_writer.new)) }
+    ensures sound { OnOk result ((R.has_failed reader.new ≡ false)
+        × (W.has_failed writer.new ≡ false) × (A.has_failed audit_writer.new ≡ false)) }
+    // Which device has failed; and what was read and written by then.
+    ensures fails { IfErr result (λ e. FailsOnly e false false
+        (R.has_failed reader.new) (W.has_failed writer.new) (A.has_failed audit_writer.new)) }
+    ensures err { IfErr result (λ e.
+        Halts e job.entry.now (R.remaining reader.old) (R.remaining reader.new)
+        (W.contents writer.old) (W.contents writer.new)
+        (A.contents audit_writer.old) (A.contents audit_writer.new)
+        (R.has_failed reader.new) (W.has_failed writer.new) (A.has_failed audit_writer.new)) }
+{
+    let mut run = Run::open(alloc, *job)?;
+    let Ok(mut intake) = Intake::new(alloc, job.turns) else {
+        return Err(OfflineFault::Core(Fault::OutOfMemory));
+    };
+    run.read_stream(&mut intake, reader, writer, audit_writer)?;
+    Ok(run.report())
+}
+
+ghost use Rattle.mediator_offline.specs.Filtering.{unfailed, FiltersAll, FailsToFilter};
+
+/// Filters one stream for one subscriber, and answers how much was read, accepted and written. It reads the messages of an
+/// exporter from `reader`, to the end of the stream. Message by message, it writes what `job` discloses to the subscriber to
+/// `writer`, and the audit of what was kept back, where the job asks for it, to `audit_writer`. Memory is taken from `alloc`.
+///
+/// What is written are the messages built for the records that each message discloses, and they mean these records and no others
+/// to whoever reads them by RFC 7011. The limits are 65,536 records of one message, 65,280 templates for the subscriber and
+/// 131,072 audit entries of one message, and a journal of 100,000,000 entries and 2^40 octets, though none is kept.
+///
+/// # Errors
+/// `Core` where the policy or the name of the job is refused: then nothing was read. Else the run stops at `Read`, `Write` or
+/// `AuditWrite`, where that device fails; at `Framing`, where the stream is faulty or ends inside a message; at `Turns`, where it
+/// doesn't end within the job's reads; at `Core`, where a message is refused or memory runs out; or at `Cut`, where a message
+/// cuts the subscriber. What is due for all messages before that one was written, and what more of it may have been is said with
+/// each fault.
+pub fn offline<R: Source, W: Sink, A: Sink>(
+    alloc: Global,
+    job: &OfflineJob<'_>,
+    reader: &mut R,
+    writer: &mut W,
+    audit_writer: &mut A,
+) -> Result<OfflineReport, OfflineFault>
+    requires reader { R.has_failed reader.old ≡ false }
+    requires writer { W.has_failed writer.old ≡ false }
+    requires audit { A.has_failed audit_writer.old ≡ false }
+    // All was read and accepted, what is due was written, and it means what is disclosed.
+    ensures filters { IfOk result (λ report. FiltersAll job.entry.now report
+        (unfailed (R.remaining reader.old) (W.contents writer.old) (A.contents audit_writer.old))
+        (record {
+          left = R.remaining reader.new;
+          written = W.contents writer.new;
+          audited = A.contents audit_writer.new;
+          reader_failed = R.has_failed reader.new;
+          writer_failed = W.has_failed writer.new;
+          audit_failed = A.has_failed audit_writer.new;
+        })) }
+    // Where it stopped, by what cause, and what was written by then.
+    ensures stops { IfErr result (λ e. FailsToFilter e job.entry.now
+        (unfailed (R.remaining reader.old) (W.contents writer.old) (A.contents audit_writer.old))
+        (record {
+          left = R.remaining reader.new;
+          written = W.contents writer.new;
+          audited = A.contents audit_writer.new;
+          reader_failed = R.has_failed reader.new;
+          writer_failed = W.has_failed writer.new;
+          audit_failed = A.has_failed audit_writer.new;
+        })) }
+    // No device has failed, but the one that the fault names.
+    ensures sound { OnOk result ((R.has_failed reader.new ≡ false)
+        × (W.has_failed writer.new ≡ false) × (A.has_failed audit_writer.new ≡ false)) }
+    ensures fails { IfErr result (λ e. FailsOnly e false false
+        (R.has_failed reader.new) (W.has_failed writer.new) (A.has_failed audit_writer.new)) }
+{
+    run_through(alloc, job, reader, writer, audit_writer)
+}

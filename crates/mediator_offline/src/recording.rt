@@ -1,0 +1,91 @@
+//! Writes what the audit names, line by line.
+ghost use Rattle.std.specs.Prelude.{◌≡◌, IfOk, IfErr, OnOk, OnErr, string_bytes};
+ghost use Rattle.std.specs.Io.KnownBytes.{Appends};
+ghost use Rattle.mediator_offline.specs.Failing.{audit_after};
+ghost use Rattle.mediator_offline.specs.Lines.{lines_of, WritesSome};
+ghost use Rattle.mediator_offline.specs.Recording.{StopsLines};
+
+use crate::job::OfflineFault;
+use crate::run::Run;
+use disclosure_audit::{AuditEntry, put_line};
+use mediator_state::Fault;
+use octet_io::{Sink, write_all};
+use std::alloc::{AllocError, Global};
+
+/// Writes the lines of `entries` to `writer`, in their order and in one piece.
+///
+/// # Errors
+/// The writer failed, and a front of the lines was written; or memory ran out, and nothing was.
+pub(crate) fn write_lines<A: Sink>(
+    alloc: Global,
+    entries: &[AuditEntry],
+    writer: &mut A,
+) -> Result<(), OfflineFault>
+    // All lines were written.
+    ensures ok { OnOk result (Appends (A.contents writer.old) (A.contents writer.new)
+        (lines_of entries.now)) }
+    ensures stays { OnOk result (A.has_failed writer.new ≡ A.has_failed writer.old) }
+    // By which cause it stopped, and that a front of the lines was written.
+    ensures cause { IfErr result (λ e. StopsLines e (A.has_failed writer.new)) }
+    ensures fails { IfErr result (λ e. A.has_failed writer.new
+        ≡ audit_after e (A.has_failed writer.old)) }
+    ensures err { OnErr result (WritesSome (A.contents writer.old) (A.contents writer.new)
+        (lines_of entries.now)) }
+{
+    let Ok(text) = lines(alloc, entries) else {
+        return Err(OfflineFault::Core(Fault::OutOfMemory));
+    };
+    match write_all(writer, text.as_bytes()) {
+        Ok(()) => Ok(()),
+        Err(_) => Err(OfflineFault::AuditWrite),
+    }
+}
+
+/// The lines of entries, one after another.
+///
+/// # Errors
+/// Want of memory.
+fn lines(alloc: Global, entries: &[AuditEntry]) -> Result<String, AllocError>
+    ensures { IfOk result (λ text. string_bytes text ≡ lines_of entries.now) }
+{
+    let mut text = String::new(alloc);
+    'entries: for entry in entries {
+        put_line(&mut text, entry)?;
+    }
+    Ok(text)
+}
+
+ghost use Rattle.std.specs.Prelude.{◌<◌, ◌^◌, length};
+ghost use Rattle.mediator_offline.specs.Lines.{lines_for};
+ghost use Rattle.mediator_offline.specs.Runs.{HasHistory, audit_waiting};
+ghost use Rattle.mediator_offline.specs.Recording.{Records};
+
+impl<'a> Run<'a> {
+    /// Drains the audit, and writes its lines to `writer` where the job asks for them.
+    ///
+    /// # Errors
+    /// The writer failed, or memory ran out: a front of the lines was written.
+    pub(crate) fn record<A: Sink>(&mut self, writer: &mut A) -> Result<(), OfflineFault>
+        requires known { HasHistory self.old }
+        requires few { length (audit_waiting self.old) < 2 ^ 32 }
+        // The lines were written, where they are asked for, and the audit is empty.
+        ensures written { OnOk result (Appends (A.contents writer.old) (A.contents writer.new)
+            (lines_for self.old.job.audit (audit_waiting self.old))) }
+        ensures drained { OnOk result (Records self.old self.new) }
+        ensures stays { OnOk result (A.has_failed writer.new ≡ A.has_failed writer.old) }
+        // By which cause it stopped, and that a front of the lines was written.
+        ensures cause { IfErr result (λ e. StopsLines e (A.has_failed writer.new)) }
+        ensures fails { IfErr result (λ e. A.has_failed writer.new
+            ≡ audit_after e (A.has_failed writer.old)) }
+        ensures err { OnErr result (WritesSome (A.contents writer.old) (A.contents writer.new)
+            (lines_for self.old.job.audit (audit_waiting self.old))) }
+    {
+        let Ok(entries) = self.state.drain_audit(u32::MAX) else {
+            return Err(OfflineFault::Core(Fault::OutOfMemory));
+        };
+        if !self.job.audit {
+            return Ok(());
+        }
+        write_lines(self.alloc, entries.as_slice(), writer)
+    }
+}

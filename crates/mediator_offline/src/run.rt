@@ -1,0 +1,91 @@
+//! A mediator with one session and one subscription, under one policy, as `offline` uses it.
+ghost use Rattle.std.specs.Prelude.{◌≡◌, ◌≤◌, ◌<◌, ◌+◌, ◌^◌, [], length, IfOk, IfErr, OnOk};
+ghost use Rattle.event_journal.specs.Room.{Limits as Journaled};
+
+use crate::job::OfflineJob;
+use bytes::Bytes;
+use event_journal::{MOST_ENTRIES, MOST_OCTETS, Tally};
+use mediator_state::{DEFAULT_AUDIT, DEFAULT_QUEUE, Fault, Limits, State};
+use std::alloc::Global;
+use subscriber_stream::MOST_SHAPES;
+
+/// How many records may wait for the subscriber, how many templates its records may have, and how many entries may wait in
+/// the audit.
+const LIMITS: Limits = Limits {
+    queue: DEFAULT_QUEUE,
+    shapes: MOST_SHAPES,
+    audit: DEFAULT_AUDIT,
+};
+
+/// The number of the one session.
+const SESSION: u64 = 1;
+
+/// The number of the one subscription.
+pub(crate) const SUBSCRIPTION: u64 = 1;
+
+/// A run: the state of a mediator with one session and one subscription, and what is counted for the report.
+#[derive(Drop)]
+pub(crate) struct Run<'a> {
+    pub(crate) alloc: Global,
+    /// What is asked for.
+    pub(crate) job: OfflineJob<'a>,
+    /// The mediator, of whose journal the sizes alone are kept.
+    pub(crate) state: State<Tally>,
+    /// The messages that were accepted.
+    pub(crate) messages: u64,
+    /// The records that they brought.
+    pub(crate) records: u64,
+    /// The octets that were written for the subscriber.
+    pub(crate) sent: u64,
+}
+
+ghost use Rattle.mediator_offline.specs.Opening.{RefusesJob};
+ghost use Rattle.mediator_offline.specs.Running.{IsOpened};
+ghost use Rattle.mediator_offline.specs.Runs.{audit_waiting};
+ghost use Rattle.mediator_offline.specs.Steps.{HasDelivered, Receives, Refuses};
+
+impl<'a> Run<'a> {
+    /// Accepts the policy, the subscription and the session of a run.
+    ///
+    /// # Errors
+    /// The policy or the name is refused; or the journal has no room, or memory ran out.
+    pub(crate) fn open(alloc: Global, job: OfflineJob<'a>) -> Result<Run<'a>, Fault>
+        ensures ok { IfOk result (λ d. IsOpened d job.entry) }
+        ensures err { IfErr result (λ e. RefusesJob e job.entry) }
+    {
+        let mut state = State::new(alloc, LIMITS, Tally::new(MOST_ENTRIES, MOST_OCTETS))?;
+        state.edit(job.policy)?;
+        state.subscribe(job.name)?;
+        state.open()?;
+        Ok(Run {
+            alloc,
+            job,
+            state,
+            messages: 0,
+            records: 0,
+            sent: 0,
+        })
+    }
+
+    /// Accepts the next message of the session. What it gives the subscription waits to be pulled, and what is kept back
+    /// waits in the audit; or, where there is no room for what it gives, the subscription is cut, and the answer is true.
+    ///
+    /// # Errors
+    /// The message is malformed; or the journal is full, or the audit, or memory.
+    pub(crate) fn receive(&mut self, message: Bytes) -> Result<bool, Fault>
+        requires delivered { HasDelivered self.old }
+        // The job, and what was written, stay as they are.
+        ensures job { self.new.job ≡ self.old.job }
+        ensures sent { self.new.sent ≡ self.old.sent }
+        // The message was accepted, or cut the subscription.
+        ensures few { OnOk result (length (audit_waiting self.new) < 2 ^ 32) }
+        ensures ok { IfOk result (λ is_cut. Receives self.old message is_cut self.new) }
+        // Why it was refused.
+        ensures err { IfErr result (λ e. Refuses e self.old message) }
+    {
+        let receipt = self.state.receive(SESSION, self.messages, message)?;
+        self.messages += 1;
+        self.records += receipt.records;
+        Ok(receipt.cut > 0)
+    }
+}

@@ -1,0 +1,310 @@
+-- Shares that grow, one subscription after another and one record after another.
+use Rattle.std.proofs.Common.{◌≡◌, ℕ, zero, suc, ◌+◌, ◌<◌, List, [], ◌∷◌, ◌++◌, length, map, take, drop, sym, ap, ◌∙◌, subst, arith, refl, length-append, append_assoc, append-nil, ◌≤◌}
+use Rattle.std.specs.Prelude.{get_or, set}
+use Rattle.std.specs.List.{flat_map, enumerate_from}
+use Rattle.std.proofs.lemmas.List.{map-set, map-append, length-map, take_more, take_all, length-take-le}
+use Rattle.std.proofs.Math.ListN.{get_or-map, drop_of_length-le}
+use Rattle.std.proofs.lemmas.List.Concat.{flat_map-append, flat_map-cons}
+use Rattle.std.proofs.Math.Seq.{set-append_seam, get_or-append_seam, drop-cons}
+use Rattle.mediator_history.proofs.HistoryLaws.{flat_map-push}
+use Rattle.ipfix_template.specs.DataRecord.{DataRecord, kept_record}
+use Rattle.ipfix_records.specs.Runs.{RunOf, records_of, records_in}
+use Rattle.flow_aggregate.specs.Counts.{count_of}
+use Rattle.flow_anonymize.specs.declared.decision.Decision.{Decision}
+use Rattle.policy_text.specs.Policies.{Aggregate}
+use Rattle.flow_anonymize.specs.Outcome as outcome
+use Rattle.flow_anonymize.specs.Outcome.{Outcome, Passes, Aggregates, Withholds}
+use Rattle.mediator_history.specs.Counting.{counts}
+use Rattle.mediator_history.specs.Auditing.{kept_back}
+use Rattle.mediator_shares.specs.InForce.{InForce}
+use Rattle.mediator_tables.specs.declared.served.Served.{Served}
+use Rattle.mediator_tables.specs.declared.tally.Tally.{Tally}
+use Rattle.mediator_shares.specs.Noting.{Kept, kept_of, and_more}
+use Rattle.mediator_shares.proofs.NotingLaws.{none_more, more_more, kept_more}
+use Rattle.mediator_tables.specs.Adding.{tallied}
+use Rattle.mediator_shares.specs.Sharing.{outcome_by, given_by, added_by, kept_by, kept_back_by, counts_by, blank, share_by, shares_of, tallies_of, note_of, noted, noted_of_each, notes_of}
+
+abbrev pub as_share : {X : Type 0} → ℕ → List X → ℕ × List X
+as_share sub items = (sub, items)
+
+-- a share with more items
+abbrev pub grown : {X : Type 0} → ℕ × List X → List X → ℕ × List X
+grown s more = (s.0, s.1 ++ more)
+
+-- one share of several grows
+pub share_grows : {S X : Type 0} (pick : S → ℕ × List X) (xs : List S) (place : ℕ) (was now : S) (more : List X) (before after : List (ℕ × List X)) (s : ℕ × List X)
+    → map pick xs ≡ before ++ s ∷ after → length before ≡ place → was ≡ get_or xs place was → pick now ≡ grown (pick was) more
+    → map pick (set xs place now) ≡ before ++ grown s more ∷ after
+share_grows pick xs place was now more before after s split at is grows =
+    map-set pick xs place now
+    ∙ ap (λ l. set l place (pick now)) split
+    ∙ ap (λ n. set (before ++ s ∷ after) n (pick now)) (sym at)
+    ∙ set-append_seam before s after (pick now)
+    ∙ ap (λ x. before ++ x ∷ after) (grows ∙ ap (λ p. grown p more) seen)
+  where
+    seen : pick was ≡ s
+    seen = ap pick is ∙ sym (get_or-map pick xs place was) ∙ ap (λ l. get_or l place (pick was)) split
+        ∙ ap (λ n. get_or (before ++ s ∷ after) n (pick was)) (sym at) ∙ get_or-append_seam before s after (pick was)
+
+-- a share more, without a record
+pub blank_step : {S X : Type 0} (pick : S → ℕ × List X) (xs xs2 : List S) (s : S) (served : List Served) (place : ℕ) (other : Served)
+    → map pick xs ≡ map blank (take place served) → place < length served → xs2 ≡ xs ++ s ∷ []
+    → pick s ≡ as_share (get_or served place other).sub [] → map pick xs2 ≡ map blank (take (place + 1) served)
+blank_step {S} {X} pick xs xs2 s served place other so within grow same =
+    let empty : Served → ℕ × List X = blank in
+    ap (map pick) grow ∙ map-append pick xs (s ∷ [])
+    ∙ ap (λ l. l ++ pick s ∷ []) so
+    ∙ ap (λ x. map empty (take place served) ++ x ∷ []) same
+    ∙ sym (map-append empty (take place served) (get_or served place other ∷ []))
+    ∙ ap (map empty) (sym (take_more served place other within))
+
+-- ---- one record for one subscription after another
+
+-- the shares of the subscriptions before a place have the record, and the others don't yet
+abbrev pub IsSharing : {X : Type 0} → (List ℕ → DataRecord → List X) → List (ℕ × List X) → List (ℕ × List X) → DataRecord → List Served → ℕ → Type 0
+IsSharing gives old new r served place = (done : List DataRecord) → old ≡ map (share_by gives done) served
+    → new ≡ map (share_by gives (done ++ r ∷ [])) (take place served) ++ map (share_by gives done) (drop place served)
+
+-- a share grows at a place, wherever the shares are split there
+abbrev pub GrowsAt : {X : Type 0} → List (ℕ × List X) → List (ℕ × List X) → ℕ → List X → Type 0
+GrowsAt {X} xs xs2 place more = (before after : List (ℕ × List X)) (s : ℕ × List X) → xs ≡ before ++ s ∷ after → length before ≡ place → xs2 ≡ before ++ grown s more ∷ after
+
+-- where nothing changes, it grows by nothing
+pub grows_nothing : {X : Type 0} (xs xs2 : List (ℕ × List X)) (place : ℕ) → xs2 ≡ xs → GrowsAt xs xs2 place []
+grows_nothing xs xs2 place same before after s split at = same ∙ split ∙ ap (λ l. before ++ as_share s.0 l ∷ after) (sym (append-nil s.1))
+
+one-more : (n : ℕ) → suc n ≡ n + 1
+one-more n = omega arith
+
+sharing_end : {X : Type 0} (gives : List ℕ → DataRecord → List X) (old new : List (ℕ × List X)) (r : DataRecord) (served : List Served) (place : ℕ)
+    → IsSharing gives old new r served place → length served ≤ place → (done : List DataRecord) → old ≡ map (share_by gives done) served
+    → new ≡ map (share_by gives (done ++ r ∷ [])) served
+sharing_end gives old new r served place so over done start =
+    so done start
+    ∙ ap (λ l. map (share_by gives (done ++ r ∷ [])) l ++ map (share_by gives done) (drop place served)) (take_all place served over)
+    ∙ ap (λ l. map (share_by gives (done ++ r ∷ [])) served ++ map (share_by gives done) l) (drop_of_length-le served over)
+    ∙ append-nil (map (share_by gives (done ++ r ∷ [])) served)
+
+more_served : (served : List Served) (place : ℕ) (who other : Served) → place < length served → who ≡ get_or served place other → take (place + 1) served ≡ take place served ++ who ∷ []
+more_served served place who other within at = take_more served place other within ∙ ap (λ x. take place served ++ x ∷ []) (sym at)
+
+rest_served : (served : List Served) (place : ℕ) (who other : Served) → place < length served → who ≡ get_or served place other → drop place served ≡ who ∷ drop (place + 1) served
+rest_served served place who other within at =
+    drop-cons served place other within ∙ ap (λ x. x ∷ drop (suc place) served) (sym at) ∙ ap (λ n. who ∷ drop n served) (one-more place)
+
+sharing_step : {X : Type 0} (gives : List ℕ → DataRecord → List X) (old new new2 : List (ℕ × List X)) (r : DataRecord) (served : List Served) (place : ℕ) (who other : Served)
+    → IsSharing gives old new r served place → place < length served → who ≡ get_or served place other → GrowsAt new new2 place (gives who.name.now r)
+    → IsSharing gives old new2 r served (place + 1)
+sharing_step gives old new new2 r served place who other so within at adds done start =
+    let f1 = share_by gives (done ++ r ∷ []) in
+    let f0 = share_by gives done in
+    let split : new ≡ map f1 (take place served) ++ f0 who ∷ map f0 (drop (place + 1) served) =
+    so done start ∙ ap (λ l. map f1 (take place served) ++ map f0 l) (rest_served served place who other within at) in
+    let counted : length (map f1 (take place served)) ≡ place = length-map (take place served) f1 ∙ length-take-le place served (omega arith) in
+    adds (map f1 (take place served)) (map f0 (drop (place + 1) served)) (f0 who) split counted
+    ∙ ap (λ g. map f1 (take place served) ++ as_share who.sub g ∷ map f0 (drop (place + 1) served)) (sym (flat_map-push (gives who.name.now) done r))
+    ∙ sym (append_assoc (map f1 (take place served)) (f1 who ∷ []) (map f0 (drop (place + 1) served)))
+    ∙ ap (λ l. l ++ map f0 (drop (place + 1) served)) (sym (map-append f1 (take place served) (who ∷ [])) ∙ ap (map f1) (sym (more_served served place who other within at)))
+
+-- the same of what is given and of what is added, and what was noted
+pub record IsAdding (old new : List (ℕ × List DataRecord)) (told tnew : List Tally) (before notes : Kept) (domain : ℕ) (f : InForce) (index : ℕ) (r : DataRecord) (served : List Served) (place : ℕ) : Type 0 where
+  pub shares : IsSharing (given_by domain f) old new r served place
+  pub tallies : IsSharing (added_by domain f) (map tallied told) (map tallied tnew) r served place
+  pub noting : notes ≡ and_more before (flat_map (noted domain f (index, r)) (take place served))
+  pub stay : length new ≡ length served
+  pub stay_tallies : length tnew ≡ length served
+
+pub adding_start : (s : List (ℕ × List DataRecord)) (t : List Tally) (n : Kept) (domain : ℕ) (f : InForce) (index : ℕ) (r : DataRecord) (served : List Served) → length s ≡ length served → length t ≡ length served
+    → IsAdding s s t t n n domain f index r served 0
+adding_start s t n domain f index r served same same_too = record {
+  shares = λ done start. start;
+  tallies = λ done start. start;
+  noting = sym (none_more n);
+  stay = same;
+  stay_tallies = same_too;
+}
+
+-- all subscriptions have it
+pub record HasAdded (old new : List (ℕ × List DataRecord)) (told tnew : List Tally) (before notes : Kept) (domain : ℕ) (f : InForce) (index : ℕ) (r : DataRecord) (served : List Served) : Type 0 where
+  pub shares : (done : List DataRecord) → old ≡ shares_of domain f done served → new ≡ shares_of domain f (done ++ r ∷ []) served
+  pub tallies : (done : List DataRecord) → map tallied told ≡ tallies_of domain f done served → map tallied tnew ≡ tallies_of domain f (done ++ r ∷ []) served
+  pub noting : notes ≡ and_more before (noted_of_each domain f served (index, r))
+
+pub added : (old new : List (ℕ × List DataRecord)) (told tnew : List Tally) (before notes : Kept) (domain : ℕ) (f : InForce) (index : ℕ) (r : DataRecord) (served : List Served) (place : ℕ)
+    → IsAdding old new told tnew before notes domain f index r served place → length served ≤ place → HasAdded old new told tnew before notes domain f index r served
+added old new told tnew before notes domain f index r served place so over = record {
+  shares = sharing_end (given_by domain f) old new r served place so.shares over;
+  tallies = sharing_end (added_by domain f) (map tallied told) (map tallied tnew) r served place so.tallies over;
+  noting = so.noting ∙ ap (λ l. and_more before (flat_map (noted domain f (index, r)) l)) (take_all place served over);
+}
+
+counts_same : (aggregates : List Aggregate) (clock : ℕ) (r : DataRecord) (o : Outcome) → counts_by aggregates clock r (outcome.decision_of o) ≡ counts aggregates clock r o
+counts_same aggregates clock r (Passes kept removed) = refl
+counts_same aggregates clock r (Aggregates rule definition) = refl
+counts_same aggregates clock r (Withholds rule reason) = refl
+
+kept_back_same : (aggregates : List Aggregate) (clock : ℕ) (r : DataRecord) (o : Outcome) → kept_back_by aggregates clock r (outcome.decision_of o) ≡ kept_back aggregates clock r o
+kept_back_same aggregates clock r (Passes kept removed) = refl
+kept_back_same aggregates clock r (Aggregates rule definition) = refl
+kept_back_same aggregates clock r (Withholds rule reason) = refl
+
+-- one subscription more, for which this is decided of the record
+pub adding_step : (old new new2 : List (ℕ × List DataRecord)) (told tnew tnew2 : List Tally) (before notes notes2 : Kept) (domain : ℕ) (f : InForce) (index : ℕ) (r : DataRecord) (served : List Served) (place : ℕ) (who other : Served) (found : Decision)
+    → IsAdding old new told tnew before notes domain f index r served place → place < length served → who ≡ get_or served place other → found ≡ outcome.decision_of (outcome_by domain f who.name.now r)
+    → GrowsAt new new2 place (outcome.passed (outcome_by domain f who.name.now r)) → GrowsAt (map tallied tnew) (map tallied tnew2) place (map count_of (counts_by f.policy.aggregates f.clock r found))
+    → length new2 ≡ length new → length tnew2 ≡ length tnew → notes2 ≡ and_more notes (map (note_of index who.sub) (kept_back_by f.policy.aggregates f.clock r found))
+    → IsAdding old new2 told tnew2 before notes2 domain f index r served (place + 1)
+adding_step old new new2 told tnew tnew2 before notes notes2 domain f index r served place who other found so within at is gives tallies same same_too notes_grow = record {
+  shares = sharing_step (given_by domain f) old new new2 r served place who other so.shares within at gives;
+  tallies = sharing_step (added_by domain f) (map tallied told) (map tallied tnew) (map tallied tnew2) r served place who other so.tallies within at
+      (λ b a s split l. tallies b a s split l ∙ ap (λ (d : Decision). b ++ grown s (map count_of (counts_by f.policy.aggregates f.clock r d)) ∷ a) is ∙ ap (λ c. b ++ grown s (map count_of c) ∷ a) (counts_same f.policy.aggregates f.clock r o));
+  noting = notes_grow ∙ ap (λ (d : Decision). and_more notes (map (note_of index who.sub) (kept_back_by f.policy.aggregates f.clock r d))) is ∙ ap (λ k. and_more notes (map (note_of index who.sub) k)) (kept_back_same f.policy.aggregates f.clock r o)
+      ∙ ap (λ n. and_more n (map (note_of index who.sub) (kept_by domain f who.name.now r))) so.noting
+      ∙ more_more before (flat_map (noted domain f (index, r)) (take place served)) (noted domain f (index, r) who)
+      ∙ ap (λ l. and_more before l) (sym (flat_map-push (noted domain f (index, r)) (take place served) who) ∙ ap (flat_map (noted domain f (index, r))) (sym (more_served served place who other within at)));
+  stay = same ∙ so.stay;
+  stay_tallies = same_too ∙ so.stay_tallies;
+}
+  where
+    o : Outcome
+    o = outcome_by domain f who.name.now r
+
+-- ---- the records of a run, one after another
+
+-- the numbers go on
+pub enumerate-append : {X : Type 0} (n : ℕ) (xs ys : List X) → enumerate_from n (xs ++ ys) ≡ enumerate_from n xs ++ enumerate_from (n + length xs) ys
+enumerate-append n [] ys = ap (λ m. enumerate_from m ys) none where
+  none : n ≡ n + 0
+  none = omega arith
+enumerate-append n (x ∷ xs) ys = ap (λ t. (n, x) ∷ t) (enumerate-append (n + 1) xs ys ∙ ap (λ m. enumerate_from (n + 1) xs ++ enumerate_from m ys) same) where
+  same : n + 1 + length xs ≡ n + suc (length xs)
+  same = omega arith
+
+-- the shares of the first so many records of a run, the first of which has this index
+pub record IsRunning (old new : List (ℕ × List DataRecord)) (told tnew : List Tally) (before notes : Kept) (domain : ℕ) (f : InForce) (first : ℕ) (rs : List DataRecord) (served : List Served) (place : ℕ) : Type 0 where
+  pub shares : (done : List DataRecord) → old ≡ shares_of domain f done served → new ≡ shares_of domain f (done ++ take place rs) served
+  pub tallies : (done : List DataRecord) → map tallied told ≡ tallies_of domain f done served → map tallied tnew ≡ tallies_of domain f (done ++ take place rs) served
+  pub noting : notes ≡ and_more before (flat_map (noted_of_each domain f served) (enumerate_from first (take place rs)))
+  pub stay : length new ≡ length served
+  pub stay_tallies : length tnew ≡ length served
+
+pub running_start : (old new : List (ℕ × List DataRecord)) (t : List Tally) (n : Kept) (domain : ℕ) (f : InForce) (first : ℕ) (rs : List DataRecord) (served : List Served) → new ≡ old → length old ≡ length served → length t ≡ length served
+    → IsRunning old new t t n n domain f first rs served 0
+running_start old new t n domain f first rs served is same same_too = record {
+  shares = λ done start. is ∙ start ∙ ap (λ l. shares_of domain f l served) (sym (append-nil done));
+  tallies = λ done start. start ∙ ap (λ l. tallies_of domain f l served) (sym (append-nil done));
+  noting = sym (none_more n);
+  stay = ap length is ∙ same;
+  stay_tallies = same_too;
+}
+
+pub running_step : (old new new2 : List (ℕ × List DataRecord)) (told tnew tnew2 : List Tally) (before notes notes2 : Kept) (domain : ℕ) (f : InForce) (first index : ℕ) (rs : List DataRecord) (served : List Served) (place : ℕ) (r other : DataRecord)
+    → IsRunning old new told tnew before notes domain f first rs served place → place < length rs → r ≡ get_or rs place other → index ≡ first + place
+    → HasAdded new new2 tnew tnew2 notes notes2 domain f index r served → length new2 ≡ length served → length tnew2 ≡ length served
+    → IsRunning old new2 told tnew2 before notes2 domain f first rs served (place + 1)
+running_step old new new2 told tnew tnew2 before notes notes2 domain f first index rs served place r other so within at numbered adds same same_too = record {
+  shares = λ done start. adds.shares (done ++ take place rs) (so.shares done start) ∙ ap (λ l. shares_of domain f l served) (longer done);
+  tallies = λ done start. adds.tallies (done ++ take place rs) (so.tallies done start) ∙ ap (λ l. tallies_of domain f l served) (longer done);
+  noting = adds.noting ∙ ap (λ l. and_more l (noted_of_each domain f served (index, r))) so.noting
+      ∙ more_more before (flat_map (noted_of_each domain f served) (enumerate_from first (take place rs))) (noted_of_each domain f served (index, r))
+      ∙ ap (λ l. and_more before l) (
+      ap (λ i. flat_map (noted_of_each domain f served) (enumerate_from first (take place rs)) ++ noted_of_each domain f served (i, r)) here
+      ∙ sym (flat_map-push (noted_of_each domain f served) (enumerate_from first (take place rs)) (first + length (take place rs), r))
+      ∙ ap (flat_map (noted_of_each domain f served)) (sym (enumerate-append first (take place rs) (r ∷ [])) ∙ ap (enumerate_from first) (sym more))
+      );
+  stay = same;
+  stay_tallies = same_too;
+}
+  where
+    more : take (place + 1) rs ≡ take place rs ++ r ∷ []
+    more = take_more rs place other within ∙ ap (λ x. take place rs ++ x ∷ []) (sym at)
+
+    longer : (done : List DataRecord) → (done ++ take place rs) ++ r ∷ [] ≡ done ++ take (place + 1) rs
+    longer done = append_assoc done (take place rs) (r ∷ []) ∙ ap (λ l. done ++ l) (sym more)
+
+    here : index ≡ first + length (take place rs)
+    here = omega (arith, numbered, length-take-le place rs (omega (arith, within)))
+
+-- the shares of all records of a run
+pub record HasRun (old new : List (ℕ × List DataRecord)) (told tnew : List Tally) (before notes : Kept) (domain : ℕ) (f : InForce) (first : ℕ) (rs : List DataRecord) (served : List Served) : Type 0 where
+  pub shares : (done : List DataRecord) → old ≡ shares_of domain f done served → new ≡ shares_of domain f (done ++ rs) served
+  pub tallies : (done : List DataRecord) → map tallied told ≡ tallies_of domain f done served → map tallied tnew ≡ tallies_of domain f (done ++ rs) served
+  pub noting : notes ≡ and_more before (flat_map (noted_of_each domain f served) (enumerate_from first rs))
+
+pub has_run : (old new : List (ℕ × List DataRecord)) (told tnew : List Tally) (before notes : Kept) (domain : ℕ) (f : InForce) (first : ℕ) (rs : List DataRecord) (served : List Served) (place : ℕ)
+    → IsRunning old new told tnew before notes domain f first rs served place → length rs ≤ place → HasRun old new told tnew before notes domain f first rs served
+has_run old new told tnew before notes domain f first rs served place so over =
+    let P : List DataRecord → Type 0 = λ l. HasRun old new told tnew before notes domain f first l served in
+    subst P (take_all place rs over) (record { shares = so.shares; tallies = so.tallies; noting = so.noting })
+
+-- ---- one run after another
+
+-- the shares of the records of the first so many runs
+pub record AreShares (shares : List (ℕ × List DataRecord)) (tallies : List Tally) (start notes : Kept) (domain : ℕ) (f : InForce) (runs : List RunOf) (served : List Served) (place before : ℕ) : Type 0 where
+  pub sharing : shares ≡ shares_of domain f (records_in (take place runs)) served
+  pub tallying : map tallied tallies ≡ tallies_of domain f (records_in (take place runs)) served
+  pub noting : notes ≡ and_more start (notes_of domain f (records_in (take place runs)) served)
+  pub counted : before ≡ length (records_in (take place runs))
+  pub stay : length shares ≡ length served
+  pub stay_tallies : length tallies ≡ length served
+
+pub shares_start : (s : List (ℕ × List DataRecord)) (t : List Tally) (n : Kept) (domain : ℕ) (f : InForce) (runs : List RunOf) (served : List Served)
+    → s ≡ map blank served → map tallied t ≡ map blank served → AreShares s t n n domain f runs served 0 0
+shares_start s t n domain f runs served blanks empty = record {
+  sharing = blanks;
+  tallying = empty;
+  noting = sym (none_more n);
+  counted = refl;
+  stay = ap length blanks ∙ length-map served blank;
+  stay_tallies = sym (length-map t tallied) ∙ ap length empty ∙ length-map served blank;
+}
+
+pub shares_step : (s s2 : List (ℕ × List DataRecord)) (t t2 : List Tally) (begin n n2 : Kept) (domain : ℕ) (f : InForce) (runs : List RunOf) (served : List Served) (place before more : ℕ) (run other : RunOf)
+    → AreShares s t begin n domain f runs served place before → place < length runs → run ≡ get_or runs place other → more ≡ length run.texts → HasRun s s2 t t2 n n2 domain f before (records_of run) served
+    → length s2 ≡ length served → length t2 ≡ length served → AreShares s2 t2 begin n2 domain f runs served (place + 1) (before + more)
+shares_step s s2 t t2 begin n n2 domain f runs served place before more run other so within at many adds same same_too = record {
+  sharing = adds.shares (records_in (take place runs)) so.sharing ∙ ap (λ l. shares_of domain f l served) (sym grows);
+  tallying = adds.tallies (records_in (take place runs)) so.tallying ∙ ap (λ l. tallies_of domain f l served) (sym grows);
+  noting = adds.noting ∙ ap (λ l. and_more l (flat_map (noted_of_each domain f served) (enumerate_from before (records_of run)))) so.noting
+      ∙ more_more begin (notes_of domain f (records_in (take place runs)) served) (flat_map (noted_of_each domain f served) (enumerate_from before (records_of run)))
+      ∙ ap (λ l. and_more begin l) (
+      ap (λ i. notes_of domain f (records_in (take place runs)) served ++ flat_map (noted_of_each domain f served) (enumerate_from i (records_of run))) start
+      ∙ sym (flat_map-append (noted_of_each domain f served) (enumerate_from 0 (records_in (take place runs))) (enumerate_from (0 + length (records_in (take place runs))) (records_of run)))
+      ∙ ap (flat_map (noted_of_each domain f served)) (sym (enumerate-append 0 (records_in (take place runs)) (records_of run)))
+      ∙ ap (λ l. notes_of domain f l served) (sym grows)
+      );
+  counted = omega (arith, so.counted, many, ap length grows, length-append (records_in (take place runs)) (records_of run), length-map run.texts (kept_record run.template));
+  stay = same;
+  stay_tallies = same_too;
+}
+  where
+    grows : records_in (take (place + 1) runs) ≡ records_in (take place runs) ++ records_of run
+    grows = ap records_in (take_more runs place other within ∙ ap (λ x. take place runs ++ x ∷ []) (sym at)) ∙ flat_map-push records_of (take place runs) run
+
+    start : before ≡ 0 + length (records_in (take place runs))
+    start = omega (arith, so.counted)
+
+-- there are not more records in some runs than in all
+pub fewer_records : (runs : List RunOf) (place : ℕ) (run other : RunOf) → place < length runs → run ≡ get_or runs place other → length (records_in (take place runs)) + length run.texts ≤ length (records_in runs)
+fewer_records [] place run other within at = absurd (omega arith)
+fewer_records (r ∷ runs) zero run other within at =
+    let one = length-append (records_of r) (records_in runs) in
+    let all = ap length (flat_map-cons records_of r runs) in
+    omega (arith, one, all, length-map r.texts (kept_record r.template), ap (λ (x : RunOf). length x.texts) at)
+fewer_records (r ∷ runs) (suc place) run other within at =
+    let rest = fewer_records runs place run other (omega (arith, within)) at in
+    let all = ap length (flat_map-cons records_of r runs) ∙ length-append (records_of r) (records_in runs) in
+    let some = ap length (flat_map-cons records_of r (take place runs)) ∙ length-append (records_of r) (records_in (take place runs)) in
+    omega (arith, rest, all, some)
+
+-- the shares of all records
+pub record HasShares (shares : List (ℕ × List DataRecord)) (tallies : List Tally) (begin notes : Kept) (domain : ℕ) (f : InForce) (records : List DataRecord) (served : List Served) : Type 0 where
+  pub shares_are : shares ≡ shares_of domain f records served
+  pub tallies_are : map tallied tallies ≡ tallies_of domain f records served
+  pub notes_are : notes ≡ and_more begin (notes_of domain f records served)
+
+pub has_shares : (s : List (ℕ × List DataRecord)) (t : List Tally) (begin n : Kept) (domain : ℕ) (f : InForce) (runs : List RunOf) (served : List Served) (place before : ℕ)
+    → AreShares s t begin n domain f runs served place before → length runs ≤ place → HasShares s t begin n domain f (records_in runs) served
+has_shares s t begin n domain f runs served place before so over =
+    let P : List RunOf → Type 0 = λ l. HasShares s t begin n domain f (records_in l) served in
+    subst P (take_all place runs over) (record { shares_are = so.sharing; tallies_are = so.tallying; notes_are = so.noting })

@@ -1,0 +1,349 @@
+//! What each subscription is given of one message, what counts in its aggregates, and what the audit notes of it.
+ghost use Rattle.std.specs.Prelude.{◌≡◌, ◌++◌, ◌∷◌, ◌≤◌, ◌<◌, ◌+◌, ◌^◌, ℕ, List, [], Some, None, length, map, IfOk, OnOk};
+ghost use Rattle.std.specs.List.{flat_map, enumerate_from};
+ghost use Rattle.ipfix_template.specs.DataRecord.{DataRecord};
+ghost use Rattle.ipfix_records.specs.Runs.{records_of, records_in};
+ghost use Rattle.flow_aggregate.specs.Counts.{Count as OneCount, count_of};
+ghost use Rattle.mediator_history.specs.Auditing.{reason_named, removed_of, told_of};
+ghost use Rattle.mediator_shares.specs.InForce.{count_by, timing_by, as_list};
+ghost use Rattle.mediator_shares.specs.Judges.{JudgeFor, JudgesAny};
+ghost use Rattle.mediator_tables.specs.SubscriptionTable.{shown};
+ghost use Rattle.mediator_tables.specs.Adding.{tallied};
+ghost use Rattle.mediator_shares.specs.Sharing.{blank, counts_by, kept_back_by, shares_of, tallies_of, notes_of, note_of, noted_of_each};
+ghost use Rattle.mediator_shares.specs.Noting.{kept_of, and_more};
+
+use crate::in_force::InForce;
+use crate::judges::Judges;
+use crate::notes::Notes;
+use disclosure_audit::{Note, RemovedFields, What};
+use flow_aggregate::{Count, Timing};
+use flow_anonymize::Decision;
+use ipfix_records::{Records, Run};
+use ipfix_template::RecordView;
+use mediator_tables::{Served, Share, Tally};
+use std::alloc::{AllocError, Global};
+
+/// What one message gives to the subscriptions that are served, and what it leaves for the audit.
+#[derive(Drop)]
+pub struct Shares {
+    /// What each subscription is given, in their order.
+    pub shares: Vec<Share>,
+    /// What is added to the aggregates of each subscription, in their order.
+    pub tallies: Vec<Tally>,
+    /// What is kept back, or counts, by record and then by subscription.
+    pub notes: Notes,
+}
+
+impl Shares {
+    /// Judges `records`, which are those of one message of the Observation Domain `domain`, at most 2^32, for each of
+    /// the subscriptions `served`, by what `in_force` says. At most `most` notes are kept. What is disclosed of the
+    /// records is in memory from `alloc`. The policy and the time of `in_force` stay; what is worked out serves later
+    /// messages.
+    ///
+    /// # Errors
+    /// Want of memory.
+    pub fn of_records(
+        alloc: Global,
+        in_force: &mut InForce,
+        domain: u32,
+        records: &Records,
+        served: &[Served<'_>],
+        most: u64,
+    ) -> Result<Shares, AllocError>
+        requires few { length records.now ≤ 2 ^ 32 }
+        ensures shares { IfOk result (λ s.
+            map shown s.shares.items ≡ shares_of domain in_force.old records.now served.now) }
+        ensures tallies { IfOk result (λ s.
+            map tallied s.tallies.items ≡ tallies_of domain in_force.old records.now served.now) }
+        ensures notes { IfOk result (λ s.
+            s.notes ≡ kept_of most (notes_of domain in_force.old records.now served.now)) }
+        ensures stay { in_force.new ≡ in_force.old }
+    {
+        let mut judges = in_force.judges(alloc, domain, records.runs(), served)?;
+        let mut sums = Sums::of_none(alloc, served, most)?;
+        sums.add_runs(alloc, in_force, &mut judges, domain, records.runs(), served)?;
+        let shares = judges.take_shares(alloc)?;
+        in_force.keep(judges);
+        let Sums { tallies, notes } = sums;
+        Ok(Shares {
+            shares,
+            tallies,
+            notes,
+        })
+    }
+}
+
+/// What is added to the aggregates of each subscription, in their order, and what is kept back from them.
+#[derive(Drop)]
+pub(crate) struct Sums {
+    tallies: Vec<Tally>,
+    notes: Notes,
+}
+
+impl Sums {
+    /// That of no record, for each of the subscriptions `served`, with at most `most` notes to be kept, in memory from
+    /// `alloc`.
+    ///
+    /// # Errors
+    /// Want of memory.
+    fn of_none(alloc: Global, served: &[Served<'_>], most: u64) -> Result<Sums, AllocError>
+        ensures tallies { IfOk result (λ s. map tallied s.tallies.items ≡ map blank served.now) }
+        ensures notes { IfOk result (λ s. s.notes ≡ kept_of most []) }
+    {
+        let mut tallies = Vec::new(alloc);
+        'served: for who in served {
+            tallies.push(Tally {
+                sub: who.sub,
+                counts: Vec::new(alloc),
+            })?;
+        }
+        Ok(Sums {
+            tallies,
+            notes: Notes::new(alloc, most),
+        })
+    }
+
+    /// Judges the records of `runs`, one run after another, for each of the subscriptions `served`: `judges` say what
+    /// is disclosed of a record of the Observation Domain `domain`, and are given what passes; `in_force` says where it
+    /// counts. What is worked out is in memory from `alloc`.
+    ///
+    /// # Errors
+    /// Want of memory.
+    fn add_runs(
+        &mut self,
+        alloc: Global,
+        in_force: &InForce,
+        judges: &mut Judges,
+        domain: u32,
+        runs: &[Run],
+        served: &[Served<'_>],
+    ) -> Result<(), AllocError>
+        requires few { length (records_in runs.now) ≤ 2 ^ 32 }
+        requires judges { JudgesAny judges.old in_force.now domain served.now }
+        requires blank { judges.old.shares ≡ map blank served.now }
+        requires blank_tallies { map tallied self.old.tallies.items ≡ map blank served.now }
+        ensures shares { OnOk result (judges.new.shares
+            ≡ shares_of domain in_force.now (records_in runs.now) served.now) }
+        ensures tallies { OnOk result (map tallied self.new.tallies.items
+            ≡ tallies_of domain in_force.now (records_in runs.now) served.now) }
+        ensures notes { OnOk result (self.new.notes ≡ and_more self.old.notes
+            (notes_of domain in_force.now (records_in runs.now) served.now)) }
+        ensures judges { OnOk result (JudgesAny judges.new in_force.now domain served.now) }
+    {
+        let mut before = 0;
+        'runs: for run in runs {
+            self.add_run(alloc, in_force, judges, domain, before, run, served)?;
+            before += run.len();
+        }
+        Ok(())
+    }
+
+    /// Judges the records of `run`, before which the message has `before` records, for each of the subscriptions
+    /// `served`, as [`add_runs`](Sums::add_runs) does.
+    ///
+    /// # Errors
+    /// Want of memory.
+    fn add_run(
+        &mut self,
+        alloc: Global,
+        in_force: &InForce,
+        judges: &mut Judges,
+        domain: u32,
+        before: usize,
+        run: &Run,
+        served: &[Served<'_>],
+    ) -> Result<(), AllocError>
+        requires few { before + length run.now.texts ≤ 2 ^ 32 }
+        requires judges { JudgesAny judges.old in_force.now domain served.now }
+        requires each { length judges.old.shares ≡ length served.now }
+        requires each_tally { length self.old.tallies.items ≡ length served.now }
+        ensures shares { (done : List DataRecord)
+            → judges.old.shares ≡ shares_of domain in_force.now done served.now
+            → OnOk result (judges.new.shares
+            ≡ shares_of domain in_force.now (done ++ records_of run.now) served.now) }
+        ensures tallies { (done : List DataRecord)
+            → map tallied self.old.tallies.items ≡ tallies_of domain in_force.now done served.now
+            → OnOk result (map tallied self.new.tallies.items
+            ≡ tallies_of domain in_force.now (done ++ records_of run.now) served.now) }
+        ensures notes { OnOk result (self.new.notes
+            ≡ and_more self.old.notes (flat_map (noted_of_each domain in_force.now served.now)
+            (enumerate_from before (records_of run.now)))) }
+        ensures judges { OnOk result (JudgesAny judges.new in_force.now domain served.now) }
+        ensures stay { OnOk result (length judges.new.shares ≡ length served.now) }
+        ensures stay_tallies { OnOk result (length self.new.tallies.items ≡ length served.now) }
+    {
+        judges.begin(alloc, run.shared_template())?;
+        self.notes.reserve(run.len())?;
+        'records: for place in 0..run.len() {
+            let flow_record = run.view(place);
+            let index = (before + place) as u32;
+            self.add_record(alloc, in_force, judges, domain, index, &flow_record, served)?;
+        }
+        Ok(())
+    }
+
+    /// Judges the record `flow_record`, which stands at `index` in its message, counted from 0, for each of the
+    /// subscriptions `served`, as [`add_runs`](Sums::add_runs) does.
+    ///
+    /// # Errors
+    /// Want of memory.
+    fn add_record(
+        &mut self,
+        alloc: Global,
+        in_force: &InForce,
+        judges: &mut Judges,
+        domain: u32,
+        index: u32,
+        flow_record: &RecordView<'_>,
+        served: &[Served<'_>],
+    ) -> Result<(), AllocError>
+        requires judges { JudgeFor judges.old in_force.now domain
+            (Some flow_record.now.template) served.now }
+        requires each { length judges.old.shares ≡ length served.now }
+        requires each_tally { length self.old.tallies.items ≡ length served.now }
+        ensures shares { (done : List DataRecord)
+            → judges.old.shares ≡ shares_of domain in_force.now done served.now
+            → OnOk result (judges.new.shares
+            ≡ shares_of domain in_force.now (done ++ flow_record.now ∷ []) served.now) }
+        ensures tallies { (done : List DataRecord)
+            → map tallied self.old.tallies.items ≡ tallies_of domain in_force.now done served.now
+            → OnOk result (map tallied self.new.tallies.items
+            ≡ tallies_of domain in_force.now (done ++ flow_record.now ∷ []) served.now) }
+        ensures judges { OnOk result (JudgeFor judges.new in_force.now domain
+            (Some flow_record.now.template) served.now) }
+        ensures stay { OnOk result (length judges.new.shares ≡ length served.now) }
+        ensures stay_tallies { OnOk result (length self.new.tallies.items ≡ length served.now) }
+        ensures notes { OnOk result (self.new.notes ≡ and_more self.old.notes
+            (noted_of_each domain in_force.now served.now (index, flow_record.now))) }
+    {
+        let classes = judges.classes_of(flow_record);
+        'served: for (place, who) in served.iter().enumerate() {
+            let found = judges.disclose(alloc, place, classes, flow_record)?;
+            self.add(alloc, place, index, who.sub, in_force, flow_record, found)?;
+        }
+        Ok(())
+    }
+
+    /// Adds what became of the record `flow_record`, which stands at `index` in its message, for the subscription with
+    /// the number `sub`, at `place` among those served. `found` is what the rules decided, and `in_force` says where
+    /// the record counts.
+    ///
+    /// # Errors
+    /// Want of memory.
+    fn add(
+        &mut self,
+        alloc: Global,
+        place: usize,
+        index: u32,
+        sub: u64,
+        in_force: &InForce,
+        flow_record: &RecordView<'_>,
+        found: Decision,
+    ) -> Result<(), AllocError>
+        requires within { place < length self.old.tallies.items }
+        ensures tallies { (before after : List (ℕ × List OneCount)) (s : ℕ × List OneCount)
+            → map tallied self.old.tallies.items ≡ before ++ s ∷ after → length before ≡ place
+            → OnOk result (map tallied self.new.tallies.items ≡ before ++ (
+              s.0,
+              s.1 ++ map count_of (counts_by in_force.now.policy.aggregates
+                  in_force.now.clock flow_record.now found),
+            ) ∷ after) }
+        ensures stay { OnOk result (length self.new.tallies.items ≡ length self.old.tallies.items) }
+        ensures notes { OnOk result (self.new.notes
+            ≡ and_more self.old.notes (map (note_of index sub)
+            (kept_back_by in_force.now.policy.aggregates in_force.now.clock
+            flow_record.now found))) }
+    {
+        match found {
+            Decision::Passed { removed } => self.note_removed(index, sub, removed),
+            Decision::Aggregated { rule, definition } => {
+                let flow_record = flow_record.to_record()?;
+                let what = told(rule, in_force.timing(definition, &flow_record));
+                self.note(index, sub, what)?;
+                match in_force.count(alloc, definition, &flow_record)? {
+                    Some(count) => self.tally(place, count),
+                    None => Ok(()),
+                }
+            }
+            Decision::Withheld { rule, reason } => {
+                let reason = named(reason);
+                self.note(index, sub, What::Withheld { rule, reason })
+            }
+        }
+    }
+
+    /// Adds `count` to what counts in aggregates of the subscription at `place`.
+    ///
+    /// # Errors
+    /// Want of memory.
+    fn tally(&mut self, place: usize, count: Count) -> Result<(), AllocError>
+        requires within { place < length self.old.tallies.items }
+        ensures tallies { (before after : List (ℕ × List OneCount)) (s : ℕ × List OneCount)
+            → map tallied self.old.tallies.items ≡ before ++ s ∷ after
+            → length before ≡ place → OnOk result (map tallied self.new.tallies.items
+            ≡ before ++ (s.0, s.1 ++ count ∷ []) ∷ after) }
+        ensures stay { OnOk result (length self.new.tallies.items ≡ length self.old.tallies.items) }
+        ensures notes { self.new.notes ≡ self.old.notes }
+    {
+        self.tallies[place].counts.push(count)?;
+        Ok(())
+    }
+
+    /// Notes the fields `removed` that the record at `index` loses for the subscription with the number `sub`, where
+    /// there are some.
+    ///
+    /// # Errors
+    /// Want of memory.
+    fn note_removed(
+        &mut self,
+        index: u32,
+        sub: u64,
+        removed: RemovedFields,
+    ) -> Result<(), AllocError>
+        ensures notes { OnOk result (self.new.notes
+            ≡ and_more self.old.notes (map (note_of index sub) (removed_of removed))) }
+        ensures tallies { self.new.tallies ≡ self.old.tallies }
+    {
+        if removed.is_empty() {
+            return Ok(());
+        }
+        self.note(index, sub, What::Removed { fields: removed })
+    }
+
+    /// Notes that `what` became of the record at `index` for the subscription with the number `sub`.
+    ///
+    /// # Errors
+    /// Want of memory.
+    fn note(&mut self, index: u32, sub: u64, what: What) -> Result<(), AllocError>
+        ensures notes { OnOk result (self.new.notes
+            ≡ and_more self.old.notes (note_of index sub what ∷ [])) }
+        ensures tallies { self.new.tallies ≡ self.old.tallies }
+    {
+        self.notes.push(Note { index, sub, what })
+    }
+}
+
+/// The audit's word for `reason`, for which a record is withheld by the rules.
+fn named(reason: flow_anonymize::Reason) -> disclosure_audit::Reason
+    ensures { result ≡ reason_named reason }
+{
+    match reason {
+        flow_anonymize::Reason::Rule => disclosure_audit::Reason::Rule,
+        flow_anonymize::Reason::ScopeLost => disclosure_audit::Reason::ScopeLost,
+        flow_anonymize::Reason::Empty => disclosure_audit::Reason::Empty,
+    }
+}
+
+/// What the audit says of a record that the aggregate rule with the number `rule` names, where `timing` is what became
+/// of it.
+fn told(rule: u32, timing: Timing) -> What
+    ensures { result ≡ told_of rule timing }
+{
+    let reason = match timing {
+        Timing::Placed { .. } => return What::Aggregated { rule },
+        Timing::NoTime => disclosure_audit::Reason::NoTime,
+        Timing::NoKey => disclosure_audit::Reason::NoKey,
+        Timing::Late => disclosure_audit::Reason::Late,
+    };
+    What::Withheld { rule, reason }
+}

@@ -1,6 +1,0 @@
-use Rattle.mediator_state.specs.Calls.{StandsForSome}
-use Rattle.mediator_tests.proofs.worked.expect_steps.Given as goal
-
--- after each call the state stands for some history
-abbrev pub invariant-loop-place : goal.invariant-loop-place
-invariant-loop-place g l = StandsForSome g.C.Chronicle.tells l.state

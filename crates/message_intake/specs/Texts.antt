@@ -1,9 +1,0 @@
--- What is said of a fault of a stream: its name.
-use Rattle.std.specs.Prelude.{ℕ, List, codes}
-use Rattle.message_intake.specs.declared.fault.FramingFault.{FramingFault}
-use Rattle.message_intake.specs.declared.fault.FramingFault.TheVariants.{BadVersion, BadLength, CutOff}
-
-abbrev pub text_of_framing : FramingFault → List ℕ
-text_of_framing BadVersion = codes "BadVersion"
-text_of_framing BadLength = codes "BadLength"
-text_of_framing CutOff = codes "CutOff"

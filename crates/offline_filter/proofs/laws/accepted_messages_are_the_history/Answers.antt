@@ -1,5 +1,0 @@
-use Rattle.offline_filter.proofs.PlainLaws.{history_is_plain}
-use Rattle.offline_filter.proofs.laws.accepted_messages_are_the_history.Goals as goal
-
-pub returns : goal.returns
-returns c = history_is_plain

@@ -1,5 +1,0 @@
-use Rattle.record_sharing.proofs.JudgeLaws.{AreAlike}
-use Rattle.record_sharing.proofs.judges.are_for.Given as goal
-
-abbrev pub invariant-judges : goal.invariant-judges
-invariant-judges l = AreAlike l.judges l.domain l.served l.place

@@ -1,5 +1,0 @@
-use Rattle.record_sharing.proofs.KeyLaws.{key_kinds}
-use Rattle.record_sharing.proofs.revision.Revision.of.Goals as goal
-
-pub definitions_of-requires : goal.definitions_of-requires
-definitions_of-requires c = key_kinds c.args.policy c.aggregates.result.now c.rules-rules.ensures.sound c.aggregates.ensures

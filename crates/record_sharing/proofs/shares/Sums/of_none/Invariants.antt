@@ -1,7 +1,0 @@
-use Rattle.std.proofs.Common.{◌≡◌, map, take}
-use Rattle.mediator_tables.specs.Adding.{tallied}
-use Rattle.record_sharing.specs.Sharing.{blank}
-use Rattle.record_sharing.proofs.shares.Sums.of_none.Given as goal
-
-abbrev pub invariant-served : goal.invariant-served
-invariant-served l = map tallied l.tallies.items ≡ map blank (take l.who-index l.served)
