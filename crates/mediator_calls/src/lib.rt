@@ -9,12 +9,12 @@
 //! - `fault`: [`RunFault`], [`UnknownSub`] and [`PullFault`]; the other refusals are [`mediator_state::Fault`].
 //!
 //! Proved of each call, by what contracts see of a mediator (its history, the places of its live subscriptions, how many
-//! audit entries were drained, its limits): an accepted call answers what the history says and goes on with just its
-//! entry, behind just the cuts that it makes (`ok`); a refused one changes nothing (`same`), and its fault is the first
-//! cause that stands (`err`). `journal` is the history (`entries`), and so is what `finish` leaves; every mediator keeps that what is disclosed can be
-//! streamed, that no place or drained count is past its end, that no number of a session or a subscription comes again and that
-//! no more is held than its own limits allow (`sound`): its type keeps that its state stands for its journal, and this. `Limits::are_allowed` is true exactly where each limit
-//! stands in its range.
+//! audit entries were drained, its limits): an accepted call answers what the history says and goes on with just its entry,
+//! behind just the cuts that it makes (`ok`); a refused one changes nothing (`same`), and its fault is the first cause that
+//! stands (`err`). `journal` is the history (`entries`), and so is what `finish` leaves; every mediator keeps that what is
+//! disclosed can be streamed, that no place or drained count is past its end, that no number of a session or a subscription
+//! comes again and that no more is held than its own limits allow (`sound`): its type keeps that its state stands for its
+//! journal, and this. `Limits::are_allowed` is true exactly where each limit stands in its range.
 //!
 //! Proved of each call of a counted mediator: what the mediator's call answers, leaves and refuses (`ok`, `same`, `err`), and what
 //! it adds to the counts (`counts`): an accepted message, edit, begin or end of a subscription and advance of the clock is one

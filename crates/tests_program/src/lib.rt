@@ -7,8 +7,8 @@
 //! - `devices`: of `ipmd_commands`, on devices that fail, with `places`, which of them a fault names; `memory`: where memory is
 //!   refused.
 //! - `verifying`: of `ipmd_verify`, on both; `explaining`: of `ipmd_explain`, where memory is refused.
-//! - `journals`: of `event_journal` and `journal_files`, and `histories`: of `history_verify` and `mediator_legal_runs`, both where memory
-//!   is refused; `octets`: files of journals.
+//! - `journals`: of `event_journal` and `journal_files`, and `histories`: of `history_verify` and `mediator_legal_runs`,
+//!   both where memory is refused; `octets`: files of journals.
 //!
 //! What no clause says is shown too: that a call succeeds while there is memory. Where it is refused memory it is made again,
 //! and answers as if nothing had happened.
