@@ -29,11 +29,11 @@
 //! - `served`: [`Served`], one that is served, with its subscriber's name; `share`: [`Share`], what one is given.
 //! - `live`, `names`: its two parts, the subscriptions under their numbers, and the number under each name.
 //!
-//! Proved, of every table: `get` answers the subscription of a number, and `named` the number that has a name, or that
-//! none has it. `served` answers those that are served, in their order, and `lacks_room` whether the limits of one
-//! leave no room for what it is given. `reserve` changes nothing that contracts see but the reserved room; `give` hands each
-//! subscription its records; `cut`, `insert` and `remove` change one subscription and no other; `pull` answers what the stream
-//! of one gives, and changes no other. After want of memory the table is as it was.
+//! Proved: `get` answers the subscription of a number, and `named` the number that has a name, or that none has it. `served`
+//! answers those that are served, in their order, and `lacks_room` whether the limits of one leave no room for what it is
+//! given. `reserve` changes nothing that contracts see but the reserved room; `give` hands each subscription its records;
+//! `cut`, `insert` and `remove` change one subscription and no other; `pull` answers what the stream of one gives, and changes
+//! no other. After want of memory the table is as it was.
 #![tactic(auto)]
 
 mod groups;

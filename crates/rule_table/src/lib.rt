@@ -1,6 +1,6 @@
 //! The rules of a policy in a table, by which a verdict looks at few of them, however many there are; and the classes of
-//! addresses, by which what the rules make of a record can be worked out once for many. It decides as `policy_judge` does,
-//! and nothing by itself.
+//! addresses, so that what the rules make of records whose addresses lie alike can be worked out once. It decides as
+//! `policy_judge` does, and nothing by itself.
 //!
 //! The table:
 //!
