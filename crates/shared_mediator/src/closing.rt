@@ -21,8 +21,8 @@ use mediator_calls::{CountedMediator, Mediator};
 use std::alloc::Global;
 use std::sync::ledger::Share;
 
-/// What is given back: the mediator, how many messages its exporters have receipts of, how many records its deliveries
-/// handed out, and whether a call was refused since the journal is full.
+/// What is given back: the `mediator`; how many messages its exporters have receipts of, `accepted`; how many records
+/// its deliveries were handed, `handed`; and whether a call was refused since the journal is `full`.
 #[derive(Drop)]
 pub struct Closed {
     pub mediator: Mediator,
@@ -32,13 +32,18 @@ pub struct Closed {
 }
 
 impl<E: EntryLedger, H: RecordLedger> SharedMediator<E, H> {
-    /// Gives the mediator back, where all handles that were made come back and all their receipts stand in its journal: each
-    /// message under its session, and each other call, at its position, none from before the lock, no two at one position,
-    /// each handle's own in their order. So each entry since then has its receipt.
+    /// Gives the mediator back. All handles that were made come back: `exporters`, `deliveries` and `admins`. All of
+    /// their receipts stand in its journal: each message under its session, and each other call, at its position, none
+    /// from before the lock, no two at one position, each handle's own in their order. So each entry since then that is
+    /// to have a receipt has one.
     ///
     /// # Errors
-    /// A handle is missing; a receipt doesn't stand in the journal so, where the first such is named by its handle and its
-    /// position (`names`); or memory ran out. Nothing is given back then.
+    /// - [`CloseFault::MissingHandle`]: a handle that was made is not among these.
+    /// - [`CloseFault::Mismatch`]: a receipt doesn't stand in the journal so. The first such is named by its handle and
+    ///   its position.
+    /// - [`CloseFault::OutOfMemory`].
+    ///
+    /// Nothing is given back then.
     pub fn close(
         self,
         exporters: Vec<ExporterHandle<E>>,
@@ -62,7 +67,11 @@ impl<E: EntryLedger, H: RecordLedger> SharedMediator<E, H> {
 }
 
 impl<E: EntryLedger, H: RecordLedger> Desk<E, H> {
-    /// Gives the mediator back, as `SharedMediator::close` does.
+    /// Gives the mediator back, as [`SharedMediator::close`] does, once nothing lies under the lock any more. Marks of
+    /// receipts are in memory from `alloc`.
+    ///
+    /// # Errors
+    /// Those of [`SharedMediator::close`].
     pub(crate) fn close_all(
         self,
         alloc: Global,
@@ -123,7 +132,11 @@ impl<E: EntryLedger, H: RecordLedger> Desk<E, H> {
     }
 }
 
-/// Holds all receipts against the journal, and answers how many messages were accepted.
+/// Holds all receipts of `exporters` and `admins` against the journal of `counted`, and answers how many messages were
+/// accepted. Marks are in memory from `alloc`.
+///
+/// # Errors
+/// `Mismatch` with the first receipt that doesn't stand in the journal; or want of memory.
 fn check<E: EntryLedger>(
     alloc: Global,
     counted: &CountedMediator,
@@ -148,7 +161,11 @@ fn check<E: EntryLedger>(
     Ok(accepted)
 }
 
-/// Marks the receipts of all exporters.
+/// Sets those of `marks` that are of the receipts of `exporters`, which are held against `journal`. Their handles count
+/// from 0.
+///
+/// # Errors
+/// `Mismatch` with the first receipt that doesn't stand in the journal.
 #[tactic(auto, using(crate::proofs::HandleLaws::messages_more))]
 fn mark_exporters<E: EntryLedger>(
     marks: &mut Marks,
@@ -174,7 +191,11 @@ fn mark_exporters<E: EntryLedger>(
     Ok(())
 }
 
-/// Marks the receipts of all administrators, the first of which counts as handle `first`.
+/// Sets those of `marks` that are of the receipts of `admins`, which are held against `journal`. Their handles count
+/// from `first`.
+///
+/// # Errors
+/// `Mismatch` with the first receipt that doesn't stand in the journal.
 #[tactic(auto, using(crate::proofs::HandleLaws::entries_more))]
 fn mark_admins<E: EntryLedger>(
     marks: &mut Marks,
@@ -203,7 +224,7 @@ fn mark_admins<E: EntryLedger>(
     Ok(())
 }
 
-/// All shares of the entries in one.
+/// All shares of the ledger of entries in one: what is `left` of it, and those of `exporters` and `admins`.
 fn joined_entries<E: EntryLedger>(
     left: Share<E>,
     exporters: Vec<ExporterHandle<E>>,
@@ -222,7 +243,7 @@ fn joined_entries<E: EntryLedger>(
     all
 }
 
-/// All shares of the records in one.
+/// All shares of the ledger of records in one: what is `left` of it, and those of `deliveries`.
 fn joined_records<H: RecordLedger>(left: Share<H>, deliveries: Vec<DeliveryHandle<H>>) -> Share<H>
     ensures parts { result.parts ≡ left.parts + length deliveries.items }
     ensures amount { result.amount ≡ left.amount + records_handed deliveries.items }
