@@ -161,8 +161,9 @@ impl CountedMediator {
         self.receive_judged(session, number, message, None)
     }
 
-    /// Accepts `message` as [`receive`](CountedMediator::receive) does, with `ahead`, what was judged of it without the
-    /// mediator, as [`Mediator::receive_judged`] takes that.
+    /// Accepts `message` as the next one of the session with the number `session`, which had `number` messages, as
+    /// [`receive`](CountedMediator::receive) does, with `ahead`, what was judged of it without the mediator, as
+    /// [`Mediator::receive_judged`] takes that.
     ///
     /// # Errors
     /// Those of [`Mediator::receive`].

@@ -2,9 +2,11 @@
 
 use bytes::Bytes;
 
-/// A `message` that was handed out to a subscription, and the number of `records`, Data Records, that stand in it.
+/// A message that was handed out to a subscription.
 #[derive(Debug, Drop, PartialEq, Eq)]
 pub struct Handed {
+    /// The octets of the message.
     pub message: Bytes,
+    /// How many Data Records stand in it.
     pub records: u64,
 }

@@ -140,7 +140,8 @@ impl Mediator {
         self.receive_judged(session, number, message, None)
     }
 
-    /// Accepts `message` as [`receive`](Mediator::receive) does. `ahead`, what was judged of it without the mediator
+    /// Accepts `message` as the next one of the session with the number `session`, which is to have had `number`
+    /// messages, as [`receive`](Mediator::receive) does. `ahead`, what was judged of it without the mediator
     /// ([`JudgedAhead::of`]), is taken where it is of the records that the session finds in the message, and where the
     /// policy, the clock and those who are served are still the same. It changes no answer.
     ///

@@ -9,10 +9,12 @@ use mediator_calls::{Call, Limits, Mediator, Reply, RunFault};
 use mediator_state::Fault;
 use std::alloc::Global;
 
-/// What a run leaves: the replies, one to each call, in their order; and the mediator as it is after the last call.
+/// What a run leaves.
 #[derive(Drop)]
 pub struct Transcript {
+    /// The replies, one to each call, in their order.
     pub replies: Vec<Reply>,
+    /// The mediator as it is after the last call.
     pub mediator: Mediator,
 }
 

@@ -208,9 +208,9 @@ impl<C: Chronicle + Drop> State<C> {
         self.receive_judged(session, number, message, None)
     }
 
-    /// Accepts `message` as [`receive`](State::receive) does. `ahead`, what was judged of it elsewhere, is taken where
-    /// it is of the records that the session finds in the message, and where its terms still hold. It changes no
-    /// answer.
+    /// Accepts `message` as the next one of the session with the number `session`, which is to have had `number`
+    /// messages, as [`receive`](State::receive) does. `ahead`, what was judged of it elsewhere, is taken where it is of
+    /// the records that the session finds in the message, and where its terms still hold. It changes no answer.
     ///
     /// # Errors
     /// Those of [`receive`](State::receive).
@@ -288,8 +288,9 @@ impl<C: Chronicle + Drop> State<C> {
         }
     }
 
-    /// Accepts the message `prepared`, which is lent, as [`receive_prepared`](State::receive_prepared) does. What was
-    /// judged of it is used up once it is found to be the session's next one.
+    /// Accepts the message `prepared`, which is lent, as the next one of the session with the number `session`, which
+    /// is to have had `number` messages, as [`receive_prepared`](State::receive_prepared) does. What was judged of it
+    /// is used up once it is found to be the session's next one.
     ///
     /// # Errors
     /// Those of [`receive_prepared`](State::receive_prepared), without the message.

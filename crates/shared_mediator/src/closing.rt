@@ -21,13 +21,16 @@ use mediator_calls::{CountedMediator, Mediator};
 use std::alloc::Global;
 use std::sync::ledger::Share;
 
-/// What is given back: the `mediator`; how many messages its exporters have receipts of, `accepted`; how many records
-/// its deliveries were handed, `handed`; and whether a call was refused since the journal is `full`.
+/// What is given back when sharing ends.
 #[derive(Drop)]
 pub struct Closed {
+    /// The mediator, which lies under no lock any more.
     pub mediator: Mediator,
+    /// How many messages the exporters' handles have receipts of.
     pub accepted: u64,
+    /// How many records the deliveries' handles were handed.
     pub handed: u64,
+    /// Whether a call was refused since the journal is full.
     pub full: bool,
 }
 
