@@ -100,8 +100,10 @@ impl Replay {
     /// `BadHistory` where that isn't the number of the next session; or want of memory. Nothing has changed then.
     pub(crate) fn open(&mut self, session: u64) -> Result<(), VerifyFault>
         requires short { StandsShort self.old }
+        // The entry is taken, or it is told which entry may not stand where it does.
         ensures ok { OnOk result (TakesNext self.old (Open session) self.new) }
         ensures err { IfErr result (λ e. RefusesNext e self.old (Open session)) }
+        // A refused entry changes nothing. Whether the audit is kept stays in any case.
         ensures same { OnErr result (IsSameReplay self.old self.new) }
         ensures wanted { self.new.audit.wanted ≡ self.old.audit.wanted }
     {
@@ -119,8 +121,10 @@ impl Replay {
     /// `BadHistory` where it isn't open. Nothing has changed then.
     pub(crate) fn close(&mut self, session: u64) -> Result<(), VerifyFault>
         requires short { StandsShort self.old }
+        // The entry is taken, or it is told which entry may not stand where it does.
         ensures ok { OnOk result (TakesNext self.old (Close session) self.new) }
         ensures err { IfErr result (λ e. RefusesNext e self.old (Close session)) }
+        // A refused entry changes nothing. Whether the audit is kept stays in any case.
         ensures same { OnErr result (IsSameReplay self.old self.new) }
         ensures wanted { self.new.audit.wanted ≡ self.old.audit.wanted }
     {
@@ -138,8 +142,10 @@ impl Replay {
     /// `BadHistory` where the text spells no policy; or want of memory. Nothing has changed then.
     pub(crate) fn edit(&mut self, text: &str) -> Result<(), VerifyFault>
         requires short { StandsShort self.old }
+        // The entry is taken, or it is told which entry may not stand where it does.
         ensures ok { OnOk result (TakesNext self.old (Edit text.now) self.new) }
         ensures err { IfErr result (λ e. RefusesNext e self.old (Edit text.now)) }
+        // A refused entry changes nothing. Whether the audit is kept stays in any case.
         ensures same { OnErr result (IsSameReplay self.old self.new) }
         ensures wanted { self.new.audit.wanted ≡ self.old.audit.wanted }
     {
@@ -177,8 +183,10 @@ impl Replay {
     /// memory. Nothing has changed then.
     pub(crate) fn subscribe(&mut self, sub: u64, name: &Name) -> Result<(), VerifyFault>
         requires short { StandsShort self.old }
+        // The entry is taken, or it is told which entry may not stand where it does.
         ensures ok { OnOk result (TakesNext self.old (Subscribe sub name.now) self.new) }
         ensures err { IfErr result (λ e. RefusesNext e self.old (Subscribe sub name.now)) }
+        // A refused entry changes nothing. Whether the audit is kept stays in any case.
         ensures same { OnErr result (IsSameReplay self.old self.new) }
         ensures wanted { self.new.audit.wanted ≡ self.old.audit.wanted }
     {
@@ -196,8 +204,10 @@ impl Replay {
     /// `BadHistory` where it isn't live. Nothing has changed then.
     pub(crate) fn unsubscribe(&mut self, sub: u64) -> Result<(), VerifyFault>
         requires short { StandsShort self.old }
+        // The entry is taken, or it is told which entry may not stand where it does.
         ensures ok { OnOk result (TakesNext self.old (Unsubscribe sub) self.new) }
         ensures err { IfErr result (λ e. RefusesNext e self.old (Unsubscribe sub)) }
+        // A refused entry changes nothing. Whether the audit is kept stays in any case.
         ensures same { OnErr result (IsSameReplay self.old self.new) }
         ensures wanted { self.new.audit.wanted ≡ self.old.audit.wanted }
     {
@@ -319,7 +329,9 @@ impl Replay {
     pub(crate) fn unborne_by(&mut self, reading: &Reading) -> Result<Option<usize>, AllocError>
         requires short { StandsShort self.old }
         requires few { length reading.now.meaning.records ≤ 2 ^ 32 }
+        // Nothing changes.
         ensures same { self.new ≡ self.old }
+        // The place is that of the first such cut, by the definitions.
         ensures within { IfOk result (λ place. IfSome place
             (λ n. n < length self.old.waiting.items)) }
         ensures first { IfOk result (λ place.
@@ -374,12 +386,14 @@ impl Replay {
         requires planned { (settled h : List Entry) × (number : ℕ) × (octets : List ℕ)
             × StandsOver self.old settled h × IsReadOf h session number octets reading
             × IsJudged self.old.audit.wanted h (Message session number octets) judged }
+        // The entry is taken, where it bears out the cuts that wait.
         ensures ok { OnOk result ((settled h : List Entry) (number : ℕ) (octets : List ℕ)
             → StandsOver self.old settled h → IsReadOf h session number octets reading
             → AllByRecursion (λ sub. given_at sub settled (Message session number octets) ≢ [])
             self.old.waiting.items
             → IsJudged self.old.audit.wanted h (Message session number octets) judged
             → IsTaken self.new h (Message session number octets)) }
+        // Want of memory changes nothing. Whether the audit is kept stays in any case.
         ensures same { OnErr result (IsSameReplay self.old self.new) }
         ensures wanted { self.new.audit.wanted ≡ self.old.audit.wanted }
     {
@@ -443,10 +457,12 @@ impl Replay {
     pub(crate) fn advance(&mut self, t: u64) -> Result<(), AllocError>
         requires short { StandsShort self.old }
         requires accepted { (h : List Entry) → Stands self.old h → IsAccepted h (Advance t) }
+        // The entry is taken, where it bears out the cuts that wait.
         ensures ok { OnOk result ((settled h : List Entry) → StandsOver self.old settled h
             → IsAccepted h (Advance t)
             → AllByRecursion (λ sub. given_at sub settled (Advance t) ≢ []) self.old.waiting.items
             → IsTaken self.new h (Advance t)) }
+        // Want of memory changes nothing. Whether the audit is kept stays in any case.
         ensures same { OnErr result (IsSameReplay self.old self.new) }
         ensures wanted { self.new.audit.wanted ≡ self.old.audit.wanted }
     {

@@ -90,10 +90,12 @@ impl Subscribers {
     pub(crate) fn begin(&mut self, sub: u64, name: &Name) -> Result<(), AllocError>
         requires next { sub ≡ length self.old.begun.items + 1 }
         requires free { number_of self.old name.now ≡ None }
+        // It is live and served then.
         ensures ok { OnOk result ((h : List Entry) → AreSubscribers self.old h
             → AreSubscribers self.new (h ++ Subscribe sub name.now ∷ [])) }
         // A name is one by its type.
         ensures named { OnOk result (is_name name.now ≡ true) }
+        // Want of memory changes nothing.
         ensures err { OnErr result (SameSubscribers self.old self.new) }
     {
         self.begun.reserve(1)?;

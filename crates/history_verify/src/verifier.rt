@@ -60,10 +60,12 @@ impl Verifier {
     /// a cut that waits; or [`VerifyFault::OutOfMemory`]. Nothing has changed then.
     pub fn feed(&mut self, entry: &Entry) -> Result<(), VerifyFault>
         requires short { IsFedShort self.old }
+        // The entry is taken, or it is told which entry may not stand where it does.
         ensures ok { OnOk result ((h : List OneEntry) → IsFed self.old h
             → IsFed self.new (h ++ entry.now ∷ [])) }
         ensures err { IfErr result (λ e. (h : List OneEntry) → IsFed self.old h
             → NamesFirstOfAny e (h ++ entry.now ∷ [])) }
+        // A refused entry changes nothing. Whether the audit is kept stays in any case.
         ensures same { OnErr result ((h : List OneEntry) → IsFed self.old h → IsFed self.new h) }
         ensures wanted { keeps_audit self.new ≡ keeps_audit self.old }
     {
@@ -138,9 +140,11 @@ impl Verifier {
     /// Want of memory, and then nothing has changed.
     fn cut(&mut self, sub: u64) -> Result<(), VerifyFault>
         requires short { IsFedShort self.old }
+        // The cut is taken, and waits for what bears it out.
         ensures ok { OnOk result ((h : List OneEntry) → IsFed self.old h
             → IsFed self.new (h ++ Cut sub ∷ [])) }
         ensures err { IfErr result (λ e. e ≡ OutOfMemory) }
+        // Want of memory changes nothing. Whether the audit is kept stays in any case.
         ensures same { OnErr result ((h : List OneEntry) → IsFed self.old h → IsFed self.new h) }
         ensures wanted { keeps_audit self.new ≡ keeps_audit self.old }
     {
@@ -160,10 +164,12 @@ impl Verifier {
     /// has changed then.
     fn message(&mut self, session: u64, number: u64, octets: &Bytes) -> Result<(), VerifyFault>
         requires short { IsFedShort self.old }
+        // The entry is taken, or it is told which entry may not stand where it does.
         ensures ok { OnOk result ((h : List OneEntry) → IsFed self.old h
             → IsFed self.new (h ++ Message session number octets.now ∷ [])) }
         ensures err { IfErr result (λ e. (h : List OneEntry) → IsFed self.old h
             → NamesFirstOfAny e (h ++ Message session number octets.now ∷ [])) }
+        // A refused entry changes nothing. Whether the audit is kept stays in any case.
         ensures same { OnErr result ((h : List OneEntry) → IsFed self.old h → IsFed self.new h) }
         ensures wanted { keeps_audit self.new ≡ keeps_audit self.old }
     {
@@ -182,10 +188,12 @@ impl Verifier {
     /// has changed then.
     fn advance(&mut self, t: u64) -> Result<(), VerifyFault>
         requires short { IsFedShort self.old }
+        // The entry is taken, or it is told which entry may not stand where it does.
         ensures ok { OnOk result ((h : List OneEntry) → IsFed self.old h
             → IsFed self.new (h ++ Advance t ∷ [])) }
         ensures err { IfErr result (λ e. (h : List OneEntry) → IsFed self.old h
             → NamesFirstOfAny e (h ++ Advance t ∷ [])) }
+        // A refused entry changes nothing. Whether the audit is kept stays in any case.
         ensures same { OnErr result ((h : List OneEntry) → IsFed self.old h → IsFed self.new h) }
         ensures wanted { keeps_audit self.new ≡ keeps_audit self.old }
     {
@@ -207,8 +215,10 @@ impl Verifier {
     fn borne_out(&self, unborne: Option<usize>) -> Result<(), VerifyFault>
         requires short { IsFedShort self.now }
         requires within { IfSome unborne (λ place. place < length self.now.replay.waiting.items) }
+        // Answered Ok, all cuts that wait are borne out, and none stands behind them that may not.
         ensures none { OnOk result (unborne ≡ None) }
         ensures behind { OnOk result (self.now.behind ≡ 0) }
+        // Else the first bad one is named.
         ensures err { IfErr result (λ e. NamesUnborne e self.now unborne) }
     {
         match unborne {

@@ -212,6 +212,7 @@ impl CountedMediator {
         ensures ok { IfOk result (λ receipt.
             Receives self.old.core session.0 number prepared.message receipt self.new.core) }
         ensures counts { OnOk result (Counts self.old 1 0 0 self.new) }
+        // A refused call changes nothing, names the first cause and hands the message back.
         ensures same { OnErr result (self.new ≡ self.old) }
         ensures err { IfErr result (λ e.
             RefusesReceivePrepared e.0 self.old.core session.0 number prepared) }

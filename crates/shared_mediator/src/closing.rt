@@ -54,12 +54,15 @@ impl<E: EntryLedger, H: RecordLedger> SharedMediator<E, H> {
         admins: Vec<AdminHandle<E>>,
     ) -> Result<Closed, CloseFault>
         requires all { (E.parts ≡ E.all) × (H.parts ≡ H.all) }
+        // Each receipt stands in the journal, and each entry that is to have one has it.
         ensures receipts { IfOk result (λ closed. HasReceipts E.before closed.mediator.history
             (receipts_of exporters.items admins.items)) }
         ensures messages { OnOk result (AllByRecursion KeepsMessages exporters.items) }
+        // The counts are the sums of what the handles keep.
         ensures accepted { IfOk result (λ closed.
             closed.accepted ≡ messages_accepted exporters.items) }
         ensures handed { IfOk result (λ closed. closed.handed ≡ records_handed deliveries.items) }
+        // The first receipt that doesn't stand there is named.
         ensures names { length exporters.items + length admins.items < 2 ^ 64 → IfErr result (λ e.
             NamesReceiptBehind E.before e (receipts_of exporters.items admins.items)) }
     {
@@ -83,18 +86,22 @@ impl<E: EntryLedger, H: RecordLedger> Desk<E, H> {
         admins: Vec<AdminHandle<E>>,
     ) -> Result<Closed, CloseFault>
         requires all { (E.parts ≡ E.all) × (H.parts ≡ H.all) }
+        // Each receipt stands in the journal, and each entry that is to have one has it.
         ensures mediator { IfOk result (λ closed. closed.mediator ≡ self.counted.core) }
         ensures receipts { IfOk result (λ closed. HasReceipts E.before closed.mediator.history
             (receipts_of exporters.items admins.items)) }
         ensures messages { OnOk result (AllByRecursion KeepsMessages exporters.items) }
+        // The counts are the sums of what the handles keep.
         ensures accepted { IfOk result (λ closed.
             closed.accepted ≡ messages_accepted exporters.items) }
         ensures handed { IfOk result (λ closed. closed.handed ≡ records_handed deliveries.items) }
         ensures full { IfOk result (λ closed. closed.full ≡ self.full) }
+        // The totals of the books are what the handles keep, and no handle is missing.
         ensures book { OnOk result (entries_kept exporters.items admins.items
             ≡ entries_of self.counted) }
         ensures all { OnOk result (AreAll self (length exporters.items) (length deliveries.items)
             (length admins.items)) }
+        // The first receipt that doesn't stand there is named.
         ensures names { length exporters.items + length admins.items < 2 ^ 64 → IfErr result (λ e.
             NamesReceiptBehind E.before e (receipts_of exporters.items admins.items)) }
         ensures err { IfErr result (λ e. RefusesClosing e self (length exporters.items)
@@ -146,11 +153,14 @@ fn check<E: EntryLedger>(
     exporters: &[ExporterHandle<E>],
     admins: &[AdminHandle<E>],
 ) -> Result<u64, CloseFault>
+    // Each receipt stands in the journal.
     ensures marked { OnOk result ((marks : Marked) × (marks.from ≡ counted.now.from)
         × AreMarked marks counted.now.core.history (receipts_of exporters.now admins.now)) }
     ensures messages { OnOk result (AllByRecursion KeepsMessages exporters.now) }
     ensures entries { OnOk result (AllByRecursion (AllByRecursion HasReceipt) admins.now) }
+    // The count is the sum of what exporters keep.
     ensures accepted { IfOk result (λ accepted. accepted ≡ messages_accepted exporters.now) }
+    // The first receipt that doesn't stand there is named.
     ensures names { length exporters.now + length admins.now < 2 ^ 64
         → IfErr result (λ e. NamesReceipt e counted.now.from counted.now.core.history
         (receipts_of exporters.now admins.now)) }
@@ -175,11 +185,13 @@ fn mark_exporters<E: EntryLedger>(
     journal: &Journal,
     exporters: &[ExporterHandle<E>],
 ) -> Result<(), CloseFault>
+    // Each receipt stands in the journal, beside those that were marked before.
     ensures from { marks.new.from ≡ marks.old.from }
     ensures ok { OnOk result ((handles : List (List KeptEntry))
         → AreMarked marks.old journal.now.entries handles
         → AreMarked marks.new journal.now.entries (handles ++ map (λ h. h.kept) exporters.now)) }
     ensures messages { OnOk result (AllByRecursion KeepsMessages exporters.now) }
+    // The first receipt that doesn't stand there is named.
     ensures names { IfErr result (λ e. AreMarked marks.old journal.now.entries []
         → NamesReceipt e marks.old.from journal.now.entries (map (λ h. h.kept) exporters.now)) }
     ensures err { IfErr result (λ e. e ≢ MissingHandle) }
@@ -206,11 +218,13 @@ fn mark_admins<E: EntryLedger>(
     first: u64,
     admins: &[AdminHandle<E>],
 ) -> Result<(), CloseFault>
+    // Each receipt stands in the journal, beside those that were marked before.
     ensures from { marks.new.from ≡ marks.old.from }
     ensures ok { OnOk result ((handles : List (List KeptEntry))
         → AreMarked marks.old journal.now.entries handles
         → AreMarked marks.new journal.now.entries (handles ++ admins.now)) }
     ensures entries { OnOk result (AllByRecursion (AllByRecursion HasReceipt) admins.now) }
+    // The first receipt that doesn't stand there is named.
     ensures names { first + length admins.now < 2 ^ 64 → IfErr result (λ e.
         (handles : List (List KeptEntry)) → AreMarked marks.old journal.now.entries handles
         → length handles ≡ first

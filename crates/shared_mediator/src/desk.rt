@@ -81,12 +81,14 @@ impl<E: EntryLedger, H: RecordLedger> Desk<E, H> {
     pub(crate) fn new(mediator: Mediator, handles: u64, entries: Blank, handed: Blank) -> Desk<E, H>
         requires fresh { handed_live mediator ≡ 0 }
         requires before { E.before ≡ mediator.history }
+        // The ledgers are blank, with a part for each handle that may come and one for the desk.
         requires entries_name { entries.name ≡ E.name }
         requires entries_parts { (entries.parts ≡ E.parts) × (E.parts ≡ E.all)
             × (E.all ≡ 2 * handles + 1) }
         requires handed_name { handed.name ≡ H.name }
         requires handed_parts { (handed.parts ≡ H.parts) × (H.parts ≡ H.all)
             × (H.all ≡ handles + 1) }
+        // No handle was made yet.
         ensures { result ≡ locked_as (counted_as mediator (length mediator.history) 0)
             handles 0 0 0 false false }
     {
@@ -113,6 +115,7 @@ impl<E: EntryLedger, H: RecordLedger> Desk<E, H> {
     /// [`HandleFault::NoHandle`] where as many exporters were made as there may be; or [`HandleFault::Core`] with a
     /// fault of [`CountedMediator::open`].
     pub(crate) fn exporter(&mut self) -> Result<OpenedSession<E>, HandleFault>
+        // A session is opened, and one handle more is made, with a share that counts nothing.
         ensures ok { IfOk result (λ opened.
             Opens self.old.counted.core opened.session.0 self.new.counted.core) }
         ensures counts { OnOk result (Makes 0 0 0 1 0 0 self.old self.new) }
@@ -120,6 +123,7 @@ impl<E: EntryLedger, H: RecordLedger> Desk<E, H> {
             × (opened.share.amount ≡ 0)) }
         ensures position { IfOk result (λ opened.
             opened.position ≡ length self.old.counted.core.history) }
+        // A refusal changes nothing, but may note that the journal is full.
         ensures same { IfErr result (λ e. self.new ≡ noted (is_full_handle e) self.old) }
         ensures err { IfErr result (λ e. RefusesExporter e self.old) }
     {
@@ -145,9 +149,11 @@ impl<E: EntryLedger, H: RecordLedger> Desk<E, H> {
     /// [`HandleFault::Core`] with [`Fault::UnknownSub`] where it isn't live; or [`HandleFault::NoHandle`] where as many
     /// deliveries were made as there may be.
     pub(crate) fn delivery(&mut self, sub: SubId) -> Result<Share<H>, HandleFault>
+        // One handle more is made, with a share that counts nothing.
         ensures live { OnOk result (is_live sub.0 self.old.counted.core.history ≡ true) }
         ensures counts { OnOk result (Makes 0 0 0 0 1 0 self.old self.new) }
         ensures share { IfOk result (λ share. (share.parts ≡ 1) × (share.amount ≡ 0)) }
+        // A refusal changes nothing.
         ensures same { OnErr result (self.new ≡ self.old) }
         ensures err { IfErr result (λ e. RefusesDelivery e self.old sub.0) }
     {
@@ -192,11 +198,13 @@ impl<E: EntryLedger, H: RecordLedger> Desk<E, H> {
         ahead: Option<JudgedAhead>,
     ) -> Result<Receipt, Fault>
         requires part { 0 < share.old.parts }
+        // What the counted mediator's call does, with one entry more on the books and in the share.
         ensures ok { IfOk result (λ receipt.
             Receives self.old.counted.core session.0 number message receipt self.new.counted.core) }
         ensures counts { OnOk result (Adds 1 0 0 self.old self.new) }
         ensures share { OnOk result (share.new.amount ≡ share.old.amount + 1) }
         ensures part { share.new.parts ≡ share.old.parts }
+        // A refusal changes nothing, but may note that the journal is full.
         ensures same { IfErr result (λ e. (self.new ≡ noted (is_full e) self.old)
             × (share.new ≡ share.old)) }
         ensures err { IfErr result (λ e.
@@ -237,11 +245,13 @@ impl<E: EntryLedger, H: RecordLedger> Desk<E, H> {
         prepared: Prepared,
     ) -> Result<Receipt, (Fault, Prepared)>
         requires part { 0 < share.old.parts }
+        // What the counted mediator's call does, with one entry more on the books and in the share.
         ensures ok { IfOk result (λ receipt. Receives self.old.counted.core session.0 number
             prepared.message receipt self.new.counted.core) }
         ensures counts { OnOk result (Adds 1 0 0 self.old self.new) }
         ensures share { OnOk result (share.new.amount ≡ share.old.amount + 1) }
         ensures part { share.new.parts ≡ share.old.parts }
+        // A refusal changes nothing, but may note that the journal is full. The message is handed back.
         ensures same { IfErr result (λ e. (self.new ≡ noted (is_full e.0) self.old)
             × (share.new ≡ share.old)) }
         ensures err { IfErr result (λ e.
@@ -287,6 +297,7 @@ impl<E: EntryLedger, H: RecordLedger> Desk<E, H> {
         target: u16,
     ) -> Result<Option<Handed>, PullFault>
         requires part { 0 < share.old.parts }
+        // What the counted mediator's call does, with the records of the message on the books and in the share.
         ensures sound { IsSound self.old.counted.core }
         ensures ok { IfOk result (λ answer.
             HandsOut self.old.counted sub.0 now target answer self.new.counted) }
@@ -294,6 +305,7 @@ impl<E: EntryLedger, H: RecordLedger> Desk<E, H> {
         ensures share { IfOk result (λ answer.
             share.new.amount ≡ share.old.amount + records_of answer) }
         ensures part { share.new.parts ≡ share.old.parts }
+        // A refusal changes nothing.
         ensures same { OnErr result ((self.new ≡ self.old) × (share.new ≡ share.old)) }
         ensures err { IfErr result (λ e. RefusesHanding e self.old.counted sub.0) }
     {
@@ -328,6 +340,7 @@ impl<E: EntryLedger, H: RecordLedger> Desk<E, H> {
     /// Those of [`CountedMediator::edit`].
     pub(crate) fn edit(&mut self, share: &mut Share<E>, text: &str) -> Result<Accepted, Fault>
         requires part { 0 < share.old.parts }
+        // What the counted mediator's call does, with one entry more on the books and in the share.
         ensures ok { IfOk result (λ accepted.
             Edits self.old.counted.core text.now accepted.number self.new.counted.core) }
         ensures last { IfOk result (λ accepted.
@@ -335,6 +348,7 @@ impl<E: EntryLedger, H: RecordLedger> Desk<E, H> {
         ensures counts { OnOk result (Adds 1 0 0 self.old self.new) }
         ensures share { OnOk result (share.new.amount ≡ share.old.amount + 1) }
         ensures part { share.new.parts ≡ share.old.parts }
+        // A refusal changes nothing, but may note that the journal is full.
         ensures same { IfErr result (λ e. (self.new ≡ noted (is_full e) self.old)
             × (share.new ≡ share.old)) }
         ensures err { IfErr result (λ e. RefusesEdit e (journal_limits self.old.counted.core.limits)
@@ -357,6 +371,7 @@ impl<E: EntryLedger, H: RecordLedger> Desk<E, H> {
     /// Those of [`CountedMediator::subscribe`].
     pub(crate) fn subscribe(&mut self, share: &mut Share<E>, name: &str) -> Result<Accepted, Fault>
         requires part { 0 < share.old.parts }
+        // What the counted mediator's call does, with one entry more on the books and in the share.
         ensures ok { IfOk result (λ accepted.
             Subscribes self.old.counted.core name.now accepted.number self.new.counted.core) }
         ensures last { IfOk result (λ accepted.
@@ -364,6 +379,7 @@ impl<E: EntryLedger, H: RecordLedger> Desk<E, H> {
         ensures counts { OnOk result (Adds 1 0 0 self.old self.new) }
         ensures share { OnOk result (share.new.amount ≡ share.old.amount + 1) }
         ensures part { share.new.parts ≡ share.old.parts }
+        // A refusal changes nothing, but may note that the journal is full.
         ensures same { IfErr result (λ e. (self.new ≡ noted (is_full e) self.old)
             × (share.new ≡ share.old)) }
         ensures err { IfErr result (λ e. RefusesSubscribe e
@@ -386,6 +402,7 @@ impl<E: EntryLedger, H: RecordLedger> Desk<E, H> {
     /// Those of [`CountedMediator::unsubscribe`].
     pub(crate) fn unsubscribe(&mut self, share: &mut Share<E>, sub: SubId) -> Result<u64, Fault>
         requires part { 0 < share.old.parts }
+        // What the counted mediator's call does, with one entry more on the books and in the share.
         ensures ok { OnOk result (Unsubscribes self.old.counted.core sub.0 self.new.counted.core) }
         ensures last { IfOk result (λ position.
             position + 1 ≡ length self.new.counted.core.history) }
@@ -393,6 +410,7 @@ impl<E: EntryLedger, H: RecordLedger> Desk<E, H> {
             (Adds 1 0 (handed_at self.old.counted.core sub.0) self.old self.new) }
         ensures share { OnOk result (share.new.amount ≡ share.old.amount + 1) }
         ensures part { share.new.parts ≡ share.old.parts }
+        // A refusal changes nothing, but may note that the journal is full.
         ensures same { IfErr result (λ e. (self.new ≡ noted (is_full e) self.old)
             × (share.new ≡ share.old)) }
         ensures err { IfErr result (λ e. RefusesUnsubscribe e
@@ -415,12 +433,14 @@ impl<E: EntryLedger, H: RecordLedger> Desk<E, H> {
     /// Those of [`CountedMediator::advance`].
     pub(crate) fn advance(&mut self, share: &mut Share<E>, t: u64) -> Result<u64, Fault>
         requires part { 0 < share.old.parts }
+        // What the counted mediator's call does, with one entry more on the books and in the share.
         ensures ok { OnOk result (Advances self.old.counted.core t self.new.counted.core) }
         ensures last { IfOk result (λ position.
             position + 1 ≡ length self.new.counted.core.history) }
         ensures counts { OnOk result (Adds 1 0 0 self.old self.new) }
         ensures share { OnOk result (share.new.amount ≡ share.old.amount + 1) }
         ensures part { share.new.parts ≡ share.old.parts }
+        // A refusal changes nothing, but may note that the journal is full.
         ensures same { IfErr result (λ e. (self.new ≡ noted (is_full e) self.old)
             × (share.new ≡ share.old)) }
         ensures err { IfErr result (λ e. RefusesAdvance e self.old.counted.core t) }

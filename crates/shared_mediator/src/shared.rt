@@ -43,6 +43,7 @@ impl<E: EntryLedger, H: RecordLedger> SharedMediator<E, H> {
     ) -> SharedMediator<E, H>
         requires fresh { handed_live mediator ≡ 0 }
         requires before { E.before ≡ mediator.history }
+        // The ledgers are blank, with a part for each handle that may come and one for the desk.
         requires entries_name { entries.name ≡ E.name }
         requires entries_parts { (entries.parts ≡ E.parts) × (E.parts ≡ E.all)
             × (E.all ≡ 2 * handles + 1) }
