@@ -135,8 +135,8 @@ impl Journal {
         self.entries.get(position as usize)
     }
 
-    /// The text of the last edit, which is the policy in force at the end, or `None` where the journal has no edit. It
-    /// takes no memory, and time in proportion to the entries behind that edit.
+    /// The text of the last edit, or `None` where the journal has none. It takes no memory, and time in proportion to
+    /// the entries behind that edit.
     pub fn last_edit(&self) -> Option<&str>
         ensures { option_copied result ≡ last_edit self.now.entries }
     {
