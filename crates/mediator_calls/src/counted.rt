@@ -1,4 +1,4 @@
-//! A mediator and the counts of what it took in and handed out.
+//! A mediator with the counts of what it took in and handed out, for those who call it from several threads.
 ghost use Rattle.std.specs.Prelude.{◌≡◌, ◌≤◌, [], take, false, length, IsOk, IfOk, IfErr, OnOk, OnErr};
 ghost use Rattle.mediator_history.specs.Subscriptions.{is_live};
 ghost use Rattle.mediator_state.specs.Calls.{IsSnapshot, RefusesSnapshot, RefusesClose, RefusesEdit, RefusesSubscribe, RefusesUnsubscribe};
@@ -20,8 +20,8 @@ use std::marker::Model;
 /// A mediator that counts the records that it hands out, and knows from which entry of its journal on its callers keep
 /// receipts.
 ///
-/// Contracts see the mediator; the place in its journal; and how many records the subscriptions had that have ended. A call
-/// that is refused changes nothing of that.
+/// Contracts see the mediator, that place in its journal, and how many records were handed to the subscriptions that
+/// have ended. A call that is refused changes nothing of that.
 pub struct CountedMediator {
     mediator: Mediator,
     /// The journal's length when this value was made.
@@ -55,7 +55,8 @@ impl Model for CountedMediator {
 }
 
 impl CountedMediator {
-    /// Counts from here on.
+    /// The mediator `mediator`, counted from here on: its callers keep receipts of the entries that come, and no live
+    /// subscription was handed anything yet.
     pub fn new(mediator: Mediator) -> CountedMediator
         requires fresh { handed_live mediator ≡ 0 }
         ensures { result ≡ counted_as mediator (length mediator.history) 0 }
@@ -69,14 +70,14 @@ impl CountedMediator {
         }
     }
 
-    /// The mediator.
+    /// The mediator, lent.
     pub fn mediator(&self) -> &Mediator
         ensures { result.now ≡ self.now.core }
     {
         &self.mediator
     }
 
-    /// The mediator, counted no more.
+    /// The mediator, which is counted no more.
     pub fn into_mediator(self) -> Mediator
         ensures { result ≡ self.core }
     {
@@ -96,7 +97,7 @@ impl CountedMediator {
         self.mediator.journal().len()
     }
 
-    /// The journal's length when counting began.
+    /// How many entries the journal had when counting began.
     pub fn from(&self) -> u64
         ensures value { result ≡ self.now.from }
         ensures within { self.now.from ≤ length self.now.core.history }
@@ -104,14 +105,14 @@ impl CountedMediator {
         self.from
     }
 
-    /// How many records were handed out.
+    /// How many records were handed out to all subscriptions, those that have ended and those that are live.
     pub fn handed(&self) -> u64
         ensures { result ≡ handed_of self.now }
     {
         self.handed
     }
 
-    /// Opens a session, as [`Mediator::open`] does.
+    /// Opens a session, as [`Mediator::open`] does, and answers its number.
     ///
     /// # Errors
     /// Those of [`Mediator::open`].
@@ -125,7 +126,7 @@ impl CountedMediator {
         self.mediator.open()
     }
 
-    /// Closes a session, as [`Mediator::close`] does.
+    /// Closes the session with the number `session`, as [`Mediator::close`] does.
     ///
     /// # Errors
     /// Those of [`Mediator::close`].
@@ -140,7 +141,8 @@ impl CountedMediator {
         self.mediator.close(session)
     }
 
-    /// Accepts a session's next message, as [`Mediator::receive`] does: one entry more is counted.
+    /// Accepts `message` as the next one of the session with the number `session`, which had `number` messages, as
+    /// [`Mediator::receive`] does. One entry more is counted.
     ///
     /// # Errors
     /// Those of [`Mediator::receive`].
@@ -159,7 +161,9 @@ impl CountedMediator {
         self.receive_judged(session, number, message, None)
     }
 
-    /// The same, with what was judged of the message ahead, as [`Mediator::receive_judged`] does.
+    /// Accepts `message` as the next one of the session with the number `session`, which had `number` messages, as
+    /// [`receive`](CountedMediator::receive) does, with `ahead`, what was judged of it without the mediator, as
+    /// [`Mediator::receive_judged`] takes that.
     ///
     /// # Errors
     /// Those of [`Mediator::receive`].
@@ -181,7 +185,8 @@ impl CountedMediator {
             .receive_judged(session, number, message, ahead)
     }
 
-    /// The templates of a session, as [`Mediator::snapshot`] gives them: no entry more is counted.
+    /// The templates of the session with the number `session`, as [`Mediator::snapshot`] gives them. No entry more is
+    /// counted.
     ///
     /// # Errors
     /// Those of [`Mediator::snapshot`].
@@ -193,10 +198,11 @@ impl CountedMediator {
         self.mediator.snapshot(session)
     }
 
-    /// Accepts a session's next message that was prepared, as [`Mediator::receive_prepared`] does: one entry more is counted.
+    /// Accepts `prepared` as the next message of the session with the number `session`, which had `number` messages, as
+    /// [`Mediator::receive_prepared`] does. One entry more is counted.
     ///
     /// # Errors
-    /// Those of [`Mediator::receive_prepared`].
+    /// Those of [`Mediator::receive_prepared`], with the message beside.
     pub fn receive_prepared(
         &mut self,
         session: SessionId,
@@ -206,6 +212,7 @@ impl CountedMediator {
         ensures ok { IfOk result (λ receipt.
             Receives self.old.core session.0 number prepared.message receipt self.new.core) }
         ensures counts { OnOk result (Counts self.old 1 0 0 self.new) }
+        // A refused call changes nothing, names the first cause and hands the message back.
         ensures same { OnErr result (self.new ≡ self.old) }
         ensures err { IfErr result (λ e.
             RefusesReceivePrepared e.0 self.old.core session.0 number prepared) }
@@ -215,7 +222,8 @@ impl CountedMediator {
         self.mediator.receive_prepared(session, number, prepared)
     }
 
-    /// Puts a policy in force, as [`Mediator::edit`] does: one entry more is counted.
+    /// Puts the policy that `text` spells in force, as [`Mediator::edit`] does, and answers how many edits there were
+    /// then. One entry more is counted.
     ///
     /// # Errors
     /// Those of [`Mediator::edit`].
@@ -230,7 +238,8 @@ impl CountedMediator {
         self.mediator.edit(text)
     }
 
-    /// Begins a subscription, as [`Mediator::subscribe`] does: one entry more is counted.
+    /// Begins a subscription for a subscriber of this `name`, as [`Mediator::subscribe`] does, and answers its number.
+    /// One entry more is counted.
     ///
     /// # Errors
     /// Those of [`Mediator::subscribe`].
@@ -245,8 +254,8 @@ impl CountedMediator {
         self.mediator.subscribe(name)
     }
 
-    /// Ends a subscription, as [`Mediator::unsubscribe`] does: one entry more is counted, and the records that it was handed
-    /// are those of one that has ended.
+    /// Ends the subscription with the number `sub`, as [`Mediator::unsubscribe`] does. One entry more is counted, and
+    /// the records that it was handed stay counted, as those of one that has ended.
     ///
     /// # Errors
     /// Those of [`Mediator::unsubscribe`].
@@ -268,7 +277,7 @@ impl CountedMediator {
         Ok(())
     }
 
-    /// Advances the clock, as [`Mediator::advance`] does: one entry more is counted.
+    /// Advances the clock to `t`, in milliseconds since 1970, as [`Mediator::advance`] does. One entry more is counted.
     ///
     /// # Errors
     /// Those of [`Mediator::advance`].
@@ -282,10 +291,13 @@ impl CountedMediator {
         self.mediator.advance(t)
     }
 
-    /// Builds a subscription's next message, as [`Mediator::pull`] does, and counts its records as handed out.
+    /// Builds the next message of the subscription with the number `sub`, as [`Mediator::pull`] does with `now` and
+    /// `target`, and counts its records as handed out; or answers `None` where nothing waits.
     ///
     /// # Errors
-    /// No subscription with this number is live; the count has no room for all that waits; or memory ran out.
+    /// [`PullFault::Core`] with [`Fault::UnknownSub`] where the subscription isn't live; [`PullFault::HandedFull`]
+    /// where the count has no room for all that waits for it; or [`PullFault::Core`] with [`Fault::OutOfMemory`].
+    /// Nothing has changed then.
     pub fn pull(&mut self, sub: SubId, now: u32, target: u16) -> Result<Option<Handed>, PullFault>
         ensures ok { IfOk result (λ answer. HandsOut self.old sub.0 now target answer self.new) }
         ensures same { OnErr result (self.new ≡ self.old) }
@@ -315,10 +327,10 @@ impl CountedMediator {
         }
     }
 
-    /// How a live subscription stands.
+    /// How the live subscription with the number `sub` stands.
     ///
     /// # Errors
-    /// No subscription with this number is live.
+    /// [`UnknownSub`] where no subscription with this number is live.
     pub fn status(&self, sub: SubId) -> Result<Status, UnknownSub>
         ensures ok { IfOk result (λ status. IsStatusOf self.now.core sub.0 status) }
         ensures err { OnErr result (is_live sub.0 self.now.core.history ≡ false) }
@@ -326,13 +338,15 @@ impl CountedMediator {
         self.mediator.status(sub)
     }
 
-    /// Whether one of these shares, which a message would give, has no room in its subscription's queue until some of what waits
-    /// is pulled, and has room then: so that the message cuts a subscription now, and may not cut it later.
+    /// Whether one of `shares`, which a message would give, has no room in its subscription's queue until some of what
+    /// waits is pulled, and has room then: so the message cuts a subscription now, and may not cut it later.
     pub fn is_held_up(&self, shares: &[Share]) -> bool {
         self.mediator.is_held_up(shares)
     }
 
-    /// The same of what an advance of the clock to `t` would close. Not where there is no memory to find that out.
+    /// Whether what an advance of the clock to `t`, in milliseconds since 1970, would close for a subscription has no
+    /// room in its queue until some of what waits is pulled, and has room then. It is false where there is no memory to
+    /// find that out.
     pub fn is_advance_held_up(&self, t: u64) -> bool {
         self.mediator.is_advance_held_up(t)
     }
@@ -342,10 +356,10 @@ impl CountedMediator {
         self.mediator.audit_waiting()
     }
 
-    /// Hands out the oldest `most` of the audit's entries that wait, as [`Mediator::drain_audit`] does.
+    /// Hands out the oldest `most` of the audit's entries that wait, in their order, as [`Mediator::drain_audit`] does.
     ///
     /// # Errors
-    /// Want of memory.
+    /// Want of memory, and then nothing has changed. Where no entry is handed out, there is no error.
     pub fn drain_audit(&mut self, most: u32) -> Result<Vec<AuditEntry>, AllocError>
         ensures ok { IfOk result (λ out. Drains self.old.core most out.items self.new.core) }
         ensures counts { OnOk result (Counts self.old 0 0 0 self.new) }

@@ -1,14 +1,14 @@
-//! Why a mediator isn't made, why a status isn't told, and why a counted mediator hands out nothing.
+//! Why a mediator isn't made, why no status is told, and why a counted mediator hands out nothing.
 
 use mediator_state::Fault;
 use std::alloc::AllocError;
 use std::error::Error;
 use std::fmt::{self, Display, Formatter, Write};
 
-/// Why a mediator, or a run, isn't begun. Its text is its name.
+/// Why a mediator, or a run, isn't begun. A fault's text is its name.
 #[derive(Clone, Copy, Debug, PartialEq, Eq)]
 pub enum RunFault {
-    /// A limit is out of its range.
+    /// A limit is out of its range, which [`Limits`](crate::Limits) tells.
     BadLimits,
     /// Want of memory.
     OutOfMemory,
@@ -41,7 +41,7 @@ impl From<AllocError> for RunFault {
     }
 }
 
-/// No subscription with this number is live. Its text is its name.
+/// No subscription with this number is live. The text of this fault is its name.
 #[derive(Clone, Copy, Debug, PartialEq, Eq)]
 pub struct UnknownSub;
 
@@ -58,12 +58,12 @@ impl Display for UnknownSub {
     }
 }
 
-/// Why a counted mediator hands out nothing. Its text is its name, or the mediator's fault.
+/// Why a counted mediator hands out nothing. A fault's text is its name, or the name of the mediator's fault.
 #[derive(Clone, Copy, Debug, PartialEq, Eq)]
 pub enum PullFault {
-    /// The count of records handed out, with those that wait, would come to 2^64.
+    /// The count of the records that were handed out, with those that wait, would come to 2^64.
     HandedFull,
-    /// The mediator's own refusal.
+    /// The mediator refuses the pull for this reason.
     Core(Fault),
 }
 

@@ -1,4 +1,4 @@
-//! What lies under the lock.
+//! What lies under the lock: the mediator, with the books of what each handle adds to it.
 ghost use Rattle.std.specs.Prelude.{◌≡◌, ◌+◌, ◌*◌, ◌<◌, [], take, true, false, length, IsOk, IfOk, IfErr, OnOk, OnErr};
 ghost use Rattle.mediator_history.specs.Subscriptions.{is_live};
 ghost use Rattle.mediator_state.specs.Calls.{IsSnapshot, RefusesSnapshot, RefusesClose, RefusesEdit, RefusesSubscribe, RefusesUnsubscribe};
@@ -26,8 +26,9 @@ use std::sync::ledger::{Blank, Book, Share};
 
 /// A mediator, the books of what the handles' calls added to it, and the shares that no handle has.
 ///
-/// Contracts see the counted mediator, how many handles there are and may be, whether all is to stop, and whether a call was
-/// refused since the journal is full. The books' totals are the mediator's counts: that is kept.
+/// Contracts see the counted mediator, how many handles there are and may be, whether all is to stop, and whether a
+/// call was refused since the journal is full. The books' totals are the mediator's counts: that is kept. A call that
+/// is refused changes nothing of it, but for the note that the journal is full.
 #[derive(Drop)]
 pub(crate) struct Desk<E: EntryLedger, H: RecordLedger> {
     pub(crate) counted: CountedMediator,
@@ -57,7 +58,8 @@ impl<E: EntryLedger, H: RecordLedger> Model for Desk<E, H> {
         (ledgered_as d.handed.total d.handed_left.parts d.handed_left.amount) };
 }
 
-/// A session that was opened: its number, the position in the journal at which it begins, and its exporter's share.
+/// A session that was opened: its number `session`, the `position` in the journal at which it begins, and its
+/// exporter's `share`.
 #[derive(Drop)]
 pub(crate) struct OpenedSession<E: EntryLedger> {
     pub(crate) session: SessionId,
@@ -65,7 +67,7 @@ pub(crate) struct OpenedSession<E: EntryLedger> {
     pub(crate) share: Share<E>,
 }
 
-/// What was accepted: the entry's position in the journal, and the number that the call answers.
+/// What was accepted: the `position` of its entry in the journal, and the `number` that the call answers.
 #[derive(Clone, Copy, Debug, PartialEq, Eq)]
 pub(crate) struct Accepted {
     pub(crate) position: u64,
@@ -73,16 +75,20 @@ pub(crate) struct Accepted {
 }
 
 impl<E: EntryLedger, H: RecordLedger> Desk<E, H> {
-    /// A desk with no handle yet.
+    /// A desk over `mediator`, with no handle yet, and at most `handles` of each kind to come. `entries` and `handed`
+    /// are the blank ledgers of what the handles add: of entries with a part for each exporter, each administrator and
+    /// the desk, and of records with a part for each delivery and the desk.
     pub(crate) fn new(mediator: Mediator, handles: u64, entries: Blank, handed: Blank) -> Desk<E, H>
         requires fresh { handed_live mediator ≡ 0 }
         requires before { E.before ≡ mediator.history }
+        // The ledgers are blank, with a part for each handle that may come and one for the desk.
         requires entries_name { entries.name ≡ E.name }
         requires entries_parts { (entries.parts ≡ E.parts) × (E.parts ≡ E.all)
             × (E.all ≡ 2 * handles + 1) }
         requires handed_name { handed.name ≡ H.name }
         requires handed_parts { (handed.parts ≡ H.parts) × (H.parts ≡ H.all)
             × (H.all ≡ handles + 1) }
+        // No handle was made yet.
         ensures { result ≡ locked_as (counted_as mediator (length mediator.history) 0)
             handles 0 0 0 false false }
     {
@@ -103,8 +109,13 @@ impl<E: EntryLedger, H: RecordLedger> Desk<E, H> {
         }
     }
 
-    /// Opens a session, with a share for its exporter.
+    /// Opens a session, with a share of the ledger of entries for its exporter.
+    ///
+    /// # Errors
+    /// [`HandleFault::NoHandle`] where as many exporters were made as there may be; or [`HandleFault::Core`] with a
+    /// fault of [`CountedMediator::open`].
     pub(crate) fn exporter(&mut self) -> Result<OpenedSession<E>, HandleFault>
+        // A session is opened, and one handle more is made, with a share that counts nothing.
         ensures ok { IfOk result (λ opened.
             Opens self.old.counted.core opened.session.0 self.new.counted.core) }
         ensures counts { OnOk result (Makes 0 0 0 1 0 0 self.old self.new) }
@@ -112,6 +123,7 @@ impl<E: EntryLedger, H: RecordLedger> Desk<E, H> {
             × (opened.share.amount ≡ 0)) }
         ensures position { IfOk result (λ opened.
             opened.position ≡ length self.old.counted.core.history) }
+        // A refusal changes nothing, but may note that the journal is full.
         ensures same { IfErr result (λ e. self.new ≡ noted (is_full_handle e) self.old) }
         ensures err { IfErr result (λ e. RefusesExporter e self.old) }
     {
@@ -131,11 +143,17 @@ impl<E: EntryLedger, H: RecordLedger> Desk<E, H> {
         })
     }
 
-    /// A share for a delivery to a live subscription.
+    /// A share of the ledger of records for the delivery to the live subscription with the number `sub`.
+    ///
+    /// # Errors
+    /// [`HandleFault::Core`] with [`Fault::UnknownSub`] where it isn't live; or [`HandleFault::NoHandle`] where as many
+    /// deliveries were made as there may be.
     pub(crate) fn delivery(&mut self, sub: SubId) -> Result<Share<H>, HandleFault>
+        // One handle more is made, with a share that counts nothing.
         ensures live { OnOk result (is_live sub.0 self.old.counted.core.history ≡ true) }
         ensures counts { OnOk result (Makes 0 0 0 0 1 0 self.old self.new) }
         ensures share { IfOk result (λ share. (share.parts ≡ 1) × (share.amount ≡ 0)) }
+        // A refusal changes nothing.
         ensures same { OnErr result (self.new ≡ self.old) }
         ensures err { IfErr result (λ e. RefusesDelivery e self.old sub.0) }
     {
@@ -149,7 +167,10 @@ impl<E: EntryLedger, H: RecordLedger> Desk<E, H> {
         Ok(self.handed_left.split_off(1, 0))
     }
 
-    /// A share for an administrator.
+    /// A share of the ledger of entries for an administrator.
+    ///
+    /// # Errors
+    /// [`HandleFault::NoHandle`] where as many administrators were made as there may be.
     pub(crate) fn admin(&mut self) -> Result<Share<E>, HandleFault>
         ensures counts { OnOk result (Makes 0 0 0 0 0 1 self.old self.new) }
         ensures share { IfOk result (λ share. (share.parts ≡ 1) × (share.amount ≡ 0)) }
@@ -163,7 +184,11 @@ impl<E: EntryLedger, H: RecordLedger> Desk<E, H> {
         Ok(self.entries_left.split_off(1, 0))
     }
 
-    /// Accepts a session's next message, with what was judged of it ahead, and adds it to a share.
+    /// Accepts `message` as the next one of the session with the number `session`, which had `number` messages, with
+    /// `ahead`, what was judged of it without the lock; and adds the entry to `share`.
+    ///
+    /// # Errors
+    /// Those of [`CountedMediator::receive_judged`].
     pub(crate) fn receive(
         &mut self,
         share: &mut Share<E>,
@@ -173,11 +198,13 @@ impl<E: EntryLedger, H: RecordLedger> Desk<E, H> {
         ahead: Option<JudgedAhead>,
     ) -> Result<Receipt, Fault>
         requires part { 0 < share.old.parts }
+        // What the counted mediator's call does, with one entry more on the books and in the share.
         ensures ok { IfOk result (λ receipt.
             Receives self.old.counted.core session.0 number message receipt self.new.counted.core) }
         ensures counts { OnOk result (Adds 1 0 0 self.old self.new) }
         ensures share { OnOk result (share.new.amount ≡ share.old.amount + 1) }
         ensures part { share.new.parts ≡ share.old.parts }
+        // A refusal changes nothing, but may note that the journal is full.
         ensures same { IfErr result (λ e. (self.new ≡ noted (is_full e) self.old)
             × (share.new ≡ share.old)) }
         ensures err { IfErr result (λ e.
@@ -192,7 +219,10 @@ impl<E: EntryLedger, H: RecordLedger> Desk<E, H> {
         }
     }
 
-    /// The templates of a session as they stand.
+    /// The templates of the session with the number `session` as they stand.
+    ///
+    /// # Errors
+    /// Those of [`CountedMediator::snapshot`].
     pub(crate) fn snapshot(&mut self, session: SessionId) -> Result<Snapshot, Fault>
         ensures ok { IfOk result (IsSnapshot self.old.counted.core.history session.0) }
         ensures same { self.new ≡ self.old }
@@ -202,7 +232,11 @@ impl<E: EntryLedger, H: RecordLedger> Desk<E, H> {
         self.counted.snapshot(session)
     }
 
-    /// Accepts a session's next message that was prepared, and adds it to a share.
+    /// Accepts `prepared` as the next message of the session with the number `session`, which had `number` messages;
+    /// and adds the entry to `share`.
+    ///
+    /// # Errors
+    /// Those of [`CountedMediator::receive_prepared`], with the message beside.
     pub(crate) fn receive_prepared(
         &mut self,
         share: &mut Share<E>,
@@ -211,11 +245,13 @@ impl<E: EntryLedger, H: RecordLedger> Desk<E, H> {
         prepared: Prepared,
     ) -> Result<Receipt, (Fault, Prepared)>
         requires part { 0 < share.old.parts }
+        // What the counted mediator's call does, with one entry more on the books and in the share.
         ensures ok { IfOk result (λ receipt. Receives self.old.counted.core session.0 number
             prepared.message receipt self.new.counted.core) }
         ensures counts { OnOk result (Adds 1 0 0 self.old self.new) }
         ensures share { OnOk result (share.new.amount ≡ share.old.amount + 1) }
         ensures part { share.new.parts ≡ share.old.parts }
+        // A refusal changes nothing, but may note that the journal is full. The message is handed back.
         ensures same { IfErr result (λ e. (self.new ≡ noted (is_full e.0) self.old)
             × (share.new ≡ share.old)) }
         ensures err { IfErr result (λ e.
@@ -231,7 +267,10 @@ impl<E: EntryLedger, H: RecordLedger> Desk<E, H> {
         }
     }
 
-    /// Closes a session.
+    /// Closes the session with the number `session`.
+    ///
+    /// # Errors
+    /// Those of [`CountedMediator::close`].
     pub(crate) fn close(&mut self, session: SessionId) -> Result<(), Fault>
         ensures ok { OnOk result (Closes self.old.counted.core session.0 self.new.counted.core) }
         ensures counts { OnOk result (Adds 0 0 0 self.old self.new) }
@@ -245,7 +284,11 @@ impl<E: EntryLedger, H: RecordLedger> Desk<E, H> {
         }
     }
 
-    /// Builds a subscription's next message, and adds its records to a share.
+    /// Builds the next message of the subscription with the number `sub`, with `now` and `target`, and adds its records
+    /// to `share`.
+    ///
+    /// # Errors
+    /// Those of [`CountedMediator::pull`].
     pub(crate) fn pull(
         &mut self,
         share: &mut Share<H>,
@@ -254,6 +297,7 @@ impl<E: EntryLedger, H: RecordLedger> Desk<E, H> {
         target: u16,
     ) -> Result<Option<Handed>, PullFault>
         requires part { 0 < share.old.parts }
+        // What the counted mediator's call does, with the records of the message on the books and in the share.
         ensures sound { IsSound self.old.counted.core }
         ensures ok { IfOk result (λ answer.
             HandsOut self.old.counted sub.0 now target answer self.new.counted) }
@@ -261,6 +305,7 @@ impl<E: EntryLedger, H: RecordLedger> Desk<E, H> {
         ensures share { IfOk result (λ answer.
             share.new.amount ≡ share.old.amount + records_of answer) }
         ensures part { share.new.parts ≡ share.old.parts }
+        // A refusal changes nothing.
         ensures same { OnErr result ((self.new ≡ self.old) × (share.new ≡ share.old)) }
         ensures err { IfErr result (λ e. RefusesHanding e self.old.counted sub.0) }
     {
@@ -275,7 +320,7 @@ impl<E: EntryLedger, H: RecordLedger> Desk<E, H> {
         }
     }
 
-    /// What a wait of this subscription's delivery ends with, if it ends now.
+    /// What a wait of the delivery to the subscription with the number `sub` ends with, if it ends now.
     pub(crate) fn waited(&self, sub: SubId) -> Option<Waited>
         ensures { IsWaited self.now sub.0 result }
     {
@@ -288,9 +333,14 @@ impl<E: EntryLedger, H: RecordLedger> Desk<E, H> {
         }
     }
 
-    /// Puts a policy in force, and adds the edit to a share.
+    /// Puts the policy that `text` spells in force, and adds the entry to `share`. It answers the entry's position and
+    /// how many edits there were.
+    ///
+    /// # Errors
+    /// Those of [`CountedMediator::edit`].
     pub(crate) fn edit(&mut self, share: &mut Share<E>, text: &str) -> Result<Accepted, Fault>
         requires part { 0 < share.old.parts }
+        // What the counted mediator's call does, with one entry more on the books and in the share.
         ensures ok { IfOk result (λ accepted.
             Edits self.old.counted.core text.now accepted.number self.new.counted.core) }
         ensures last { IfOk result (λ accepted.
@@ -298,6 +348,7 @@ impl<E: EntryLedger, H: RecordLedger> Desk<E, H> {
         ensures counts { OnOk result (Adds 1 0 0 self.old self.new) }
         ensures share { OnOk result (share.new.amount ≡ share.old.amount + 1) }
         ensures part { share.new.parts ≡ share.old.parts }
+        // A refusal changes nothing, but may note that the journal is full.
         ensures same { IfErr result (λ e. (self.new ≡ noted (is_full e) self.old)
             × (share.new ≡ share.old)) }
         ensures err { IfErr result (λ e. RefusesEdit e (journal_limits self.old.counted.core.limits)
@@ -313,9 +364,14 @@ impl<E: EntryLedger, H: RecordLedger> Desk<E, H> {
         }
     }
 
-    /// Begins a subscription, and adds that to a share.
+    /// Begins a subscription for a subscriber of this `name`, and adds the entry to `share`. It answers the entry's
+    /// position and the number of the subscription.
+    ///
+    /// # Errors
+    /// Those of [`CountedMediator::subscribe`].
     pub(crate) fn subscribe(&mut self, share: &mut Share<E>, name: &str) -> Result<Accepted, Fault>
         requires part { 0 < share.old.parts }
+        // What the counted mediator's call does, with one entry more on the books and in the share.
         ensures ok { IfOk result (λ accepted.
             Subscribes self.old.counted.core name.now accepted.number self.new.counted.core) }
         ensures last { IfOk result (λ accepted.
@@ -323,6 +379,7 @@ impl<E: EntryLedger, H: RecordLedger> Desk<E, H> {
         ensures counts { OnOk result (Adds 1 0 0 self.old self.new) }
         ensures share { OnOk result (share.new.amount ≡ share.old.amount + 1) }
         ensures part { share.new.parts ≡ share.old.parts }
+        // A refusal changes nothing, but may note that the journal is full.
         ensures same { IfErr result (λ e. (self.new ≡ noted (is_full e) self.old)
             × (share.new ≡ share.old)) }
         ensures err { IfErr result (λ e. RefusesSubscribe e
@@ -339,9 +396,13 @@ impl<E: EntryLedger, H: RecordLedger> Desk<E, H> {
         }
     }
 
-    /// Ends a subscription, adds that to a share, and answers the entry's position.
+    /// Ends the subscription with the number `sub`, and adds the entry to `share`. It answers the entry's position.
+    ///
+    /// # Errors
+    /// Those of [`CountedMediator::unsubscribe`].
     pub(crate) fn unsubscribe(&mut self, share: &mut Share<E>, sub: SubId) -> Result<u64, Fault>
         requires part { 0 < share.old.parts }
+        // What the counted mediator's call does, with one entry more on the books and in the share.
         ensures ok { OnOk result (Unsubscribes self.old.counted.core sub.0 self.new.counted.core) }
         ensures last { IfOk result (λ position.
             position + 1 ≡ length self.new.counted.core.history) }
@@ -349,6 +410,7 @@ impl<E: EntryLedger, H: RecordLedger> Desk<E, H> {
             (Adds 1 0 (handed_at self.old.counted.core sub.0) self.old self.new) }
         ensures share { OnOk result (share.new.amount ≡ share.old.amount + 1) }
         ensures part { share.new.parts ≡ share.old.parts }
+        // A refusal changes nothing, but may note that the journal is full.
         ensures same { IfErr result (λ e. (self.new ≡ noted (is_full e) self.old)
             × (share.new ≡ share.old)) }
         ensures err { IfErr result (λ e. RefusesUnsubscribe e
@@ -364,16 +426,21 @@ impl<E: EntryLedger, H: RecordLedger> Desk<E, H> {
         }
     }
 
-    /// Advances the clock, adds that to a share, and answers the entry's position: the last one, behind the cuts that the
-    /// advance makes.
+    /// Advances the clock to `t`, in milliseconds since 1970, and adds the entry to `share`. It answers the entry's
+    /// position, which is the last one, behind the cuts that the advance makes.
+    ///
+    /// # Errors
+    /// Those of [`CountedMediator::advance`].
     pub(crate) fn advance(&mut self, share: &mut Share<E>, t: u64) -> Result<u64, Fault>
         requires part { 0 < share.old.parts }
+        // What the counted mediator's call does, with one entry more on the books and in the share.
         ensures ok { OnOk result (Advances self.old.counted.core t self.new.counted.core) }
         ensures last { IfOk result (λ position.
             position + 1 ≡ length self.new.counted.core.history) }
         ensures counts { OnOk result (Adds 1 0 0 self.old self.new) }
         ensures share { OnOk result (share.new.amount ≡ share.old.amount + 1) }
         ensures part { share.new.parts ≡ share.old.parts }
+        // A refusal changes nothing, but may note that the journal is full.
         ensures same { IfErr result (λ e. (self.new ≡ noted (is_full e) self.old)
             × (share.new ≡ share.old)) }
         ensures err { IfErr result (λ e. RefusesAdvance e self.old.counted.core t) }
@@ -387,7 +454,10 @@ impl<E: EntryLedger, H: RecordLedger> Desk<E, H> {
         }
     }
 
-    /// Hands out audit entries.
+    /// Hands out the oldest `most` of the audit's entries that wait, in their order.
+    ///
+    /// # Errors
+    /// Want of memory.
     pub(crate) fn drain_audit(&mut self, most: u32) -> Result<Vec<AuditEntry>, AllocError>
         ensures ok { IfOk result (λ out.
             Drains self.old.counted.core most out.items self.new.counted.core) }
@@ -398,7 +468,10 @@ impl<E: EntryLedger, H: RecordLedger> Desk<E, H> {
         self.counted.drain_audit(most)
     }
 
-    /// How a live subscription stands.
+    /// How the live subscription with the number `sub` stands.
+    ///
+    /// # Errors
+    /// [`UnknownSub`] where none with this number is live.
     pub(crate) fn status(&self, sub: SubId) -> Result<Status, UnknownSub>
         ensures ok { IfOk result (λ status. IsStatusOf self.now.counted.core sub.0 status) }
         ensures err { OnErr result (is_live sub.0 self.now.counted.core.history ≡ false) }
@@ -406,12 +479,15 @@ impl<E: EntryLedger, H: RecordLedger> Desk<E, H> {
         self.counted.status(sub)
     }
 
-    /// Whether one of these shares has no room in its subscription's queue until some of what waits is pulled.
+    /// Whether one of `shares`, which a message would give, has no room in its subscription's queue until some of what
+    /// waits is pulled, and has room then.
     pub(crate) fn is_held_up(&self, shares: &[Given]) -> bool {
         self.counted.is_held_up(shares)
     }
 
-    /// The same of what an advance of the clock to `t` would close.
+    /// Whether what an advance of the clock to `t`, in milliseconds since 1970, would close for a subscription has no
+    /// room in its queue until some of what waits is pulled, and has room then. It is false where there is no memory to
+    /// find that out.
     pub(crate) fn is_advance_held_up(&self, t: u64) -> bool {
         self.counted.is_advance_held_up(t)
     }
@@ -426,7 +502,7 @@ impl<E: EntryLedger, H: RecordLedger> Desk<E, H> {
         }
     }
 
-    /// All is to stop: a wait for which nothing is queued ends.
+    /// Notes that all is to stop: a wait for which nothing is queued ends.
     pub(crate) fn stop(&mut self)
         ensures { self.new ≡ locked_as self.old.counted self.old.handles self.old.exporters
             self.old.deliveries self.old.admins true self.old.full }
@@ -441,7 +517,7 @@ impl<E: EntryLedger, H: RecordLedger> Desk<E, H> {
         self.full
     }
 
-    /// Notes a refusal of the mediator, where that is that the journal is full; and hands it on.
+    /// Notes `fault`, a refusal of the mediator, where it is that the journal is full; and hands it on.
     fn note(&mut self, fault: Fault) -> Fault
         ensures same { result ≡ fault }
         ensures noted { self.new ≡ noted (is_full fault) self.old }
@@ -451,7 +527,7 @@ impl<E: EntryLedger, H: RecordLedger> Desk<E, H> {
     }
 }
 
-/// Whether a refusal is that the journal is full.
+/// Whether `fault` is that the journal is full.
 fn is_full(fault: Fault) -> bool
     ensures { result ≡ is_full fault }
 {
