@@ -8,7 +8,7 @@ use Rattle.prepared_message.specs.declared.fault.PrepareFault.{PrepareFault}
 use Rattle.prepared_message.specs.Preparation.{Preparation}
 use Rattle.decode_workers.specs.Workers.{Tables, AreAnswers}
 use Rattle.event_journal.specs.declared.entry.Entry.TheVariants.{Message}
-use Rattle.entry_receipts.specs.declared.kept.KeptEntry.{KeptEntry}
+use Rattle.shared_mediator.specs.declared.kept.KeptEntry.{KeptEntry}
 use Rattle.shared_mediator.specs.Locked.{Exporting}
 use Rattle.mediator_server.specs.declared.fault.ServeFault.{ServeFault}
 use Rattle.mediator_server.specs.Serving.{messages_from, IsRefusalOf, Offers, RefusesAmong}

@@ -10,7 +10,7 @@ use Rattle.message_intake.specs.declared.fault.FramingFault.TheVariants as frami
 use Rattle.message_intake.specs.Intake.{IntakeState}
 use Rattle.event_journal.specs.declared.entry.Entry.{Entry}
 use Rattle.event_journal.specs.declared.entry.Entry.TheVariants.{Message}
-use Rattle.entry_receipts.specs.declared.kept.KeptEntry.{KeptEntry}
+use Rattle.shared_mediator.specs.declared.kept.KeptEntry.{KeptEntry}
 use Rattle.mediator_state.specs.declared.fault.Fault.{Fault}
 use Rattle.mediator_state.specs.declared.fault.Fault.TheVariants as fault
 use Rattle.mediator_calls.specs.declared.fault.PullFault.TheVariants as pull

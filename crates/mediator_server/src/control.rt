@@ -1,8 +1,8 @@
 //! What a connection asks of its server, beyond the mediator.
 
 use admin_lines::Topic;
-use entry_receipts::KeptEntry;
 use mediator_state::Receipt;
+use shared_mediator::KeptEntry;
 use std::alloc::AllocError;
 
 /// How long a call waits for room in a queue before it cuts a subscription.

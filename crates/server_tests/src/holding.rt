@@ -4,13 +4,14 @@ use crate::hands::{ENOUGH, PASS, SMALL, begin, hands, limits_of, offer_all};
 use crate::octets::{FLOW_TO_80, FLOW_TO_443, NOW, ONE_AND_TWO, ONE_RECORD, TWO_MORE, TWO_RECORDS};
 use crate::stage::{Case, Hands, play};
 use admin_lines::Topic;
-use entry_receipts::KeptEntry;
 use faulty_devices::{Narrow, Sparing};
 use mediator_core::SubId;
 use mediator_server::{Control, Patience, Reception, deliver, serve_admin, serve_exporter};
 use mediator_state::Receipt;
 use octet_devices::Device;
-use shared_mediator::{AdminHandle, DeliveryHandle, EntryLedger, RecordLedger, SharedMediator};
+use shared_mediator::{
+    AdminHandle, DeliveryHandle, EntryLedger, KeptEntry, RecordLedger, SharedMediator,
+};
 use std::alloc::{AllocError, Global};
 use std::cell::{Cell, RefCell};
 use std::io::ErrorKind::{BrokenPipe, ConnectionReset};

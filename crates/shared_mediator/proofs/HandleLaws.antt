@@ -4,7 +4,7 @@ use Rattle.std.specs.List.{AllByRecursion}
 use Rattle.std.proofs.lemmas.List.{length-append, take_more}
 use Rattle.sequences.proofs.ListLaws.{AllByRecursion-append}
 use Rattle.event_journal.specs.declared.entry.Entry.TheVariants.{Message}
-use Rattle.entry_receipts.specs.declared.kept.KeptEntry.{KeptEntry}
+use Rattle.shared_mediator.specs.declared.kept.KeptEntry.{KeptEntry}
 use Rattle.mediator_calls.specs.declared.handed.Handed.{Handed}
 use Rattle.mediator_calls.specs.Counted.{has_receipt}
 use Rattle.shared_mediator.specs.Locked.{Exporting}

@@ -1,6 +1,6 @@
 -- What contracts see of what lies under the lock, and of the handles.
 use Rattle.std.specs.Prelude.{ℕ, Bool, List}
-use Rattle.entry_receipts.specs.declared.kept.KeptEntry.{KeptEntry}
+use Rattle.shared_mediator.specs.declared.kept.KeptEntry.{KeptEntry}
 use Rattle.mediator_calls.specs.declared.handed.Handed.{Handed}
 use Rattle.mediator_calls.specs.Counted.{Counted}
 

@@ -4,10 +4,10 @@ ghost use Rattle.event_journal.specs.declared.entry.Entry.TheVariants.{Edit, Sub
 ghost use Rattle.std.specs.List.{AllByRecursion};
 ghost use Rattle.shared_mediator.specs.Handles.{HasReceipt, KeepsEntry};
 
+use crate::kept::KeptEntry;
 use crate::ledgers::{EntryLedger, RecordLedger};
 use crate::shared::SharedMediator;
 use disclosure_audit::AuditEntry;
-use entry_receipts::KeptEntry;
 use event_journal::{Entry, PolicyText};
 use mediator_calls::{SubId, UnknownSub};
 use mediator_state::{Fault, Status};
@@ -29,7 +29,7 @@ pub struct AdminHandle<E: EntryLedger> {
 
 impl<E: EntryLedger> Model for AdminHandle<E> {
     ghost use Rattle.std.specs.Prelude.{List};
-    ghost use Rattle.entry_receipts.specs.declared.kept.KeptEntry.{KeptEntry};
+    ghost use Rattle.shared_mediator.specs.declared.kept.KeptEntry.{KeptEntry};
     ghost use Rattle.shared_mediator.specs.Handles.{IsAdministering};
 
     ghost Value = { List KeptEntry };

@@ -1,8 +1,8 @@
 //! The end of sharing: all handles come back, and their receipts are held against the journal.
 ghost use Rattle.std.specs.Prelude.{◌≡◌, ◌≢◌, ◌+◌, ◌<◌, ◌^◌, [], ◌++◌, List, map, length, IfOk, IfErr, OnOk};
 ghost use Rattle.std.specs.List.{AllByRecursion};
-ghost use Rattle.entry_receipts.specs.declared.kept.KeptEntry.{KeptEntry};
-ghost use Rattle.entry_receipts.specs.Marking.{Marked, AreMarked};
+ghost use Rattle.shared_mediator.specs.declared.kept.KeptEntry.{KeptEntry};
+ghost use Rattle.shared_mediator.specs.Marking.{Marked, AreMarked};
 ghost use Rattle.mediator_calls.specs.Counted.{entries_of};
 ghost use Rattle.shared_mediator.specs.declared.fault.CloseFault.TheVariants.{MissingHandle};
 ghost use Rattle.shared_mediator.specs.Handles.{HasReceipt};
@@ -14,8 +14,8 @@ use crate::desk::Desk;
 use crate::exporter::ExporterHandle;
 use crate::fault::CloseFault;
 use crate::ledgers::{EntryLedger, RecordLedger};
+use crate::marks::Marks;
 use crate::shared::SharedMediator;
-use entry_receipts::Marks;
 use event_journal::Journal;
 use mediator_calls::{CountedMediator, Mediator};
 use std::alloc::Global;

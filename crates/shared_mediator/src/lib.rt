@@ -4,6 +4,8 @@
 //!
 //! - `shared`: [`SharedMediator`]. `closing`: `SharedMediator::close`, with [`Closed`].
 //! - `exporter`, `delivery`, `admin`: [`ExporterHandle`], [`DeliveryHandle`] with [`Waited`], and [`AdminHandle`].
+//! - `kept`: [`KeptEntry`], the receipt of a call: the entry that it added, and the position that it was told. `marks`: [`Marks`],
+//!   which holds the receipts of each caller against a journal.
 //! - `desk`: what lies under the lock, and what each call does there. `ledgers`: [`EntryLedger`] and [`RecordLedger`].
 //! - `fault`: [`HandleFault`] and [`CloseFault`]. `fill`: [`Fill`], how full the journal and the audit are.
 //!
@@ -24,6 +26,13 @@
 //! (`receipts`); `accepted` and `handed` are the sums of what exporters and deliveries keep. Where a receipt doesn't, it names
 //! the first such one by its handle and its position (`names`).
 //!
+//! Of receipts: where `mark` answers Ok for each of some lists of receipts, each kept entry stands in the journal at its
+//! position, none before the place from which on the marks began, no two at one position, and each list's own in their order
+//! (`ok`); where it refuses a list, one of these would not hold with that list behind the others (`err`), and it names the
+//! first receipt of the list for which that is so (`first`); `count` is the number of these receipts (`receipts`). So where
+//! there are as many receipts as entries that are to have one, each of those has its own (the lemma `complete`). Journal and
+//! receipts are this project's own; no RFC speaks of them.
+//!
 //! No clause can say what lies under a lock at the moment at which a public call takes it, so what a call through a handle
 //! answers beyond that is shown by tests. Nothing promises that a thread gets on or that a wait ends. `offer` wakes the
 //! deliveries that wait; `offer_silently` leaves that to `wake`.
@@ -36,7 +45,9 @@ mod desk;
 mod exporter;
 mod fault;
 mod fill;
+mod kept;
 mod ledgers;
+mod marks;
 mod shared;
 
 pub use admin::AdminHandle;
@@ -45,5 +56,7 @@ pub use delivery::{DeliveryHandle, Waited};
 pub use exporter::ExporterHandle;
 pub use fault::{CloseFault, HandleFault};
 pub use fill::Fill;
+pub use kept::KeptEntry;
 pub use ledgers::{EntryLedger, RecordLedger};
+pub use marks::Marks;
 pub use shared::SharedMediator;

@@ -10,10 +10,10 @@ use Rattle.event_journal.specs.declared.entry.Entry.{Entry}
 use Rattle.mediator_history.specs.Numbers.{is_in, AreDistinct}
 use Rattle.mediator_history.proofs.HistoryLaws.{flat_map-push}
 use Rattle.mediator_history.proofs.ListFilters.{is_in-append, distinct_push}
-use Rattle.entry_receipts.specs.declared.kept.KeptEntry.{KeptEntry}
-use Rattle.entry_receipts.specs.Receipts.{Stands, positions, AreInOrder, all_kept, AreReceipts, IsFirstRefused}
-use Rattle.entry_receipts.specs.Marking.{Marked, AreMarked, marked_as}
-use Rattle.entry_receipts.proofs.MarkLists.{get_set_same, get_set_other, count_unset, none_set}
+use Rattle.shared_mediator.specs.declared.kept.KeptEntry.{KeptEntry}
+use Rattle.shared_mediator.specs.Receipts.{Stands, positions, AreInOrder, all_kept, AreReceipts, IsFirstRefused}
+use Rattle.shared_mediator.specs.Marking.{Marked, AreMarked, marked_as}
+use Rattle.shared_mediator.proofs.MarkLists.{get_set_same, get_set_other, count_unset, none_set}
 
 -- ---- numbers in a list
 

@@ -3,7 +3,7 @@ use Rattle.std.specs.Prelude.{◌≡◌, ℕ, ◌+◌, ◌≤◌, Bool, true, Li
 use Rattle.std.specs.List.{flat_map, AllByRecursion}
 use Rattle.event_journal.specs.declared.entry.Entry.{Entry}
 use Rattle.mediator_history.specs.Numbers.{is_in, AreDistinct}
-use Rattle.entry_receipts.specs.declared.kept.KeptEntry.{KeptEntry}
+use Rattle.shared_mediator.specs.declared.kept.KeptEntry.{KeptEntry}
 
 -- the entry stands in the history at its position, which isn't before the place
 pub record Stands (from : ℕ) (h : List Entry) (k : KeptEntry) : Type 0 where

@@ -1,8 +1,8 @@
 use Rattle.std.proofs.Common.{◌∙◌, rules, tests}
 use Rattle.std.proofs.lemmas.Iterator.{YieldsList-from_slice}
 use Rattle.std.proofs.lemmas.Iterator.Consumers.{YieldsList-from_filter, YieldsList-at, count_from_yields_List}
-use Rattle.entry_receipts.proofs.MarkLaws.{count_handles}
-use Rattle.entry_receipts.proofs.marks.Marks.count.Goals as goal
+use Rattle.shared_mediator.proofs.MarkLaws.{count_handles}
+use Rattle.shared_mediator.proofs.marks.Marks.count.Goals as goal
 
 pub returns-clause-receipts : goal.returns-clause-receipts
 returns-clause-receipts c h handles so =

@@ -1,6 +1,6 @@
 use Rattle.std.proofs.Common.{◌≡◌}
-use Rattle.entry_receipts.proofs.MarkLaws.{IsMarking}
-use Rattle.entry_receipts.proofs.marks.Marks.mark.Given as goal
+use Rattle.shared_mediator.proofs.MarkLaws.{IsMarking}
+use Rattle.shared_mediator.proofs.marks.Marks.mark.Given as goal
 
 abbrev pub invariant-loop-receipt : goal.invariant-loop-receipt
 invariant-loop-receipt l = record {

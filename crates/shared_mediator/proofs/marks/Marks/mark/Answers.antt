@@ -1,8 +1,8 @@
 use Rattle.std.proofs.Common.{◌≡◌, ◌+◌, ◌-◌, ◌≤◌, true, false, slice_get, set, Some, sym, ap, ◌∙◌, subst, arith}
 use Rattle.std.proofs.lemmas.Bool.{iff_false}
-use Rattle.entry_receipts.proofs.MarkLaws.{IsMarking, marking_goes_on, marking_refuses, refused_first, is_kept}
-use Rattle.entry_receipts.proofs.marks.Marks.mark.Goals as goal
-use Rattle.entry_receipts.proofs.marks.Marks.mark.Goals.{Joined-then-position-floor, then-position-floor-via-then-position-floor, then-position-floor-via-else-position-floor+then-not-stands, then-position-floor-via-else-position-floor+else-not-stands+then-not-set}
+use Rattle.shared_mediator.proofs.MarkLaws.{IsMarking, marking_goes_on, marking_refuses, refused_first, is_kept}
+use Rattle.shared_mediator.proofs.marks.Marks.mark.Goals as goal
+use Rattle.shared_mediator.proofs.marks.Marks.mark.Goals.{Joined-then-position-floor, then-position-floor-via-then-position-floor, then-position-floor-via-else-position-floor+then-not-stands, then-position-floor-via-else-position-floor+else-not-stands+then-not-set}
 
 -- one of the three tests failed
 failed : (c : Joined-then-position-floor) → c.loop-receipt.floor ≤ c.receipt-item.result.position → slice_get c.args.journal.now.entries c.receipt-item.result.position ≡ Some c.receipt-item.result.entry

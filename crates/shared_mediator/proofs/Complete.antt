@@ -11,11 +11,11 @@ use Rattle.std.proofs.lemmas.Grind.{flat_map-append}
 use Rattle.sequences.proofs.ListLaws.{AllByRecursion-append}
 use Rattle.event_journal.specs.declared.entry.Entry.{Entry}
 use Rattle.mediator_history.specs.Numbers.{is_in}
-use Rattle.entry_receipts.specs.declared.kept.KeptEntry.{KeptEntry}
-use Rattle.entry_receipts.specs.Receipts.{Stands, positions, all_kept, AreComplete}
-use Rattle.entry_receipts.specs.Marking.{Marked, AreMarked}
-use Rattle.entry_receipts.proofs.MarkLists.{get_drop, covered, count_passing}
-use Rattle.entry_receipts.proofs.MarkLaws.{count_handles}
+use Rattle.shared_mediator.specs.declared.kept.KeptEntry.{KeptEntry}
+use Rattle.shared_mediator.specs.Receipts.{Stands, positions, all_kept, AreComplete}
+use Rattle.shared_mediator.specs.Marking.{Marked, AreMarked}
+use Rattle.shared_mediator.proofs.MarkLists.{get_drop, covered, count_passing}
+use Rattle.shared_mediator.proofs.MarkLaws.{count_handles}
 
 pub all_kept_append : (a b : List (List KeptEntry)) → all_kept (a ++ b) ≡ all_kept a ++ all_kept b
 all_kept_append a b = flat_map-append (λ (kept : List KeptEntry). kept) a b

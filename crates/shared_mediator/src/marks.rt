@@ -3,9 +3,9 @@ ghost use Rattle.std.specs.Prelude.{◌≡◌, ◌↔◌, ◌++◌, ◌∷◌, [
 ghost use Rattle.event_journal.specs.declared.entry.Entry.{Entry};
 ghost use Rattle.event_journal.specs.declared.limits.TheConstants.{MOST_ENTRIES};
 ghost use Rattle.mediator_history.specs.Numbers.{is_in};
-ghost use Rattle.entry_receipts.specs.declared.kept.KeptEntry.{KeptEntry};
-ghost use Rattle.entry_receipts.specs.Receipts.{positions, all_kept, AreReceipts, IsFirstRefused};
-ghost use Rattle.entry_receipts.specs.Marking.{AreMarked, count_of};
+ghost use Rattle.shared_mediator.specs.declared.kept.KeptEntry.{KeptEntry};
+ghost use Rattle.shared_mediator.specs.Receipts.{positions, all_kept, AreReceipts, IsFirstRefused};
+ghost use Rattle.shared_mediator.specs.Marking.{AreMarked, count_of};
 
 use crate::kept::KeptEntry;
 use event_journal::Journal;
@@ -21,7 +21,7 @@ pub struct Marks {
 }
 
 impl Model for Marks {
-    ghost use Rattle.entry_receipts.specs.Marking.{Marked, marked_as};
+    ghost use Rattle.shared_mediator.specs.Marking.{Marked, marked_as};
 
     ghost Value = { Marked };
 
