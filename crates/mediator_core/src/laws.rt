@@ -1,6 +1,6 @@
 //! What never matters to what is disclosed to a subscription, and that what is full is told: laws over the definitions that
 //! [`run`](crate::run) and the calls cite. No code stands behind them.
-ghost use Rattle.mediator_core.specs.Answered.{FullAuditRefusesMessage, FullAuditRefusesAdvance, FullCountRefusesPull};
+ghost use Rattle.mediator_core.specs.Answered.{FullAuditRefusesMessage, FullAuditRefusesAdvance};
 ghost use Rattle.mediator_core.specs.Secrecy.{RulesOfOthersNeverMatter, EntriesOfOthersNeverMatter, DeniedValuesNeverMatter};
 
 /// Rules that name another subscriber never matter: where they are left out of any edits, the same is disclosed. The
@@ -22,10 +22,8 @@ pub fn denied_values_never_matter()
     ensures { DeniedValuesNeverMatter }
 {}
 
-/// What is full is told: a message or an advance of the clock for which the audit has no room isn't accepted, nor is a pull for
-/// which the count has none.
+/// What is full is told: a message or an advance of the clock for which the audit has no room isn't accepted.
 pub fn full_is_told()
     ensures message { FullAuditRefusesMessage }
     ensures advance { FullAuditRefusesAdvance }
-    ensures pull { FullCountRefusesPull }
 {}

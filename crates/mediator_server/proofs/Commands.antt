@@ -8,7 +8,7 @@ use Rattle.mediator_server.specs.declared.fault.ServeFault.{ServeFault}
 use Rattle.mediator_server.specs.declared.fault.ServeFault.TheVariants.{Read, Framing, Turns, Core}
 use Rattle.message_intake.specs.declared.fault.FramingFault.TheVariants as framing
 use Rattle.mediator_state.specs.declared.fault.Fault.TheVariants as fault
-use Rattle.mediator_calls.specs.declared.fault.PullFault.TheVariants as pull
+use Rattle.shared_mediator.specs.declared.fault.PullFault.TheVariants as pull
 use Rattle.mediator_server.specs.Faults.{out_of_memory}
 use Rattle.mediator_server.specs.CommandInput.{InputState, ahead, HandsOut, EndsBehind, IsLine, IsBegun, StopsReading, Fills}
 

@@ -10,7 +10,7 @@ use Rattle.message_intake.specs.declared.fault.FramingFault.TheVariants as frami
 use Rattle.shared_mediator.specs.declared.kept.KeptEntry.{KeptEntry}
 use Rattle.mediator_history.proofs.HistoryLaws.{flat_map-push}
 use Rattle.mediator_state.specs.declared.fault.Fault.TheVariants as fault
-use Rattle.mediator_calls.specs.declared.fault.PullFault.TheVariants as pull
+use Rattle.shared_mediator.specs.declared.fault.PullFault.TheVariants as pull
 use Rattle.admin_lines.specs.Sayings.{Saying}
 use Rattle.admin_lines.specs.Sayings.Saying.{to_edit, to_subscribe, to_unsubscribe, to_advance, to_tell_status, to_drain_audit, to_tell, to_stop}
 use Rattle.admin_lines.specs.Grammar.{longest_line, IsSubscription}

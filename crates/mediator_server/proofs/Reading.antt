@@ -10,7 +10,7 @@ use Rattle.message_intake.specs.declared.fault.IntakeFault.{IntakeFault}
 use Rattle.message_intake.specs.declared.fault.IntakeFault.TheVariants as intake
 use Rattle.message_intake.specs.Intake.{IntakeState, nothing_read, Takes, Ends, Stops, HasFault, reader_after as intake_reader}
 use Rattle.shared_mediator.specs.Locked.{Exporting}
-use Rattle.mediator_calls.specs.declared.fault.PullFault.TheVariants as pull
+use Rattle.shared_mediator.specs.declared.fault.PullFault.TheVariants as pull
 use Rattle.mediator_server.specs.declared.fault.ServeFault.{ServeFault}
 use Rattle.mediator_server.specs.declared.fault.ServeFault.TheVariants.{Read, Write, Framing, Turns, TooWide, TooManyCounts, Core}
 use Rattle.mediator_server.specs.Faults.{out_of_memory, intake_refusal, reader_after}

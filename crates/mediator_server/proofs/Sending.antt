@@ -17,8 +17,8 @@ use Rattle.stream_meaning.proofs.Sets.{known_split}
 use Rattle.stream_meaning.proofs.Steps.{run_fits}
 use Rattle.stream_meaning.proofs.Listed.{parts_known}
 use Rattle.mediator_history.proofs.HistoryLaws.{flat_map-push}
-use Rattle.mediator_calls.specs.declared.handed.Handed.{Handed}
-use Rattle.mediator_calls.specs.declared.fault.PullFault.{PullFault}
+use Rattle.shared_mediator.specs.declared.handed.Handed.{Handed}
+use Rattle.shared_mediator.specs.declared.fault.PullFault.{PullFault}
 use Rattle.shared_mediator.specs.Locked.{Delivering}
 use Rattle.shared_mediator.specs.Handles.{IsBuilt, KeepsSome}
 use Rattle.mediator_server.specs.declared.fault.ServeFault.{ServeFault}

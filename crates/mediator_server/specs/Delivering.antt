@@ -5,7 +5,7 @@ use Rattle.std.specs.Io.KnownBytes.{Appends}
 use Rattle.octet_devices.specs.Written.{WritesFront}
 use Rattle.event_journal.specs.declared.entry.Entry.TheVariants.{Unsubscribe}
 use Rattle.shared_mediator.specs.declared.kept.KeptEntry.{KeptEntry}
-use Rattle.mediator_calls.specs.declared.handed.Handed.{Handed}
+use Rattle.shared_mediator.specs.declared.handed.Handed.{Handed}
 use Rattle.shared_mediator.specs.Locked.{Delivering}
 use Rattle.shared_mediator.specs.Handles.{IsBuilt, KeepsEntry}
 use Rattle.mediator_server.specs.declared.delivery.TheConstants.{MOST_AT_ONCE}

@@ -1,7 +1,7 @@
 -- What refusals of the parts are called here, and which device has failed after a fault.
 use Rattle.std.specs.Prelude.{Bool, true, false}
 use Rattle.mediator_state.specs.declared.fault.Fault.TheVariants as fault
-use Rattle.mediator_calls.specs.declared.fault.PullFault.TheVariants as pull
+use Rattle.shared_mediator.specs.declared.fault.PullFault.TheVariants as pull
 use Rattle.message_intake.specs.declared.fault.IntakeFault.{IntakeFault}
 use Rattle.message_intake.specs.declared.fault.IntakeFault.TheVariants as intake
 use Rattle.mediator_server.specs.declared.fault.ServeFault.{ServeFault}

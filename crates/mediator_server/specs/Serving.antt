@@ -13,7 +13,7 @@ use Rattle.event_journal.specs.declared.entry.Entry.TheVariants.{Message}
 use Rattle.shared_mediator.specs.declared.kept.KeptEntry.{KeptEntry}
 use Rattle.mediator_state.specs.declared.fault.Fault.{Fault}
 use Rattle.mediator_state.specs.declared.fault.Fault.TheVariants as fault
-use Rattle.mediator_calls.specs.declared.fault.PullFault.TheVariants as pull
+use Rattle.shared_mediator.specs.declared.fault.PullFault.TheVariants as pull
 use Rattle.prepared_message.specs.Widths.{IsTooWide}
 use Rattle.prepared_message.specs.Holding.{CountsTooMany}
 use Rattle.shared_mediator.specs.Locked.{Exporting}

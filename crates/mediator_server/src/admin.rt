@@ -15,10 +15,12 @@ use crate::room::wait_for_advance;
 use admin_lines::{Answer, Command, Topic, read_command, write_answer};
 use answer_writing::{AnswerBuffer, Stopped, drained_length};
 use disclosure_audit::AuditEntry;
-use mediator_calls::{PullFault, SubId, UnknownSub};
+use mediator_calls::{SubId, UnknownSub};
 use mediator_state::Fault;
 use octet_devices::{Sink, Source};
-use shared_mediator::{AdminHandle, EntryLedger, KeptEntry, RecordLedger, SharedMediator};
+use shared_mediator::{
+    AdminHandle, EntryLedger, KeptEntry, PullFault, RecordLedger, SharedMediator,
+};
 use std::alloc::{AllocError, Global};
 use std::str::from_utf8;
 use std::sync::Wait;

@@ -6,10 +6,11 @@ ghost use Rattle.mediator_server.specs.Delivering.{Delivers, FailsToDeliver, Sen
 
 use crate::clock::Clock;
 use crate::fault::ServeFault;
-use mediator_calls::{Handed, PullFault, SubId, UnknownSub};
+use mediator_calls::{SubId, UnknownSub};
 use octet_devices::{Sink, write_all};
 use shared_mediator::{
-    AdminHandle, DeliveryHandle, EntryLedger, RecordLedger, SharedMediator, Waited,
+    AdminHandle, DeliveryHandle, EntryLedger, Handed, PullFault, RecordLedger, SharedMediator,
+    Waited,
 };
 use std::alloc::{AllocError, Global};
 use std::sync::Wait;

@@ -1,8 +1,8 @@
 //! Why a connection is served no more.
 
-use mediator_calls::PullFault;
 use mediator_state::Fault;
 use message_intake::{FramingFault, IntakeFault};
+use shared_mediator::PullFault;
 use std::alloc::AllocError;
 use std::error::Error;
 use std::fmt::{self, Display, Formatter, Write};
@@ -62,7 +62,7 @@ impl From<PullFault> for ServeFault {
 
 impl From<Fault> for ServeFault {
     ghost use Rattle.std.specs.Prelude.{◌≡◌};
-    ghost use Rattle.mediator_calls.specs.declared.fault.PullFault.TheVariants as pull;
+    ghost use Rattle.shared_mediator.specs.declared.fault.PullFault.TheVariants as pull;
     ghost use Rattle.mediator_server.specs.declared.fault.ServeFault.TheVariants.{Core};
 
     ghost from_gives = { λ f e. e ≡ Core (pull.Core f) };

@@ -1,6 +1,6 @@
 //! A server on sockets.
 ghost use Rattle.std.specs.Prelude.{◌≡◌, ◌+◌, ◌*◌, ◌≤◌, IfOk};
-ghost use Rattle.mediator_calls.specs.Counted.{handed_live};
+ghost use Rattle.shared_mediator.specs.Counted.{handed_live};
 ghost use Rattle.mediator_server.specs.Listening.{IsServed};
 
 use crate::notes;

@@ -4,12 +4,12 @@ use crate::hands::{Bounds, ENOUGH, PASS, ROOMY, SMALL, begin, hands, limits_of, 
 use crate::octets::{NOW, ONE_DELIVERED, ONE_RECORD, PART_BY_PART, TWO_RECORDS};
 use crate::stage::{Case, Hands, play};
 use faulty_devices::Narrow;
-use mediator_calls::PullFault;
 use mediator_core::{Fault, SubId, UnknownSub};
 use mediator_server::{Clock, ServeFault, deliver};
 use octet_devices::Device;
 use shared_mediator::{
-    AdminHandle, DeliveryHandle, EntryLedger, ExporterHandle, RecordLedger, SharedMediator,
+    AdminHandle, DeliveryHandle, EntryLedger, ExporterHandle, PullFault, RecordLedger,
+    SharedMediator,
 };
 use std::alloc::{AllocError, Global};
 use std::io::ErrorKind::BrokenPipe;

@@ -1,6 +1,6 @@
 //! A case is played on a new shared mediator, which is closed then.
 ghost use Rattle.std.specs.Prelude.{◌≡◌, ◌+◌, ◌*◌};
-ghost use Rattle.mediator_calls.specs.Counted.{handed_live};
+ghost use Rattle.shared_mediator.specs.Counted.{handed_live};
 
 use crate::{administering, delivering, holding, serving};
 use mediator_core::{Limits, Mediator};

@@ -9,7 +9,7 @@ use Rattle.shared_mediator.specs.declared.kept.KeptEntry.{KeptEntry}
 use Rattle.shared_mediator.specs.Receipts.{all_kept, AreReceipts, AreComplete, IsFirstRefused}
 use Rattle.shared_mediator.specs.Marking.{Marked, AreMarked}
 use Rattle.shared_mediator.proofs.Complete.{length_all_kept, all_of_handles, complete}
-use Rattle.mediator_calls.specs.Counted.{Counted, has_receipt, entries_of}
+use Rattle.shared_mediator.specs.Counted.{Counted, has_receipt, entries_of}
 use Rattle.shared_mediator.specs.Locked.{Exporting}
 use Rattle.shared_mediator.specs.Handles.{HasReceipt}
 use Rattle.shared_mediator.specs.declared.fault.CloseFault.{CloseFault}

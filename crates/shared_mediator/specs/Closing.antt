@@ -3,7 +3,7 @@ use Rattle.std.specs.Prelude.{◌≡◌, ℕ, List, ◌∷◌, ◌++◌, map, le
 use Rattle.event_journal.specs.declared.entry.Entry.{Entry}
 use Rattle.shared_mediator.specs.declared.kept.KeptEntry.{KeptEntry}
 use Rattle.shared_mediator.specs.Receipts.{all_kept, AreReceipts, AreComplete, IsFirstRefused}
-use Rattle.mediator_calls.specs.Counted.{has_receipt}
+use Rattle.shared_mediator.specs.Counted.{has_receipt}
 use Rattle.shared_mediator.specs.declared.fault.CloseFault.{CloseFault}
 use Rattle.shared_mediator.specs.declared.fault.CloseFault.TheVariants.{MissingHandle, Mismatch, OutOfMemory}
 use Rattle.shared_mediator.specs.Locked.{Locked, Exporting, Delivering}

@@ -17,6 +17,7 @@ pub use Rattle.mediator_history.specs.Counting
 pub use Rattle.mediator_history.specs.Disclosed
 pub use Rattle.mediator_history.specs.Auditing
 pub use Rattle.mediator_history.specs.Cuts
+pub use Rattle.mediator_state.specs.FaultTexts as StateFaultTexts
 pub use Rattle.mediator_state.specs.Planning
 pub use Rattle.mediator_state.specs.Standing as StateStanding
 pub use Rattle.mediator_state.specs.Accepting
@@ -24,9 +25,10 @@ pub use Rattle.mediator_state.specs.Calls as StateCalls
 pub use Rattle.mediator_calls.specs.Mediation
 pub use Rattle.mediator_calls.specs.Sound
 pub use Rattle.mediator_calls.specs.Calls as MediatorCalls
-pub use Rattle.mediator_calls.specs.Counted
-pub use Rattle.mediator_calls.specs.Handing
 pub mod FaultTexts
+pub mod Counted
+pub mod Handing
+pub mod Answered
 pub mod Receipts
 pub mod Marking
 pub mod Locked

@@ -3,12 +3,13 @@ ghost use Rattle.std.specs.Prelude.{◌≡◌, ◌≢◌, ◌+◌, ◌<◌, ◌^
 ghost use Rattle.std.specs.List.{AllByRecursion};
 ghost use Rattle.shared_mediator.specs.declared.kept.KeptEntry.{KeptEntry};
 ghost use Rattle.shared_mediator.specs.Marking.{Marked, AreMarked};
-ghost use Rattle.mediator_calls.specs.Counted.{entries_of};
+ghost use Rattle.shared_mediator.specs.Counted.{entries_of};
 ghost use Rattle.shared_mediator.specs.declared.fault.CloseFault.TheVariants.{MissingHandle};
 ghost use Rattle.shared_mediator.specs.Handles.{HasReceipt};
 ghost use Rattle.shared_mediator.specs.Closing.{KeepsMessages, receipts_of, messages_accepted, entries_kept, records_handed, HasReceipts, AreAll, NamesReceipt, NamesReceiptBehind, RefusesClosing};
 
 use crate::admin::AdminHandle;
+use crate::counted::CountedMediator;
 use crate::delivery::DeliveryHandle;
 use crate::desk::Desk;
 use crate::exporter::ExporterHandle;
@@ -17,7 +18,7 @@ use crate::ledgers::{EntryLedger, RecordLedger};
 use crate::marks::Marks;
 use crate::shared::SharedMediator;
 use event_journal::Journal;
-use mediator_calls::{CountedMediator, Mediator};
+use mediator_calls::Mediator;
 use std::alloc::Global;
 use std::sync::ledger::Share;
 

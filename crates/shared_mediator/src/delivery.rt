@@ -5,9 +5,11 @@ ghost use Rattle.shared_mediator.specs.Locked.{delivering_as};
 ghost use Rattle.shared_mediator.specs.Handles.{KeepsHanded, KeepsSome, records_kept};
 
 use crate::desk::Desk;
+use crate::fault::PullFault;
+use crate::handed::Handed;
 use crate::ledgers::{EntryLedger, RecordLedger};
 use crate::shared::SharedMediator;
-use mediator_calls::{Handed, PullFault, SubId};
+use mediator_calls::SubId;
 use mediator_state::Fault;
 use std::alloc::Global;
 use std::marker::Model;

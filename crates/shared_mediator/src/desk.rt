@@ -5,19 +5,21 @@ ghost use Rattle.mediator_state.specs.Calls.{IsSnapshot, RefusesSnapshot, Refuse
 ghost use Rattle.mediator_calls.specs.Mediation.{noted_at, journal_limits};
 ghost use Rattle.mediator_calls.specs.Sound.{IsSound};
 ghost use Rattle.mediator_calls.specs.Calls.{Opens, Closes, Receives, RefusesReceive, RefusesReceivePrepared, Edits, Subscribes, Unsubscribes, Advances, RefusesAdvance, IsStatusOf, Drains};
-ghost use Rattle.mediator_calls.specs.Counted.{counted_as, handed_at, handed_live};
-ghost use Rattle.mediator_calls.specs.Handing.{HandsOut, RefusesHanding, records_of};
+ghost use Rattle.shared_mediator.specs.Counted.{counted_as, handed_at, handed_live};
+ghost use Rattle.shared_mediator.specs.Handing.{HandsOut, RefusesHanding, records_of};
 ghost use Rattle.shared_mediator.specs.Locked.{locked_as};
 ghost use Rattle.shared_mediator.specs.Calls.{Makes, Adds, RefusesExporter, RefusesDelivery, RefusesAdmin, IsWaited, is_full, is_full_handle, noted};
 
+use crate::counted::CountedMediator;
 use crate::delivery::Waited;
-use crate::fault::HandleFault;
+use crate::fault::{HandleFault, PullFault};
 use crate::fill::Fill;
+use crate::handed::Handed;
 use crate::ledgers::{EntryLedger, RecordLedger};
 use bytes::Bytes;
 use disclosure_audit::AuditEntry;
 use live_subscriptions::Share as Given;
-use mediator_calls::{CountedMediator, Handed, Mediator, PullFault, SessionId, SubId, UnknownSub};
+use mediator_calls::{Mediator, SessionId, SubId, UnknownSub};
 use mediator_state::{Fault, Receipt, Status};
 use prepared_message::{JudgedAhead, Prepared, Snapshot};
 use std::alloc::AllocError;

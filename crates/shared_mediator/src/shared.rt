@@ -1,6 +1,6 @@
 //! A mediator that threads share.
 ghost use Rattle.std.specs.Prelude.{◌≡◌, ◌+◌, ◌*◌, [], IfOk};
-ghost use Rattle.mediator_calls.specs.Counted.{handed_live};
+ghost use Rattle.shared_mediator.specs.Counted.{handed_live};
 
 use crate::admin::AdminHandle;
 use crate::delivery::DeliveryHandle;

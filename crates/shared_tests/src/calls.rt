@@ -7,11 +7,10 @@ use bytes::Bytes;
 use disclosure_audit::line;
 use ipfix_message::DecodeError;
 use ipfix_session::{ReadError, Skips};
-use mediator_calls::PullFault;
 use mediator_core::{Fault, Finished, Receipt, Status, SubId, UnknownSub};
 use policy_text::{FaultKind, PolicyFault};
 use shared_mediator::{
-    AdminHandle, CloseFault, DeliveryHandle, EntryLedger, ExporterHandle, HandleFault,
+    AdminHandle, CloseFault, DeliveryHandle, EntryLedger, ExporterHandle, HandleFault, PullFault,
     RecordLedger, SharedMediator,
 };
 use std::alloc::{AllocError, Global};

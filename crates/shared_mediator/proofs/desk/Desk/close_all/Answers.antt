@@ -1,6 +1,6 @@
 use Rattle.std.proofs.Common.{rules, ◌≡◌, ap}
 use Rattle.mediator_calls.specs.Mediation.{Mediation}
-use Rattle.mediator_calls.specs.Counted.{entries_of}
+use Rattle.shared_mediator.specs.Counted.{entries_of}
 use Rattle.shared_mediator.specs.Closing.{entries_kept}
 use Rattle.shared_mediator.proofs.ClosingLaws.{closes_for}
 use Rattle.shared_mediator.proofs.desk.Desk.close_all.Goals as goal

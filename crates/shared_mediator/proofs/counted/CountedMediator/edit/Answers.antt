@@ -1,5 +1,5 @@
-use Rattle.mediator_calls.proofs.Moving.{after_edit, still, counts}
-use Rattle.mediator_calls.proofs.counted.CountedMediator.edit.Goals as goal
+use Rattle.shared_mediator.proofs.Moving.{after_edit, still, counts}
+use Rattle.shared_mediator.proofs.counted.CountedMediator.edit.Goals as goal
 
 pub invariant_of-self : goal.invariant_of-self
 invariant_of-self c = still c.edit.result c.self.inside.mediator c.edit.new.self c.self.inside.from c.self.inside.gone c.self.inside.handed 1 c.self.invariant c.edit.ensures.ok c.edit.ensures.same

@@ -9,10 +9,10 @@ use Rattle.mediator_state.specs.declared.fault.Fault.TheVariants as fault
 use Rattle.mediator_state.specs.Calls.{RefusesPull}
 use Rattle.mediator_calls.specs.Mediation.{Mediation, place_at, waiting_at}
 use Rattle.mediator_calls.specs.Calls.{Pulls}
-use Rattle.mediator_calls.specs.declared.handed.Handed.{Handed}
-use Rattle.mediator_calls.specs.declared.fault.PullFault.{PullFault}
-use Rattle.mediator_calls.specs.declared.fault.PullFault.TheVariants.{HandedFull, Core}
-use Rattle.mediator_calls.specs.Counted.{Counted, Counts, handed_of}
+use Rattle.shared_mediator.specs.declared.handed.Handed.{Handed}
+use Rattle.shared_mediator.specs.declared.fault.PullFault.{PullFault}
+use Rattle.shared_mediator.specs.declared.fault.PullFault.TheVariants.{HandedFull, Core}
+use Rattle.shared_mediator.specs.Counted.{Counted, Counts, handed_of}
 
 -- how many records stand in a subscription's next message
 abbrev pub records_next : Mediation → ℕ → ℕ → ℕ

@@ -1,10 +1,10 @@
 use Rattle.std.proofs.Common.{◌-◌, arith}
-use Rattle.mediator_calls.specs.Counted.{counted_as}
-use Rattle.mediator_calls.specs.Handing.{HasCountRoom}
-use Rattle.mediator_calls.proofs.Pulling.{Tells, tells, counted_after, has_count_room, hands_some, hands_none}
+use Rattle.shared_mediator.specs.Counted.{counted_as}
+use Rattle.shared_mediator.specs.Handing.{HasCountRoom}
+use Rattle.shared_mediator.proofs.Pulling.{Tells, tells, counted_after, has_count_room, hands_some, hands_none}
 use Rattle.mediator_calls.proofs.CallLaws.{if_ok_at}
-use Rattle.mediator_calls.proofs.counted.CountedMediator.pull.Goals.{in-Some, in-None}
-use Rattle.mediator_calls.proofs.counted.CountedMediator.pull.Goals as goal
+use Rattle.shared_mediator.proofs.counted.CountedMediator.pull.Goals.{in-Some, in-None}
+use Rattle.shared_mediator.proofs.counted.CountedMediator.pull.Goals as goal
 
 pub overflow_sub-records : goal.overflow_sub-records
 overflow_sub-records c = omega (arith, (tells c.self.inside.mediator c.pull.new.self c.args.sub.0 c.args.now c.args.target c.in-Ok-pull.message c.in-Ok.before c.in-Ok-status.after c.in-Ok.ensures.ok c.in-Ok-pull.ensures.ok c.in-Ok-status.ensures.ok).records)

@@ -1,7 +1,7 @@
 use Rattle.std.proofs.Common.{◌+◌, subst, arith}
-use Rattle.mediator_calls.specs.Counted.{Counted, counted_as, handed_at, Counts}
-use Rattle.mediator_calls.proofs.Moving.{after_end}
-use Rattle.mediator_calls.proofs.counted.CountedMediator.unsubscribe.Goals as goal
+use Rattle.shared_mediator.specs.Counted.{Counted, counted_as, handed_at, Counts}
+use Rattle.shared_mediator.proofs.Moving.{after_end}
+use Rattle.shared_mediator.proofs.counted.CountedMediator.unsubscribe.Goals as goal
 
 pub overflow_add-self : goal.overflow_add-self
 overflow_add-self c = omega (arith, (after_end c.self.inside.mediator c.unsubscribe.new.self c.self.inside.from c.self.inside.gone c.self.inside.handed c.args.sub.0 c.in-Ok.status c.journal-journal.ensures.sound c.self.invariant c.in-Ok.ensures.ok c.in_ok-unsubscribe.ensures.ok).fits)

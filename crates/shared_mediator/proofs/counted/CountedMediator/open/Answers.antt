@@ -1,5 +1,5 @@
-use Rattle.mediator_calls.proofs.Moving.{after_open, still, counts}
-use Rattle.mediator_calls.proofs.counted.CountedMediator.open.Goals as goal
+use Rattle.shared_mediator.proofs.Moving.{after_open, still, counts}
+use Rattle.shared_mediator.proofs.counted.CountedMediator.open.Goals as goal
 
 pub invariant_of-self : goal.invariant_of-self
 invariant_of-self c = still c.open.result c.self.inside.mediator c.open.new.self c.self.inside.from c.self.inside.gone c.self.inside.handed 0 c.self.invariant c.open.ensures.ok c.open.ensures.same

@@ -1,5 +1,5 @@
-use Rattle.mediator_calls.proofs.Moving.{after_advance, still_done, counts_done}
-use Rattle.mediator_calls.proofs.counted.CountedMediator.advance.Goals as goal
+use Rattle.shared_mediator.proofs.Moving.{after_advance, still_done, counts_done}
+use Rattle.shared_mediator.proofs.counted.CountedMediator.advance.Goals as goal
 
 pub invariant_of-self : goal.invariant_of-self
 invariant_of-self c = still_done c.advance.result c.self.inside.mediator c.advance.new.self c.self.inside.from c.self.inside.gone c.self.inside.handed 1 c.self.invariant c.advance.ensures.ok c.advance.ensures.same

@@ -1,5 +1,5 @@
-use Rattle.mediator_calls.proofs.Moving.{after_subscribe, still, counts}
-use Rattle.mediator_calls.proofs.counted.CountedMediator.subscribe.Goals as goal
+use Rattle.shared_mediator.proofs.Moving.{after_subscribe, still, counts}
+use Rattle.shared_mediator.proofs.counted.CountedMediator.subscribe.Goals as goal
 
 pub invariant_of-self : goal.invariant_of-self
 invariant_of-self c = still c.subscribe.result c.self.inside.mediator c.subscribe.new.self c.self.inside.from c.self.inside.gone c.self.inside.handed 1 c.self.invariant c.subscribe.ensures.ok c.subscribe.ensures.same

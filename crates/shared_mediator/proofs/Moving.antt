@@ -18,11 +18,11 @@ use Rattle.mediator_calls.specs.Mediation.{Mediation, live, waiting_at, stream_l
 use Rattle.mediator_calls.specs.Calls.{GoesOn, Opens, Closes, with_cuts, Receives, Edits, Subscribes, Unsubscribes, Advances, IsStatusOf, Drains}
 use Rattle.mediator_calls.specs.Sound.{IsSound}
 use Rattle.mediator_calls.proofs.Places.{is_in-live}
-use Rattle.mediator_calls.specs.Counted.{Counted, counted_as, receipts_in, handed_at, handed_live, IsCounted, Counts}
-use Rattle.mediator_calls.proofs.Living.{IsSilent, live_same, cuts_silent, live_begun, live_ended, all_live, live_apart}
-use Rattle.mediator_calls.proofs.Receipts.{receipts_more, before_same, receipts_behind_cuts}
-use Rattle.mediator_calls.proofs.Sums.{sums_alike, sum_without}
-use Rattle.mediator_calls.proofs.Handing.{handed_kept, handed_none, handed_where}
+use Rattle.shared_mediator.specs.Counted.{Counted, counted_as, receipts_in, handed_at, handed_live, IsCounted, Counts}
+use Rattle.shared_mediator.proofs.Living.{IsSilent, live_same, cuts_silent, live_begun, live_ended, all_live, live_apart}
+use Rattle.shared_mediator.proofs.ReceiptCounts.{receipts_more, before_same, receipts_behind_cuts}
+use Rattle.shared_mediator.proofs.Sums.{sums_alike, sum_without}
+use Rattle.shared_mediator.proofs.Handing.{handed_kept, handed_none, handed_where}
 
 -- ---- entries
 

@@ -16,8 +16,8 @@ use Rattle.mediator_history.specs.Disclosed.{given_at, disclosed}
 use Rattle.mediator_calls.specs.Mediation.{Mediation, place_at, waiting_at}
 use Rattle.mediator_calls.specs.Sound.{IsSound}
 use Rattle.mediator_calls.specs.Calls.{GoesOn, Pulls}
-use Rattle.mediator_calls.specs.Counted.{handed_at}
-use Rattle.mediator_calls.specs.Handing.{records_next}
+use Rattle.shared_mediator.specs.Counted.{handed_at}
+use Rattle.shared_mediator.specs.Handing.{records_next}
 
 -- ---- entries
 

@@ -5,7 +5,7 @@ use Rattle.std.proofs.lemmas.List.{take-append-le, drop-append-le}
 use Rattle.std.proofs.lemmas.List.Elements.{filter-append}
 use Rattle.event_journal.specs.declared.entry.Entry.{Entry}
 use Rattle.event_journal.specs.declared.entry.Entry.TheVariants.{Cut}
-use Rattle.mediator_calls.specs.Counted.{has_receipt, receipts_in}
+use Rattle.shared_mediator.specs.Counted.{has_receipt, receipts_in}
 
 pub receipts_more : (from : ℕ) (g h more : List Entry) → g ≡ h ++ more → from ≤ length h → receipts_in (drop from g) ≡ receipts_in (drop from h) + receipts_in more
 receipts_more from g h more is within =

@@ -14,12 +14,12 @@ use Rattle.mediator_calls.specs.Mediation.{Mediation, live, place_at, waiting_at
 use Rattle.mediator_calls.specs.Calls.{Pulls, IsStatusOf}
 use Rattle.mediator_calls.specs.Sound.{IsSound}
 use Rattle.mediator_calls.proofs.Places.{is_in-live}
-use Rattle.mediator_calls.specs.declared.handed.Handed.{Handed}
-use Rattle.mediator_calls.specs.Counted.{Counted, counted_as, receipts_in, handed_at, handed_live, IsCounted, Counts}
-use Rattle.mediator_calls.specs.Handing.{records_next, HasCountRoom, HandsOut, RefusesCore}
-use Rattle.mediator_calls.proofs.Living.{live_apart}
-use Rattle.mediator_calls.proofs.Sums.{sum_moved}
-use Rattle.mediator_calls.proofs.Handing.{handed_moved, handed_others, next_wait}
+use Rattle.shared_mediator.specs.declared.handed.Handed.{Handed}
+use Rattle.shared_mediator.specs.Counted.{Counted, counted_as, receipts_in, handed_at, handed_live, IsCounted, Counts}
+use Rattle.shared_mediator.specs.Handing.{records_next, HasCountRoom, HandsOut, RefusesCore}
+use Rattle.shared_mediator.proofs.Living.{live_apart}
+use Rattle.shared_mediator.proofs.Sums.{sum_moved}
+use Rattle.shared_mediator.proofs.Handing.{handed_moved, handed_others, next_wait}
 
 -- the records of the message count as handed
 pulled_live : (old new : Mediation) (sub now target : ℕ) (answer : Option (List ℕ)) → IsSound old → Pulls old sub now target answer new → handed_live new ≡ handed_live old + records_next old sub target

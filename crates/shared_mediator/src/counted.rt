@@ -4,14 +4,15 @@ ghost use Rattle.mediator_history.specs.Subscriptions.{is_live};
 ghost use Rattle.mediator_state.specs.Calls.{IsSnapshot, RefusesSnapshot, RefusesClose, RefusesEdit, RefusesSubscribe, RefusesUnsubscribe};
 ghost use Rattle.mediator_calls.specs.Mediation.{noted_at, journal_limits};
 ghost use Rattle.mediator_calls.specs.Calls.{Opens, RefusesOpen, Closes, Receives, RefusesReceive, RefusesReceivePrepared, Edits, Subscribes, Unsubscribes, Advances, RefusesAdvance, IsStatusOf, Drains};
-ghost use Rattle.mediator_calls.specs.Counted.{counted_as, handed_at, handed_live, handed_of, Counts};
-ghost use Rattle.mediator_calls.specs.Handing.{HandsOut, RefusesHanding};
+ghost use Rattle.shared_mediator.specs.Counted.{counted_as, handed_at, handed_live, handed_of, Counts};
+ghost use Rattle.shared_mediator.specs.Handing.{HandsOut, RefusesHanding};
 
+use crate::fault::PullFault;
 use crate::handed::Handed;
-use crate::{Mediator, PullFault, SessionId, SubId, UnknownSub};
 use bytes::Bytes;
 use disclosure_audit::AuditEntry;
 use live_subscriptions::Share;
+use mediator_calls::{Mediator, SessionId, SubId, UnknownSub};
 use mediator_state::{Fault, Receipt, Status};
 use prepared_message::{JudgedAhead, Prepared, Snapshot};
 use std::alloc::AllocError;
@@ -45,7 +46,7 @@ impl Drop for CountedMediator {
 }
 
 impl Model for CountedMediator {
-    ghost use Rattle.mediator_calls.specs.Counted.{Counted, counted_as, IsCounted};
+    ghost use Rattle.shared_mediator.specs.Counted.{Counted, counted_as, IsCounted};
 
     ghost Value = { Counted };
 

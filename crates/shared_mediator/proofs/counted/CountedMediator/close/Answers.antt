@@ -1,5 +1,5 @@
-use Rattle.mediator_calls.proofs.Moving.{after_close, still_done, counts_done}
-use Rattle.mediator_calls.proofs.counted.CountedMediator.close.Goals as goal
+use Rattle.shared_mediator.proofs.Moving.{after_close, still_done, counts_done}
+use Rattle.shared_mediator.proofs.counted.CountedMediator.close.Goals as goal
 
 pub invariant_of-self : goal.invariant_of-self
 invariant_of-self c = still_done c.close.result c.self.inside.mediator c.close.new.self c.self.inside.from c.self.inside.gone c.self.inside.handed 0 c.self.invariant c.close.ensures.ok c.close.ensures.same
