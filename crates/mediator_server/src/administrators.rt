@@ -2,9 +2,7 @@
 ghost use Rattle.std.specs.Prelude.{None};
 ghost use Rattle.std.specs.Io.{ReadsAtMost};
 
-use crate::admin::serve_admin;
 use crate::connections::Connection;
-use crate::control::{Control, Patience};
 use crate::exporters::wait_a_moment;
 use crate::listeners::Caller;
 use crate::notes;
@@ -19,6 +17,7 @@ use admin_lines::Topic;
 use event_journal::Entry;
 use log::Log;
 use mediator_calls::SubId;
+use mediator_connections::{Control, Patience, serve_admin};
 use octet_devices::{Failed, Sink, Source};
 use shared_mediator::{AdminHandle, EntryLedger, KeptEntry, RecordLedger, SharedMediator};
 use std::alloc::AllocError;
