@@ -1,6 +1,5 @@
-//! Why a mediator isn't made, why no status is told, and why a counted mediator hands out nothing.
+//! Why a mediator isn't made, and why no status is told.
 
-use mediator_state::Fault;
 use std::alloc::AllocError;
 use std::error::Error;
 use std::fmt::{self, Display, Formatter, Write};
@@ -55,30 +54,5 @@ impl Display for UnknownSub {
 
     fn fmt<W: Write>(&self, f: &mut Formatter<W>) -> fmt::Result {
         f.write_str("UnknownSub")
-    }
-}
-
-/// Why a counted mediator hands out nothing. A fault's text is its name, or the name of the mediator's fault.
-#[derive(Clone, Copy, Debug, PartialEq, Eq)]
-pub enum PullFault {
-    /// The count of the records that were handed out, with those that wait, would come to 2^64.
-    HandedFull,
-    /// The mediator refuses the pull for this reason.
-    Core(Fault),
-}
-
-impl Error for PullFault {}
-
-impl Display for PullFault {
-    ghost use Rattle.std.specs.Prelude.{Option, Some};
-    ghost use Rattle.mediator_calls.specs.FaultTexts.{text_of_pull_fault};
-
-    ghost output = { λ fault. Some (text_of_pull_fault fault) };
-
-    fn fmt<W: Write>(&self, f: &mut Formatter<W>) -> fmt::Result {
-        match self {
-            PullFault::HandedFull => f.write_str("HandedFull"),
-            PullFault::Core(fault) => fault.fmt(f),
-        }
     }
 }

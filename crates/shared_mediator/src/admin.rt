@@ -4,10 +4,10 @@ ghost use Rattle.event_journal.specs.declared.entry.Entry.TheVariants.{Edit, Sub
 ghost use Rattle.std.specs.List.{AllByRecursion};
 ghost use Rattle.shared_mediator.specs.Handles.{HasReceipt, KeepsEntry};
 
+use crate::kept::KeptEntry;
 use crate::ledgers::{EntryLedger, RecordLedger};
 use crate::shared::SharedMediator;
 use disclosure_audit::AuditEntry;
-use entry_receipts::KeptEntry;
 use event_journal::{Entry, PolicyText};
 use mediator_calls::{SubId, UnknownSub};
 use mediator_state::{Fault, Status};
@@ -29,7 +29,7 @@ pub struct AdminHandle<E: EntryLedger> {
 
 impl<E: EntryLedger> Model for AdminHandle<E> {
     ghost use Rattle.std.specs.Prelude.{List};
-    ghost use Rattle.entry_receipts.specs.declared.kept.KeptEntry.{KeptEntry};
+    ghost use Rattle.shared_mediator.specs.declared.kept.KeptEntry.{KeptEntry};
     ghost use Rattle.shared_mediator.specs.Handles.{IsAdministering};
 
     ghost Value = { List KeptEntry };
@@ -78,7 +78,7 @@ impl<E: EntryLedger> AdminHandle<E> {
     {
         let copy = PolicyText::new(self.alloc, text)?;
         self.kept.reserve(1)?;
-        let accepted = shared.desk.lock(rt).edit(&mut self.share, text)?;
+        let accepted = shared.mediator.lock(rt).edit(&mut self.share, text)?;
         self.kept.push_reserved(KeptEntry {
             position: accepted.position,
             entry: Entry::Edit { text: copy },
@@ -106,7 +106,7 @@ impl<E: EntryLedger> AdminHandle<E> {
         }
         let copy = Name::new(self.alloc, name.as_bytes())?;
         self.kept.reserve(1)?;
-        let accepted = shared.desk.lock(rt).subscribe(&mut self.share, name)?;
+        let accepted = shared.mediator.lock(rt).subscribe(&mut self.share, name)?;
         self.kept.push_reserved(KeptEntry {
             position: accepted.position,
             entry: Entry::Subscribe {
@@ -132,7 +132,7 @@ impl<E: EntryLedger> AdminHandle<E> {
         ensures same { OnErr result (self.new ≡ self.old) }
     {
         self.kept.reserve(1)?;
-        let position = shared.desk.lock(rt).unsubscribe(&mut self.share, sub)?;
+        let position = shared.mediator.lock(rt).unsubscribe(&mut self.share, sub)?;
         shared.moved.notify_all();
         self.kept.push_reserved(KeptEntry {
             position,
@@ -156,7 +156,7 @@ impl<E: EntryLedger> AdminHandle<E> {
         ensures same { OnErr result (self.new ≡ self.old) }
     {
         self.kept.reserve(1)?;
-        let position = shared.desk.lock(rt).advance(&mut self.share, t)?;
+        let position = shared.mediator.lock(rt).advance(&mut self.share, t)?;
         shared.moved.notify_all();
         self.kept.push_reserved(KeptEntry {
             position,
@@ -192,13 +192,13 @@ impl<E: EntryLedger> AdminHandle<E> {
         shared: &SharedMediator<E, H>,
         sub: SubId,
     ) -> Result<Status, UnknownSub> {
-        shared.desk.lock(rt).status(sub)
+        shared.mediator.lock(rt).status(sub)
     }
 
     /// Ends all waits of deliveries of the mediator `shared` for which nothing is queued, now and from now on. It waits
     /// for the lock by `rt`.
     pub fn stop<H: RecordLedger>(&self, rt: &impl Wait, shared: &SharedMediator<E, H>) {
-        shared.desk.lock(rt).stop();
+        shared.mediator.lock(rt).stop();
         shared.moved.notify_all();
     }
 

@@ -1,23 +1,24 @@
 //! The end of sharing: all handles come back, and their receipts are held against the journal.
 ghost use Rattle.std.specs.Prelude.{◌≡◌, ◌≢◌, ◌+◌, ◌<◌, ◌^◌, [], ◌++◌, List, map, length, IfOk, IfErr, OnOk};
 ghost use Rattle.std.specs.List.{AllByRecursion};
-ghost use Rattle.entry_receipts.specs.declared.kept.KeptEntry.{KeptEntry};
-ghost use Rattle.entry_receipts.specs.Marking.{Marked, AreMarked};
-ghost use Rattle.mediator_calls.specs.Counted.{entries_of};
+ghost use Rattle.shared_mediator.specs.declared.kept.KeptEntry.{KeptEntry};
+ghost use Rattle.shared_mediator.specs.Marking.{Marked, AreMarked};
+ghost use Rattle.shared_mediator.specs.Counted.{entries_of};
 ghost use Rattle.shared_mediator.specs.declared.fault.CloseFault.TheVariants.{MissingHandle};
 ghost use Rattle.shared_mediator.specs.Handles.{HasReceipt};
 ghost use Rattle.shared_mediator.specs.Closing.{KeepsMessages, receipts_of, messages_accepted, entries_kept, records_handed, HasReceipts, AreAll, NamesReceipt, NamesReceiptBehind, RefusesClosing};
 
 use crate::admin::AdminHandle;
+use crate::counted::CountedMediator;
 use crate::delivery::DeliveryHandle;
-use crate::desk::Desk;
 use crate::exporter::ExporterHandle;
 use crate::fault::CloseFault;
 use crate::ledgers::{EntryLedger, RecordLedger};
+use crate::locked::LockedMediator;
+use crate::marks::Marks;
 use crate::shared::SharedMediator;
-use entry_receipts::Marks;
 use event_journal::Journal;
-use mediator_calls::{CountedMediator, Mediator};
+use mediator_calls::Mediator;
 use std::alloc::Global;
 use std::sync::ledger::Share;
 
@@ -66,13 +67,13 @@ impl<E: EntryLedger, H: RecordLedger> SharedMediator<E, H> {
         ensures names { length exporters.items + length admins.items < 2 ^ 64 → IfErr result (λ e.
             NamesReceiptBehind E.before e (receipts_of exporters.items admins.items)) }
     {
-        self.desk
+        self.mediator
             .into_inner()
             .close_all(self.alloc, exporters, deliveries, admins)
     }
 }
 
-impl<E: EntryLedger, H: RecordLedger> Desk<E, H> {
+impl<E: EntryLedger, H: RecordLedger> LockedMediator<E, H> {
     /// Gives the mediator back, as [`SharedMediator::close`] does, once nothing lies under the lock any more. Marks of
     /// receipts are in memory from `alloc`.
     ///
@@ -119,7 +120,7 @@ impl<E: EntryLedger, H: RecordLedger> Desk<E, H> {
             exporters.as_slice(),
             admins.as_slice(),
         )?;
-        let Desk {
+        let LockedMediator {
             counted,
             mut entries,
             mut handed,

@@ -4,10 +4,12 @@ ghost use Rattle.std.specs.Option.{option_copied};
 ghost use Rattle.shared_mediator.specs.Locked.{delivering_as};
 ghost use Rattle.shared_mediator.specs.Handles.{KeepsHanded, KeepsSome, records_kept};
 
-use crate::desk::Desk;
+use crate::fault::PullFault;
+use crate::handed::Handed;
 use crate::ledgers::{EntryLedger, RecordLedger};
+use crate::locked::LockedMediator;
 use crate::shared::SharedMediator;
-use mediator_calls::{Handed, PullFault, SubId};
+use mediator_calls::SubId;
 use mediator_state::Fault;
 use std::alloc::Global;
 use std::marker::Model;
@@ -134,10 +136,10 @@ impl<H: RecordLedger> DeliveryHandle<H> {
         ensures sub { self.new.sub ≡ self.old.sub }
         ensures same { OnErr result (self.new ≡ self.old) }
     {
-        let mut desk = shared.locked(rt);
+        let mut locked = shared.locked(rt);
         let mut count = 0;
         'pulls: while count < most {
-            match self.pull_next(&mut desk, now, target) {
+            match self.pull_next(&mut locked, now, target) {
                 Ok(true) => count += 1,
                 Err(fault) if count == 0 => return Err(fault),
                 Ok(false) | Err(_) => break,
@@ -146,14 +148,14 @@ impl<H: RecordLedger> DeliveryHandle<H> {
         Ok(count)
     }
 
-    /// Pulls the subscription's next message from what lies under the lock, `desk`, as [`pull`](DeliveryHandle::pull)
+    /// Pulls the subscription's next message from what lies under the lock, `locked`, as [`pull`](DeliveryHandle::pull)
     /// does with `now` and `target`.
     ///
     /// # Errors
     /// Those of [`pull`](DeliveryHandle::pull).
     fn pull_next<E: EntryLedger>(
         &mut self,
-        desk: &mut Desk<E, H>,
+        locked: &mut LockedMediator<E, H>,
         now: u32,
         target: u16,
     ) -> Result<bool, PullFault>
@@ -165,7 +167,7 @@ impl<H: RecordLedger> DeliveryHandle<H> {
         if self.kept.reserve(1).is_err() {
             return Err(PullFault::Core(Fault::OutOfMemory));
         }
-        match desk.pull(&mut self.share, self.sub, now, target)? {
+        match locked.pull(&mut self.share, self.sub, now, target)? {
             Some(handed) => {
                 self.kept.push_reserved(handed);
                 Ok(true)
@@ -178,12 +180,12 @@ impl<H: RecordLedger> DeliveryHandle<H> {
     /// it was cut, or all is to stop. `rt` is what it waits by. The answer says which: where several are so, that it
     /// has ended, else that something is queued, else that it was cut.
     pub fn wait<E: EntryLedger>(&self, rt: &impl Wait, shared: &SharedMediator<E, H>) -> Waited {
-        let mut desk = shared.locked(rt);
+        let mut locked = shared.locked(rt);
         for _ in rt.forever() {
-            if let Some(waited) = desk.waited(self.sub) {
+            if let Some(waited) = locked.waited(self.sub) {
                 return waited;
             }
-            desk = shared.moved.wait(rt, desk);
+            locked = shared.moved.wait(rt, locked);
         }
         unreachable!()
     }

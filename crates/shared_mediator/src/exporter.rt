@@ -4,11 +4,11 @@ ghost use Rattle.event_journal.specs.declared.entry.Entry.TheVariants.{Message};
 ghost use Rattle.shared_mediator.specs.Locked.{exporting_as};
 ghost use Rattle.shared_mediator.specs.Handles.{AreMessages};
 
-use crate::desk::OpenedSession;
+use crate::kept::KeptEntry;
 use crate::ledgers::{EntryLedger, RecordLedger};
+use crate::locked::OpenedSession;
 use crate::shared::SharedMediator;
 use bytes::Bytes;
-use entry_receipts::KeptEntry;
 use event_journal::Entry;
 use mediator_calls::SessionId;
 use mediator_state::{Fault, Receipt};

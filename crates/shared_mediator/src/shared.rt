@@ -1,14 +1,14 @@
 //! A mediator that threads share by one lock.
 ghost use Rattle.std.specs.Prelude.{◌≡◌, ◌+◌, ◌*◌, [], IfOk};
-ghost use Rattle.mediator_calls.specs.Counted.{handed_live};
+ghost use Rattle.shared_mediator.specs.Counted.{handed_live};
 
 use crate::admin::AdminHandle;
 use crate::delivery::DeliveryHandle;
-use crate::desk::Desk;
 use crate::exporter::ExporterHandle;
 use crate::fault::HandleFault;
 use crate::fill::Fill;
 use crate::ledgers::{EntryLedger, RecordLedger};
+use crate::locked::LockedMediator;
 use mediator_calls::{Mediator, SubId, UnknownSub};
 use mediator_state::Status;
 use mediator_tables::Share;
@@ -25,7 +25,7 @@ const LOOKS: u32 = 200;
 #[derive(Drop)]
 pub struct SharedMediator<E: EntryLedger, H: RecordLedger> {
     pub(crate) alloc: Global,
-    pub(crate) desk: Mutex<Desk<E, H>>,
+    pub(crate) mediator: Mutex<LockedMediator<E, H>>,
     /// Signalled when something was queued, a subscription ended or was cut, or all is to stop.
     pub(crate) moved: Condvar,
 }
@@ -43,7 +43,7 @@ impl<E: EntryLedger, H: RecordLedger> SharedMediator<E, H> {
     ) -> SharedMediator<E, H>
         requires fresh { handed_live mediator ≡ 0 }
         requires before { E.before ≡ mediator.history }
-        // The ledgers are blank, with a part for each handle that may come and one for the desk.
+        // The ledgers are blank, with a part for each handle that may come and one for the locked mediator.
         requires entries_name { entries.name ≡ E.name }
         requires entries_parts { (entries.parts ≡ E.parts) × (E.parts ≡ E.all)
             × (E.all ≡ 2 * handles + 1) }
@@ -53,7 +53,7 @@ impl<E: EntryLedger, H: RecordLedger> SharedMediator<E, H> {
     {
         SharedMediator {
             alloc,
-            desk: Mutex::new(Desk::new(mediator, handles, entries, handed)),
+            mediator: Mutex::new(LockedMediator::new(mediator, handles, entries, handed)),
             moved: Condvar::new(),
         }
     }
@@ -66,7 +66,7 @@ impl<E: EntryLedger, H: RecordLedger> SharedMediator<E, H> {
     pub fn exporter(&self, rt: &impl Wait) -> Result<ExporterHandle<E>, HandleFault>
         ensures { IfOk result (λ handle. handle.kept ≡ []) }
     {
-        let opened = self.desk.lock(rt).exporter()?;
+        let opened = self.mediator.lock(rt).exporter()?;
         Ok(ExporterHandle::new(self.alloc, opened))
     }
 
@@ -79,20 +79,20 @@ impl<E: EntryLedger, H: RecordLedger> SharedMediator<E, H> {
         ensures sub { IfOk result (λ handle. handle.sub ≡ sub.0) }
         ensures none { IfOk result (λ handle. handle.kept ≡ []) }
     {
-        let share = self.desk.lock(rt).delivery(sub)?;
+        let share = self.mediator.lock(rt).delivery(sub)?;
         Ok(DeliveryHandle::new(self.alloc, sub, share))
     }
 
     /// Takes the lock. Where it is held, it is looked for again for a while, as others run, before this thread sleeps
     /// by `rt`: it is held for microseconds, and to wake a thread takes longer.
-    pub(crate) fn locked(&self, rt: &impl Wait) -> MutexGuard<'_, Desk<E, H>> {
+    pub(crate) fn locked(&self, rt: &impl Wait) -> MutexGuard<'_, LockedMediator<E, H>> {
         for _ in 0..LOOKS {
-            if let Some(desk) = self.desk.try_lock() {
-                return desk;
+            if let Some(locked) = self.mediator.try_lock() {
+                return locked;
             }
             yield_now();
         }
-        self.desk.lock(rt)
+        self.mediator.lock(rt)
     }
 
     /// Wakes the deliveries that wait, so that each looks whether something is queued for it.
@@ -140,7 +140,7 @@ impl<E: EntryLedger, H: RecordLedger> SharedMediator<E, H> {
     pub fn admin(&self, rt: &impl Wait) -> Result<AdminHandle<E>, HandleFault>
         ensures { IfOk result (λ handle. handle ≡ []) }
     {
-        let share = self.desk.lock(rt).admin()?;
+        let share = self.mediator.lock(rt).admin()?;
         Ok(AdminHandle::new(self.alloc, share))
     }
 }
