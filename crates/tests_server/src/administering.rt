@@ -7,8 +7,8 @@ use crate::octets::{FLOW_TO_80, FLOW_TO_443, NOW, ONE_RECORD, TWO_RECORDS};
 use crate::server::Told;
 use crate::stage::{Case, ReturnedHandles, play};
 use ipfix_reader::FramingFault;
+use mediator_connections::{ServeFault, serve_admin};
 use mediator_core::SubId;
-use mediator_server::{ServeFault, serve_admin};
 use octet_io::Device;
 use shared_mediator::{
     AdminHandle, DeliveryHandle, EntryLedger, ExporterHandle, RecordLedger, SharedMediator,

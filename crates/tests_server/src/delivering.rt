@@ -3,8 +3,8 @@
 use crate::hands::{Bounds, ENOUGH, PASS, ROOMY, SMALL, begin, hands, limits_of, offer_all};
 use crate::octets::{NOW, ONE_DELIVERED, ONE_RECORD, PART_BY_PART, TWO_RECORDS};
 use crate::stage::{Case, ReturnedHandles, play};
+use mediator_connections::{Clock, ServeFault, deliver};
 use mediator_core::{Fault, SubId, UnknownSub};
-use mediator_server::{Clock, ServeFault, deliver};
 use octet_io::Device;
 use shared_mediator::{
     AdminHandle, DeliveryHandle, EntryLedger, ExporterHandle, PullFault, RecordLedger,

@@ -5,8 +5,8 @@ use crate::hands::{ENOUGH, PASS, SMALL, begin, hands, limits_of, offer_all};
 use crate::octets::{FLOW_TO_80, FLOW_TO_443, NOW, ONE_AND_TWO, ONE_RECORD, TWO_MORE, TWO_RECORDS};
 use crate::stage::{Case, ReturnedHandles, play};
 use admin_text::Topic;
+use mediator_connections::{Control, Patience, Reception, deliver, serve_admin, serve_exporter};
 use mediator_core::SubId;
-use mediator_server::{Control, Patience, Reception, deliver, serve_admin, serve_exporter};
 use mediator_state::Receipt;
 use octet_io::Device;
 use shared_mediator::{
