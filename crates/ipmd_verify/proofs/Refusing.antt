@@ -1,12 +1,17 @@
 -- A file that is refused, by its name.
-use Rattle.std.proofs.Common.{◌≡◌, ℕ, List, Bool, Option, None, inl, subst, sym}
+use Rattle.std.proofs.Common.{◌≡◌, ◌∙◌, ℕ, List, [], Bool, true, false, not, Option, None, inl, ap, subst}
 use Rattle.std.specs.Io.KnownBytes.{Keeps}
 use Rattle.ipmd_command_line.specs.declared.task.VerifyOptions.{VerifyOptions}
 use Rattle.ipmd_commands.specs.declared.fault.ProgramFault.{ProgramFault}
 use Rattle.ipmd_commands.specs.declared.fault.ProgramFault.TheVariants.{Device, OutOfMemory}
 use Rattle.ipmd_commands.specs.Failures.{IsFileFault, IsNamed}
-use Rattle.ipmd_verify.specs.Found.{RefusesFile}
-use Rattle.ipmd_verify.specs.Verifying.{RefusesToVerify, RefusesToVerifyFile}
+use Rattle.ipmd_commands.specs.HexText.{WritesSome}
+use Rattle.event_journal.specs.declared.entry.Entry.{Entry}
+use Rattle.history_verify.specs.declared.verified.Verified.{Verified}
+use Rattle.history_verify.specs.Answers.{IsVerified}
+use Rattle.history_verify.specs.Counts.{counts_of}
+use Rattle.ipmd_verify.specs.Found.{IsFound, RefusesFile}
+use Rattle.ipmd_verify.specs.Verifying.{BeginsToTell, RefusesToVerify, RefusesToVerifyFile, text_of, told_of}
 
 -- it can't be opened
 pub unopened : (options : VerifyOptions) (e : ProgramFault) (held holds : Option (List ℕ)) → IsFileFault options.journal.now e → Keeps held holds → RefusesToVerifyFile options e held holds
@@ -19,3 +24,18 @@ refused quiet path fault e given held holds refuses named kept = inl ((fault, re
 -- there is no memory for what it discloses
 pub no_room : (quiet : Bool) (path : List ℕ) (e : ProgramFault) (given held holds : Option (List ℕ)) → e ≡ OutOfMemory → Keeps held holds → RefusesToVerify quiet path e given held holds
 no_room quiet path e given held holds is kept = inl ((OutOfMemory, tt, is), kept)
+
+-- what was found is what is told: without the audit where that isn't wanted
+found_is_told : (quiet : Bool) (h : List Entry) (v : Verified) → IsVerified (not quiet) h v → text_of quiet v.subs.items v.audit.items ≡ told_of quiet h
+found_is_told true h v is = ap (λ counts. text_of true counts []) is.subs
+found_is_told false h v is = ap (λ counts. text_of false counts v.audit.items) is.subs ∙ ap (λ audit. text_of false (counts_of h) audit) is.audit
+
+-- a front of it was written
+pub begun : (quiet : Bool) (given held holds : Option (List ℕ)) (v : Verified) (text : List ℕ) → IsFound (not quiet) given v → text ≡ text_of quiet v.subs.items v.audit.items
+    → WritesSome text held holds → BeginsToTell quiet given held holds
+begun quiet given held holds v text found is written = record {
+  history = found.history;
+  said = found.said;
+  legal = found.verified.legal;
+  written = subst (λ t. WritesSome t held holds) (is ∙ found_is_told quiet found.history v found.verified) written;
+}
