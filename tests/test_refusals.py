@@ -17,7 +17,9 @@ class Refusals(ServeTest):
         ended = run.end()
         before, _, last = ended.notes.removesuffix("\n").rpartition("\n")
         self.assertEqual(last + "\n", fault, ended.notes)
-        self.assertEqual(before.rpartition("\n")[2][: len(note)], note, ended.notes)
+        # The note's time stands before it, and has no space.
+        noted = before.rpartition("\n")[2].partition(" ")[2]
+        self.assertEqual(noted[: len(note)], note, ended.notes)
         self.assertEqual((ended.status, ended.output), (status, ""), ended.notes)
 
     def test_address_in_use(self):

@@ -149,7 +149,8 @@ class Runs(ServeTest):
         run = self.start(journal="journal", links={"output": "/dev/full"})
         self.make_short_run(run)
         self.assertEqual(run.child.wait(20), 3)
-        self.assertTrue(run.notes().endswith("\n[INFO  ipmd] journal journal.1 written\n" + failed("standard output", errno.ENOSPC)), run.notes())
+        said = " [INFO  ipmd] journal journal.1 written\n" + failed("standard output", errno.ENOSPC)
+        self.assertTrue(run.notes().endswith(said), run.notes())
         self.assertEqual(self.files(run), ["journal.1"])
 
     def test_no_folder(self):

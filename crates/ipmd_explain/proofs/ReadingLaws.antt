@@ -156,13 +156,9 @@ refuses_flush q path e given held holds after (why, is) same does = (
 -- the file is refused as it is verified
 pub refuses_first : (q : Question) (options : ExplainOptions) (path : List ℕ) (e f : ProgramFault) (given held sunk sinks : Option (List ℕ)) → q ≡ question_of options → path ≡ options.journal.now → e ≡ f
     → RefusesToExplain q path f given sunk sinks → RefusesToExplainFile options e held held
-refuses_first q options path e f given held sunk sinks same there is (fault, named, refuses, written) = (
-  given,
-  fault,
-  subst₂ (λ p x. IsNamed p fault x) there (sym is) named,
-  (subst (λ (r : Question). Refuses r fault given) same refuses, inl (Keeps-refl held)),
-)
+refuses_first q options path e f given held sunk sinks same there is (fault, named, (refuses, written)) =
+    (given, (fault, subst₂ (λ p x. IsNamed p fault x) there (sym is) named, (subst (λ (r : Question). Refuses r fault given) same refuses, inl (Keeps-refl held))))
 
 -- it can't be opened, or there is no memory
 pub refuses_open : (options : ExplainOptions) (e : ProgramFault) (held holds : Option (List ℕ)) → IsFileFault options.journal.now e → Keeps held holds → RefusesToExplainFile options e held holds
-refuses_open options e held holds is same = (None, Device None, is, (inl tt, inl same))
+refuses_open options e held holds is same = (None, (Device None, is, (inl tt, inl same)))
