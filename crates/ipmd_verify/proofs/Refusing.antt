@@ -1,5 +1,7 @@
 -- A file that is refused, by its name.
 use Rattle.std.proofs.Common.{◌≡◌, ◌∙◌, ℕ, List, [], Bool, true, false, not, Option, None, inl, ap, subst}
+use Rattle.std.specs.Prelude.{Result, Ok, Err}
+use Rattle.std.specs.Result.{IsErr, IsErrAnd, IfErr}
 use Rattle.std.specs.Io.KnownBytes.{Keeps}
 use Rattle.ipmd_command_line.specs.declared.task.VerifyOptions.{VerifyOptions}
 use Rattle.ipmd_commands.specs.declared.fault.ProgramFault.{ProgramFault}
@@ -12,6 +14,11 @@ use Rattle.history_verify.specs.Answers.{IsVerified}
 use Rattle.history_verify.specs.Counts.{counts_of}
 use Rattle.ipmd_verify.specs.Found.{IsFound, RefusesFile}
 use Rattle.ipmd_verify.specs.Verifying.{BeginsToTell, RefusesToVerify, RefusesToVerifyFile, text_of, told_of}
+
+-- an error that is handed on
+pub err_gives : {X E : Type 0} {P Q : E → Type 0} (r : Result X E) → IsErr r × IsErrAnd r P → ((e : E) → P e → Q e) → IfErr r Q
+err_gives (Ok x) known f = tt
+err_gives (Err e) known f = f e known.1
 
 -- it can't be opened
 pub unopened : (options : VerifyOptions) (e : ProgramFault) (held holds : Option (List ℕ)) → IsFileFault options.journal.now e → Keeps held holds → RefusesToVerifyFile options e held holds

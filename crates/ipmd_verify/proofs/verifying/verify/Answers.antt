@@ -1,9 +1,8 @@
 use Rattle.std.proofs.Common.{subst, sym}
 use Rattle.octet_io.specs.Device.{device_inner}
-use Rattle.mediator_offline.proofs.Receiving.{err_gives}
 use Rattle.ipmd_commands.specs.Failures.{IsFileFault}
 use Rattle.ipmd_commands.proofs.Lines.{kept}
-use Rattle.ipmd_verify.proofs.Refusing.{unopened}
+use Rattle.ipmd_verify.proofs.Refusing.{err_gives, unopened}
 use Rattle.ipmd_verify.proofs.verifying.verify.Goals as goal
 
 pub returns-in_err-file-clause-err : goal.returns-in_err-file-clause-err

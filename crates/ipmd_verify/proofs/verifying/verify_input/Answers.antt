@@ -1,10 +1,9 @@
 use Rattle.std.proofs.Common.{rules, ◌≡◌, ◌∙◌, not, inr}
 use Rattle.std.proofs.lemmas.Result.{IfErr-weaker}
 use Rattle.octet_io.specs.Device.{device_inner}
-use Rattle.mediator_offline.proofs.Receiving.{err_gives}
 use Rattle.ipmd_commands.proofs.Lines.{kept}
 use Rattle.ipmd_verify.specs.Found.{IsFound}
-use Rattle.ipmd_verify.proofs.Refusing.{begun, no_room}
+use Rattle.ipmd_verify.proofs.Refusing.{begun, err_gives, no_room}
 use Rattle.ipmd_verify.proofs.verifying.verify_input.Goals as goal
 
 pub returns-in_err-text-in-Ok-clause-err : goal.returns-in_err-text-in-Ok-clause-err
