@@ -162,3 +162,8 @@ refuses_first q options path e f given held sunk sinks same there is (fault, nam
 -- it can't be opened, or there is no memory
 pub refuses_open : (options : ExplainOptions) (e : ProgramFault) (held holds : Option (List ℕ)) → IsFileFault options.journal.now e → Keeps held holds → RefusesToExplainFile options e held holds
 refuses_open options e held holds is same = (None, (Device None, is, (inl tt, inl same)))
+
+-- or as it is explained
+pub refuses_last : (q : Question) (options : ExplainOptions) (e : ProgramFault) (given held holds : Option (List ℕ)) → q ≡ question_of options → RefusesToExplain q options.journal.now e given held holds
+    → RefusesToExplainFile options e held holds
+refuses_last q options e given held holds same refuses = (given, subst (λ (r : Question). RefusesToExplain r options.journal.now e given held holds) same refuses)
