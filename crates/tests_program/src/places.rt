@@ -2,7 +2,7 @@
 use ipmd_commands::{Failure, Place, ProgramFault};
 
 /// Whether it is this one.
-pub fn is_at(fault: &ProgramFault, place: &Place) -> bool {
+pub(crate) fn is_at(fault: &ProgramFault, place: &Place) -> bool {
     match fault {
         ProgramFault::Device(Some(failure)) => failure.place == *place,
         _ => false,
@@ -10,7 +10,7 @@ pub fn is_at(fault: &ProgramFault, place: &Place) -> bool {
 }
 
 /// Whether it is the file at a path.
-pub fn is_at_file(fault: &ProgramFault, path: &str) -> bool {
+pub(crate) fn is_at_file(fault: &ProgramFault, path: &str) -> bool {
     match fault {
         ProgramFault::Device(
             Some(
