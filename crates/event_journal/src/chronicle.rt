@@ -41,11 +41,13 @@ pub trait Chronicle {
     /// Want of memory, and then nothing has changed. Where room for `more` entries is reserved already, there is no
     /// error.
     fn reserve(&mut self, more: u64) -> Result<(), AllocError>
+        // Only the reserved room changes, and none of it is given back.
         ensures tells { (h : List Entry) → tells self.old h → tells self.new h }
         ensures count { count self.new ≡ count self.old }
         ensures octets { octets self.new ≡ octets self.old }
         ensures limits { limits self.new ≡ limits self.old }
         ensures kept { spare self.old ≤ spare self.new }
+        // Answered Ok, there is room for all of `more`; where memory is short, there is no more than before.
         ensures ok { OnOk result (more ≤ spare self.new) }
         ensures err { OnErr result (spare self.new ≡ spare self.old) }
         // Room that is reserved already takes no memory.
@@ -57,6 +59,7 @@ pub trait Chronicle {
     fn push_reserved(&mut self, entry: Entry)
         requires room { HasRoom (limits self.old) (count self.old) (octets self.old) (entry ∷ []) }
         requires reserved { 0 < spare self.old }
+        // The history goes on with the entry, and its sizes with what that takes.
         ensures tells { (h : List Entry) → tells self.old h → tells self.new (h ++ entry ∷ []) }
         ensures count { count self.new ≡ count self.old + 1 }
         ensures octets { octets self.new ≡ octets self.old + entry_octets entry }

@@ -1,4 +1,4 @@
-//! The text of the last edit among entries: the policy that a journal leaves in force.
+//! The text of the last edit among entries, with whose policy a next run may begin.
 ghost use Rattle.std.specs.Prelude.{◌≡◌};
 ghost use Rattle.std.specs.Option.{option_copied};
 ghost use Rattle.event_journal.specs.LastEdit.{edit_text, last_edit};

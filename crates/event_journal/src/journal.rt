@@ -55,6 +55,7 @@ impl Journal {
         requires most_entries { entries ≤ MOST_ENTRIES }
         requires some_octets { 1 ≤ octets }
         requires most_octets { octets ≤ MOST_OCTETS }
+        // It has no entry, and no room is reserved.
         ensures { result ≡ record {
           entries = [];
           limits = record { entries = entries; octets = octets };
@@ -82,9 +83,11 @@ impl Journal {
     /// Want of memory, and then nothing has changed. Where room for `more` entries is reserved already, there is no
     /// error.
     pub fn reserve(&mut self, more: u64) -> Result<(), AllocError>
+        // Only the reserved room changes, and none of it is given back.
         ensures entries { self.new.entries ≡ self.old.entries }
         ensures limits { self.new.limits ≡ self.old.limits }
         ensures kept { self.old.spare ≤ self.new.spare }
+        // Answered Ok, there is room for all of `more`; where memory is short, all is as it was.
         ensures ok { OnOk result (more ≤ self.new.spare) }
         ensures err { OnErr result (self.new ≡ self.old) }
         // Room that is reserved already takes no memory.
@@ -132,8 +135,8 @@ impl Journal {
         self.entries.get(position as usize)
     }
 
-    /// The text of the last edit, which is the policy in force at the end, or `None` where the journal has no edit. It
-    /// takes no memory, and time in proportion to the entries behind that edit.
+    /// The text of the last edit, or `None` where the journal has none. It takes no memory, and time in proportion to
+    /// the entries behind that edit.
     pub fn last_edit(&self) -> Option<&str>
         ensures { option_copied result ≡ last_edit self.now.entries }
     {

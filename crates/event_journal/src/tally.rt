@@ -44,6 +44,7 @@ impl Tally {
         requires most_entries { entries ≤ MOST_ENTRIES }
         requires some_octets { 1 ≤ octets }
         requires most_octets { octets ≤ MOST_OCTETS }
+        // It has counted no entry, and no room is reserved.
         ensures { result ≡ record {
           count = 0;
           octets = 0;

@@ -1,13 +1,14 @@
-//! How much was disclosed to a subscription.
+//! How much a history disclosed to one subscription.
 
 use policy_text::Name;
 
-/// How many records a history disclosed to a subscription.
+/// How many records a history disclosed to one subscription.
 #[derive(Debug, Drop)]
 pub struct Count {
     /// The number of the subscription.
     pub sub: u64,
     /// Its subscriber's name.
     pub name: Name,
+    /// The number of the records that it was given, with those of closed aggregates.
     pub disclosed: u64,
 }

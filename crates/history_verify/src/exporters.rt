@@ -10,7 +10,7 @@ use ipfix_session::Reading;
 use mediator_tables::{OpenSession, Sessions};
 use std::alloc::{AllocError, Global};
 
-/// The open sessions, and how many were opened. Contracts say by `AreExporters` of which histories.
+/// The open sessions of a history, and how many were opened. Contracts say by `AreExporters` of which histories.
 #[derive(Drop)]
 pub struct Exporters {
     sessions: Sessions,
@@ -20,7 +20,7 @@ pub struct Exporters {
 impl Exporters {
     ghost use Rattle.history_verify.specs.Parts.{AreExporters, SameExporters, IsTurn, IsInTurn, HasRoomToKeep};
 
-    /// Before any entry.
+    /// The sessions of a history without an entry. What comes to be kept is in memory from `alloc`.
     pub fn new(alloc: Global) -> Exporters
         ensures { AreExporters result [] }
     {
@@ -30,14 +30,14 @@ impl Exporters {
         }
     }
 
-    /// Whether this is the number of the next session.
+    /// Whether `session` is the number of the next session: how many were opened, and one more.
     pub fn is_next(&self, session: u64) -> bool
         ensures { IsTrue result ↔ (session ≡ self.now.opened + 1) }
     {
         session.checked_sub(1) == Some(self.opened)
     }
 
-    /// Opens the next session.
+    /// Opens the next session, whose number is `session`.
     ///
     /// # Errors
     /// Want of memory, and then nothing has changed.
@@ -52,14 +52,14 @@ impl Exporters {
         Ok(())
     }
 
-    /// Whether a session is open.
+    /// Whether the session with the number `session` is open.
     pub fn is_open(&self, session: u64) -> bool
         ensures { (h : List Entry) → AreExporters self.now h → result ≡ is_open session h }
     {
         self.sessions.get(session).is_some()
     }
 
-    /// Closes a session.
+    /// Closes the session with the number `session`, if it is open. It takes no memory.
     pub fn close(&mut self, session: u64)
         ensures { (h : List Entry) → AreExporters self.old h
             → AreExporters self.new (h ++ Close session ∷ []) }
@@ -67,7 +67,7 @@ impl Exporters {
         self.sessions.close(session);
     }
 
-    /// The session, where it is open and this is the number of its next message.
+    /// The session with the number `session`, where it is open and had `number` messages; else `None`.
     pub fn in_turn(&self, session: u64, number: u64) -> Option<&OpenSession>
         ensures found { IfSome result (λ o. IsInTurn self.now session number o.now) }
         ensures none { IfNone result ((h : List Entry) → AreExporters self.now h
@@ -81,10 +81,11 @@ impl Exporters {
         }
     }
 
-    /// Makes room for what a session's message changes.
+    /// Makes room for what `reading` changes, which was read of the next message of the session with the number
+    /// `session`.
     ///
     /// # Errors
-    /// Want of memory. The sessions stay, whatever the answer.
+    /// Want of memory. Whatever the answer, only reserved room has changed.
     pub fn make_room(&mut self, session: u64, reading: &Reading) -> Result<(), AllocError>
         ensures same { SameExporters self.old self.new }
         ensures room { OnOk result (HasRoomToKeep self.new session reading.now) }
@@ -92,7 +93,8 @@ impl Exporters {
         self.sessions.make_room(session, reading)
     }
 
-    /// Keeps what was read of a session's next message, in room that was made for it. It takes no memory.
+    /// Keeps `reading`, which was read of the next message of the session with the number `session`, in room that
+    /// [`make_room`](Exporters::make_room) made for it. It takes no memory and can't fail.
     pub fn keep(&mut self, session: u64, reading: Reading)
         requires room { IsSomeAnd (at_key session self.old.sessions)
             (λ o. HasRoomFor o.session reading) }

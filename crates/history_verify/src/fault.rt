@@ -4,12 +4,13 @@ use std::alloc::AllocError;
 use std::error::Error;
 use std::fmt::{self, Display, Formatter, Write};
 
-/// Why a history isn't verified. Its text is its name.
+/// Why a history isn't verified. A fault's text is its name.
 #[derive(Clone, Copy, Debug, PartialEq, Eq)]
 pub enum VerifyFault {
-    /// The entry at this position is none that a mediator may have accepted there. All entries before it are.
+    /// The entry at `position`, counted from 0, is none that a mediator may have accepted there, or it is a cut that
+    /// what follows doesn't bear out. It is the first such entry.
     BadHistory { position: u64 },
-    /// Want of memory.
+    /// Want of memory. It says nothing of the history.
     OutOfMemory,
 }
 

@@ -1,4 +1,4 @@
-//! What an entry would do, found out before anything is changed.
+//! What a message would do, found out before anything is changed.
 ghost use Rattle.std.specs.Prelude.{◌≡◌, ℕ, List, map, Option, None, IfOk, IfSome, IfNone};
 ghost use Rattle.ipfix_template.specs.DataRecord.{DataRecord};
 ghost use Rattle.mediator_tables.specs.SubscriptionTable.{shown};
@@ -12,13 +12,15 @@ use std::alloc::{AllocError, Global};
 /// What a message gives, counts and keeps back.
 #[derive(Drop)]
 pub(crate) struct Judged {
+    /// What each subscription is given that is served.
     pub(crate) shares: Vec<Share>,
+    /// What counts in the aggregates of each.
     pub(crate) tallies: Vec<Tally>,
     /// The audit's entries, where they are wanted.
     pub(crate) entries: Vec<AuditEntry>,
 }
 
-/// The place of the first share without a record.
+/// The place of the first of `shares` that has no record, or `None`.
 pub(crate) fn first_empty(shares: &[Share]) -> Option<usize>
     ensures { IsFirstEmptyShare (map shown shares.now) result }
 {
@@ -30,7 +32,7 @@ pub(crate) fn first_empty(shares: &[Share]) -> Option<usize>
     None
 }
 
-/// The audit's entries of notes of the message at a position.
+/// The audit's entries of `notes`, which are of the message at `position`; in memory from `alloc`.
 ///
 /// # Errors
 /// Want of memory.

@@ -1,4 +1,4 @@
-//! What is kept of the entries so far.
+//! What is kept of the entries of a history so far, and what each entry changes of it.
 ghost use Rattle.std.specs.Prelude.{◌≡◌, ◌≢◌, ◌∷◌, ◌++◌, ◌+◌, ◌<◌, ◌≤◌, ◌↔◌, [], ℕ, List, length, map, true, ◌^◌, IsTrue, IfOk, IfErr, IfSome, IfNone, OnOk, OnErr};
 ghost use Rattle.event_journal.specs.declared.entry.Entry.{Entry};
 ghost use Rattle.event_journal.specs.declared.entry.Entry.TheVariants.{Open, Close, Message, Edit, Subscribe, Unsubscribe, Advance, Cut};
@@ -21,8 +21,9 @@ use std::alloc::{AllocError, Global};
 /// What is kept of a history: what decides of its next entry, and what it disclosed. Contracts say by `Stands` of which
 /// histories it is.
 ///
-/// Behind the last entry that is no cut stand the cuts that wait to be borne out by the next one that is none: of these all
-/// is done, but that the groups of their subscriptions are kept.
+/// Behind the last entry that is no cut stand the cuts that wait: each is to be borne out by the next entry that is no
+/// cut, which would have given its subscription something. All of a waiting cut is done already, but that the groups of
+/// its subscription are kept.
 #[derive(Drop)]
 pub(crate) struct Replay {
     alloc: Global,
@@ -39,7 +40,7 @@ pub(crate) struct Replay {
 }
 
 impl Replay {
-    /// Before any entry; the audit's entries are kept where they are wanted.
+    /// What is kept before any entry, in memory from `alloc`. The audit's entries are kept where `audit` says so.
     ///
     /// # Errors
     /// Want of memory.
@@ -73,7 +74,7 @@ impl Replay {
         self.waiting.len() as u64
     }
 
-    /// The position of the first cut that waits, and that of the next entry where none does.
+    /// The position of the first cut that waits, or that of the next entry where none does.
     pub(crate) fn first_waiting(&self) -> u64
         requires short { StandsShort self.now }
         ensures { result + length self.now.waiting.items ≡ self.now.position }
@@ -81,8 +82,8 @@ impl Replay {
         self.position - self.waiting()
     }
 
-    /// What is said where the next entry is no cut, and none that may stand there: the first cut that waits isn't borne out by
-    /// it, and where none waits it is itself the first bad one.
+    /// The fault where the next entry is no cut, and none that may stand there: the first cut that waits isn't borne
+    /// out by it, and where none waits it is itself the first bad one.
     pub(crate) fn bad(&self) -> VerifyFault
         requires short { StandsShort self.now }
         ensures { (entry : Entry) (h : List Entry) → Stands self.now h → (IsAccepted h entry → ⊥)
@@ -93,14 +94,16 @@ impl Replay {
         }
     }
 
-    /// Takes a session that begins, where no cut waits.
+    /// Takes the beginning of the session with the number `session`, where no cut waits.
     ///
     /// # Errors
-    /// The number isn't the next; or want of memory.
+    /// `BadHistory` where that isn't the number of the next session; or want of memory. Nothing has changed then.
     pub(crate) fn open(&mut self, session: u64) -> Result<(), VerifyFault>
         requires short { StandsShort self.old }
+        // The entry is taken, or it is told which entry may not stand where it does.
         ensures ok { OnOk result (TakesNext self.old (Open session) self.new) }
         ensures err { IfErr result (λ e. RefusesNext e self.old (Open session)) }
+        // A refused entry changes nothing. Whether the audit is kept stays in any case.
         ensures same { OnErr result (IsSameReplay self.old self.new) }
         ensures wanted { self.new.audit.wanted ≡ self.old.audit.wanted }
     {
@@ -112,14 +115,16 @@ impl Replay {
         Ok(())
     }
 
-    /// Takes a session that ends, where no cut waits.
+    /// Takes the end of the session with the number `session`, where no cut waits.
     ///
     /// # Errors
-    /// It isn't open.
+    /// `BadHistory` where it isn't open. Nothing has changed then.
     pub(crate) fn close(&mut self, session: u64) -> Result<(), VerifyFault>
         requires short { StandsShort self.old }
+        // The entry is taken, or it is told which entry may not stand where it does.
         ensures ok { OnOk result (TakesNext self.old (Close session) self.new) }
         ensures err { IfErr result (λ e. RefusesNext e self.old (Close session)) }
+        // A refused entry changes nothing. Whether the audit is kept stays in any case.
         ensures same { OnErr result (IsSameReplay self.old self.new) }
         ensures wanted { self.new.audit.wanted ≡ self.old.audit.wanted }
     {
@@ -131,14 +136,16 @@ impl Replay {
         Ok(())
     }
 
-    /// Takes a policy that comes into force, where no cut waits.
+    /// Takes the policy that `text` spells, which comes into force, where no cut waits.
     ///
     /// # Errors
-    /// The text is none of a policy; or want of memory.
+    /// `BadHistory` where the text spells no policy; or want of memory. Nothing has changed then.
     pub(crate) fn edit(&mut self, text: &str) -> Result<(), VerifyFault>
         requires short { StandsShort self.old }
+        // The entry is taken, or it is told which entry may not stand where it does.
         ensures ok { OnOk result (TakesNext self.old (Edit text.now) self.new) }
         ensures err { IfErr result (λ e. RefusesNext e self.old (Edit text.now)) }
+        // A refused entry changes nothing. Whether the audit is kept stays in any case.
         ensures same { OnErr result (IsSameReplay self.old self.new) }
         ensures wanted { self.new.audit.wanted ≡ self.old.audit.wanted }
     {
@@ -148,10 +155,10 @@ impl Replay {
         Ok(())
     }
 
-    /// The policy that a text spells.
+    /// The policy that `text` spells.
     ///
     /// # Errors
-    /// It spells none; or want of memory.
+    /// `BadHistory` where it spells none; or want of memory.
     fn read_policy(&self, text: &str) -> Result<Policy, VerifyFault>
         requires short { StandsShort self.now }
         ensures ok { IfOk result (λ policy. policy_of text.now ≡ Ok policy) }
@@ -168,14 +175,18 @@ impl Replay {
         }
     }
 
-    /// Takes a subscription that begins, where no cut waits.
+    /// Takes the beginning of the subscription with the number `sub`, for a subscriber of this `name`, where no cut
+    /// waits.
     ///
     /// # Errors
-    /// The number isn't the next, or a live subscription has the name; or want of memory.
+    /// `BadHistory` where that isn't the number of the next subscription, or a live one has the name; or want of
+    /// memory. Nothing has changed then.
     pub(crate) fn subscribe(&mut self, sub: u64, name: &Name) -> Result<(), VerifyFault>
         requires short { StandsShort self.old }
+        // The entry is taken, or it is told which entry may not stand where it does.
         ensures ok { OnOk result (TakesNext self.old (Subscribe sub name.now) self.new) }
         ensures err { IfErr result (λ e. RefusesNext e self.old (Subscribe sub name.now)) }
+        // A refused entry changes nothing. Whether the audit is kept stays in any case.
         ensures same { OnErr result (IsSameReplay self.old self.new) }
         ensures wanted { self.new.audit.wanted ≡ self.old.audit.wanted }
     {
@@ -187,14 +198,16 @@ impl Replay {
         Ok(())
     }
 
-    /// Takes a subscription that ends, where no cut waits.
+    /// Takes the end of the subscription with the number `sub`, where no cut waits.
     ///
     /// # Errors
-    /// It isn't live.
+    /// `BadHistory` where it isn't live. Nothing has changed then.
     pub(crate) fn unsubscribe(&mut self, sub: u64) -> Result<(), VerifyFault>
         requires short { StandsShort self.old }
+        // The entry is taken, or it is told which entry may not stand where it does.
         ensures ok { OnOk result (TakesNext self.old (Unsubscribe sub) self.new) }
         ensures err { IfErr result (λ e. RefusesNext e self.old (Unsubscribe sub)) }
+        // A refused entry changes nothing. Whether the audit is kept stays in any case.
         ensures same { OnErr result (IsSameReplay self.old self.new) }
         ensures wanted { self.new.audit.wanted ≡ self.old.audit.wanted }
     {
@@ -207,7 +220,8 @@ impl Replay {
         Ok(())
     }
 
-    /// Whether a cut may stand here, if what follows bears it out.
+    /// Whether a cut of the subscription with the number `sub` may stand next, if what follows bears it out: it is
+    /// served, and its number is behind those of the cuts that wait.
     pub(crate) fn may_cut(&self, sub: u64) -> bool
         ensures { (h : List Entry) → Stands self.now h → IsTrue result ↔ MayCut h sub }
     {
@@ -215,10 +229,10 @@ impl Replay {
         last.unwrap_or(0) < sub && self.subscribers.is_served(sub)
     }
 
-    /// Takes a cut, which then waits.
+    /// Takes a cut of the subscription with the number `sub`, which then waits.
     ///
     /// # Errors
-    /// Want of memory.
+    /// Want of memory, and then nothing has changed.
     pub(crate) fn cut(&mut self, sub: u64) -> Result<(), AllocError>
         requires short { StandsShort self.old }
         ensures ok { OnOk result ((h : List Entry) → Stands self.old h → MayCut h sub
@@ -276,10 +290,12 @@ impl Replay {
     ghost use Rattle.history_verify.specs.Standing.{StandsOver, IsReadOf, IsFirstOr};
     ghost use Rattle.history_verify.specs.Sharing.{IsJudged};
 
-    /// What is read of the next message of a session.
+    /// What is read of the message `octets`, as the next one of the session with the number `session`, which is to have
+    /// had `number` messages.
     ///
     /// # Errors
-    /// It isn't the next of an open session, or has no meaning; or want of memory.
+    /// `BadHistory` where the session isn't open, or had another number of messages, or the octets are no message that
+    /// it can have; or want of memory.
     pub(crate) fn read(
         &self,
         session: u64,
@@ -305,14 +321,17 @@ impl Replay {
         }
     }
 
-    /// The place of the first cut that waits and to whose subscription a message would give nothing, were it not cut.
+    /// The place among the cuts that wait of the first one to whose subscription the message of which `reading` was
+    /// read would give nothing, were it not cut; or `None` where the message bears out all of them.
     ///
     /// # Errors
     /// Want of memory.
     pub(crate) fn unborne_by(&mut self, reading: &Reading) -> Result<Option<usize>, AllocError>
         requires short { StandsShort self.old }
         requires few { length reading.now.meaning.records ≤ 2 ^ 32 }
+        // Nothing changes.
         ensures same { self.new ≡ self.old }
+        // The place is that of the first such cut, by the definitions.
         ensures within { IfOk result (λ place. IfSome place
             (λ n. n < length self.old.waiting.items)) }
         ensures first { IfOk result (λ place.
@@ -327,7 +346,8 @@ impl Replay {
         Ok(first_empty(&shares.shares))
     }
 
-    /// What a message gives to those that are served, what counts for them, and what the audit names, where that is wanted.
+    /// What the message of which `reading` was read gives to those that are served, what counts for them, and what the
+    /// audit names, where that is wanted.
     ///
     /// # Errors
     /// Want of memory.
@@ -350,10 +370,11 @@ impl Replay {
         })
     }
 
-    /// Takes the message that was read and judged: the cuts that wait are borne out by it.
+    /// Takes the message of the session with the number `session` of which `reading` was read and that was `judged`. It
+    /// bears out the cuts that wait.
     ///
     /// # Errors
-    /// Want of memory.
+    /// Want of memory, and then nothing has changed.
     pub(crate) fn message(
         &mut self,
         session: u64,
@@ -365,12 +386,14 @@ impl Replay {
         requires planned { (settled h : List Entry) × (number : ℕ) × (octets : List ℕ)
             × StandsOver self.old settled h × IsReadOf h session number octets reading
             × IsJudged self.old.audit.wanted h (Message session number octets) judged }
+        // The entry is taken, where it bears out the cuts that wait.
         ensures ok { OnOk result ((settled h : List Entry) (number : ℕ) (octets : List ℕ)
             → StandsOver self.old settled h → IsReadOf h session number octets reading
             → AllByRecursion (λ sub. given_at sub settled (Message session number octets) ≢ [])
             self.old.waiting.items
             → IsJudged self.old.audit.wanted h (Message session number octets) judged
             → IsTaken self.new h (Message session number octets)) }
+        // Want of memory changes nothing. Whether the audit is kept stays in any case.
         ensures same { OnErr result (IsSameReplay self.old self.new) }
         ensures wanted { self.new.audit.wanted ≡ self.old.audit.wanted }
     {
@@ -398,15 +421,15 @@ impl Replay {
     ghost use Rattle.std.specs.List.{AllByRecursion};
     ghost use Rattle.history_verify.specs.Standing.{StandsOver, IsFirstOr};
 
-    /// Whether the clock may come to stand at this time.
+    /// Whether the clock may be moved to `t`, in milliseconds since 1970: it isn't later already.
     pub(crate) fn may_advance(&self, t: u64) -> bool
         ensures { (h : List Entry) → Stands self.now h → IsTrue result ↔ IsAccepted h (Advance t) }
     {
         self.in_force.clock() <= t
     }
 
-    /// The place of the first cut that waits and to whose subscription an advance of the clock would give nothing, were it not
-    /// cut.
+    /// The place among the cuts that wait of the first one to whose subscription an advance of the clock to `t` would
+    /// give nothing, were it not cut; or `None` where the advance bears out all of them.
     ///
     /// # Errors
     /// Want of memory.
@@ -426,17 +449,20 @@ impl Replay {
         Ok(None)
     }
 
-    /// Takes an advance of the clock: the cuts that wait are borne out by it.
+    /// Takes an advance of the clock to `t`, in milliseconds since 1970, which is not before the time of the clock. It
+    /// bears out the cuts that wait.
     ///
     /// # Errors
-    /// Want of memory.
+    /// Want of memory, and then nothing has changed.
     pub(crate) fn advance(&mut self, t: u64) -> Result<(), AllocError>
         requires short { StandsShort self.old }
         requires accepted { (h : List Entry) → Stands self.old h → IsAccepted h (Advance t) }
+        // The entry is taken, where it bears out the cuts that wait.
         ensures ok { OnOk result ((settled h : List Entry) → StandsOver self.old settled h
             → IsAccepted h (Advance t)
             → AllByRecursion (λ sub. given_at sub settled (Advance t) ≢ []) self.old.waiting.items
             → IsTaken self.new h (Advance t)) }
+        // Want of memory changes nothing. Whether the audit is kept stays in any case.
         ensures same { OnErr result (IsSameReplay self.old self.new) }
         ensures wanted { self.new.audit.wanted ≡ self.old.audit.wanted }
     {
@@ -453,7 +479,7 @@ impl Replay {
 
 ghost use Rattle.sequences.specs.Octets.{AreOctets};
 
-/// Octets are less than 256, by their type.
+/// Tells proofs that the octets of `message` are less than 256, by their type. It does nothing.
 fn see_octets(message: &[u8])
     ensures { AreOctets message.now }
 {}

@@ -13,7 +13,7 @@ use policy_text::Name;
 use std::alloc::{AllocError, Global};
 use std::collections::{BTreeMap, BTreeSet};
 
-/// The subscriptions, with what was disclosed to each. Contracts say by `AreSubscribers` of which
+/// The subscriptions of a history, with how much was disclosed to each. Contracts say by `AreSubscribers` of which
 /// histories. Each look-up and each change takes time that grows with the logarithm of their number.
 #[derive(Drop)]
 pub(crate) struct Subscribers {
@@ -29,7 +29,7 @@ pub(crate) struct Subscribers {
 impl Subscribers {
     ghost use Rattle.history_verify.specs.Parts.{AreSubscribers, SameSubscribers, IsUnbegun, number_of, served_shares, MayCount, HasCounted};
 
-    /// Before any entry.
+    /// The subscriptions of a history without an entry. What comes to be kept is in memory from `alloc`.
     pub(crate) fn new(alloc: Global) -> Subscribers
         ensures { AreSubscribers result [] }
     {
@@ -41,21 +41,21 @@ impl Subscribers {
         }
     }
 
-    /// Whether this is the number of the next subscription.
+    /// Whether `sub` is the number of the next subscription: how many began, and one more.
     pub(crate) fn is_next(&self, sub: u64) -> bool
         ensures { IsTrue result ↔ (sub ≡ length self.now.begun.items + 1) }
     {
         sub == self.begun.len() as u64 + 1
     }
 
-    /// Whether a live subscription has this name.
+    /// Whether a live subscription has this `name`.
     pub(crate) fn is_taken(&self, name: &str) -> bool
         ensures { result ≡ is_some (number_of self.now name.now) }
     {
         self.live.get(name).is_some()
     }
 
-    /// Whether a subscription is live.
+    /// Whether the subscription with the number `sub` is live.
     pub(crate) fn is_live(&self, sub: u64) -> bool
         ensures { (h : List Entry) → AreSubscribers self.now h → result ≡ is_live sub h }
     {
@@ -65,14 +65,14 @@ impl Subscribers {
         }
     }
 
-    /// Whether a subscription is served.
+    /// Whether the subscription with the number `sub` is served.
     pub(crate) fn is_served(&self, sub: u64) -> bool
         ensures { (h : List Entry) → AreSubscribers self.now h → result ≡ is_served sub h }
     {
         self.served.contains(&sub)
     }
 
-    /// The name of a subscription that began.
+    /// The name of the subscription with the number `sub`, live or not, or `None` where it never began.
     fn name(&self, sub: u64) -> Option<&str>
         ensures some { IfSome result (λ name. (h : List Entry) → AreSubscribers self.now h
             → (name.now ≡ name_of sub h) × (sub ≤ subscriptions_begun h) × (0 < sub)) }
@@ -83,17 +83,19 @@ impl Subscribers {
         Some(count.name.as_str())
     }
 
-    /// Begins the next subscription.
+    /// Begins the next subscription, whose number is `sub`, for a subscriber of this `name`, which no live one has.
     ///
     /// # Errors
     /// Want of memory, and then nothing has changed.
     pub(crate) fn begin(&mut self, sub: u64, name: &Name) -> Result<(), AllocError>
         requires next { sub ≡ length self.old.begun.items + 1 }
         requires free { number_of self.old name.now ≡ None }
+        // It is live and served then.
         ensures ok { OnOk result ((h : List Entry) → AreSubscribers self.old h
             → AreSubscribers self.new (h ++ Subscribe sub name.now ∷ [])) }
         // A name is one by its type.
         ensures named { OnOk result (is_name name.now ≡ true) }
+        // Want of memory changes nothing.
         ensures err { OnErr result (SameSubscribers self.old self.new) }
     {
         self.begun.reserve(1)?;
@@ -112,7 +114,7 @@ impl Subscribers {
         Ok(())
     }
 
-    /// Ends a live subscription.
+    /// Ends the live subscription with the number `sub`. It takes no memory.
     pub(crate) fn end(&mut self, sub: u64)
         ensures { (h : List Entry) → AreSubscribers self.old h → is_live sub h ≡ true
             → AreSubscribers self.new (h ++ Unsubscribe sub ∷ []) }
@@ -123,7 +125,7 @@ impl Subscribers {
         }
     }
 
-    /// Cuts a subscription. It takes no memory.
+    /// Cuts the subscription with the number `sub`: it is served no more. It takes no memory.
     pub(crate) fn cut(&mut self, sub: u64)
         ensures { (h : List Entry) → AreSubscribers self.old h
             → AreSubscribers self.new (h ++ Cut sub ∷ []) }
@@ -131,10 +133,10 @@ impl Subscribers {
         self.served.remove(&sub);
     }
 
-    /// Those that are served, in their order, if they are wanted; else none.
+    /// The subscriptions that are served, by their numbers ascending, if they are `wanted`; else none.
     ///
     /// # Errors
-    /// Want of memory.
+    /// Want of memory for the list.
     pub(crate) fn served_if(&self, wanted: bool) -> Result<Vec<Served<'_>>, AllocError>
         ensures { IfOk result (λ v. (h : List Entry) → AreSubscribers self.now h
             → map told v.items ≡ (if wanted then map (λ sub. (sub, name_of sub h)) (served h)
@@ -151,10 +153,10 @@ impl Subscribers {
         Ok(found)
     }
 
-    /// The subscriptions with these numbers.
+    /// The subscriptions with the numbers `subs`, in this order, with their names.
     ///
     /// # Errors
-    /// Want of memory.
+    /// Want of memory for the list.
     pub(crate) fn those(&self, subs: &[u64]) -> Result<Vec<Served<'_>>, AllocError>
         ensures { IfOk result (λ v. (h : List Entry) → AreSubscribers self.now h
             → map told v.items ≡ map (λ sub. (sub, name_of sub h)) subs.now) }
@@ -167,7 +169,7 @@ impl Subscribers {
         Ok(found)
     }
 
-    /// The name of a subscription, which is empty where none with this number began.
+    /// The name of the subscription with the number `sub`, which is empty where it never began.
     fn name_or_none(&self, sub: u64) -> &str
         ensures { (h : List Entry) → AreSubscribers self.now h → result.now ≡ name_of sub h }
     {
@@ -177,7 +179,7 @@ impl Subscribers {
         }
     }
 
-    /// Counts what shares give to their subscriptions. It takes no memory.
+    /// Counts the records that `shares` give to their subscriptions. It takes no memory.
     pub(crate) fn give(&mut self, shares: &[Share])
         requires room { MayCount self.old (map shown shares.now) }
         ensures { HasCounted (map shown shares.now) self.old self.new }
@@ -187,7 +189,7 @@ impl Subscribers {
         }
     }
 
-    /// Counts what shares give to those of their subscriptions that are served. It takes no memory.
+    /// Counts the records that `shares` give to those of their subscriptions that are served. It takes no memory.
     pub(crate) fn give_served(&mut self, shares: &[Share])
         requires room { MayCount self.old (served_shares self.old (map shown shares.now)) }
         ensures { HasCounted (served_shares self.old (map shown shares.now)) self.old self.new }
@@ -199,7 +201,7 @@ impl Subscribers {
         }
     }
 
-    /// Counts what a share gives to its subscription.
+    /// Counts the records that `share` gives to its subscription.
     pub(crate) fn give_one(&mut self, share: &Share)
         requires room { MayCount self.old (shown share.now ∷ []) }
         ensures { HasCounted (shown share.now ∷ []) self.old self.new }
@@ -209,7 +211,7 @@ impl Subscribers {
         }
     }
 
-    /// The counts, in their order.
+    /// The count of each subscription that began, in the order of their numbers.
     pub(crate) fn into_counts(self) -> Vec<Count>
         ensures { (h : List Entry) → AreSubscribers self h → result.items ≡ counts_of h }
     {
@@ -225,7 +227,7 @@ impl Subscribers {
 
 ghost use Rattle.history_verify.specs.Parts.{more_at};
 
-/// The count of a subscription.
+/// The one of `counts` that is of the subscription with the number `sub`, or `None`.
 fn count_at(counts: &[Count], sub: u64) -> Option<&Count>
     ensures some { IfSome result (λ count. (place : ℕ) × (sub ≡ place + 1)
         × (slice_get counts.now place ≡ Some count.now)) }
@@ -236,7 +238,7 @@ fn count_at(counts: &[Count], sub: u64) -> Option<&Count>
     counts.get(place as usize)
 }
 
-/// Counts so many more records at a place, where there is a count.
+/// Counts `more` further records in the one of `counts` at `place`, if there is one.
 fn count_more(counts: &mut Vec<Count>, place: usize, more: u64)
     requires room { IfSome (slice_get counts.old.items place) (λ c. c.disclosed + more < 2 ^ 64) }
     ensures { counts.new.items ≡ more_at place more counts.old.items }

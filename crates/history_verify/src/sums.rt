@@ -1,4 +1,4 @@
-//! What counts in aggregates.
+//! What counts in the aggregates of a history.
 ghost use Rattle.std.specs.Prelude.{◌≡◌, ◌≢◌, ◌∷◌, ◌++◌, [], ℕ, List, true, map, IfOk};
 ghost use Rattle.flow_aggregate.specs.Groups.{Counted};
 ghost use Rattle.flow_aggregate.specs.declared.addition.Addition.{Addition};
@@ -14,7 +14,7 @@ ghost use Rattle.mediator_tables.specs.SubscriptionTable.{shown, given_to};
 use mediator_tables::{Reserved, RunningGroups, Share, Tally};
 use std::alloc::{AllocError, Global};
 
-/// The running groups. Contracts say by `AreSums` of which histories.
+/// The running groups of a history. Contracts say by `AreSums` of which histories.
 #[derive(Drop)]
 pub(crate) struct Sums {
     alloc: Global,
@@ -24,7 +24,7 @@ pub(crate) struct Sums {
 impl Sums {
     ghost use Rattle.history_verify.specs.Parts.{AreSums, SameSums, IsWithout};
 
-    /// Before any entry.
+    /// The groups of a history without an entry. What comes to be kept is in memory from `alloc`.
     pub(crate) fn new(alloc: Global) -> Sums
         ensures { AreSums result [] }
     {
@@ -34,10 +34,11 @@ impl Sums {
         }
     }
 
-    /// Makes ready for what is to be added, where no subscription stands twice. What was reserved before is so no more.
+    /// Makes ready for what `tallies` are to add, in which no subscription stands twice, and answers what
+    /// [`add`](Sums::add) takes. What was made ready before is so no more.
     ///
     /// # Errors
-    /// Want of memory. Nothing that contracts see changes, whatever the answer.
+    /// Want of memory. Whatever the answer, only what is made ready has changed.
     pub(crate) fn reserve(&mut self, tallies: &[Tally]) -> Result<Vec<Reserved>, AllocError>
         ensures same { SameSums self.old self.new }
         ensures ready { IfOk result (λ reserved. AreApart (map tallied tallies.now)
@@ -47,7 +48,7 @@ impl Sums {
         self.groups.reserve(tallies)
     }
 
-    /// Adds what was made ready. It takes no memory.
+    /// Adds `reserved`, which was made ready. It takes no memory and can't fail.
     pub(crate) fn add(&mut self, reserved: Vec<Reserved>)
         requires { AreCountable self.old.groups (map reserved_for reserved.items) }
         ensures { (tallies : List (ℕ × List Count)) (more : ℕ → List Counted) (h g : List Entry)
@@ -58,7 +59,7 @@ impl Sums {
         self.groups.add_reserved(reserved);
     }
 
-    /// What an advance of the clock to `t` closes of a subscription.
+    /// What an advance of the clock to `t` closes of the subscription with the number `sub`.
     ///
     /// # Errors
     /// Want of memory.
@@ -95,7 +96,8 @@ impl Sums {
         self.groups.close(t);
     }
 
-    /// Drops the groups of subscriptions. It takes no memory, and what was reserved for others stays so.
+    /// Drops the groups of the subscriptions with the numbers `subs`. What was made ready for others stays so. It takes
+    /// no memory.
     pub(crate) fn remove(&mut self, subs: &[u64])
         ensures gone { (h g : List Entry) → AreSums self.old h
             → ((q : ℕ) → is_in q subs.now ≡ true → running q g ≡ [])
@@ -111,7 +113,7 @@ impl Sums {
         }
     }
 
-    /// Drops the groups of a subscription.
+    /// Drops the groups of the subscription with the number `sub`. It takes no memory.
     pub(crate) fn remove_one(&mut self, sub: u64)
         ensures gone { (h g : List Entry) → AreSums self.old h → running sub g ≡ []
             → ((q : ℕ) → q ≢ sub → running q g ≡ running q h) → AreSums self.new g }

@@ -1,4 +1,4 @@
-//! What a legal history says, and verifying a whole journal.
+//! Verifying a whole journal, and what a legal history says.
 ghost use Rattle.std.specs.Prelude.{true, IfOk, IfErr};
 
 use crate::count::Count;
@@ -11,7 +11,7 @@ use std::alloc::Global;
 /// What a legal history disclosed, and what its audit names.
 #[derive(Debug, Drop)]
 pub struct Verified {
-    /// A count for each subscription that began, in their order.
+    /// A count for each subscription that began, in the order of their numbers.
     pub subs: Vec<Count>,
     /// The audit's entries, oldest first; none where they weren't wanted.
     pub audit: Vec<AuditEntry>,
@@ -19,11 +19,12 @@ pub struct Verified {
 
 ghost use Rattle.history_verify.specs.Answers.{IsVerified, NamesFirst};
 
-/// Verifies a journal: whether each entry is one that a mediator may have accepted where it stands; then how much was
-/// disclosed to each subscription, and what the audit names.
+/// Verifies `journal`: whether each entry is one that a mediator may have accepted where it stands. Then the answer is
+/// how many records were disclosed to each subscription, and what the audit names; in memory from `alloc`.
 ///
 /// # Errors
-/// An entry that is none, of which the first is named; or want of memory.
+/// [`VerifyFault::BadHistory`] with the position of the first entry that may not stand where it does; or
+/// [`VerifyFault::OutOfMemory`].
 pub fn verify(alloc: Global, journal: &Journal) -> Result<Verified, VerifyFault>
     ensures ok { IfOk result (IsVerified true journal.now.entries) }
     ensures err { IfErr result (λ e. NamesFirst e journal.now.entries) }

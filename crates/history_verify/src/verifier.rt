@@ -1,4 +1,4 @@
-//! A verifier that is fed entry by entry.
+//! A verifier, which is fed entry by entry, so that a file is verified as it is read.
 ghost use Rattle.std.specs.Prelude.{◌≡◌, ◌∷◌, ◌++◌, ◌+◌, ◌<◌, [], ℕ, List, length, Option, Some, None, IfSome, IfOk, IfErr, OnOk, OnErr};
 ghost use Rattle.event_journal.specs.declared.entry.Entry.{Entry as OneEntry};
 ghost use Rattle.event_journal.specs.declared.entry.Entry.TheVariants.{Message, Advance, Cut};
@@ -11,11 +11,12 @@ use bytes::Bytes;
 use event_journal::Entry;
 use std::alloc::{AllocError, Global};
 
-/// Verifies a history as it comes, entry by entry. It keeps what the history means so far, the count of what was disclosed to
-/// each subscription and the audit's entries, but none of the history's. Contracts say by `IsFed` of which histories.
+/// Verifies a history as it comes, entry by entry. It keeps what the history means so far, the count of what was
+/// disclosed to each subscription and the audit's entries where they are wanted, but none of the history's. Contracts
+/// say by `IsFed` of which histories.
 ///
-/// A cut is named at its own place where what follows doesn't bear it out. So it waits for the first entry behind it that is
-/// none.
+/// A cut is named at its own position where what follows doesn't bear it out. So it waits for the first entry behind it
+/// that is no cut.
 #[derive(Drop)]
 pub struct Verifier {
     replay: Replay,
@@ -29,7 +30,8 @@ impl Verifier {
     ghost use Rattle.history_verify.specs.Standing.{keeps_audit};
     ghost use Rattle.history_verify.specs.Standing.{IsFed, IsFedShort, NamesWaiting, NamesUnborne};
 
-    /// Before any entry. The audit's entries are kept where they are wanted; else memory doesn't grow with them.
+    /// A verifier before any entry, in memory from `alloc`. The audit's entries are kept where `audit` says so; else
+    /// memory doesn't grow with them.
     ///
     /// # Errors
     /// Want of memory.
@@ -51,17 +53,19 @@ impl Verifier {
         self.replay.position() + self.behind
     }
 
-    /// Takes the history's next entry.
+    /// Takes `entry` as the next one of the history.
     ///
     /// # Errors
-    /// It is none that may stand there, or shows of a cut before it that this may not; or want of memory. In each case nothing
-    /// has changed.
+    /// [`VerifyFault::BadHistory`] with the position of the first entry that may not stand where it does: this one, or
+    /// a cut that waits; or [`VerifyFault::OutOfMemory`]. Nothing has changed then.
     pub fn feed(&mut self, entry: &Entry) -> Result<(), VerifyFault>
         requires short { IsFedShort self.old }
+        // The entry is taken, or it is told which entry may not stand where it does.
         ensures ok { OnOk result ((h : List OneEntry) → IsFed self.old h
             → IsFed self.new (h ++ entry.now ∷ [])) }
         ensures err { IfErr result (λ e. (h : List OneEntry) → IsFed self.old h
             → NamesFirstOfAny e (h ++ entry.now ∷ [])) }
+        // A refused entry changes nothing. Whether the audit is kept stays in any case.
         ensures same { OnErr result ((h : List OneEntry) → IsFed self.old h → IsFed self.new h) }
         ensures wanted { keeps_audit self.new ≡ keeps_audit self.old }
     {
@@ -96,10 +100,11 @@ impl Verifier {
         }
     }
 
-    /// The history's end: what it disclosed, and what its audit names.
+    /// Ends the history, and answers what it disclosed, and what its audit names, where that is wanted.
     ///
     /// # Errors
-    /// It ends in cuts, which nothing bears out.
+    /// [`VerifyFault::BadHistory`] with the position of the first cut that waits, where the history ends in cuts:
+    /// nothing bears it out.
     pub fn finish(self) -> Result<Verified, VerifyFault>
         requires short { IsFedShort self }
         ensures ok { IfOk result (λ v. (h : List OneEntry) → IsFed self h
@@ -111,10 +116,10 @@ impl Verifier {
         Ok(replay.into_verified())
     }
 
-    /// Nothing where no cut waits.
+    /// Looks whether no cut waits, for an entry that bears out none.
     ///
     /// # Errors
-    /// Cuts wait, of which the first is named: for where no message or advance of the clock follows.
+    /// `BadHistory` with the position of the first cut that waits.
     fn none_wait(&self) -> Result<(), VerifyFault>
         requires short { IsFedShort self.now }
         ensures waiting { OnOk result (self.now.replay.waiting.items ≡ []) }
@@ -129,11 +134,17 @@ impl Verifier {
         Ok(())
     }
 
+    /// Takes a cut of the subscription with the number `sub` as the next entry.
+    ///
+    /// # Errors
+    /// Want of memory, and then nothing has changed.
     fn cut(&mut self, sub: u64) -> Result<(), VerifyFault>
         requires short { IsFedShort self.old }
+        // The cut is taken, and waits for what bears it out.
         ensures ok { OnOk result ((h : List OneEntry) → IsFed self.old h
             → IsFed self.new (h ++ Cut sub ∷ [])) }
         ensures err { IfErr result (λ e. e ≡ OutOfMemory) }
+        // Want of memory changes nothing. Whether the audit is kept stays in any case.
         ensures same { OnErr result ((h : List OneEntry) → IsFed self.old h → IsFed self.new h) }
         ensures wanted { keeps_audit self.new ≡ keeps_audit self.old }
     {
@@ -145,12 +156,20 @@ impl Verifier {
         Ok(())
     }
 
+    /// Takes the message `octets` of the session with the number `session`, which is to have had `number` messages, as
+    /// the next entry.
+    ///
+    /// # Errors
+    /// `BadHistory` with the position of the first entry that may not stand where it does; or want of memory. Nothing
+    /// has changed then.
     fn message(&mut self, session: u64, number: u64, octets: &Bytes) -> Result<(), VerifyFault>
         requires short { IsFedShort self.old }
+        // The entry is taken, or it is told which entry may not stand where it does.
         ensures ok { OnOk result ((h : List OneEntry) → IsFed self.old h
             → IsFed self.new (h ++ Message session number octets.now ∷ [])) }
         ensures err { IfErr result (λ e. (h : List OneEntry) → IsFed self.old h
             → NamesFirstOfAny e (h ++ Message session number octets.now ∷ [])) }
+        // A refused entry changes nothing. Whether the audit is kept stays in any case.
         ensures same { OnErr result ((h : List OneEntry) → IsFed self.old h → IsFed self.new h) }
         ensures wanted { keeps_audit self.new ≡ keeps_audit self.old }
     {
@@ -162,12 +181,19 @@ impl Verifier {
         Ok(())
     }
 
+    /// Takes an advance of the clock to `t` as the next entry.
+    ///
+    /// # Errors
+    /// `BadHistory` with the position of the first entry that may not stand where it does; or want of memory. Nothing
+    /// has changed then.
     fn advance(&mut self, t: u64) -> Result<(), VerifyFault>
         requires short { IsFedShort self.old }
+        // The entry is taken, or it is told which entry may not stand where it does.
         ensures ok { OnOk result ((h : List OneEntry) → IsFed self.old h
             → IsFed self.new (h ++ Advance t ∷ [])) }
         ensures err { IfErr result (λ e. (h : List OneEntry) → IsFed self.old h
             → NamesFirstOfAny e (h ++ Advance t ∷ [])) }
+        // A refused entry changes nothing. Whether the audit is kept stays in any case.
         ensures same { OnErr result ((h : List OneEntry) → IsFed self.old h → IsFed self.new h) }
         ensures wanted { keeps_audit self.new ≡ keeps_audit self.old }
     {
@@ -180,15 +206,19 @@ impl Verifier {
         Ok(())
     }
 
-    /// Nothing where each cut is borne out, and may stand where it does.
+    /// Looks whether each cut that waits is borne out, and may stand where it does. `unborne` is the place among them
+    /// of the first that is not borne out, if there is one.
     ///
     /// # Errors
-    /// The first of those that wait that is not borne out is named, by its place among them; or the one behind them.
+    /// `BadHistory` with the position of that one, or of the cut behind those that wait which may not stand where it
+    /// does.
     fn borne_out(&self, unborne: Option<usize>) -> Result<(), VerifyFault>
         requires short { IsFedShort self.now }
         requires within { IfSome unborne (λ place. place < length self.now.replay.waiting.items) }
+        // Answered Ok, all cuts that wait are borne out, and none stands behind them that may not.
         ensures none { OnOk result (unborne ≡ None) }
         ensures behind { OnOk result (self.now.behind ≡ 0) }
+        // Else the first bad one is named.
         ensures err { IfErr result (λ e. NamesUnborne e self.now unborne) }
     {
         match unborne {

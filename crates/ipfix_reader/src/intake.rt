@@ -120,11 +120,13 @@ ghost use Rattle.ipfix_reader.specs.Intake.{named};
 /// `Read` where the reader failed, and nothing was read.
 fn read_piece<R: Source>(reader: &mut R, buffer: &mut Vec<u8>) -> Result<usize, IntakeFault>
     requires { 0 < length buffer.old.items }
+    // Octets are read into the front of the buffer, and none only at the end.
     ensures length { length buffer.new.items ≡ length buffer.old.items }
     ensures ok { IfOk result (λ n. (n ≤ length buffer.new.items)
         × Consumes (R.remaining reader.old) (R.remaining reader.new) (take n buffer.new.items)) }
     ensures end { IfOk result (λ n. n ≡ 0 → IsAtEnd (R.remaining reader.new)) }
     ensures stays { OnOk result (R.has_failed reader.new ≡ R.has_failed reader.old) }
+    // A read that failed gave none.
     ensures err { IfErr result (λ e. (e ≡ Read)
         × Keeps (R.remaining reader.old) (R.remaining reader.new)
         × (R.has_failed reader.new ≡ true)) }

@@ -33,6 +33,10 @@ pub fn decode(alloc: Global, octets: &[u8]) -> Result<Journal, JournalFault>
     read_file(alloc, octets)
 }
 
+/// The journal that the file `octets` says, in memory from `alloc`, as the definition of reading computes it.
+///
+/// # Errors
+/// The first fault of the file from its front; or want of memory.
 #[tactic(auto, unfolding(crate::specs::Reading::file_of))]
 fn read_file(alloc: Global, octets: &[u8]) -> Result<Journal, JournalFault>
     ensures exact { Gives (λ j. j.entries) result (file_of octets.now) }
@@ -45,7 +49,8 @@ fn read_file(alloc: Global, octets: &[u8]) -> Result<Journal, JournalFault>
     Ok(journal)
 }
 
-/// Puts `count` entries behind those of `journal`. They are all that `octets` has.
+/// Puts `count` entries behind those of `journal`, with their parts in memory from `alloc`. They are all that `octets`
+/// has.
 ///
 /// # Errors
 /// The first fault of `octets`: an entry is cut off, is none, or is past the journal's limits, or something stands

@@ -55,6 +55,8 @@ pub(crate) fn read_head(octets: &[u8]) -> Result<(u64, &[u8]), JournalFault>
     first_head(octets)
 }
 
+/// How many entries the file at the front of `octets` announces, and the octets after its head, as the definition of
+/// reading computes them.
 #[tactic(auto, unfolding(crate::specs::Reading::head_of, crate::specs::Reading::past_number))]
 fn first_head(octets: &[u8]) -> Result<(u64, &[u8]), JournalFault>
     ensures { Gives number_seen result (head_of octets.now) }
@@ -83,6 +85,8 @@ pub(crate) fn read_entry(alloc: Global, octets: &[u8]) -> Result<(Entry, &[u8]),
     first_entry(alloc, octets)
 }
 
+/// The entry at the front of `octets`, in memory from `alloc`, and the octets after it, as the definition of reading
+/// computes them.
 #[tactic(auto, unfolding(crate::specs::Reading::entry_of))]
 fn first_entry(alloc: Global, octets: &[u8]) -> Result<(Entry, &[u8]), JournalFault>
     ensures read { Gives entry_seen result (entry_of octets.now) }

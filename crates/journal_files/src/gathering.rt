@@ -27,11 +27,13 @@ pub(crate) fn fill<R: Source>(
     held: &mut Vec<u8>,
 ) -> Result<bool, ReadFault>
     requires { vec_len held.old ≤ wanted }
+    // What was read stands behind what was held: as much as is wanted, or all up to the end of the source.
     ensures gathers { OnOk result
         (Gathers (R.remaining source.old) (R.remaining source.new) held.old.items held.new.items) }
     ensures filled { IfOk result (λ whole.
         IsFilled whole wanted held.new.items (R.remaining source.new)) }
     ensures stays { OnOk result (R.has_failed source.new ≡ R.has_failed source.old) }
+    // At a fault octets may be lost, and it is told why.
     ensures loses { OnErr result (Loses (R.remaining source.old) (R.remaining source.new)) }
     ensures err { IfErr result (λ e.
         FailsToGather e (R.has_failed source.old) (R.has_failed source.new)) }
@@ -58,11 +60,13 @@ fn read_piece<R: Source>(
     held: &mut Vec<u8>,
 ) -> Result<usize, ReadFault>
     requires some { 0 < room }
+    // What was read stands behind what was held, and there is none only at the end of the source.
     ensures gathers { OnOk result
         (Gathers (R.remaining source.old) (R.remaining source.new) held.old.items held.new.items) }
     ensures count { IfOk result (λ n. (vec_len held.new ≡ vec_len held.old + n) × (n ≤ room)) }
     ensures end { IfOk result (λ n. n ≡ 0 → IsAtEnd (R.remaining source.new)) }
     ensures stays { OnOk result (R.has_failed source.new ≡ R.has_failed source.old) }
+    // At a fault octets may be lost, and it is told why.
     ensures loses { OnErr result (Loses (R.remaining source.old) (R.remaining source.new)) }
     ensures err { IfErr result (λ e.
         FailsToGather e (R.has_failed source.old) (R.has_failed source.new)) }
@@ -95,10 +99,12 @@ pub(crate) fn gather<R: Source>(
     held: &mut Vec<u8>,
 ) -> Result<(), ReadFault>
     requires { held.old.items ≡ [] }
+    // What was read are the octets of one entry, or of none.
     ensures gathers { OnOk result
         (Gathers (R.remaining source.old) (R.remaining source.new) [] held.new.items) }
     ensures gathered { OnOk result (IsGathered held.new.items (R.remaining source.new)) }
     ensures stays { OnOk result (R.has_failed source.new ≡ R.has_failed source.old) }
+    // At a fault octets may be lost, or they show why they are of no file.
     ensures err { IfErr result (λ e. (place : Place)
         → StopsReading e (next_of place) (R.remaining source.old) (R.remaining source.new)
         (R.has_failed source.old) (R.has_failed source.new)) }

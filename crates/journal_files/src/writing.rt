@@ -94,8 +94,10 @@ impl JournalWriter {
     pub fn put<S: Sink>(&mut self, entry: &Entry, sink: &mut S) -> Result<(), WriteFault>
         requires left { 0 < self.old }
         requires spelled { IsSpelled entry.now }
+        // One entry less is left to write, or as many as before.
         ensures left { OnOk result (self.new + 1 ≡ self.old) }
         ensures same { OnErr result (self.new ≡ self.old) }
+        // The octets of the entry are written, or it is told how many of them are.
         ensures written { OnOk result (Appends (S.contents sink.old) (S.contents sink.new)
             (octets_of entry.now)) }
         ensures stays { OnOk result (S.has_failed sink.new ≡ S.has_failed sink.old) }

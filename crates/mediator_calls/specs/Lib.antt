@@ -26,5 +26,3 @@ pub mod Held
 pub mod View
 pub mod Sound
 pub mod Calls
-pub mod Counted
-pub mod Handing

@@ -1,30 +1,30 @@
-//! The calls of a mediator as values, and their answers.
+//! The calls of a mediator as values, and what they are answered.
 
 use crate::ids::{SessionId, SubId};
 use bytes::Bytes;
 use disclosure_audit::AuditEntry;
 use mediator_state::{Fault, Receipt, Status};
 
-/// A call of a mediator, with its arguments.
+/// A call of a [`Mediator`](crate::Mediator), with its arguments, which have the meaning of its method of that name.
 #[derive(Debug, Drop)]
 pub enum Call {
-    /// A session begins.
+    /// A session of an exporter is opened.
     Open,
-    /// A session ends.
+    /// The session with the number `session` is closed.
     Close {
         session: SessionId,
     },
-    /// A session's next message.
+    /// A message of a session is handed in. `number` is how many messages the session had before.
     Receive {
         session: SessionId,
         number: u64,
         message: Bytes,
     },
-    /// A policy's text.
+    /// The policy that `text` spells is put in force.
     Edit {
         text: String,
     },
-    /// A subscription begins.
+    /// A subscription begins, for a subscriber of this `name`.
     Subscribe {
         name: String,
     },
@@ -32,21 +32,22 @@ pub enum Call {
     Unsubscribe {
         sub: SubId,
     },
-    /// The clock goes on to so many milliseconds since 1970.
+    /// The clock is advanced to `t`, in milliseconds since 1970.
     Advance {
         t: u64,
     },
-    /// A subscription's next message is built.
+    /// The next message of a subscription is built, with the Export Time `now`, in seconds since 1970, and of about
+    /// `target` octets at most.
     Pull {
         sub: SubId,
         now: u32,
         target: u16,
     },
-    /// How does a subscription stand?
+    /// It is asked how a subscription stands.
     Status {
         sub: SubId,
     },
-    /// The oldest audit entries are handed out.
+    /// The oldest `most` of the audit entries that wait are handed out.
     DrainAudit {
         most: u32,
     },
@@ -55,21 +56,26 @@ pub enum Call {
 /// What a call was answered.
 #[derive(Debug, Drop)]
 pub enum Reply {
-    /// The session's number.
+    /// A session was opened. This is its number.
     Opened(SessionId),
+    /// The session was closed.
     Closed,
-    /// What became of the message.
+    /// The message was accepted, and this is what became of it.
     Received(Receipt),
-    /// How many edits there were.
+    /// The policy was put in force. This is the number of edits, with it.
     Edited(u64),
-    /// The subscription's number.
+    /// The subscription began. This is its number.
     Subscribed(SubId),
+    /// The subscription ended.
     Unsubscribed,
+    /// The clock was advanced.
     Advanced,
-    /// The message, where something waited.
+    /// The subscription's next message, or `None` where nothing waited.
     Pulled(Option<Bytes>),
+    /// How the subscription stands.
     Stands(Status),
+    /// The audit entries that were handed out, in their order.
     Drained(Vec<AuditEntry>),
-    /// The call was refused, and changed nothing.
+    /// The call was refused for this reason, and changed nothing.
     Refused(Fault),
 }

@@ -1,14 +1,13 @@
-//! Why a mediator isn't made, why a status isn't told, and why a counted mediator hands out nothing.
+//! Why a mediator isn't made, and why no status is told.
 
-use mediator_state::Fault;
 use std::alloc::AllocError;
 use std::error::Error;
 use std::fmt::{self, Display, Formatter, Write};
 
-/// Why a mediator, or a run, isn't begun. Its text is its name.
+/// Why a mediator, or a run, isn't begun. A fault's text is its name.
 #[derive(Clone, Copy, Debug, PartialEq, Eq)]
 pub enum RunFault {
-    /// A limit is out of its range.
+    /// A limit is out of its range, which [`Limits`](crate::Limits) tells.
     BadLimits,
     /// Want of memory.
     OutOfMemory,
@@ -41,7 +40,7 @@ impl From<AllocError> for RunFault {
     }
 }
 
-/// No subscription with this number is live. Its text is its name.
+/// No subscription with this number is live. The text of this fault is its name.
 #[derive(Clone, Copy, Debug, PartialEq, Eq)]
 pub struct UnknownSub;
 
@@ -55,30 +54,5 @@ impl Display for UnknownSub {
 
     fn fmt<W: Write>(&self, f: &mut Formatter<W>) -> fmt::Result {
         f.write_str("UnknownSub")
-    }
-}
-
-/// Why a counted mediator hands out nothing. Its text is its name, or the mediator's fault.
-#[derive(Clone, Copy, Debug, PartialEq, Eq)]
-pub enum PullFault {
-    /// The count of records handed out, with those that wait, would come to 2^64.
-    HandedFull,
-    /// The mediator's own refusal.
-    Core(Fault),
-}
-
-impl Error for PullFault {}
-
-impl Display for PullFault {
-    ghost use Rattle.std.specs.Prelude.{Option, Some};
-    ghost use Rattle.mediator_calls.specs.FaultTexts.{text_of_pull_fault};
-
-    ghost output = { λ fault. Some (text_of_pull_fault fault) };
-
-    fn fmt<W: Write>(&self, f: &mut Formatter<W>) -> fmt::Result {
-        match self {
-            PullFault::HandedFull => f.write_str("HandedFull"),
-            PullFault::Core(fault) => fault.fmt(f),
-        }
     }
 }

@@ -1,10 +1,10 @@
-//! What stays of a run.
+//! What stays of a run that has ended.
 
 use event_journal::Journal;
 
-/// A run that has ended.
+/// What stays of a run that has ended.
 #[derive(Debug, Drop)]
 pub struct Finished {
-    /// All that was accepted, oldest first.
+    /// All that the mediator accepted, oldest first.
     pub journal: Journal,
 }

@@ -1,4 +1,4 @@
-//! How much a mediator may hold.
+//! How much a mediator may hold, with the range of each limit.
 ghost use Rattle.std.specs.Prelude.{◌↔◌, IsTrue};
 ghost use Rattle.mediator_calls.specs.Limited.{AreAllowed};
 
@@ -16,12 +16,12 @@ pub struct Limits {
     pub audit: u32,
     /// The entries of the journal, at most 100,000,000.
     pub entries: u64,
-    /// The octets that they count for, at most 2^40.
+    /// The octets that these entries take in a journal's file, at most 2^40.
     pub octets: u64,
 }
 
 impl Limits {
-    /// Whether each limit stands in its range.
+    /// Whether each limit is in its range.
     pub fn are_allowed(&self) -> bool
         ensures { IsTrue result ↔ AreAllowed self.now }
     {

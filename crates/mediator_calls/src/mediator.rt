@@ -1,4 +1,4 @@
-//! A mediator and its calls.
+//! The mediator, with its calls.
 ghost use Rattle.std.specs.Prelude.{◌≡◌, [], take, true, false, IsOk, IfOk, IfErr, OnOk, OnErr};
 ghost use Rattle.mediator_history.specs.Subscriptions.{is_live};
 ghost use Rattle.mediator_state.specs.Calls.{IsSnapshot, RefusesSnapshot, RefusesClose, RefusesEdit, RefusesSubscribe, RefusesUnsubscribe, RefusesPull};
@@ -19,8 +19,8 @@ use prepared_message::{JudgedAhead, Prepared, Snapshot};
 use std::alloc::{AllocError, Global};
 use std::marker::Model;
 
-/// A mediator: sessions of exporters, a policy, subscriptions that are given what the policy discloses to them, and an audit
-/// of what it keeps back. All that it accepted stands in its journal.
+/// A mediator: sessions of exporters, a policy, subscriptions that are given what the policy discloses to them, and an
+/// audit of what it keeps back. All that it accepted stands in its journal.
 ///
 /// Contracts see its history, which is its journal; the place up to which each live subscription's records were handed
 /// out; how many audit entries were drained; and its limits. A call that is refused changes nothing of that.
@@ -47,11 +47,11 @@ impl Model for Mediator {
 }
 
 impl Mediator {
-    /// A mediator before any call: no session is open, nobody is subscribed, and the policy has no rules, so it withholds
-    /// all.
+    /// A mediator before any call, which may hold what `limits` allow: no session is open, nobody is subscribed, and
+    /// the policy has no rules, so it withholds all. All of it is in memory from `alloc`.
     ///
     /// # Errors
-    /// A limit is out of its range, or memory ran out.
+    /// [`RunFault::BadLimits`] where a limit is out of its range; or [`RunFault::OutOfMemory`].
     pub fn new(alloc: Global, limits: Limits) -> Result<Mediator, RunFault>
         ensures ok { IfOk result (λ m. m ≡ started limits) }
         ensures allowed { OnOk result (AreAllowed limits) }
@@ -70,8 +70,9 @@ impl Mediator {
         Ok(Mediator { state })
     }
 
-    /// Hashes with these keys what exporters choose: keys of groups, and templates, of subscriptions that begin from now on. By
-    /// secret keys no stranger can choose them so that look-ups take longer and longer. It shows in no answer.
+    /// Hashes by `keys` what exporters choose: the keys of groups, and templates, of subscriptions that begin from now
+    /// on. With secret keys no stranger can choose these so that look-ups take longer and longer. It shows in no
+    /// answer.
     pub fn hash_by(&mut self, keys: HashKeys)
         ensures same { self.new ≡ self.old }
     {
@@ -88,10 +89,10 @@ impl Mediator {
         self.state.chronicle()
     }
 
-    /// Opens a session of an exporter, and answers its number: 1, 2, and so on.
+    /// Opens a session of an exporter, and answers its number: 1 for the first one, and so on.
     ///
     /// # Errors
-    /// The journal is full, or memory ran out.
+    /// [`Fault::JournalFull`] or [`Fault::OutOfMemory`].
     pub fn open(&mut self) -> Result<SessionId, Fault>
         ensures ok { IfOk result (λ session. Opens self.old session.0 self.new) }
         ensures same { OnErr result (self.new ≡ self.old) }
@@ -103,10 +104,11 @@ impl Mediator {
         }
     }
 
-    /// Closes a session: its number never comes again.
+    /// Closes the session with the number `session`, which never comes again.
     ///
     /// # Errors
-    /// No session with this number is open; the journal is full, or memory ran out.
+    /// [`Fault::UnknownSession`] where it isn't open, [`Fault::JournalFull`] or [`Fault::OutOfMemory`]: the first that
+    /// stands.
     pub fn close(&mut self, session: SessionId) -> Result<(), Fault>
         ensures ok { OnOk result (Closes self.old session.0 self.new) }
         ensures same { OnErr result (self.new ≡ self.old) }
@@ -116,14 +118,14 @@ impl Mediator {
         self.state.close(session.0)
     }
 
-    /// Accepts the next message of a session, whose number is that of the messages that the session had. Each subscription
-    /// that is served is given what the policy in force discloses to it, and the audit names what is kept back. A
-    /// subscription whose limits leave no room for what it would be given is cut before the message, and gets nothing of
-    /// it or of later ones.
+    /// Accepts `message` as the next one of the session with the number `session`. `number` is to be how many messages
+    /// the session had. Each subscription that is served is given what the policy in force discloses to it, and the
+    /// audit names what is kept back. A subscription whose limits leave no room for what it would be given is cut
+    /// before the message, and is given nothing of it or of later ones. The answer is what became of the message.
     ///
     /// # Errors
-    /// The session isn't open; the number isn't that of its next message; the message is malformed (RFC 7011); the journal
-    /// is full, or the audit; or memory ran out.
+    /// [`Fault::UnknownSession`], [`Fault::OutOfTurn`], [`Fault::Malformed`] (RFC 7011), [`Fault::JournalFull`] or
+    /// [`Fault::AuditFull`]: the first that stands; or [`Fault::OutOfMemory`].
     pub fn receive(
         &mut self,
         session: SessionId,
@@ -138,9 +140,10 @@ impl Mediator {
         self.receive_judged(session, number, message, None)
     }
 
-    /// The same. What was judged of the message without the mediator ([`JudgedAhead::of`]) is taken where it is of the records that
-    /// the session finds in the message, and where the policy, the clock and those who are served are still the same: it changes no
-    /// answer.
+    /// Accepts `message` as the next one of the session with the number `session`, which is to have had `number`
+    /// messages, as [`receive`](Mediator::receive) does. `ahead`, what was judged of it without the mediator
+    /// ([`JudgedAhead::of`]), is taken where it is of the records that the session finds in the message, and where the
+    /// policy, the clock and those who are served are still the same. It changes no answer.
     ///
     /// # Errors
     /// Those of [`receive`](Mediator::receive).
@@ -159,11 +162,11 @@ impl Mediator {
         self.state.receive_judged(session.0, number, message, ahead)
     }
 
-    /// The templates of an open session as they stand, by which its messages can be prepared without the mediator
-    /// ([`Prepared::prepare`]). Whatever their number, it costs one owner more.
+    /// The templates of the open session with the number `session` as they stand, by which its messages can be prepared
+    /// without the mediator ([`Prepared::prepare`]). However many templates there are, it costs one owner more.
     ///
     /// # Errors
-    /// No session with this number is open, or memory ran out.
+    /// [`Fault::UnknownSession`] where the session isn't open; or [`Fault::OutOfMemory`].
     pub fn snapshot(&mut self, session: SessionId) -> Result<Snapshot, Fault>
         ensures ok { IfOk result (IsSnapshot self.old.history session.0) }
         ensures same { self.new ≡ self.old }
@@ -172,12 +175,14 @@ impl Mediator {
         self.state.snapshot(session.0)
     }
 
-    /// Accepts the next message of a session that was prepared without the mediator, as [`receive`](Mediator::receive) accepts
-    /// it.
+    /// Accepts `prepared`, a message that was prepared without the mediator, as the next one of the session with the
+    /// number `session`, as [`receive`](Mediator::receive) accepts its octets. `number` is to be how many messages the
+    /// session had.
     ///
     /// # Errors
-    /// Those of `receive`, but for a malformed message; and in its place Stale, only where an ID of the message has another
-    /// template in the session, or none, than by which it was prepared. The message is handed back.
+    /// Those of [`receive`](Mediator::receive), but with [`Fault::Stale`] in place of [`Fault::Malformed`]: only where
+    /// an ID of the message has another template in the session than by which it was prepared, or only one of them has
+    /// one. The message is handed back beside the fault.
     pub fn receive_prepared(
         &mut self,
         session: SessionId,
@@ -194,11 +199,11 @@ impl Mediator {
         self.state.receive_prepared(session.0, number, prepared)
     }
 
-    /// Puts the policy of a text in force, and answers how many edits there were. What was accepted before is judged by the
-    /// policy of its time, and running groups close as they stand.
+    /// Puts the policy that `text` spells in force, and answers how many edits there were then. What was accepted
+    /// before is judged by the policy of its time, and running groups close as they stand.
     ///
     /// # Errors
-    /// The text is no policy; the journal is full, or memory ran out.
+    /// [`Fault::Policy`] where the text is no policy, [`Fault::JournalFull`] or [`Fault::OutOfMemory`].
     pub fn edit(&mut self, text: &str) -> Result<u64, Fault>
         ensures ok { IfOk result (λ edits. Edits self.old text.now edits self.new) }
         ensures same { OnErr result (self.new ≡ self.old) }
@@ -208,10 +213,11 @@ impl Mediator {
         self.state.edit(text)
     }
 
-    /// Begins a subscription under a name, and answers its number: 1, 2, and so on.
+    /// Begins a subscription for a subscriber of this `name`, and answers its number: 1 for the first one, and so on.
     ///
     /// # Errors
-    /// The text is no name, or that of a live subscription; the journal is full, or memory ran out.
+    /// [`Fault::BadName`] where the text is no name, [`Fault::AlreadySubscribed`] where a live subscription has it,
+    /// [`Fault::JournalFull`] or [`Fault::OutOfMemory`].
     pub fn subscribe(&mut self, name: &str) -> Result<SubId, Fault>
         ensures ok { IfOk result (λ sub. Subscribes self.old name.now sub.0 self.new) }
         ensures same { OnErr result (self.new ≡ self.old) }
@@ -224,10 +230,11 @@ impl Mediator {
         }
     }
 
-    /// Ends a subscription: what waits for it is gone, its name is free again, and its number never comes again.
+    /// Ends the subscription with the number `sub`, which never comes again: what waits for it is gone, and its name is
+    /// free again.
     ///
     /// # Errors
-    /// No subscription with this number is live; the journal is full, or memory ran out.
+    /// [`Fault::UnknownSub`] where it isn't live, [`Fault::JournalFull`] or [`Fault::OutOfMemory`].
     pub fn unsubscribe(&mut self, sub: SubId) -> Result<(), Fault>
         ensures ok { OnOk result (Unsubscribes self.old sub.0 self.new) }
         ensures same { OnErr result (self.new ≡ self.old) }
@@ -237,12 +244,13 @@ impl Mediator {
         self.state.unsubscribe(sub.0)
     }
 
-    /// Advances the clock to `t`, in milliseconds since 1970: each running group whose interval's end and grace it comes to is
-    /// closed, and its subscription is given the group's record. A subscription whose limits leave no room for what it
-    /// would be given is cut before the advance.
+    /// Advances the clock to `t`, in milliseconds since 1970. Each running group is closed whose interval's end, and
+    /// the grace after it, the clock comes to, and its subscription is given the group's record. A subscription whose
+    /// limits leave no room for what it would be given is cut before the advance.
     ///
     /// # Errors
-    /// The clock stands later; the journal is full, or the audit; or memory ran out.
+    /// [`Fault::ClockBack`] where the clock stands later, [`Fault::JournalFull`] or [`Fault::AuditFull`]: the first
+    /// that stands; or [`Fault::OutOfMemory`].
     pub fn advance(&mut self, t: u64) -> Result<(), Fault>
         ensures ok { OnOk result (Advances self.old t self.new) }
         ensures same { OnErr result (self.new ≡ self.old) }
@@ -251,11 +259,12 @@ impl Mediator {
         self.state.advance(t)
     }
 
-    /// Builds a live subscription's next message, with the Export Time `now`, in seconds since 1970, of at most `target`
-    /// octets where more than one announcement or record stand in it; `None` where nothing waits.
+    /// Builds the next message of the live subscription with the number `sub`, out of what waits for it; or answers
+    /// `None` where nothing waits. `now` is its Export Time, in seconds since 1970 (RFC 7011, section 3.1), and
+    /// `target` the most octets that it is to have: it is longer only where one announcement or record alone is.
     ///
     /// # Errors
-    /// No subscription with this number is live, or memory ran out.
+    /// [`Fault::UnknownSub`] where the subscription isn't live; or [`Fault::OutOfMemory`].
     pub fn pull(&mut self, sub: SubId, now: u32, target: u16) -> Result<Option<Bytes>, Fault>
         ensures ok { IfOk result (λ answer. Pulls self.old sub.0 now target answer self.new) }
         ensures same { OnErr result (self.new ≡ self.old) }
@@ -264,10 +273,10 @@ impl Mediator {
         self.state.pull(sub.0, now, target)
     }
 
-    /// How a live subscription stands. It takes no memory.
+    /// How the live subscription with the number `sub` stands. It takes no memory.
     ///
     /// # Errors
-    /// No subscription with this number is live.
+    /// [`UnknownSub`] where no subscription with this number is live.
     pub fn status(&self, sub: SubId) -> Result<Status, UnknownSub>
         ensures ok { IfOk result (λ status. IsStatusOf self.now sub.0 status) }
         ensures err { OnErr result (is_live sub.0 self.now.history ≡ false) }
@@ -278,13 +287,15 @@ impl Mediator {
         }
     }
 
-    /// Whether one of these shares, which a message would give, has no room in its subscription's queue until some of what waits
-    /// is pulled, and has room then: so that the message cuts a subscription now, and may not cut it later.
+    /// Whether one of `shares`, which a message would give, has no room in its subscription's queue until some of what
+    /// waits is pulled, and has room then: so the message cuts a subscription now, and may not cut it later.
     pub fn is_held_up(&self, shares: &[Share]) -> bool {
         self.state.is_held_up(shares)
     }
 
-    /// The same of what an advance of the clock to `t` would close. Not where there is no memory to find that out.
+    /// Whether what an advance of the clock to `t`, in milliseconds since 1970, would close for a subscription has no
+    /// room in its queue until some of what waits is pulled, and has room then. It is false where there is no memory to
+    /// find that out.
     pub fn is_advance_held_up(&self, t: u64) -> bool {
         self.state.is_advance_held_up(t)
     }
@@ -302,10 +313,10 @@ impl Mediator {
         self.state.audit_waiting()
     }
 
-    /// Hands out the oldest `most` of the audit's entries that wait, or all if there are fewer.
+    /// Hands out the oldest `most` of the audit's entries that wait, or all where there are fewer, in their order.
     ///
     /// # Errors
-    /// Want of memory.
+    /// Want of memory. Where no entry is handed out, there is no error.
     pub fn drain_audit(&mut self, most: u32) -> Result<Vec<AuditEntry>, AllocError>
         ensures ok { IfOk result (λ out. Drains self.old most out.items self.new) }
         ensures same { OnErr result (self.new ≡ self.old) }
@@ -315,7 +326,7 @@ impl Mediator {
         self.state.drain_audit(most)
     }
 
-    /// Ends the run: what stays of it is its journal. It takes no memory.
+    /// Ends the run. What stays of it is its journal. It takes no memory.
     pub fn finish(self) -> Finished
         ensures entries { result.journal.entries ≡ self.history }
         ensures limits { result.journal.limits ≡ journal_limits self.limits }

@@ -8,7 +8,7 @@ use Rattle.mediator_history.specs.Auditing.{audit_list}
 use Rattle.mediator_calls.specs.Mediation.{Mediation, noted_at}
 use Rattle.mediator_calls.specs.Sound.{IsSound}
 use Rattle.mediator_calls.specs.Calls.{AuditHolds, with_cuts}
-use Rattle.mediator_core.specs.Answered.{FullAuditRefusesMessage, FullAuditRefusesAdvance, FullCountRefusesPull}
+use Rattle.mediator_core.specs.Answered.{FullAuditRefusesMessage, FullAuditRefusesAdvance}
 
 holds_not : (m : Mediation) (more : List Entry) (noted : List AuditEntry) (need room : ℕ) → IsSound m → audit_list (m.history ++ more) ≡ audit_list m.history ++ noted → need ≡ length noted → room + length (noted_at m) ≡ m.limits.audit → room < need
     → AuditHolds m more → ⊥
@@ -29,6 +29,3 @@ message_refused m new session number need room octets r sound full accepted =
 
 pub advance_refused : FullAuditRefusesAdvance
 advance_refused m new t need room sound full accepted = holds_not m (with_cuts m (Advance t)) full.2.0 need room sound full.2.1 full.2.2 full.3 full.4 accepted.audit
-
-pub pull_refused : FullCountRefusesPull
-pull_refused c new sub now target answer full accepted = absurd (omega (arith, full.1, accepted.room))

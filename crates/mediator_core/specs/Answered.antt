@@ -1,14 +1,10 @@
 -- Where the cause of a refusal for want of room stands, the call isn't accepted.
-use Rattle.std.specs.Prelude.{ℕ, List, Option}
+use Rattle.std.specs.Prelude.{ℕ, List}
 use Rattle.mediator_state.specs.declared.fault.Fault.TheVariants.{AuditFull}
 use Rattle.mediator_state.specs.declared.receipt.Receipt.{Receipt}
-use Rattle.mediator_calls.specs.declared.fault.PullFault.TheVariants.{HandedFull}
-use Rattle.mediator_calls.specs.declared.handed.Handed.{Handed}
 use Rattle.mediator_calls.specs.Mediation.{Mediation}
 use Rattle.mediator_calls.specs.Sound.{IsSound}
 use Rattle.mediator_calls.specs.Calls.{Receives, RefusesReceive, Advances, RefusesAdvance}
-use Rattle.mediator_calls.specs.Counted.{Counted}
-use Rattle.mediator_calls.specs.Handing.{HandsOut, RefusesHanding}
 
 -- a message for which the audit has no room
 abbrev pub FullAuditRefusesMessage : Type 0
@@ -18,7 +14,3 @@ FullAuditRefusesMessage = (m new : Mediation) (session number need room : ℕ) (
 -- an advance of the clock for whose cuts the audit has no room
 abbrev pub FullAuditRefusesAdvance : Type 0
 FullAuditRefusesAdvance = (m new : Mediation) (t need room : ℕ) → IsSound m → RefusesAdvance (AuditFull need room) m t → Advances m t new → ⊥
-
--- a pull for which the count has no room
-abbrev pub FullCountRefusesPull : Type 0
-FullCountRefusesPull = (c new : Counted) (sub now target : ℕ) (answer : Option Handed) → RefusesHanding HandedFull c sub → HandsOut c sub now target answer new → ⊥

@@ -1,6 +1,6 @@
 //! What never matters to what is disclosed to a subscription, and that what is full is told: laws over the definitions
 //! that [`run`](crate::run) and the calls cite. Their functions do nothing; their clauses are what is proved.
-ghost use Rattle.mediator_core.specs.Answered.{FullAuditRefusesMessage, FullAuditRefusesAdvance, FullCountRefusesPull};
+ghost use Rattle.mediator_core.specs.Answered.{FullAuditRefusesMessage, FullAuditRefusesAdvance};
 ghost use Rattle.mediator_core.specs.Secrecy.{RulesOfOthersNeverMatter, EntriesOfOthersNeverMatter, DeniedValuesNeverMatter};
 
 /// Rules that name another subscriber never matter: where they are left out of any edits, the same is disclosed to a
@@ -23,10 +23,8 @@ pub fn denied_values_never_matter()
     ensures { DeniedValuesNeverMatter }
 {}
 
-/// What is full is told: a message, or an advance of the clock, for which the audit has no room is not accepted, and
-/// neither is a pull for which the count of handed records has none.
+/// What is full is told: a message, or an advance of the clock, for which the audit has no room is not accepted.
 pub fn full_is_told()
     ensures message { FullAuditRefusesMessage }
     ensures advance { FullAuditRefusesAdvance }
-    ensures pull { FullCountRefusesPull }
 {}

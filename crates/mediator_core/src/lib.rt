@@ -13,7 +13,7 @@
 //! (`front`); the audit entries that were drained, with those that wait, are the audit list (`audited`); a subscription's
 //! answers are built from its pulls, each with what was disclosed to it by then (`secret`). What is disclosed stays the same
 //! where rules that name others are left out of edits, entries of others out of the history, or where values that are
-//! denied change; and no call is accepted for which the audit or the count has no room (`laws`).
+//! denied change; and no call is accepted for which the audit has no room (`laws`).
 #![tactic(auto)]
 
 mod laws;

@@ -11,10 +11,12 @@ use mediator_calls::{Call, Limits, Mediator, Reply, RunFault, SessionId, SubId};
 use mediator_state::Fault;
 use std::alloc::Global;
 
-/// What a run leaves: the replies, one to each call, in their order; and the mediator as it is after the last call.
+/// What a run leaves.
 #[derive(Drop)]
 pub struct Transcript {
+    /// The replies, one to each call, in their order.
     pub replies: Vec<Reply>,
+    /// The mediator as it is after the last call.
     pub mediator: Mediator,
 }
 
@@ -91,15 +93,18 @@ fn answer_pull(mediator: &mut Mediator, sub: SubId, now: u32, target: u16) -> Re
 /// # Errors
 /// A limit is out of its range, or want of memory before the first call. No call was made then.
 pub fn run(alloc: Global, limits: Limits, calls: Vec<Call>) -> Result<Transcript, RunFault>
+    // Each reply is that of its call, and the history has the entries of those that were accepted.
     ensures steps { IfOk result (λ t.
         Runs (started limits) calls.items t.replies.items t.mediator) }
     ensures history { IfOk result (λ t. HistoryIsTheCalls calls.items t.replies.items t.mediator) }
+    // What was handed out and drained is what the history discloses and names.
     ensures disclosed { IfOk result (λ t.
         HandedIsDisclosed calls.items t.replies.items t.mediator) }
     ensures front { IfOk result (λ t. HandedIsFront calls.items t.replies.items t.mediator) }
     ensures audited { IfOk result (λ t. DrainedIsAudited calls.items t.replies.items t.mediator) }
     ensures secret { IfOk result (λ t. (sub : ℕ)
         → IsBuiltFromDisclosed sub (started limits) calls.items t.replies.items t.mediator) }
+    // A run that is not begun had a limit out of its range, or no memory.
     ensures err { IfErr result (λ e. RefusesLimits e limits) }
 {
     let mut mediator = Mediator::new(alloc, limits)?;

@@ -1,6 +1,1 @@
-pub mod Offering
-pub mod Reading
-pub mod Sending
-pub mod Commands
-pub mod Exchanging
 pub mod SettingUp

@@ -4,7 +4,7 @@ use Rattle.std.proofs.lemmas.List.{take_more, map-append, take_all}
 use Rattle.std.specs.Prelude.{string_bytes}
 use Rattle.event_journal.specs.declared.entry.Entry.{Entry}
 use Rattle.event_journal.specs.declared.entry.Entry.TheVariants.{Edit, Subscribe}
-use Rattle.entry_receipts.specs.declared.kept.KeptEntry.{KeptEntry}
+use Rattle.shared_mediator.specs.declared.kept.KeptEntry.{KeptEntry}
 use Rattle.shared_mediator.specs.Handles.{KeepsEntry}
 use Rattle.mediator_server.specs.declared.plan.Plan.{Plan}
 use Rattle.mediator_server.specs.declared.plan.Collector.{Collector}

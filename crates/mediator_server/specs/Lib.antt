@@ -10,11 +10,11 @@ pub use Rattle.admin_text.specs.Sayings
 pub use Rattle.admin_text.specs.Grammar as CommandGrammar
 pub use Rattle.admin_text.specs.Reading as CommandReading
 pub use Rattle.admin_text.specs.Answers as AdminAnswers
-pub mod Faults
+pub use Rattle.mediator_connections.specs.Faults
+pub use Rattle.mediator_connections.specs.FaultTexts as ServeFaultTexts
+pub use Rattle.mediator_connections.specs.Serving
+pub use Rattle.mediator_connections.specs.Delivering
+pub use Rattle.mediator_connections.specs.CommandInput
+pub use Rattle.mediator_connections.specs.Answering
 pub mod FaultTexts
-pub mod Serving
-pub mod Preparing
-pub mod Delivering
-pub mod CommandInput
-pub mod Answering
 pub mod Listening

@@ -3,7 +3,7 @@ use Rattle.std.specs.Prelude.{◌≡◌, ℕ, List, [], ◌∷◌, ◌++◌, map
 use Rattle.std.specs.List.{AllByRecursion}
 use Rattle.event_journal.specs.declared.entry.Entry.{Entry}
 use Rattle.event_journal.specs.declared.entry.Entry.TheVariants.{Edit, Subscribe}
-use Rattle.entry_receipts.specs.declared.kept.KeptEntry.{KeptEntry}
+use Rattle.shared_mediator.specs.declared.kept.KeptEntry.{KeptEntry}
 use Rattle.shared_mediator.specs.Locked.{Exporting, Delivering}
 use Rattle.shared_mediator.specs.Closing.{KeepsMessages, receipts_of, messages_accepted, records_handed, HasReceipts}
 use Rattle.mediator_server.specs.declared.plan.Plan.{Plan}

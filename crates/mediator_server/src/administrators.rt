@@ -2,9 +2,7 @@
 ghost use Rattle.std.specs.Prelude.{None};
 ghost use Rattle.std.specs.Io.{ReadsAtMost};
 
-use crate::admin::serve_admin;
 use crate::connections::Connection;
-use crate::control::{Control, Patience};
 use crate::exporters::wait_a_moment;
 use crate::listeners::Caller;
 use crate::notes;
@@ -16,12 +14,12 @@ use crate::socket_options::{look_while_reading, prepare_to_write};
 use crate::stream_calls::{PatientWriter, is_late, read_on};
 use crate::time::now;
 use admin_text::Topic;
-use entry_receipts::KeptEntry;
 use event_journal::Entry;
 use log::Log;
 use mediator_calls::SubId;
+use mediator_connections::{Control, Patience, serve_admin};
 use octet_io::{Failed, Sink, Source};
-use shared_mediator::{AdminHandle, EntryLedger, RecordLedger, SharedMediator};
+use shared_mediator::{AdminHandle, EntryLedger, KeptEntry, RecordLedger, SharedMediator};
 use std::alloc::AllocError;
 use std::cell::Cell;
 use std::net::{SocketAddr, TcpStream};

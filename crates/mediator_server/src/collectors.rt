@@ -1,8 +1,6 @@
 //! The connections to collectors: how each is made, delivered over, ended and made again.
 
 use crate::connections::Connection;
-use crate::delivery::deliver;
-use crate::fault::ServeFault;
 use crate::listeners::OwnAddresses;
 use crate::machine_clock::MachineClock;
 use crate::notes;
@@ -14,9 +12,11 @@ use crate::socket_options::{look_while_reading, prepare_to_write, reset};
 use crate::stream_calls::{PatientWriter, say_farewell};
 use crate::time::{has_passed, now};
 use log::Log;
-use mediator_calls::Handed;
+use mediator_connections::{ServeFault, deliver};
 use mediator_state::Fault;
-use shared_mediator::{AdminHandle, DeliveryHandle, EntryLedger, HandleFault, RecordLedger};
+use shared_mediator::{
+    AdminHandle, DeliveryHandle, EntryLedger, Handed, HandleFault, RecordLedger,
+};
 use std::alloc::Global;
 use std::io::{self, ErrorKind};
 use std::net::{Net, SocketAddr, TcpListener, TcpStream, ToSocketAddrs};

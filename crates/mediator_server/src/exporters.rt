@@ -2,9 +2,6 @@
 ghost use Rattle.std.specs.Prelude.{None};
 
 use crate::connections::Connection;
-use crate::control::{Patience, Reception};
-use crate::exporter::{Served, serve_exporter};
-use crate::fault::ServeFault;
 use crate::listeners::Caller;
 use crate::notes;
 use crate::run_state::RunState;
@@ -16,6 +13,7 @@ use ipfix_reader::FramingFault;
 use ipfix_session::Gap;
 use log::Log;
 use mediator_calls::SessionId;
+use mediator_connections::{Patience, Reception, ServeFault, Served, serve_exporter};
 use mediator_state::Receipt;
 use octet_io::{Failed, Source};
 use shared_mediator::{EntryLedger, ExporterHandle, RecordLedger};

@@ -1,76 +1,32 @@
-//! Serves a shared mediator over devices: reads and offers an exporter's stream, pulls and writes a subscription's messages, and
-//! reads and answers an administrator's commands. Each of these calls belongs to one thread and one connection, and is generic
-//! over a `Source` or a `Sink`; the mediating is `shared_mediator`'s, the cutting of a stream into messages `ipfix_reader`'s,
-//! and what lines mean `admin_text`'.
+//! A server on sockets: exporters and administrators connect to it, and it connects to collectors. Each exporter and each collector
+//! is served in a thread of its own, and administrators one after another. What is done over one connection is
+//! `mediator_connections`', whose names this crate has too; the mediating is `shared_mediator`'s.
 //!
-//! - `exporter`: [`serve_exporter`], the messages of a stream.
-//! - `delivery`: [`deliver`], the messages of a subscription.
-//! - `admin`: [`serve_admin`], the commands of an administrator's connection, which `command_input` cuts out of its octets.
-//! - `control`: [`Reception`] and [`Control`], what an exporter's and an administrator's connection ask of their server and tell
-//!   it, and [`Patience`], how long they wait for room in the queues, as `room` does.
-//! - `clock`: [`Clock`], which tells the Export Times.
-//! - `fault`: [`ServeFault`], why a call stops.
-//! - `listening`: [`listen`], all of this on sockets, as a [`Plan`] says. `service` has its threads: that which takes who comes
-//!   in by the `listeners`, and those of `exporters`, `collectors` and `administrators`, which tell each other by `run_state` how
-//!   far the run is. `connections` has those that are open, `stream_calls`, `socket_options` and `send_queue` what is done on
-//!   one; `roster` has the subscriptions, and `report` what an administrator is told; `notes` is what the log is told;
-//!   `machine_clock` and `time` are its clocks.
-//!
-//! Proved of `serve_exporter`: the messages that it adds to its handle's receipts, under the handle's session and numbered on,
-//! are those that the octets that it read are cut into (RFC 7011, section 10.4): where the answer is `Ok`, all of them, and the
-//! stream ended (`serves`); at a fault those before it (`stops`). Each fault stands only where its cause does: `Read` where the
-//! reader has failed (`fails`), `Framing` where what was read is framed in that way, `Turns` where as many reads were made as are
-//! allowed, `TooWide` where a message in hand is too wide by the templates of some session, `TooManyCounts` where more of its
-//! records count than are allowed, by the templates of some session and on some terms, and `Core` where one was refused or memory
-//! ran out.
-//!
-//! Proved of `deliver`: what it writes are the messages that its handle kept in that call, in order, each built for an Export
-//! Time that the clock may show and for the target; all of them where the answer is `Ok` or a refusal, with their octets counted,
-//! and at `Write` exactly the first `sent` octets of them, which end inside those of the last pull (`delivers`, `stops`). `Write`
-//! stands only where the writer has failed (`fails`). The administrator's handle keeps nothing more but, at `Write`, the end of
-//! this subscription (`same`, `gone`).
-//!
-//! Proved of `serve_admin`: the octets that it read are lines with the texts behind them, and the octets that it wrote are their
-//! answers, one for each line in order. Each answer is one that the line's call may give, and says what the handle kept: an `ok`
-//! to an edit, a subscription, its end or an advance stands only where the handle has the receipt of just that call, and no other
-//! answer where it has one. Where the answer is `Ok`, all commands were answered and are counted, and the input ended behind
-//! them, or the last of them is a `stop`, and none before it is, or one line more is no command (`serves`). At a fault the
-//! commands before were (`stops`), and `Read` and `Write` stand only where that device has failed (`reader_fails`,
-//! `writer_fails`); at `Write` exactly `sent` octets of all answers were written, which end inside the last, and its call was
-//! made; `Turns` stands only where as many reads were made as are allowed, and `CutOff` where the input ended inside a command.
-//! No want of memory keeps an answer back; only a refusal for another reason may be answered as one for want of memory. Of a page
-//! (`status` alone, `run`, `policy`, `help`) no clause says what stands on it.
+//! - `listening`: [`listen`], which serves a mediator as a [`Plan`] says (`plan`).
+//! - `service` has the threads: that which takes who comes in by the `listeners`, and those of `exporters`, `collectors` and
+//!   `administrators`, which tell each other by `run_state` how far the run is.
+//! - `connections` has the connections that are open; `stream_calls`, `socket_options` and `send_queue` what is done on one.
+//! - `roster` has the subscriptions, and `report` what an administrator is told; `notes` is what the log is told. `machine_clock` and
+//!   `time` are the clocks.
 //!
 //! Proved of `listen`: where the answer is `Ok`, the history has gone on from that of the mediator handed in, and each message,
 //! edit, begin and end of a subscription and advance of the clock in it since then has a receipt of its own; those of one handle
 //! are an edit by the plan's policy and a subscription for each of its collectors, in order; and it answers how many messages are
 //! among all, and how many records were handed out (`served`). Beyond that it is safe. What goes over sockets, and that all ends,
-//! is shown by tests over loopback alone; `bench/interop` runs it with real tools.
-//!
-//! Shown by tests alone, in `tests_server`: that the session is closed and the subscription ended, which happens under the lock,
-//! where no clause can look; and so why a call of an administrator is refused, how a subscription stands, what of the audit is
-//! handed out, and what waits for room in a queue; and what a server is told and tells, and how many records waited when a
-//! delivery failed. Nothing promises that a call returns.
+//! is shown by tests over loopback alone; `bench/interop` runs it with real tools. Nothing promises that a call
+//! returns.
 #![tactic(auto)]
 
-mod admin;
 mod administrators;
-mod clock;
 mod collectors;
-mod command_input;
 mod connections;
-mod control;
-mod delivery;
-mod exporter;
 mod exporters;
-mod fault;
 mod listeners;
 mod listening;
 mod machine_clock;
 mod notes;
 mod plan;
 mod report;
-mod room;
 mod roster;
 mod run_state;
 mod send_queue;
@@ -79,11 +35,8 @@ mod socket_options;
 mod stream_calls;
 mod time;
 
-pub use admin::serve_admin;
-pub use clock::Clock;
-pub use control::{Control, Patience, Reception};
-pub use delivery::deliver;
-pub use exporter::{Served, serve_exporter};
-pub use fault::ServeFault;
 pub use listening::{Ended, ListenFault, listen};
+pub use mediator_connections::{
+    Clock, Control, Patience, Reception, ServeFault, Served, deliver, serve_admin, serve_exporter,
+};
 pub use plan::{Collector, Plan};

@@ -30,7 +30,7 @@ pub(crate) struct Caller {
 
 /// At which address a connection has come in.
 #[derive(Drop)]
-pub(crate) enum Came {
+pub(crate) enum Incoming {
     Exporter(Caller),
     Administrator(Caller),
 }
@@ -200,7 +200,7 @@ impl Listeners {
     ///
     /// # Errors
     /// A connection couldn't be accepted, and not for want of descriptors or memory.
-    pub(crate) fn next(&mut self, rt: &(impl Wait + Clock + Log)) -> io::Result<Option<Came>> {
+    pub(crate) fn next(&mut self, rt: &(impl Wait + Clock + Log)) -> io::Result<Option<Incoming>> {
         if let Some(came) = self.waiting(rt)? {
             return Ok(Some(came));
         }
@@ -213,14 +213,14 @@ impl Listeners {
     }
 
     /// Who waits to be taken, exporters before administrators.
-    fn waiting(&mut self, rt: &(impl Wait + Clock + Log)) -> io::Result<Option<Came>> {
+    fn waiting(&mut self, rt: &(impl Wait + Clock + Log)) -> io::Result<Option<Incoming>> {
         if let Some(listener) = &mut self.exporters {
             if let Some(caller) = listener.accept(rt)? {
-                return Ok(Some(Came::Exporter(caller)));
+                return Ok(Some(Incoming::Exporter(caller)));
             }
         }
         match self.administrators.accept(rt)? {
-            Some(caller) => Ok(Some(Came::Administrator(caller))),
+            Some(caller) => Ok(Some(Incoming::Administrator(caller))),
             None => Ok(None),
         }
     }

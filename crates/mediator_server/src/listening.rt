@@ -1,6 +1,6 @@
 //! Serves a mediator on sockets, from its first policy until it is given back.
 ghost use Rattle.std.specs.Prelude.{◌≡◌, ◌+◌, ◌*◌, ◌≤◌, IfOk};
-ghost use Rattle.mediator_calls.specs.Counted.{handed_live};
+ghost use Rattle.shared_mediator.specs.Counted.{handed_live};
 ghost use Rattle.mediator_server.specs.Listening.{IsServed};
 
 use crate::notes;

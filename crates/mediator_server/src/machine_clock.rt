@@ -1,7 +1,7 @@
 //! The machine's clock, as the one by which messages to collectors are stamped.
 ghost use Rattle.std.specs.Prelude.{⊤};
 
-use crate::clock::Clock;
+use mediator_connections::Clock;
 use std::time;
 
 /// Tells Export Times by the machine's clock; 0 where it can't be read.

@@ -1,15 +1,14 @@
 //! The notes of a run, a line of the log each: who came and went, and the totals.
 
-use crate::exporter::Served;
 use crate::exporters::WhyEnded;
-use crate::fault::ServeFault;
 use crate::plan::Collector;
 use crate::run_state::TurnOver;
 use ipfix_session::Gap;
 use log::{Log, error, info, warn};
-use mediator_calls::{Handed, Limits, SessionId};
+use mediator_calls::{Limits, SessionId};
+use mediator_connections::{ServeFault, Served};
 use mediator_state::Receipt;
-use shared_mediator::{Closed, Fill, HandleFault};
+use shared_mediator::{Closed, Fill, Handed, HandleFault};
 use std::fmt::{self, Display, Formatter, Write};
 use std::io;
 use std::net::SocketAddr;

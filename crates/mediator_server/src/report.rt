@@ -2,9 +2,8 @@
 
 use crate::run_state::Tally;
 use crate::service::Service;
-use entry_receipts::KeptEntry;
 use event_journal::Entry;
-use shared_mediator::{EntryLedger, Fill, RecordLedger};
+use shared_mediator::{EntryLedger, Fill, KeptEntry, RecordLedger};
 use std::alloc::{AllocError, Global};
 use std::sync::Wait;
 

@@ -5,7 +5,7 @@ ghost use Rattle.mediator_server.specs.Listening.{SetsUp, IsSetUp};
 use crate::collectors::{self, CollectorHandles};
 use crate::connections::{Connection, Connections};
 use crate::exporters::{self, ExporterHandles};
-use crate::listeners::{Caller, Came, Listeners, OwnAddresses};
+use crate::listeners::{Caller, Incoming, Listeners, OwnAddresses};
 use crate::listening::ListenFault;
 use crate::plan::{Collector, Plan};
 use crate::roster::{Reach, Roster};
@@ -455,10 +455,10 @@ fn take_callers<
         }
         close_in_time(rt, service, &mut listeners, taken);
         match listeners.next(rt) {
-            Ok(Some(Came::Exporter(caller))) => {
+            Ok(Some(Incoming::Exporter(caller))) => {
                 taken = taken.saturating_add(take_exporter(rt, service, scope, caller, taken))
             }
-            Ok(Some(Came::Administrator(caller))) => administrators::admit(rt, service, caller),
+            Ok(Some(Incoming::Administrator(caller))) => administrators::admit(rt, service, caller),
             Ok(None) => {}
             Err(why) => {
                 notes::cannot_accept(rt, &why);

@@ -189,8 +189,7 @@ impl InForce {
         self.clock
     }
 
-    /// Advances the clock to the time `t`, in milliseconds since 1970. The caller has seen to it that this is not
-    /// before the time of the clock.
+    /// Moves the clock to the time `t`, in milliseconds since 1970. The policy stays.
     pub fn advance(&mut self, t: u64)
         ensures { self.new ≡ in_force_with self.old.policy t }
     {

@@ -159,6 +159,7 @@ impl Judges {
         requires cuts { (p : PlansFor) → slice_get self.old.fors place ≡ Some p
             → p.cuts ≡ self.old.cuts }
         requires classes { classes ≡ classes_of self.old.cuts flow_record.now }
+        // It is told what became of the record, and what passes is given to that subscription alone.
         ensures decision { (p : PlansFor) → slice_get self.old.fors place ≡ Some p
             → IfOk result (λ d. d ≡ decision_of (outcome_for p flow_record.now)) }
         ensures given { (p : PlansFor) (before after : List (ℕ × List DataRecord))
@@ -166,6 +167,7 @@ impl Judges {
             → self.old.shares ≡ before ++ s ∷ after
             → length before ≡ place → OnOk result (self.new.shares
             ≡ before ++ (s.0, s.1 ++ passed (outcome_for p flow_record.now)) ∷ after) }
+        // What decides stays.
         ensures fors { self.new.fors ≡ self.old.fors }
         ensures template { self.new.template ≡ self.old.template }
         ensures cuts { self.new.cuts ≡ self.old.cuts }

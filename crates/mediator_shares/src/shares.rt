@@ -51,12 +51,14 @@ impl Shares {
         most: u64,
     ) -> Result<Shares, AllocError>
         requires few { length records.now ≤ 2 ^ 32 }
+        // What the definitions give of these records, for each subscription.
         ensures shares { IfOk result (λ s.
             map shown s.shares.items ≡ shares_of domain in_force.old records.now served.now) }
         ensures tallies { IfOk result (λ s.
             map tallied s.tallies.items ≡ tallies_of domain in_force.old records.now served.now) }
         ensures notes { IfOk result (λ s.
             s.notes ≡ kept_of most (notes_of domain in_force.old records.now served.now)) }
+        // The policy and the clock stay.
         ensures stay { in_force.new ≡ in_force.old }
     {
         let mut judges = in_force.judges(alloc, domain, records.runs(), served)?;
@@ -122,12 +124,14 @@ impl Sums {
         requires judges { JudgesAny judges.old in_force.now domain served.now }
         requires blank { judges.old.shares ≡ map blank served.now }
         requires blank_tallies { map tallied self.old.tallies.items ≡ map blank served.now }
+        // All is that of the records of the runs.
         ensures shares { OnOk result (judges.new.shares
             ≡ shares_of domain in_force.now (records_in runs.now) served.now) }
         ensures tallies { OnOk result (map tallied self.new.tallies.items
             ≡ tallies_of domain in_force.now (records_in runs.now) served.now) }
         ensures notes { OnOk result (self.new.notes ≡ and_more self.old.notes
             (notes_of domain in_force.now (records_in runs.now) served.now)) }
+        // The judges are fit for what comes next.
         ensures judges { OnOk result (JudgesAny judges.new in_force.now domain served.now) }
     {
         let mut before = 0;
@@ -157,6 +161,7 @@ impl Sums {
         requires judges { JudgesAny judges.old in_force.now domain served.now }
         requires each { length judges.old.shares ≡ length served.now }
         requires each_tally { length self.old.tallies.items ≡ length served.now }
+        // The records of the run stand behind those that were done.
         ensures shares { (done : List DataRecord)
             → judges.old.shares ≡ shares_of domain in_force.now done served.now
             → OnOk result (judges.new.shares
@@ -168,6 +173,7 @@ impl Sums {
         ensures notes { OnOk result (self.new.notes
             ≡ and_more self.old.notes (flat_map (noted_of_each domain in_force.now served.now)
             (enumerate_from before (records_of run.now)))) }
+        // The judges are fit for what comes next, with a place for each subscription.
         ensures judges { OnOk result (JudgesAny judges.new in_force.now domain served.now) }
         ensures stay { OnOk result (length judges.new.shares ≡ length served.now) }
         ensures stay_tallies { OnOk result (length self.new.tallies.items ≡ length served.now) }
@@ -201,6 +207,7 @@ impl Sums {
             (Some flow_record.now.template) served.now }
         requires each { length judges.old.shares ≡ length served.now }
         requires each_tally { length self.old.tallies.items ≡ length served.now }
+        // The record stands behind those that were done.
         ensures shares { (done : List DataRecord)
             → judges.old.shares ≡ shares_of domain in_force.now done served.now
             → OnOk result (judges.new.shares
@@ -209,10 +216,12 @@ impl Sums {
             → map tallied self.old.tallies.items ≡ tallies_of domain in_force.now done served.now
             → OnOk result (map tallied self.new.tallies.items
             ≡ tallies_of domain in_force.now (done ++ flow_record.now ∷ []) served.now) }
+        // The judges are fit for what comes next, with a place for each subscription.
         ensures judges { OnOk result (JudgeFor judges.new in_force.now domain
             (Some flow_record.now.template) served.now) }
         ensures stay { OnOk result (length judges.new.shares ≡ length served.now) }
         ensures stay_tallies { OnOk result (length self.new.tallies.items ≡ length served.now) }
+        // Its notes stand behind those before.
         ensures notes { OnOk result (self.new.notes ≡ and_more self.old.notes
             (noted_of_each domain in_force.now served.now (index, flow_record.now))) }
     {

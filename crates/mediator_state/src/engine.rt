@@ -93,6 +93,7 @@ impl Engine {
         requires range { AreInRange limits }
         requires least { 1 ≤ audit }
         requires most { audit ≤ MOST_AUDITED }
+        // It stands for the history without an entry, within these limits.
         ensures stands { IfOk result (λ e. Stands e []) }
         ensures drained { IfOk result (λ e. e.audit.standing.drained ≡ 0) }
         ensures limits { IfOk result (λ e. e.limits ≡ limits) }
@@ -232,6 +233,7 @@ impl Engine {
         requires somewhere { StandsSomewhere self.old position }
         requires short { position ≤ MOST_ENTRIES }
         requires same_clock { in_force.clock ≡ self.old.in_force.clock }
+        // The edit is one more, and stands as the next entry.
         ensures value { (h : List Entry) → Stands self.old h → result ≡ edits_made h + 1 }
         ensures stands { (h : List Entry) (text : List ℕ) → Stands self.old h
             → policy_of text ≡ Ok in_force.policy → Stands self.new (h ++ Edit text ∷ []) }
@@ -274,9 +276,11 @@ impl Engine {
         requires next { number ≡ self.old.begun + 1 }
         requires name { is_name name.now ≡ true }
         requires free { (q : ℕ) → IfSome (at self.old.subscriptions q) (λ s. s.name ≢ name.now) }
+        // The beginning stands as the next entry.
         ensures ok { OnOk result ((h : List Entry) → Stands self.old h
             → Stands self.new (h ++ Subscribe number name.now ∷ [])) }
         ensures untouched { IsUntouched self.old self.new }
+        // Want of memory changes nothing.
         ensures err { OnErr result (IsSameEngine self.old self.new) }
     {
         let stream = Stream::hashed(self.alloc, self.limits, self.keys);
@@ -299,6 +303,7 @@ impl Engine {
     pub(crate) fn unsubscribe(&mut self, number: u64)
         ensures stands { (h : List Entry) → Stands self.old h
             → Stands self.new (h ++ Unsubscribe number ∷ []) }
+        // Other subscriptions keep their places, and the audit and the limits stay.
         ensures others { (q : ℕ) → q ≢ number → place_of self.new q ≡ place_of self.old q }
         ensures drained { self.new.audit.standing.drained ≡ self.old.audit.standing.drained }
         ensures limits { self.new.limits ≡ self.old.limits }
@@ -360,9 +365,11 @@ impl Engine {
     /// [`Fault::AuditFull`] where they have none; or [`Fault::OutOfMemory`]. Only reserved room has changed then.
     pub(crate) fn make_audit_room(&mut self, need: u64, places: usize) -> Result<(), Fault>
         requires few { places ≤ need + 1 }
+        // Only reserved room changes; there is enough of it then, or it is told why not.
         ensures same { IsSameEngine self.old self.new }
         ensures ok { OnOk result (HasAuditFor self.new.audit need places) }
         ensures err { IfErr result (λ e. LacksAudit e self.old.audit need) }
+        // Sessions, subscriptions and groups keep their reserved room.
         ensures rest { (self.new.sessions ≡ self.old.sessions)
             × (self.new.subscriptions ≡ self.old.subscriptions)
             × (self.new.groups ≡ self.old.groups) }
@@ -400,12 +407,14 @@ impl Engine {
     pub(crate) fn accept(&mut self, position: u64, plan: Plan, reserved: Vec<Reserved>) -> Receipt
         requires room { HasRoomForPlan self.old plan (map reserved_for reserved.items) }
         requires planned { IsPlannedFor self.old position plan }
+        // The message stands as the next entry, behind its cuts, and the receipt tells of it.
         ensures stands { (h : List Entry) (number : ℕ) (octets : List ℕ) → Stands self.old h
             → length h ≡ position → IsPlan self.old h number octets plan
             → Stands self.new (after_cuts h plan.cuts.items
             ++ Message plan.session number octets ∷ []) }
         ensures receipt { result
             ≡ receipt_of position (length plan.cuts.items) plan.reading.meaning }
+        // Nothing is handed out.
         ensures untouched { IsUntouched self.old self.new }
     {
         let receipt = Receipt {

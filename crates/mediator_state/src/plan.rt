@@ -106,10 +106,12 @@ impl Engine {
         requires short { position ≤ MOST_ENTRIES }
         requires judgement { IfSome judgement
             (IsJudgementOf reading.meaning.header.domain reading.meaning.records) }
+        // What the message would do, by the definitions.
         ensures ok { IfOk result (λ p. (h : List Entry) (number : ℕ) (octets : List ℕ)
             → Stands self.old h → length h ≡ position
             → IsNextReading h session number octets reading → IsPlan self.old h number octets p) }
         ensures session { IfOk result (λ p. p.session ≡ session) }
+        // Nothing changes.
         ensures same { self.new ≡ self.old }
     {
         let judged = self.judge(position, &reading, judgement)?;
@@ -159,8 +161,10 @@ impl Engine {
         requires short { position ≤ MOST_ENTRIES }
         requires judgement { IfSome judgement
             (IsJudgementOf reading.now.meaning.header.domain reading.now.meaning.records) }
+        // What the message would do for each that is served, by the definitions.
         ensures judged { IfOk result (λ j. (h : List Entry) → Stands self.old h
             → length h ≡ position → IsJudgedFor self.old h reading.now.meaning j) }
+        // Nothing changes.
         ensures same { self.new ≡ self.old }
     {
         let domain = reading.header().domain;
@@ -215,12 +219,14 @@ fn shares_of_all(
 ) -> Result<Shares, AllocError>
     requires few { length records.now ≤ 2 ^ 32 }
     requires judgement { IfSome judgement (IsJudgementOf domain records.now) }
+    // What the definitions give of these records, for each subscription.
     ensures shares { IfOk result (λ s.
         map shown s.shares.items ≡ shares_of domain in_force.old records.now served.now) }
     ensures tallies { IfOk result (λ s.
         map tallied s.tallies.items ≡ tallies_of domain in_force.old records.now served.now) }
     ensures notes { IfOk result (λ s.
         s.notes ≡ kept_of most (notes_of domain in_force.old records.now served.now)) }
+    // The policy and the clock stay.
     ensures stay { in_force.new ≡ in_force.old }
 {
     if let Some(judgement) = judgement {
@@ -235,11 +241,13 @@ fn shares_of_all(
 /// which the first stands at `position`.
 fn judged_at(position: u64, cuts: Vec<u64>, left: Shares) -> Judged
     requires short { position ≤ MOST_ENTRIES }
+    // All is handed on, with the position behind the cuts.
     ensures cuts { result.cuts.items ≡ cuts.items }
     ensures shares { result.shares.items ≡ left.shares.items }
     ensures tallies { result.tallies.items ≡ left.tallies.items }
     ensures position { result.position ≡ position + length cuts.items }
     ensures notes { result.notes ≡ left.notes }
+    // Each record may be streamed, by its type.
     ensures streamable { AllByRecursion AreStreamed (map shown result.shares.items) }
 {
     see_shares(&left.shares);
@@ -310,12 +318,14 @@ fn share_left(
         → map tallied all.tallies.items ≡ tallies_of domain in_force.old records.now left.now }
     requires notes { cuts.now ≡ []
         → all.notes ≡ kept_of most (notes_of domain in_force.old records.now left.now) }
+    // What the definitions give of these records, for each subscription.
     ensures shares { IfOk result (λ s.
         map shown s.shares.items ≡ shares_of domain in_force.old records.now left.now) }
     ensures tallies { IfOk result (λ s.
         map tallied s.tallies.items ≡ tallies_of domain in_force.old records.now left.now) }
     ensures notes { IfOk result (λ s.
         s.notes ≡ kept_of most (notes_of domain in_force.old records.now left.now)) }
+    // The policy and the clock stay.
     ensures stay { in_force.new ≡ in_force.old }
 {
     if cuts.is_empty() {

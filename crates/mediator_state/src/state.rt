@@ -63,8 +63,10 @@ impl<C: Chronicle + Drop> State<C> {
     /// Want of memory.
     pub fn new(alloc: Global, limits: Limits, chronicle: C) -> Result<State<C>, AllocError>
         requires range { AreLimits limits }
+        // It stands for the history without an entry, which the chronicle keeps.
         ensures stands { IfOk result (λ s. C.tells chronicle [] → StandsFor C.tells s []) }
         ensures kept { IfOk result (λ s. s.chronicle ≡ chronicle) }
+        // It holds what the limits say, and nothing was drained.
         ensures limits { IfOk result (λ s.
             s.engine.limits ≡ record { queue = limits.queue; shapes = limits.shapes }) }
         ensures audit_limit { IfOk result (λ s. s.engine.audit.limit ≡ limits.audit) }
@@ -108,9 +110,11 @@ impl<C: Chronicle + Drop> State<C> {
     /// # Errors
     /// [`Fault::JournalFull`] or [`Fault::OutOfMemory`], and then only reserved room has changed.
     fn make_room(&mut self, entry: &Entry) -> Result<(), Fault>
+        // Only reserved room changes.
         ensures tells { (h : List Entry) → C.tells self.old.chronicle h
             → C.tells self.new.chronicle h }
         ensures engine { self.new.engine ≡ self.old.engine }
+        // Answered Ok, the entry has room, in memory too.
         ensures room { OnOk result (HasRoom (C.limits self.new.chronicle)
             (C.count self.new.chronicle) (C.octets self.new.chronicle) (entry.now ∷ [])) }
         ensures count { C.count self.new.chronicle ≡ C.count self.old.chronicle }
@@ -118,6 +122,7 @@ impl<C: Chronicle + Drop> State<C> {
         ensures limits { C.limits self.new.chronicle ≡ C.limits self.old.chronicle }
         ensures short { OnOk result (C.count self.old.chronicle < MOST_ENTRIES) }
         ensures reserved { OnOk result (0 < C.spare self.new.chronicle) }
+        // Else it is told why not.
         ensures err { IfErr result (λ e. LacksRoom e (C.limits self.old.chronicle)
             (C.count self.old.chronicle) (C.octets self.old.chronicle) (entry.now ∷ [])) }
     {
@@ -135,9 +140,11 @@ impl<C: Chronicle + Drop> State<C> {
     /// [`Fault::JournalFull`] or [`Fault::OutOfMemory`]. Nothing has changed then.
     pub fn open(&mut self) -> Result<u64, Fault>
         requires stands { StandsForSome C.tells self.old }
+        // The entry of the call stands as the next one, and nothing is handed out.
         ensures ok { IfOk result (λ n. (h : List Entry) → StandsFor C.tells self.old h
             → Opens C.tells C.limits self.old h n self.new) }
         ensures untouched { IsUntouched self.old.engine self.new.engine }
+        // A refused call changes nothing, and names the first cause. The limits of the journal stay in any case.
         ensures same { OnErr result ((h : List Entry) → StandsFor C.tells self.old h
             → StandsFor C.tells self.new h) }
         ensures journaled { C.limits self.new.chronicle ≡ C.limits self.old.chronicle }
@@ -160,9 +167,11 @@ impl<C: Chronicle + Drop> State<C> {
     /// stands. Nothing has changed then.
     pub fn close(&mut self, session: u64) -> Result<(), Fault>
         requires stands { StandsForSome C.tells self.old }
+        // The entry of the call stands as the next one, and nothing is handed out.
         ensures ok { OnOk result ((h : List Entry) → StandsFor C.tells self.old h
             → Closes C.tells C.limits self.old h session self.new) }
         ensures untouched { IsUntouched self.old.engine self.new.engine }
+        // A refused call changes nothing, and names the first cause. The limits of the journal stay in any case.
         ensures same { OnErr result ((h : List Entry) → StandsFor C.tells self.old h
             → StandsFor C.tells self.new h) }
         ensures journaled { C.limits self.new.chronicle ≡ C.limits self.old.chronicle }
@@ -195,9 +204,11 @@ impl<C: Chronicle + Drop> State<C> {
     /// [`Fault::AuditFull`]: the first that stands; or [`Fault::OutOfMemory`]. Nothing has changed then.
     pub fn receive(&mut self, session: u64, number: u64, message: Bytes) -> Result<Receipt, Fault>
         requires stands { StandsForSome C.tells self.old }
+        // The message stands as the next entry, behind the cuts that it makes, and nothing is handed out.
         ensures ok { IfOk result (λ r. (h : List Entry) → StandsFor C.tells self.old h
             → Receives C.tells C.limits self.old h session number message r self.new) }
         ensures untouched { IsUntouched self.old.engine self.new.engine }
+        // A refused call changes nothing, and names the first cause. The limits of the journal stay in any case.
         ensures same { OnErr result ((h : List Entry) → StandsFor C.tells self.old h
             → StandsFor C.tells self.new h) }
         ensures journaled { C.limits self.new.chronicle ≡ C.limits self.old.chronicle }
@@ -208,9 +219,9 @@ impl<C: Chronicle + Drop> State<C> {
         self.receive_judged(session, number, message, None)
     }
 
-    /// Accepts `message` as [`receive`](State::receive) does. `ahead`, what was judged of it elsewhere, is taken where
-    /// it is of the records that the session finds in the message, and where its terms still hold. It changes no
-    /// answer.
+    /// Accepts `message` as the next one of the session with the number `session`, which is to have had `number`
+    /// messages, as [`receive`](State::receive) does. `ahead`, what was judged of it elsewhere, is taken where it is of
+    /// the records that the session finds in the message, and where its terms still hold. It changes no answer.
     ///
     /// # Errors
     /// Those of [`receive`](State::receive).
@@ -222,9 +233,11 @@ impl<C: Chronicle + Drop> State<C> {
         ahead: Option<JudgedAhead>,
     ) -> Result<Receipt, Fault>
         requires stands { StandsForSome C.tells self.old }
+        // The message stands as the next entry, behind the cuts that it makes, and nothing is handed out.
         ensures ok { IfOk result (λ r. (h : List Entry) → StandsFor C.tells self.old h
             → Receives C.tells C.limits self.old h session number message r self.new) }
         ensures untouched { IsUntouched self.old.engine self.new.engine }
+        // A refused call changes nothing, and names the first cause. The limits of the journal stay in any case.
         ensures same { OnErr result ((h : List Entry) → StandsFor C.tells self.old h
             → StandsFor C.tells self.new h) }
         ensures journaled { C.limits self.new.chronicle ≡ C.limits self.old.chronicle }
@@ -246,10 +259,12 @@ impl<C: Chronicle + Drop> State<C> {
     pub fn snapshot(&mut self, session: u64) -> Result<Snapshot, Fault>
         ensures ok { IfOk result (λ snapshot. (h : List Entry) → StandsFor C.tells self.old h
             → IsSnapshot h session snapshot) }
+        // Nothing changes.
         ensures same { (h : List Entry) → StandsFor C.tells self.old h
             → StandsFor C.tells self.new h }
         ensures untouched { IsUntouched self.old.engine self.new.engine }
         ensures journaled { C.limits self.new.chronicle ≡ C.limits self.old.chronicle }
+        // A refusal names the first cause.
         ensures err { IfErr result (λ e. (h : List Entry) → StandsFor C.tells self.old h
             → RefusesSnapshot e h session) }
     {
@@ -271,15 +286,18 @@ impl<C: Chronicle + Drop> State<C> {
         mut prepared: Prepared,
     ) -> Result<Receipt, (Fault, Prepared)>
         requires stands { StandsForSome C.tells self.old }
+        // The message stands as the next entry, behind the cuts that it makes, and nothing is handed out.
         ensures ok { IfOk result (λ r. (h : List Entry) → StandsFor C.tells self.old h
             → Receives C.tells C.limits self.old h session number prepared.message r self.new) }
         ensures untouched { IsUntouched self.old.engine self.new.engine }
+        // A refused call changes nothing, and names the first cause. The limits of the journal stay in any case.
         ensures same { OnErr result ((h : List Entry) → StandsFor C.tells self.old h
             → StandsFor C.tells self.new h) }
         ensures journaled { C.limits self.new.chronicle ≡ C.limits self.old.chronicle }
         ensures err { IfErr result (λ e. (h : List Entry) → StandsFor C.tells self.old h
             → RefusesReceivePrepared e.0 (C.limits self.old.chronicle) self.old.engine h
             session number prepared) }
+        // The message is handed back, to be prepared anew or offered again.
         ensures handed_back { IfErr result (λ e. e.1 ≡ prepared) }
     {
         match self.take_prepared(session, number, &mut prepared) {
@@ -288,8 +306,9 @@ impl<C: Chronicle + Drop> State<C> {
         }
     }
 
-    /// Accepts the message `prepared`, which is lent, as [`receive_prepared`](State::receive_prepared) does. What was
-    /// judged of it is used up once it is found to be the session's next one.
+    /// Accepts the message `prepared`, which is lent, as the next one of the session with the number `session`, which
+    /// is to have had `number` messages, as [`receive_prepared`](State::receive_prepared) does. What was judged of it
+    /// is used up once it is found to be the session's next one.
     ///
     /// # Errors
     /// Those of [`receive_prepared`](State::receive_prepared), without the message.
@@ -300,15 +319,18 @@ impl<C: Chronicle + Drop> State<C> {
         prepared: &mut Prepared,
     ) -> Result<Receipt, Fault>
         requires stands { StandsForSome C.tells self.old }
+        // The message stands as the next entry, behind the cuts that it makes, and nothing is handed out.
         ensures ok { IfOk result (λ r. (h : List Entry) → StandsFor C.tells self.old h
             → Receives C.tells C.limits self.old h session number prepared.old.message r self.new) }
         ensures untouched { IsUntouched self.old.engine self.new.engine }
+        // A refused call changes nothing, and names the first cause. The limits of the journal stay in any case.
         ensures same { OnErr result ((h : List Entry) → StandsFor C.tells self.old h
             → StandsFor C.tells self.new h) }
         ensures journaled { C.limits self.new.chronicle ≡ C.limits self.old.chronicle }
         ensures err { IfErr result (λ e. (h : List Entry) → StandsFor C.tells self.old h
             → RefusesReceivePrepared e (C.limits self.old.chronicle) self.old.engine h
             session number prepared.old) }
+        // What was read of the message stays.
         ensures lent { prepared.new ≡ prepared.old }
     {
         let reading = self.engine.read_prepared(session, number, prepared)?;
@@ -336,9 +358,11 @@ impl<C: Chronicle + Drop> State<C> {
             (IsJudgementOf reading.meaning.header.domain reading.meaning.records) }
         requires read { (h : List Entry) → StandsFor C.tells self.old h
             → IsNextReading h session number message reading }
+        // The message stands as the next entry, behind the cuts that it makes, and nothing is handed out.
         ensures ok { IfOk result (λ r. (h : List Entry) → StandsFor C.tells self.old h
             → Receives C.tells C.limits self.old h session number message r self.new) }
         ensures untouched { IsUntouched self.old.engine self.new.engine }
+        // A refused call changes nothing, and names the first cause. The limits of the journal stay in any case.
         ensures same { OnErr result ((h : List Entry) → StandsFor C.tells self.old h
             → StandsFor C.tells self.new h) }
         ensures journaled { C.limits self.new.chronicle ≡ C.limits self.old.chronicle }
@@ -372,9 +396,11 @@ impl<C: Chronicle + Drop> State<C> {
     /// changed then.
     pub fn edit(&mut self, text: &str) -> Result<u64, Fault>
         requires stands { StandsForSome C.tells self.old }
+        // The entry of the call stands as the next one, and nothing is handed out.
         ensures ok { IfOk result (λ n. (h : List Entry) → StandsFor C.tells self.old h
             → Edits C.tells C.limits self.old h text.now n self.new) }
         ensures untouched { IsUntouched self.old.engine self.new.engine }
+        // A refused call changes nothing, and names the first cause. The limits of the journal stay in any case.
         ensures same { OnErr result ((h : List Entry) → StandsFor C.tells self.old h
             → StandsFor C.tells self.new h) }
         ensures journaled { C.limits self.new.chronicle ≡ C.limits self.old.chronicle }
@@ -399,9 +425,11 @@ impl<C: Chronicle + Drop> State<C> {
     /// [`Fault::JournalFull`] or [`Fault::OutOfMemory`]. Nothing has changed then.
     pub fn subscribe(&mut self, name: &str) -> Result<u64, Fault>
         requires stands { StandsForSome C.tells self.old }
+        // The entry of the call stands as the next one, and nothing is handed out.
         ensures ok { IfOk result (λ n. (h : List Entry) → StandsFor C.tells self.old h
             → Subscribes C.tells C.limits self.old h name.now n self.new) }
         ensures untouched { IsUntouched self.old.engine self.new.engine }
+        // A refused call changes nothing, and names the first cause. The limits of the journal stay in any case.
         ensures same { OnErr result ((h : List Entry) → StandsFor C.tells self.old h
             → StandsFor C.tells self.new h) }
         ensures journaled { C.limits self.new.chronicle ≡ C.limits self.old.chronicle }
@@ -431,14 +459,17 @@ impl<C: Chronicle + Drop> State<C> {
     /// then.
     pub fn unsubscribe(&mut self, sub: u64) -> Result<(), Fault>
         requires stands { StandsForSome C.tells self.old }
+        // The limits stay.
         ensures limits { self.new.engine.limits ≡ self.old.engine.limits }
         ensures audit_limit { self.new.engine.audit.limit ≡ self.old.engine.audit.limit }
+        // The end stands as the next entry. Other subscriptions keep their places, and nothing is drained.
         ensures ok { OnOk result ((h : List Entry) → StandsFor C.tells self.old h
             → Unsubscribes C.tells C.limits self.old h sub self.new) }
         ensures others { (q : ℕ) → q ≢ sub
             → place_of self.new.engine q ≡ place_of self.old.engine q }
         ensures drained { self.new.engine.audit.standing.drained
             ≡ self.old.engine.audit.standing.drained }
+        // A refused call changes nothing, and names the first cause. The limits of the journal stay in any case.
         ensures same { OnErr result ((h : List Entry) → StandsFor C.tells self.old h
             → StandsFor C.tells self.new h) }
         ensures untouched { OnErr result (IsUntouched self.old.engine self.new.engine) }
@@ -465,9 +496,11 @@ impl<C: Chronicle + Drop> State<C> {
     /// that stands; or [`Fault::OutOfMemory`]. Nothing has changed then.
     pub fn advance(&mut self, t: u64) -> Result<(), Fault>
         requires stands { StandsForSome C.tells self.old }
+        // The advance stands as the next entry, behind the cuts that it makes, and nothing is handed out.
         ensures ok { OnOk result ((h : List Entry) → StandsFor C.tells self.old h
             → Advances C.tells C.limits self.old h t self.new) }
         ensures untouched { IsUntouched self.old.engine self.new.engine }
+        // A refused call changes nothing, and names the first cause. The limits of the journal stay in any case.
         ensures same { OnErr result ((h : List Entry) → StandsFor C.tells self.old h
             → StandsFor C.tells self.new h) }
         ensures journaled { C.limits self.new.chronicle ≡ C.limits self.old.chronicle }
@@ -496,6 +529,7 @@ impl<C: Chronicle + Drop> State<C> {
         requires room { HasRoom (C.limits self.old.chronicle) (C.count self.old.chronicle)
             (C.octets self.old.chronicle) entries.items }
         requires reserved { length entries.items ≤ C.spare self.old.chronicle }
+        // The history goes on with these entries, and nothing else changes.
         ensures tells { (h : List Entry) → C.tells self.old.chronicle h
             → C.tells self.new.chronicle (h ++ entries.items) }
         ensures engine { self.new.engine ≡ self.old.engine }
@@ -519,14 +553,17 @@ impl<C: Chronicle + Drop> State<C> {
     /// # Errors
     /// [`Fault::UnknownSub`] where the subscription isn't live; or [`Fault::OutOfMemory`]. Nothing has changed then.
     pub fn pull(&mut self, sub: u64, now: u32, target: u16) -> Result<Option<Bytes>, Fault>
+        // The limits stay.
         ensures limits { self.new.engine.limits ≡ self.old.engine.limits }
         ensures audit_limit { self.new.engine.audit.limit ≡ self.old.engine.audit.limit }
+        // The message is that at the place of the subscription, which moves past it. No other place moves.
         ensures ok { IfOk result (λ m. (h : List Entry) → StandsFor C.tells self.old h
             → Pulls C.tells self.old h sub now target m self.new) }
         ensures others { (q : ℕ) → q ≢ sub
             → place_of self.new.engine q ≡ place_of self.old.engine q }
         ensures drained { self.new.engine.audit.standing.drained
             ≡ self.old.engine.audit.standing.drained }
+        // A refused call changes nothing, and names the first cause. The limits of the journal stay in any case.
         ensures same { OnErr result ((h : List Entry) → StandsFor C.tells self.old h
             → StandsFor C.tells self.new h) }
         ensures untouched { OnErr result (IsUntouched self.old.engine self.new.engine) }
@@ -599,8 +636,10 @@ impl<C: Chronicle + Drop> State<C> {
     /// # Errors
     /// Want of memory, and then nothing has changed. Where no entry is handed out, there is no error.
     pub fn drain_audit(&mut self, most: u32) -> Result<Vec<AuditEntry>, AllocError>
+        // The limits stay.
         ensures limits { self.new.engine.limits ≡ self.old.engine.limits }
         ensures audit_limit { self.new.engine.audit.limit ≡ self.old.engine.audit.limit }
+        // The oldest entries are handed out, and count as drained. No place moves.
         ensures ok { IfOk result (λ out. (h : List Entry) → StandsFor C.tells self.old h
             → (out.items ≡ take most (drop self.old.engine.audit.standing.drained (audit_list h)))
             × StandsFor C.tells self.new h) }
@@ -608,6 +647,7 @@ impl<C: Chronicle + Drop> State<C> {
         ensures drained { IfOk result (λ out. self.new.engine.audit.standing.drained
             ≡ self.old.engine.audit.standing.drained + length out.items) }
         ensures journaled { C.limits self.new.chronicle ≡ C.limits self.old.chronicle }
+        // Want of memory changes nothing.
         ensures err { OnErr result (self.new ≡ self.old) }
         // Nothing to hand out takes no memory.
         ensures none { take most self.old.engine.audit.standing.entries ≡ [] → IsOk result }

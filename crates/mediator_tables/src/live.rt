@@ -186,10 +186,12 @@ impl Live {
         target: u16,
     ) -> Result<Option<Bytes>, PullError>
         requires known { IsSome (at_key sub self.old.by_number.entries) }
+        // No other subscription changes, and no name.
         ensures others { (q : ℕ) → q ≢ sub
             → at_key q self.new.by_number.entries ≡ at_key q self.old.by_number.entries }
         ensures names { (q : ℕ)
             → name_at self.new.by_number.entries q ≡ name_at self.old.by_number.entries q }
+        // The message is what the stream gives; want of memory changes nothing.
         ensures ok { IfOk result (λ m. Related (PullsOne now target m)
             (at_key sub self.old.by_number.entries) (at_key sub self.new.by_number.entries)) }
         ensures err { OnErr result ((q : ℕ)

@@ -147,9 +147,11 @@ impl Subscriptions {
         requires name { is_name name.now ≡ true }
         requires new { at self.old sub ≡ None }
         requires free { (q : ℕ) → IfSome (at self.old q) (λ s. s.name ≢ name.now) }
+        // It is live and served then, behind the others.
         ensures ok { OnOk result ((q : ℕ) → at self.new q ≡ (if q == sub then Some
             (record { name = name.now; is_cut = false; stream = stream }) else at self.old q)) }
         ensures served { OnOk result (self.new.served ≡ self.old.served ++ sub ∷ []) }
+        // Want of memory changes nothing.
         ensures err { OnErr result (SameTable self.old self.new) }
     {
         self.served.reserve(1)?;
@@ -186,8 +188,10 @@ impl Subscriptions {
     /// Want of memory for the message, and then nothing has changed.
     pub fn pull(&mut self, sub: u64, now: u32, target: u16) -> Result<Option<Bytes>, PullError>
         requires known { IsSome (at self.old sub) }
+        // No other subscription changes, nor who is served.
         ensures others { (q : ℕ) → q ≢ sub → at self.new q ≡ at self.old q }
         ensures served { self.new.served ≡ self.old.served }
+        // The message is what the stream gives; want of memory changes nothing.
         ensures ok { IfOk result (λ m.
             Related (PullsOne now target m) (at self.old sub) (at self.new sub)) }
         ensures err { OnErr result (SameTable self.old self.new) }

@@ -28,10 +28,11 @@ pub trait Sink {
         ensures failed { FailsOnErr (has_failed self.old) (has_failed self.new) result };
 }
 
-/// The sink failed after `sent` octets of the slice that was to be written, which is not all of it.
+/// The sink failed before all of the slice was written.
 #[derive(Clone, Copy, Debug, PartialEq, Eq, Error)]
 #[error("WriteStopped")]
 pub struct WriteStopped {
+    /// How many octets of the front of the slice were written: fewer than it has.
     pub sent: usize,
 }
 

@@ -5,11 +5,11 @@ use Rattle.std.proofs.lemmas.List.{length-append, length-map, length-take, map-a
 use Rattle.std.proofs.lemmas.List.Concat.{flat_map-cons}
 use Rattle.std.proofs.lemmas.List.Sums.{sum_by-cons}
 use Rattle.event_journal.specs.declared.entry.Entry.{Entry}
-use Rattle.entry_receipts.specs.declared.kept.KeptEntry.{KeptEntry}
-use Rattle.entry_receipts.specs.Receipts.{all_kept, AreReceipts, AreComplete, IsFirstRefused}
-use Rattle.entry_receipts.specs.Marking.{Marked, AreMarked}
-use Rattle.entry_receipts.proofs.Complete.{length_all_kept, all_of_handles, complete}
-use Rattle.mediator_calls.specs.Counted.{Counted, has_receipt, entries_of}
+use Rattle.shared_mediator.specs.declared.kept.KeptEntry.{KeptEntry}
+use Rattle.shared_mediator.specs.Receipts.{all_kept, AreReceipts, AreComplete, IsFirstRefused}
+use Rattle.shared_mediator.specs.Marking.{Marked, AreMarked}
+use Rattle.shared_mediator.proofs.Complete.{length_all_kept, all_of_handles, complete}
+use Rattle.shared_mediator.specs.Counted.{Counted, has_receipt, entries_of}
 use Rattle.shared_mediator.specs.Locked.{Exporting}
 use Rattle.shared_mediator.specs.Handles.{HasReceipt}
 use Rattle.shared_mediator.specs.declared.fault.CloseFault.{CloseFault}

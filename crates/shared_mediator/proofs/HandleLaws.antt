@@ -4,9 +4,9 @@ use Rattle.std.specs.List.{AllByRecursion}
 use Rattle.std.proofs.lemmas.List.{length-append, take_more}
 use Rattle.sequences.proofs.ListLaws.{AllByRecursion-append}
 use Rattle.event_journal.specs.declared.entry.Entry.TheVariants.{Message}
-use Rattle.entry_receipts.specs.declared.kept.KeptEntry.{KeptEntry}
-use Rattle.mediator_calls.specs.declared.handed.Handed.{Handed}
-use Rattle.mediator_calls.specs.Counted.{has_receipt}
+use Rattle.shared_mediator.specs.declared.kept.KeptEntry.{KeptEntry}
+use Rattle.shared_mediator.specs.declared.handed.Handed.{Handed}
+use Rattle.shared_mediator.specs.Counted.{has_receipt}
 use Rattle.shared_mediator.specs.Locked.{Exporting}
 use Rattle.shared_mediator.specs.Handles.{HasReceipt, IsMessage, AreMessages, IsExporting, IsBuilt, KeepsHanded, KeepsSome}
 use Rattle.shared_mediator.specs.Closing.{KeepsMessages}

@@ -1,2 +1,12 @@
+pub mod Living
+pub mod ReceiptCounts
+pub mod Sums
+pub mod Handing
+pub mod Moving
+pub mod Pulling
+pub mod AnsweredLaws
+pub mod MarkLists
+pub mod MarkLaws
+pub mod Complete
 pub mod HandleLaws
 pub mod ClosingLaws

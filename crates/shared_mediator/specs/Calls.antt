@@ -5,7 +5,7 @@ use Rattle.mediator_state.specs.declared.fault.Fault.{Fault}
 use Rattle.mediator_state.specs.declared.fault.Fault.TheVariants.{UnknownSub, JournalFull}
 use Rattle.mediator_calls.specs.Mediation.{waiting_at}
 use Rattle.mediator_calls.specs.Calls.{RefusesOpen}
-use Rattle.mediator_calls.specs.Counted.{Counts}
+use Rattle.shared_mediator.specs.Counted.{Counts}
 use Rattle.shared_mediator.specs.Locked.{Locked, locked_as}
 use Rattle.shared_mediator.specs.declared.fault.HandleFault.{HandleFault}
 use Rattle.shared_mediator.specs.declared.fault.HandleFault.TheVariants as handle

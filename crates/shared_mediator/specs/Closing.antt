@@ -1,9 +1,9 @@
 -- What is so where a mediator is given back.
 use Rattle.std.specs.Prelude.{◌≡◌, ℕ, List, ◌∷◌, ◌++◌, map, length, take, sum_by}
 use Rattle.event_journal.specs.declared.entry.Entry.{Entry}
-use Rattle.entry_receipts.specs.declared.kept.KeptEntry.{KeptEntry}
-use Rattle.entry_receipts.specs.Receipts.{all_kept, AreReceipts, AreComplete, IsFirstRefused}
-use Rattle.mediator_calls.specs.Counted.{has_receipt}
+use Rattle.shared_mediator.specs.declared.kept.KeptEntry.{KeptEntry}
+use Rattle.shared_mediator.specs.Receipts.{all_kept, AreReceipts, AreComplete, IsFirstRefused}
+use Rattle.shared_mediator.specs.Counted.{has_receipt}
 use Rattle.shared_mediator.specs.declared.fault.CloseFault.{CloseFault}
 use Rattle.shared_mediator.specs.declared.fault.CloseFault.TheVariants.{MissingHandle, Mismatch, OutOfMemory}
 use Rattle.shared_mediator.specs.Locked.{Locked, Exporting, Delivering}

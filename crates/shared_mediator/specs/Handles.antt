@@ -7,9 +7,9 @@ use Rattle.subscriber_stream.specs.Message.{built, taken}
 use Rattle.stream_meaning.specs.Served.{AreStreamable}
 use Rattle.event_journal.specs.declared.entry.Entry.{Entry}
 use Rattle.event_journal.specs.declared.entry.Entry.TheVariants.{Message}
-use Rattle.entry_receipts.specs.declared.kept.KeptEntry.{KeptEntry}
-use Rattle.mediator_calls.specs.declared.handed.Handed.{Handed}
-use Rattle.mediator_calls.specs.Counted.{has_receipt}
+use Rattle.shared_mediator.specs.declared.kept.KeptEntry.{KeptEntry}
+use Rattle.shared_mediator.specs.declared.handed.Handed.{Handed}
+use Rattle.shared_mediator.specs.Counted.{has_receipt}
 
 -- ---- entries
 

@@ -1,7 +1,7 @@
 -- What is so whenever the lock is taken.
 use Rattle.std.specs.Prelude.{◌≡◌, ℕ, ◌+◌, ◌*◌, ◌≤◌, List, length, take}
 use Rattle.event_journal.specs.declared.entry.Entry.{Entry}
-use Rattle.mediator_calls.specs.Counted.{entries_of, handed_of}
+use Rattle.shared_mediator.specs.Counted.{entries_of, handed_of}
 use Rattle.shared_mediator.specs.Locked.{Locked, Ledgered}
 
 -- The journal begins with the entries that were there before, and one book's total is how many entries with a receipt came since, the

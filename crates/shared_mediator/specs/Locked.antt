@@ -1,8 +1,8 @@
 -- What contracts see of what lies under the lock, and of the handles.
 use Rattle.std.specs.Prelude.{ℕ, Bool, List}
-use Rattle.entry_receipts.specs.declared.kept.KeptEntry.{KeptEntry}
-use Rattle.mediator_calls.specs.declared.handed.Handed.{Handed}
-use Rattle.mediator_calls.specs.Counted.{Counted}
+use Rattle.shared_mediator.specs.declared.kept.KeptEntry.{KeptEntry}
+use Rattle.shared_mediator.specs.declared.handed.Handed.{Handed}
+use Rattle.shared_mediator.specs.Counted.{Counted}
 
 -- the counted mediator, how many handles of each kind there may be, how many were made, whether all is to stop, and whether a call was
 -- refused since the journal is full

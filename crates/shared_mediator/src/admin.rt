@@ -1,13 +1,13 @@
-//! An administrator's handle.
+//! An administrator's handle on a shared mediator.
 ghost use Rattle.std.specs.Prelude.{◌≡◌, ◌≤◌, [], length, vec_len, IfOk, OnOk, OnErr};
 ghost use Rattle.event_journal.specs.declared.entry.Entry.TheVariants.{Edit, Subscribe, Unsubscribe, Advance};
 ghost use Rattle.std.specs.List.{AllByRecursion};
 ghost use Rattle.shared_mediator.specs.Handles.{HasReceipt, KeepsEntry};
 
+use crate::kept::KeptEntry;
 use crate::ledgers::{EntryLedger, RecordLedger};
 use crate::shared::SharedMediator;
 use disclosure_audit::AuditEntry;
-use entry_receipts::KeptEntry;
 use event_journal::{Entry, PolicyText};
 use mediator_calls::{SubId, UnknownSub};
 use mediator_state::{Fault, Status};
@@ -29,7 +29,7 @@ pub struct AdminHandle<E: EntryLedger> {
 
 impl<E: EntryLedger> Model for AdminHandle<E> {
     ghost use Rattle.std.specs.Prelude.{List};
-    ghost use Rattle.entry_receipts.specs.declared.kept.KeptEntry.{KeptEntry};
+    ghost use Rattle.shared_mediator.specs.declared.kept.KeptEntry.{KeptEntry};
     ghost use Rattle.shared_mediator.specs.Handles.{IsAdministering};
 
     ghost Value = { List KeptEntry };
@@ -40,7 +40,8 @@ impl<E: EntryLedger> Model for AdminHandle<E> {
 }
 
 impl<E: EntryLedger> AdminHandle<E> {
-    /// A handle that has made no call.
+    /// A handle that has made no call, with its `share` of the ledger, which is one part and counts nothing. Its
+    /// receipts are kept in memory from `alloc`.
     pub(crate) fn new(alloc: Global, share: Share<E>) -> AdminHandle<E>
         requires part { share.parts ≡ 1 }
         requires none { share.amount ≡ 0 }
@@ -53,7 +54,7 @@ impl<E: EntryLedger> AdminHandle<E> {
         }
     }
 
-    /// The receipts of its calls, in order.
+    /// The receipts of its calls, in their order.
     pub fn kept(&self) -> &[KeptEntry]
         ensures value { result.now ≡ self.now }
         ensures entries { AllByRecursion HasReceipt self.now }
@@ -61,10 +62,11 @@ impl<E: EntryLedger> AdminHandle<E> {
         self.kept.as_slice()
     }
 
-    /// Puts a policy in force, and answers how many edits there were.
+    /// Puts the policy that `text` spells in force in the mediator `shared`, for whose lock it waits by `rt`, and keeps
+    /// the receipt. It answers how many edits there were then.
     ///
     /// # Errors
-    /// Those of `Mediator::edit`; and memory for the receipt. Then nothing has changed.
+    /// Those of `Mediator::edit`, and [`Fault::OutOfMemory`] for the receipt. Nothing has changed then.
     pub fn edit<H: RecordLedger>(
         &mut self,
         rt: &impl Wait,
@@ -76,7 +78,7 @@ impl<E: EntryLedger> AdminHandle<E> {
     {
         let copy = PolicyText::new(self.alloc, text)?;
         self.kept.reserve(1)?;
-        let accepted = shared.desk.lock(rt).edit(&mut self.share, text)?;
+        let accepted = shared.mediator.lock(rt).edit(&mut self.share, text)?;
         self.kept.push_reserved(KeptEntry {
             position: accepted.position,
             entry: Entry::Edit { text: copy },
@@ -84,10 +86,11 @@ impl<E: EntryLedger> AdminHandle<E> {
         Ok(accepted.number)
     }
 
-    /// Begins a subscription under a name.
+    /// Begins a subscription for a subscriber of this `name` in the mediator `shared`, for whose lock it waits by `rt`,
+    /// and keeps the receipt. It answers the number of the subscription.
     ///
     /// # Errors
-    /// Those of `Mediator::subscribe`; and memory for the receipt. Then nothing has changed.
+    /// Those of `Mediator::subscribe`, and [`Fault::OutOfMemory`] for the receipt. Nothing has changed then.
     pub fn subscribe<H: RecordLedger>(
         &mut self,
         rt: &impl Wait,
@@ -103,7 +106,7 @@ impl<E: EntryLedger> AdminHandle<E> {
         }
         let copy = Name::new(self.alloc, name.as_bytes())?;
         self.kept.reserve(1)?;
-        let accepted = shared.desk.lock(rt).subscribe(&mut self.share, name)?;
+        let accepted = shared.mediator.lock(rt).subscribe(&mut self.share, name)?;
         self.kept.push_reserved(KeptEntry {
             position: accepted.position,
             entry: Entry::Subscribe {
@@ -114,10 +117,11 @@ impl<E: EntryLedger> AdminHandle<E> {
         Ok(SubId(accepted.number))
     }
 
-    /// Ends a subscription. A wait of its delivery ends.
+    /// Ends the subscription with the number `sub` in the mediator `shared`, for whose lock it waits by `rt`, and keeps
+    /// the receipt. A wait of the subscription's delivery ends.
     ///
     /// # Errors
-    /// Those of `Mediator::unsubscribe`; and memory for the receipt. Then nothing has changed.
+    /// Those of `Mediator::unsubscribe`, and [`Fault::OutOfMemory`] for the receipt. Nothing has changed then.
     pub fn unsubscribe<H: RecordLedger>(
         &mut self,
         rt: &impl Wait,
@@ -128,7 +132,7 @@ impl<E: EntryLedger> AdminHandle<E> {
         ensures same { OnErr result (self.new ≡ self.old) }
     {
         self.kept.reserve(1)?;
-        let position = shared.desk.lock(rt).unsubscribe(&mut self.share, sub)?;
+        let position = shared.mediator.lock(rt).unsubscribe(&mut self.share, sub)?;
         shared.moved.notify_all();
         self.kept.push_reserved(KeptEntry {
             position,
@@ -137,10 +141,11 @@ impl<E: EntryLedger> AdminHandle<E> {
         Ok(())
     }
 
-    /// Advances the clock to `t`, in milliseconds since 1970.
+    /// Advances the clock of the mediator `shared` to `t`, in milliseconds since 1970, and keeps the receipt. It waits
+    /// for the lock by `rt`, and wakes the deliveries that wait.
     ///
     /// # Errors
-    /// Those of `Mediator::advance`; and memory for the receipt. Then nothing has changed.
+    /// Those of `Mediator::advance`, and [`Fault::OutOfMemory`] for the receipt. Nothing has changed then.
     pub fn advance<H: RecordLedger>(
         &mut self,
         rt: &impl Wait,
@@ -151,7 +156,7 @@ impl<E: EntryLedger> AdminHandle<E> {
         ensures same { OnErr result (self.new ≡ self.old) }
     {
         self.kept.reserve(1)?;
-        let position = shared.desk.lock(rt).advance(&mut self.share, t)?;
+        let position = shared.mediator.lock(rt).advance(&mut self.share, t)?;
         shared.moved.notify_all();
         self.kept.push_reserved(KeptEntry {
             position,
@@ -160,10 +165,11 @@ impl<E: EntryLedger> AdminHandle<E> {
         Ok(())
     }
 
-    /// Hands out the oldest `most` of the audit's entries that wait, or all if there are fewer.
+    /// Hands out the oldest `most` of the audit's entries that wait in the mediator `shared`, or all where there are
+    /// fewer, in their order. It waits for the lock by `rt`.
     ///
     /// # Errors
-    /// Want of memory.
+    /// Want of memory. The entries wait on then.
     pub fn drain_audit<H: RecordLedger>(
         &self,
         rt: &impl Wait,
@@ -175,26 +181,28 @@ impl<E: EntryLedger> AdminHandle<E> {
         shared.locked(rt).drain_audit(most)
     }
 
-    /// How a live subscription stands.
+    /// How the live subscription with the number `sub` stands in the mediator `shared`, for whose lock it waits by
+    /// `rt`.
     ///
     /// # Errors
-    /// No subscription with this number is live.
+    /// [`UnknownSub`] where no subscription with this number is live.
     pub fn status<H: RecordLedger>(
         &self,
         rt: &impl Wait,
         shared: &SharedMediator<E, H>,
         sub: SubId,
     ) -> Result<Status, UnknownSub> {
-        shared.desk.lock(rt).status(sub)
+        shared.mediator.lock(rt).status(sub)
     }
 
-    /// Ends all waits of deliveries for which nothing is queued, now and from now on.
+    /// Ends all waits of deliveries of the mediator `shared` for which nothing is queued, now and from now on. It waits
+    /// for the lock by `rt`.
     pub fn stop<H: RecordLedger>(&self, rt: &impl Wait, shared: &SharedMediator<E, H>) {
-        shared.desk.lock(rt).stop();
+        shared.mediator.lock(rt).stop();
         shared.moved.notify_all();
     }
 
-    /// Its share.
+    /// Its share of the ledger, which counts as many entries as it keeps receipts.
     pub(crate) fn into_share(self) -> Share<E>
         ensures part { result.parts ≡ 1 }
         ensures amount { result.amount ≡ length self }

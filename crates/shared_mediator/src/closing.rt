@@ -1,44 +1,53 @@
 //! The end of sharing: all handles come back, and their receipts are held against the journal.
 ghost use Rattle.std.specs.Prelude.{◌≡◌, ◌≢◌, ◌+◌, ◌<◌, ◌^◌, [], ◌++◌, List, map, length, IfOk, IfErr, OnOk};
 ghost use Rattle.std.specs.List.{AllByRecursion};
-ghost use Rattle.entry_receipts.specs.declared.kept.KeptEntry.{KeptEntry};
-ghost use Rattle.entry_receipts.specs.Marking.{Marked, AreMarked};
-ghost use Rattle.mediator_calls.specs.Counted.{entries_of};
+ghost use Rattle.shared_mediator.specs.declared.kept.KeptEntry.{KeptEntry};
+ghost use Rattle.shared_mediator.specs.Marking.{Marked, AreMarked};
+ghost use Rattle.shared_mediator.specs.Counted.{entries_of};
 ghost use Rattle.shared_mediator.specs.declared.fault.CloseFault.TheVariants.{MissingHandle};
 ghost use Rattle.shared_mediator.specs.Handles.{HasReceipt};
 ghost use Rattle.shared_mediator.specs.Closing.{KeepsMessages, receipts_of, messages_accepted, entries_kept, records_handed, HasReceipts, AreAll, NamesReceipt, NamesReceiptBehind, RefusesClosing};
 
 use crate::admin::AdminHandle;
+use crate::counted::CountedMediator;
 use crate::delivery::DeliveryHandle;
-use crate::desk::Desk;
 use crate::exporter::ExporterHandle;
 use crate::fault::CloseFault;
 use crate::ledgers::{EntryLedger, RecordLedger};
+use crate::locked::LockedMediator;
+use crate::marks::Marks;
 use crate::shared::SharedMediator;
-use entry_receipts::Marks;
 use event_journal::Journal;
-use mediator_calls::{CountedMediator, Mediator};
+use mediator_calls::Mediator;
 use std::alloc::Global;
 use std::sync::ledger::Share;
 
-/// What is given back: the mediator, how many messages its exporters have receipts of, how many records its deliveries
-/// handed out, and whether a call was refused since the journal is full.
+/// What is given back when sharing ends.
 #[derive(Drop)]
 pub struct Closed {
+    /// The mediator, which lies under no lock any more.
     pub mediator: Mediator,
+    /// How many messages the exporters' handles have receipts of.
     pub accepted: u64,
+    /// How many records the deliveries' handles were handed.
     pub handed: u64,
+    /// Whether a call was refused since the journal is full.
     pub full: bool,
 }
 
 impl<E: EntryLedger, H: RecordLedger> SharedMediator<E, H> {
-    /// Gives the mediator back, where all handles that were made come back and all their receipts stand in its journal: each
-    /// message under its session, and each other call, at its position, none from before the lock, no two at one position,
-    /// each handle's own in their order. So each entry since then has its receipt.
+    /// Gives the mediator back. All handles that were made come back: `exporters`, `deliveries` and `admins`. All of
+    /// their receipts stand in its journal: each message under its session, and each other call, at its position, none
+    /// from before the lock, no two at one position, each handle's own in their order. So each entry since then that is
+    /// to have a receipt has one.
     ///
     /// # Errors
-    /// A handle is missing; a receipt doesn't stand in the journal so, where the first such is named by its handle and its
-    /// position (`names`); or memory ran out. Nothing is given back then.
+    /// - [`CloseFault::MissingHandle`]: a handle that was made is not among these.
+    /// - [`CloseFault::Mismatch`]: a receipt doesn't stand in the journal so. The first such is named by its handle and
+    ///   its position.
+    /// - [`CloseFault::OutOfMemory`].
+    ///
+    /// Nothing is given back then.
     pub fn close(
         self,
         exporters: Vec<ExporterHandle<E>>,
@@ -46,23 +55,30 @@ impl<E: EntryLedger, H: RecordLedger> SharedMediator<E, H> {
         admins: Vec<AdminHandle<E>>,
     ) -> Result<Closed, CloseFault>
         requires all { (E.parts ≡ E.all) × (H.parts ≡ H.all) }
+        // Each receipt stands in the journal, and each entry that is to have one has it.
         ensures receipts { IfOk result (λ closed. HasReceipts E.before closed.mediator.history
             (receipts_of exporters.items admins.items)) }
         ensures messages { OnOk result (AllByRecursion KeepsMessages exporters.items) }
+        // The counts are the sums of what the handles keep.
         ensures accepted { IfOk result (λ closed.
             closed.accepted ≡ messages_accepted exporters.items) }
         ensures handed { IfOk result (λ closed. closed.handed ≡ records_handed deliveries.items) }
+        // The first receipt that doesn't stand there is named.
         ensures names { length exporters.items + length admins.items < 2 ^ 64 → IfErr result (λ e.
             NamesReceiptBehind E.before e (receipts_of exporters.items admins.items)) }
     {
-        self.desk
+        self.mediator
             .into_inner()
             .close_all(self.alloc, exporters, deliveries, admins)
     }
 }
 
-impl<E: EntryLedger, H: RecordLedger> Desk<E, H> {
-    /// Gives the mediator back, as `SharedMediator::close` does.
+impl<E: EntryLedger, H: RecordLedger> LockedMediator<E, H> {
+    /// Gives the mediator back, as [`SharedMediator::close`] does, once nothing lies under the lock any more. Marks of
+    /// receipts are in memory from `alloc`.
+    ///
+    /// # Errors
+    /// Those of [`SharedMediator::close`].
     pub(crate) fn close_all(
         self,
         alloc: Global,
@@ -71,18 +87,22 @@ impl<E: EntryLedger, H: RecordLedger> Desk<E, H> {
         admins: Vec<AdminHandle<E>>,
     ) -> Result<Closed, CloseFault>
         requires all { (E.parts ≡ E.all) × (H.parts ≡ H.all) }
+        // Each receipt stands in the journal, and each entry that is to have one has it.
         ensures mediator { IfOk result (λ closed. closed.mediator ≡ self.counted.core) }
         ensures receipts { IfOk result (λ closed. HasReceipts E.before closed.mediator.history
             (receipts_of exporters.items admins.items)) }
         ensures messages { OnOk result (AllByRecursion KeepsMessages exporters.items) }
+        // The counts are the sums of what the handles keep.
         ensures accepted { IfOk result (λ closed.
             closed.accepted ≡ messages_accepted exporters.items) }
         ensures handed { IfOk result (λ closed. closed.handed ≡ records_handed deliveries.items) }
         ensures full { IfOk result (λ closed. closed.full ≡ self.full) }
+        // The totals of the books are what the handles keep, and no handle is missing.
         ensures book { OnOk result (entries_kept exporters.items admins.items
             ≡ entries_of self.counted) }
         ensures all { OnOk result (AreAll self (length exporters.items) (length deliveries.items)
             (length admins.items)) }
+        // The first receipt that doesn't stand there is named.
         ensures names { length exporters.items + length admins.items < 2 ^ 64 → IfErr result (λ e.
             NamesReceiptBehind E.before e (receipts_of exporters.items admins.items)) }
         ensures err { IfErr result (λ e. RefusesClosing e self (length exporters.items)
@@ -100,7 +120,7 @@ impl<E: EntryLedger, H: RecordLedger> Desk<E, H> {
             exporters.as_slice(),
             admins.as_slice(),
         )?;
-        let Desk {
+        let LockedMediator {
             counted,
             mut entries,
             mut handed,
@@ -123,18 +143,25 @@ impl<E: EntryLedger, H: RecordLedger> Desk<E, H> {
     }
 }
 
-/// Holds all receipts against the journal, and answers how many messages were accepted.
+/// Holds all receipts of `exporters` and `admins` against the journal of `counted`, and answers how many messages were
+/// accepted. Marks are in memory from `alloc`.
+///
+/// # Errors
+/// `Mismatch` with the first receipt that doesn't stand in the journal; or want of memory.
 fn check<E: EntryLedger>(
     alloc: Global,
     counted: &CountedMediator,
     exporters: &[ExporterHandle<E>],
     admins: &[AdminHandle<E>],
 ) -> Result<u64, CloseFault>
+    // Each receipt stands in the journal.
     ensures marked { OnOk result ((marks : Marked) × (marks.from ≡ counted.now.from)
         × AreMarked marks counted.now.core.history (receipts_of exporters.now admins.now)) }
     ensures messages { OnOk result (AllByRecursion KeepsMessages exporters.now) }
     ensures entries { OnOk result (AllByRecursion (AllByRecursion HasReceipt) admins.now) }
+    // The count is the sum of what exporters keep.
     ensures accepted { IfOk result (λ accepted. accepted ≡ messages_accepted exporters.now) }
+    // The first receipt that doesn't stand there is named.
     ensures names { length exporters.now + length admins.now < 2 ^ 64
         → IfErr result (λ e. NamesReceipt e counted.now.from counted.now.core.history
         (receipts_of exporters.now admins.now)) }
@@ -148,18 +175,24 @@ fn check<E: EntryLedger>(
     Ok(accepted)
 }
 
-/// Marks the receipts of all exporters.
+/// Sets those of `marks` that are of the receipts of `exporters`, which are held against `journal`. Their handles count
+/// from 0.
+///
+/// # Errors
+/// `Mismatch` with the first receipt that doesn't stand in the journal.
 #[tactic(auto, using(crate::proofs::HandleLaws::messages_more))]
 fn mark_exporters<E: EntryLedger>(
     marks: &mut Marks,
     journal: &Journal,
     exporters: &[ExporterHandle<E>],
 ) -> Result<(), CloseFault>
+    // Each receipt stands in the journal, beside those that were marked before.
     ensures from { marks.new.from ≡ marks.old.from }
     ensures ok { OnOk result ((handles : List (List KeptEntry))
         → AreMarked marks.old journal.now.entries handles
         → AreMarked marks.new journal.now.entries (handles ++ map (λ h. h.kept) exporters.now)) }
     ensures messages { OnOk result (AllByRecursion KeepsMessages exporters.now) }
+    // The first receipt that doesn't stand there is named.
     ensures names { IfErr result (λ e. AreMarked marks.old journal.now.entries []
         → NamesReceipt e marks.old.from journal.now.entries (map (λ h. h.kept) exporters.now)) }
     ensures err { IfErr result (λ e. e ≢ MissingHandle) }
@@ -174,7 +207,11 @@ fn mark_exporters<E: EntryLedger>(
     Ok(())
 }
 
-/// Marks the receipts of all administrators, the first of which counts as handle `first`.
+/// Sets those of `marks` that are of the receipts of `admins`, which are held against `journal`. Their handles count
+/// from `first`.
+///
+/// # Errors
+/// `Mismatch` with the first receipt that doesn't stand in the journal.
 #[tactic(auto, using(crate::proofs::HandleLaws::entries_more))]
 fn mark_admins<E: EntryLedger>(
     marks: &mut Marks,
@@ -182,11 +219,13 @@ fn mark_admins<E: EntryLedger>(
     first: u64,
     admins: &[AdminHandle<E>],
 ) -> Result<(), CloseFault>
+    // Each receipt stands in the journal, beside those that were marked before.
     ensures from { marks.new.from ≡ marks.old.from }
     ensures ok { OnOk result ((handles : List (List KeptEntry))
         → AreMarked marks.old journal.now.entries handles
         → AreMarked marks.new journal.now.entries (handles ++ admins.now)) }
     ensures entries { OnOk result (AllByRecursion (AllByRecursion HasReceipt) admins.now) }
+    // The first receipt that doesn't stand there is named.
     ensures names { first + length admins.now < 2 ^ 64 → IfErr result (λ e.
         (handles : List (List KeptEntry)) → AreMarked marks.old journal.now.entries handles
         → length handles ≡ first
@@ -203,7 +242,7 @@ fn mark_admins<E: EntryLedger>(
     Ok(())
 }
 
-/// All shares of the entries in one.
+/// All shares of the ledger of entries in one: what is `left` of it, and those of `exporters` and `admins`.
 fn joined_entries<E: EntryLedger>(
     left: Share<E>,
     exporters: Vec<ExporterHandle<E>>,
@@ -222,7 +261,7 @@ fn joined_entries<E: EntryLedger>(
     all
 }
 
-/// All shares of the records in one.
+/// All shares of the ledger of records in one: what is `left` of it, and those of `deliveries`.
 fn joined_records<H: RecordLedger>(left: Share<H>, deliveries: Vec<DeliveryHandle<H>>) -> Share<H>
     ensures parts { result.parts ≡ left.parts + length deliveries.items }
     ensures amount { result.amount ≡ left.amount + records_handed deliveries.items }

@@ -1,20 +1,22 @@
-//! A delivery's handle.
+//! A delivery's handle on a shared mediator.
 ghost use Rattle.std.specs.Prelude.{◌≡◌, ◌-◌, ◌≤◌, [], true, length, slice_get, IfOk, OnErr};
 ghost use Rattle.std.specs.Option.{option_copied};
 ghost use Rattle.shared_mediator.specs.Locked.{delivering_as};
 ghost use Rattle.shared_mediator.specs.Handles.{KeepsHanded, KeepsSome, records_kept};
 
-use crate::desk::Desk;
+use crate::fault::PullFault;
+use crate::handed::Handed;
 use crate::ledgers::{EntryLedger, RecordLedger};
+use crate::locked::LockedMediator;
 use crate::shared::SharedMediator;
-use mediator_calls::{Handed, PullFault, SubId};
+use mediator_calls::SubId;
 use mediator_state::Fault;
 use std::alloc::Global;
 use std::marker::Model;
 use std::sync::Wait;
 use std::sync::ledger::Share;
 
-/// What ended a wait.
+/// What ended the wait of a delivery.
 #[derive(Clone, Copy, Debug, PartialEq, Eq)]
 pub enum Waited {
     /// Something is queued for the subscription.
@@ -23,7 +25,7 @@ pub enum Waited {
     Gone,
     /// The subscription was cut, and nothing is queued any more.
     Cut,
-    /// All is to stop, and nothing is queued.
+    /// All is to stop, and nothing is queued for the subscription.
     Stopped,
 }
 
@@ -50,7 +52,8 @@ impl<H: RecordLedger> Model for DeliveryHandle<H> {
 }
 
 impl<H: RecordLedger> DeliveryHandle<H> {
-    /// A handle that has pulled nothing.
+    /// A handle for the subscription with the number `sub` that has pulled nothing, with its `share` of the ledger,
+    /// which is one part and counts nothing. Its messages are kept in a list in memory from `alloc`.
     pub(crate) fn new(alloc: Global, sub: SubId, share: Share<H>) -> DeliveryHandle<H>
         requires part { share.parts ≡ 1 }
         requires none { share.amount ≡ 0 }
@@ -70,31 +73,33 @@ impl<H: RecordLedger> DeliveryHandle<H> {
         self.sub
     }
 
-    /// What the memory of its messages' list is taken from.
+    /// From where the memory of its list of messages is taken.
     pub fn allocator(&self) -> Global {
         *self.kept.allocator()
     }
 
-    /// The messages that were pulled, in order.
+    /// The messages that were pulled, in their order.
     pub fn kept(&self) -> &[Handed]
         ensures { result.now ≡ self.now.kept }
     {
         self.kept.as_slice()
     }
 
-    /// The message that was pulled last.
+    /// The message that was pulled last, or `None` where none was.
     pub fn last(&self) -> Option<&Handed>
         ensures { option_copied result ≡ slice_get self.now.kept (length self.now.kept - 1) }
     {
         self.kept.last()
     }
 
-    /// Pulls the subscription's next message, with the Export Time `now`, in seconds since 1970, and keeps it; false where
-    /// nothing waits. The message is that of `Mediator::pull`.
+    /// Pulls the subscription's next message from the mediator `shared`, as `Mediator::pull` builds it with `now`, in
+    /// seconds since 1970, and `target`, in octets; keeps it, and answers true; or answers false where nothing waits.
+    /// It waits for the lock by `rt`.
     ///
     /// # Errors
-    /// No such subscription is live; the count of records handed out has no room for all that waits; or memory ran out. Then
-    /// nothing has changed.
+    /// [`PullFault::Core`] with [`Fault::UnknownSub`] where the subscription isn't live; [`PullFault::HandedFull`]
+    /// where the count of records handed out has no room for all that waits; or [`PullFault::Core`] with
+    /// [`Fault::OutOfMemory`]. Nothing has changed then.
     pub fn pull<E: EntryLedger>(
         &mut self,
         rt: &impl Wait,
@@ -110,11 +115,13 @@ impl<H: RecordLedger> DeliveryHandle<H> {
         self.pull_next(&mut shared.locked(rt), now, target)
     }
 
-    /// Pulls the subscription's next messages as [`pull`](DeliveryHandle::pull) does, at most so many, while the lock is held
-    /// once; and answers how many there were.
+    /// Pulls the subscription's next messages from the mediator `shared`, at most `most` of them, each as
+    /// [`pull`](DeliveryHandle::pull) does with `now` and `target`, while the lock is held once; and answers how many
+    /// there were. It waits for the lock by `rt`.
     ///
     /// # Errors
-    /// Those of `pull` for the first message. Then nothing has changed.
+    /// Those of [`pull`](DeliveryHandle::pull) for the first message, and nothing has changed then. A later error only
+    /// ends the list.
     pub fn pull_some<E: EntryLedger>(
         &mut self,
         rt: &impl Wait,
@@ -129,10 +136,10 @@ impl<H: RecordLedger> DeliveryHandle<H> {
         ensures sub { self.new.sub ≡ self.old.sub }
         ensures same { OnErr result (self.new ≡ self.old) }
     {
-        let mut desk = shared.locked(rt);
+        let mut locked = shared.locked(rt);
         let mut count = 0;
         'pulls: while count < most {
-            match self.pull_next(&mut desk, now, target) {
+            match self.pull_next(&mut locked, now, target) {
                 Ok(true) => count += 1,
                 Err(fault) if count == 0 => return Err(fault),
                 Ok(false) | Err(_) => break,
@@ -141,10 +148,14 @@ impl<H: RecordLedger> DeliveryHandle<H> {
         Ok(count)
     }
 
-    /// Pulls the next message of what lies under the lock.
+    /// Pulls the subscription's next message from what lies under the lock, `locked`, as [`pull`](DeliveryHandle::pull)
+    /// does with `now` and `target`.
+    ///
+    /// # Errors
+    /// Those of [`pull`](DeliveryHandle::pull).
     fn pull_next<E: EntryLedger>(
         &mut self,
-        desk: &mut Desk<E, H>,
+        locked: &mut LockedMediator<E, H>,
         now: u32,
         target: u16,
     ) -> Result<bool, PullFault>
@@ -156,7 +167,7 @@ impl<H: RecordLedger> DeliveryHandle<H> {
         if self.kept.reserve(1).is_err() {
             return Err(PullFault::Core(Fault::OutOfMemory));
         }
-        match desk.pull(&mut self.share, self.sub, now, target)? {
+        match locked.pull(&mut self.share, self.sub, now, target)? {
             Some(handed) => {
                 self.kept.push_reserved(handed);
                 Ok(true)
@@ -165,20 +176,21 @@ impl<H: RecordLedger> DeliveryHandle<H> {
         }
     }
 
-    /// Waits until something is queued for the subscription, or nothing will be: it has ended, it was cut, or all is to
-    /// stop. What of these is so first in this order is answered.
+    /// Waits until something is queued for the subscription in the mediator `shared`, or nothing will be: it has ended,
+    /// it was cut, or all is to stop. `rt` is what it waits by. The answer says which: where several are so, that it
+    /// has ended, else that something is queued, else that it was cut.
     pub fn wait<E: EntryLedger>(&self, rt: &impl Wait, shared: &SharedMediator<E, H>) -> Waited {
-        let mut desk = shared.locked(rt);
+        let mut locked = shared.locked(rt);
         for _ in rt.forever() {
-            if let Some(waited) = desk.waited(self.sub) {
+            if let Some(waited) = locked.waited(self.sub) {
                 return waited;
             }
-            desk = shared.moved.wait(rt, desk);
+            locked = shared.moved.wait(rt, locked);
         }
         unreachable!()
     }
 
-    /// Its share.
+    /// Its share of the ledger, which counts as many records as stand in the messages that it keeps.
     pub(crate) fn into_share(self) -> Share<H>
         ensures part { result.parts ≡ 1 }
         ensures amount { result.amount ≡ records_kept self.kept }

@@ -1,14 +1,14 @@
-//! An exporter's handle.
+//! An exporter's handle on a shared mediator.
 ghost use Rattle.std.specs.Prelude.{◌≡◌, ◌++◌, ◌∷◌, [], length, IfOk, IfErr, OnErr};
 ghost use Rattle.event_journal.specs.declared.entry.Entry.TheVariants.{Message};
 ghost use Rattle.shared_mediator.specs.Locked.{exporting_as};
 ghost use Rattle.shared_mediator.specs.Handles.{AreMessages};
 
-use crate::desk::OpenedSession;
+use crate::kept::KeptEntry;
 use crate::ledgers::{EntryLedger, RecordLedger};
+use crate::locked::OpenedSession;
 use crate::shared::SharedMediator;
 use bytes::Bytes;
-use entry_receipts::KeptEntry;
 use event_journal::Entry;
 use mediator_calls::SessionId;
 use mediator_state::{Fault, Receipt};
@@ -43,7 +43,8 @@ impl<E: EntryLedger> Model for ExporterHandle<E> {
 }
 
 impl<E: EntryLedger> ExporterHandle<E> {
-    /// A handle that has offered nothing.
+    /// A handle for the session that was `opened`, which has offered nothing. Its receipts are kept in memory from
+    /// `alloc`.
     pub(crate) fn new(alloc: Global, opened: OpenedSession<E>) -> ExporterHandle<E>
         requires part { opened.share.parts ≡ 1 }
         requires none { opened.share.amount ≡ 0 }
@@ -69,12 +70,12 @@ impl<E: EntryLedger> ExporterHandle<E> {
         self.session
     }
 
-    /// The position in the journal at which its session begins.
+    /// The position in the journal of the entry by which its session begins.
     pub fn opened_at(&self) -> u64 {
         self.opened_at
     }
 
-    /// The receipts of its messages, in order: the session's messages from the first on.
+    /// The receipts of its messages, in their order: those of the session from the first on.
     pub fn kept(&self) -> &[KeptEntry]
         ensures value { result.now ≡ self.now.kept }
         ensures messages { AreMessages self.now.session 0 self.now.kept }
@@ -82,11 +83,12 @@ impl<E: EntryLedger> ExporterHandle<E> {
         self.kept.as_slice()
     }
 
-    /// Offers the session's next message, and keeps its receipt: the message with the position in the journal that the
-    /// mediator answered. The deliveries that wait are woken.
+    /// Offers `message` to the mediator `shared` as the session's next one, and keeps its receipt: the message, with
+    /// the position in the journal that the mediator answered. It waits for the lock by `rt`, and wakes the deliveries
+    /// that wait.
     ///
     /// # Errors
-    /// Those of `Mediator::receive`; and memory for the receipt. Then nothing has changed.
+    /// Those of `Mediator::receive`, and [`Fault::OutOfMemory`] for the receipt. Nothing has changed then.
     pub fn offer<H: RecordLedger>(
         &mut self,
         rt: &impl Wait,
@@ -106,7 +108,8 @@ impl<E: EntryLedger> ExporterHandle<E> {
         Ok(receipt)
     }
 
-    /// The same, and wakes no delivery: for several messages in a row, before [`SharedMediator::wake`].
+    /// Offers `message` to the mediator `shared` as [`offer`](ExporterHandle::offer) does, by `rt`, and wakes no
+    /// delivery: for several messages in a row, before [`SharedMediator::wake`].
     ///
     /// # Errors
     /// Those of [`offer`](ExporterHandle::offer).
@@ -127,7 +130,8 @@ impl<E: EntryLedger> ExporterHandle<E> {
         self.offer_judged_silently(rt, shared, message, None)
     }
 
-    /// The same, with what was judged of the message without the lock, by a snapshot ([`JudgedAhead::of`]): so a message that the
+    /// Offers `message` to the mediator `shared` as [`offer_silently`](ExporterHandle::offer_silently) does, by `rt`,
+    /// with `ahead`, what was judged of it without the lock, by a snapshot ([`JudgedAhead::of`]). So a message that the
     /// session reads itself, since it brings templates, isn't judged under the lock. It changes no answer.
     ///
     /// # Errors
@@ -164,11 +168,12 @@ impl<E: EntryLedger> ExporterHandle<E> {
         Ok(receipt)
     }
 
-    /// The templates of its session as they stand, by which its next messages can be prepared without the lock
-    /// ([`Prepared::prepare`]). Whatever their number, it costs one owner more.
+    /// The templates of its session as they stand in the mediator `shared`, by which its next messages can be prepared
+    /// without the lock ([`Prepared::prepare`]). However many there are, it costs one owner more. It waits for the lock
+    /// by `rt`.
     ///
     /// # Errors
-    /// The session was closed; or memory ran out.
+    /// [`Fault::UnknownSession`] where the session was closed; or [`Fault::OutOfMemory`].
     pub fn snapshot<H: RecordLedger>(
         &self,
         rt: &impl Wait,
@@ -177,11 +182,13 @@ impl<E: EntryLedger> ExporterHandle<E> {
         shared.locked(rt).snapshot(self.session)
     }
 
-    /// Offers the session's next message, which was prepared, and keeps its receipt as [`offer`](ExporterHandle::offer) does.
+    /// Offers `prepared`, a message that was prepared without the lock, to the mediator `shared` as the session's next
+    /// one, and keeps its receipt as [`offer`](ExporterHandle::offer) does. It waits for the lock by `rt`, and wakes
+    /// the deliveries that wait.
     ///
     /// # Errors
-    /// Those of `Mediator::receive_prepared`; and memory for the receipt. Then nothing has changed, and the message is handed
-    /// back.
+    /// Those of `Mediator::receive_prepared`, and [`Fault::OutOfMemory`] for the receipt. Nothing has changed then, and
+    /// the message is handed back.
     pub fn offer_prepared<H: RecordLedger>(
         &mut self,
         rt: &impl Wait,
@@ -202,7 +209,8 @@ impl<E: EntryLedger> ExporterHandle<E> {
         Ok(receipt)
     }
 
-    /// The same, and wakes no delivery: for several messages in a row, before [`SharedMediator::wake`].
+    /// Offers `prepared` to the mediator `shared` as [`offer_prepared`](ExporterHandle::offer_prepared) does, by `rt`,
+    /// and wakes no delivery: for several messages in a row, before [`SharedMediator::wake`].
     ///
     /// # Errors
     /// Those of [`offer_prepared`](ExporterHandle::offer_prepared).
@@ -243,10 +251,10 @@ impl<E: EntryLedger> ExporterHandle<E> {
         Ok(receipt)
     }
 
-    /// Closes the session. Its receipts stay.
+    /// Closes the session in the mediator `shared`. Its receipts stay. It waits for the lock by `rt`.
     ///
     /// # Errors
-    /// Those of `Mediator::close`: the session stays open then.
+    /// Those of `Mediator::close`, and the session stays open then.
     pub fn end<H: RecordLedger>(
         &self,
         rt: &impl Wait,
@@ -255,7 +263,7 @@ impl<E: EntryLedger> ExporterHandle<E> {
         shared.locked(rt).close(self.session)
     }
 
-    /// Its share.
+    /// Its share of the ledger, which counts as many entries as it keeps receipts.
     pub(crate) fn into_share(self) -> Share<E>
         ensures part { result.parts ≡ 1 }
         ensures amount { result.amount ≡ length self.kept }

@@ -3,10 +3,10 @@
 /// How full a mediator's journal and audit are.
 #[derive(Clone, Copy, Debug, PartialEq, Eq)]
 pub struct Fill {
-    /// The journal's entries.
+    /// How many entries the journal has.
     pub entries: u64,
-    /// The octets for which they count.
+    /// The octets that they take in a journal's file.
     pub octets: u64,
-    /// The entries of the audit that wait to be handed out.
+    /// How many entries of the audit wait to be handed out.
     pub audit: u32,
 }

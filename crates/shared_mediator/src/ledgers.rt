@@ -1,4 +1,4 @@
-//! The names of the two ledgers: a thread's share of each says what its own calls added.
+//! The two ledgers: a thread's share of each says what its own calls added.
 ghost use Rattle.std.specs.Prelude.{ℕ, List, []};
 ghost use Rattle.event_journal.specs.declared.entry.Entry.{Entry};
 

@@ -1,11 +1,16 @@
 //! A mediator that threads share: one lock, and handles by which exporters offer messages, deliveries pull them and
-//! administrators do the rest, each in a thread of its own. The logic is `mediator_calls`'s; this crate locks, calls and lets
-//! go.
+//! administrators do the rest, each in a thread of its own. The logic is `mediator_calls`'s; this crate locks, calls, counts and
+//! lets go.
 //!
 //! - `shared`: [`SharedMediator`]. `closing`: `SharedMediator::close`, with [`Closed`].
 //! - `exporter`, `delivery`, `admin`: [`ExporterHandle`], [`DeliveryHandle`] with [`Waited`], and [`AdminHandle`].
-//! - `desk`: what lies under the lock, and what each call does there. `ledgers`: [`EntryLedger`] and [`RecordLedger`].
-//! - `fault`: [`HandleFault`] and [`CloseFault`]. `fill`: [`Fill`], how full the journal and the audit are.
+//! - `kept`: [`KeptEntry`], the receipt of a call: the entry that it added, and the position that it was told. `marks`: [`Marks`],
+//!   which holds the receipts of each caller against a journal.
+//! - `locked`: what lies under the lock, and what each call does there. `ledgers`: [`EntryLedger`] and [`RecordLedger`].
+//! - `counted`: [`CountedMediator`], which counts what it takes in and hands out, so that those who called it can add up their
+//!   receipts. `handed`: [`Handed`], a message that was handed out, with its number of records.
+//! - `fault`: [`PullFault`], [`HandleFault`] and [`CloseFault`]. `fill`: [`Fill`], how full the journal and the audit are.
+//! - `laws`: that a full count is told.
 //!
 //! Proved: whenever the lock is taken, its mediator's state stands for its journal (`mediator_calls`), one book's total is the
 //! number of messages, edits, begins and ends of subscriptions and advances of the clock that came since `new`, and the
@@ -13,6 +18,13 @@
 //! lies under the lock keeps it). Each call under the lock answers and leaves what the mediator's does (`ok`, `same`,
 //! `err`), and adds to its handle's share just what it added to the mediator (`counts`, `share`). A call that is refused since
 //! the journal is full notes that there, and nothing else notes it (`same`, `counts`).
+//!
+//! Of each call of a counted mediator: what the mediator's call answers, leaves and refuses (`ok`, `same`, `err`), and what
+//! it adds to the counts (`counts`): an accepted message, edit, begin or end of a subscription and advance of the clock is one
+//! entry more since the value was made; a pull hands out as many records as stand in its message, and that many are told; what a
+//! subscription was handed stays counted when it ends. `handed` is what all subscriptions were handed, those that have ended and
+//! those that are live. A pull is refused before that count could come to 2^64, and then alone (`ok`, `err`, and the law
+//! `full_count_is_told`).
 //!
 //! Of a handle's calls (`kept`): `offer` keeps the message, under the handle's session and with its number, at the position
 //! of the receipt that it answers; an administrator's edit, subscribe, unsubscribe and advance keep the entry of their own
@@ -24,6 +36,13 @@
 //! (`receipts`); `accepted` and `handed` are the sums of what exporters and deliveries keep. Where a receipt doesn't, it names
 //! the first such one by its handle and its position (`names`).
 //!
+//! Of receipts: where `mark` answers Ok for each of some lists of receipts, each kept entry stands in the journal at its
+//! position, none before the place from which on the marks began, no two at one position, and each list's own in their order
+//! (`ok`); where it refuses a list, one of these would not hold with that list behind the others (`err`), and it names the
+//! first receipt of the list for which that is so (`first`); `count` is the number of these receipts (`receipts`). So where
+//! there are as many receipts as entries that are to have one, each of those has its own (the lemma `complete`). Journal and
+//! receipts are this project's own; no RFC speaks of them.
+//!
 //! No clause can say what lies under a lock at the moment at which a public call takes it, so what a call through a handle
 //! answers beyond that is shown by tests. Nothing promises that a thread gets on or that a wait ends. `offer` wakes the
 //! deliveries that wait; `offer_silently` leaves that to `wake`.
@@ -31,19 +50,29 @@
 
 mod admin;
 mod closing;
+mod counted;
 mod delivery;
-mod desk;
 mod exporter;
 mod fault;
 mod fill;
+mod handed;
+mod kept;
+mod laws;
 mod ledgers;
+mod locked;
+mod marks;
 mod shared;
 
 pub use admin::AdminHandle;
 pub use closing::Closed;
+pub use counted::CountedMediator;
 pub use delivery::{DeliveryHandle, Waited};
 pub use exporter::ExporterHandle;
-pub use fault::{CloseFault, HandleFault};
+pub use fault::{CloseFault, HandleFault, PullFault};
 pub use fill::Fill;
+pub use handed::Handed;
+pub use kept::KeptEntry;
+pub use laws::full_count_is_told;
 pub use ledgers::{EntryLedger, RecordLedger};
+pub use marks::Marks;
 pub use shared::SharedMediator;

@@ -1,14 +1,14 @@
-//! A mediator that threads share.
+//! A mediator that threads share by one lock.
 ghost use Rattle.std.specs.Prelude.{◌≡◌, ◌+◌, ◌*◌, [], IfOk};
-ghost use Rattle.mediator_calls.specs.Counted.{handed_live};
+ghost use Rattle.shared_mediator.specs.Counted.{handed_live};
 
 use crate::admin::AdminHandle;
 use crate::delivery::DeliveryHandle;
-use crate::desk::Desk;
 use crate::exporter::ExporterHandle;
 use crate::fault::HandleFault;
 use crate::fill::Fill;
 use crate::ledgers::{EntryLedger, RecordLedger};
+use crate::locked::LockedMediator;
 use mediator_calls::{Mediator, SubId, UnknownSub};
 use mediator_state::Status;
 use mediator_tables::Share;
@@ -17,7 +17,7 @@ use std::sync::ledger::Blank;
 use std::sync::{Condvar, Mutex, MutexGuard, Wait};
 use std::thread::yield_now;
 
-/// How often the lock is looked for before a thread sleeps.
+/// How often a thread looks for the lock before it sleeps.
 const LOOKS: u32 = 200;
 
 /// A mediator under a lock. Threads call it through handles, each of which is one thread's own: exporters offer messages,
@@ -25,14 +25,15 @@ const LOOKS: u32 = 200;
 #[derive(Drop)]
 pub struct SharedMediator<E: EntryLedger, H: RecordLedger> {
     pub(crate) alloc: Global,
-    pub(crate) desk: Mutex<Desk<E, H>>,
+    pub(crate) mediator: Mutex<LockedMediator<E, H>>,
     /// Signalled when something was queued, a subscription ended or was cut, or all is to stop.
     pub(crate) moved: Condvar,
 }
 
 impl<E: EntryLedger, H: RecordLedger> SharedMediator<E, H> {
-    /// Puts a mediator under a lock, for at most so many handles of each kind. No live subscription of it was handed a
-    /// record yet. `entries` and `handed` name the ledgers of what its handles' calls add.
+    /// Puts `mediator` under a lock, for at most `handles` handles of each kind. No live subscription of it was handed
+    /// a record yet. `entries` and `handed` are the blank ledgers of what its handles' calls add: the first has 2 *
+    /// `handles` + 1 parts, and the second `handles` + 1. What the handles keep is in memory from `alloc`.
     pub fn new(
         alloc: Global,
         mediator: Mediator,
@@ -42,6 +43,7 @@ impl<E: EntryLedger, H: RecordLedger> SharedMediator<E, H> {
     ) -> SharedMediator<E, H>
         requires fresh { handed_live mediator ≡ 0 }
         requires before { E.before ≡ mediator.history }
+        // The ledgers are blank, with a part for each handle that may come and one for the locked mediator.
         requires entries_name { entries.name ≡ E.name }
         requires entries_parts { (entries.parts ≡ E.parts) × (E.parts ≡ E.all)
             × (E.all ≡ 2 * handles + 1) }
@@ -51,44 +53,46 @@ impl<E: EntryLedger, H: RecordLedger> SharedMediator<E, H> {
     {
         SharedMediator {
             alloc,
-            desk: Mutex::new(Desk::new(mediator, handles, entries, handed)),
+            mediator: Mutex::new(LockedMediator::new(mediator, handles, entries, handed)),
             moved: Condvar::new(),
         }
     }
 
-    /// Opens a session of an exporter, and gives its handle.
+    /// Opens a session of an exporter, and answers its handle. It waits for the lock by `rt`.
     ///
     /// # Errors
-    /// As many exporters' handles were made as there may be; or those of `Mediator::open`.
+    /// [`HandleFault::NoHandle`] where as many exporters' handles were made as there may be; or [`HandleFault::Core`]
+    /// with a fault of `Mediator::open`.
     pub fn exporter(&self, rt: &impl Wait) -> Result<ExporterHandle<E>, HandleFault>
         ensures { IfOk result (λ handle. handle.kept ≡ []) }
     {
-        let opened = self.desk.lock(rt).exporter()?;
+        let opened = self.mediator.lock(rt).exporter()?;
         Ok(ExporterHandle::new(self.alloc, opened))
     }
 
-    /// Gives a handle for the delivery to a live subscription.
+    /// A handle for the delivery to the live subscription with the number `sub`. It waits for the lock by `rt`.
     ///
     /// # Errors
-    /// No such subscription is live; or as many deliveries' handles were made as there may be.
+    /// [`HandleFault::Core`] with `UnknownSub` where no subscription with this number is live; or
+    /// [`HandleFault::NoHandle`] where as many deliveries' handles were made as there may be.
     pub fn delivery(&self, rt: &impl Wait, sub: SubId) -> Result<DeliveryHandle<H>, HandleFault>
         ensures sub { IfOk result (λ handle. handle.sub ≡ sub.0) }
         ensures none { IfOk result (λ handle. handle.kept ≡ []) }
     {
-        let share = self.desk.lock(rt).delivery(sub)?;
+        let share = self.mediator.lock(rt).delivery(sub)?;
         Ok(DeliveryHandle::new(self.alloc, sub, share))
     }
 
-    /// Takes the lock. Where it is held, it is looked for again for a while, as others run, before this thread sleeps: it is held
-    /// for microseconds, and to wake a thread takes longer.
-    pub(crate) fn locked(&self, rt: &impl Wait) -> MutexGuard<'_, Desk<E, H>> {
+    /// Takes the lock. Where it is held, it is looked for again for a while, as others run, before this thread sleeps
+    /// by `rt`: it is held for microseconds, and to wake a thread takes longer.
+    pub(crate) fn locked(&self, rt: &impl Wait) -> MutexGuard<'_, LockedMediator<E, H>> {
         for _ in 0..LOOKS {
-            if let Some(desk) = self.desk.try_lock() {
-                return desk;
+            if let Some(locked) = self.mediator.try_lock() {
+                return locked;
             }
             yield_now();
         }
-        self.desk.lock(rt)
+        self.mediator.lock(rt)
     }
 
     /// Wakes the deliveries that wait, so that each looks whether something is queued for it.
@@ -96,43 +100,47 @@ impl<E: EntryLedger, H: RecordLedger> SharedMediator<E, H> {
         self.moved.notify_all();
     }
 
-    /// Whether one of these shares, which a message would give, has no room in its subscription's queue until some of what waits
-    /// is pulled, and has room then: so that the message cuts a subscription now, and may not cut it later.
+    /// Whether one of `shares`, which a message would give, has no room in its subscription's queue until some of what
+    /// waits is pulled, and has room then: so the message cuts a subscription now, and may not cut it later. It waits
+    /// for the lock by `rt`.
     pub fn is_held_up(&self, rt: &impl Wait, shares: &[Share]) -> bool {
         self.locked(rt).is_held_up(shares)
     }
 
-    /// The same of what an advance of the clock to `t` would close. Not where there is no memory to find that out.
+    /// Whether what an advance of the clock to `t`, in milliseconds since 1970, would close for a subscription has no
+    /// room in its queue until some of what waits is pulled, and has room then. It is false where there is no memory to
+    /// find that out. It waits for the lock by `rt`.
     pub fn is_advance_held_up(&self, rt: &impl Wait, t: u64) -> bool {
         self.locked(rt).is_advance_held_up(t)
     }
 
-    /// How a live subscription stands.
+    /// How the live subscription with the number `sub` stands. It waits for the lock by `rt`.
     ///
     /// # Errors
-    /// No subscription with this number is live.
+    /// [`UnknownSub`] where no subscription with this number is live.
     pub fn status(&self, rt: &impl Wait, sub: SubId) -> Result<Status, UnknownSub> {
         self.locked(rt).status(sub)
     }
 
-    /// How full the journal and the audit are now.
+    /// How full the journal and the audit are now. It waits for the lock by `rt`.
     pub fn fill(&self, rt: &impl Wait) -> Fill {
         self.locked(rt).fill()
     }
 
-    /// Whether a call of [`exporter`](SharedMediator::exporter) or through a handle was refused since the journal is full.
+    /// Whether a call of [`exporter`](SharedMediator::exporter), or one through a handle, was refused since the journal
+    /// is full. It waits for the lock by `rt`.
     pub fn full(&self, rt: &impl Wait) -> bool {
         self.locked(rt).is_full()
     }
 
-    /// Gives a handle for an administrator.
+    /// A handle for an administrator. It waits for the lock by `rt`.
     ///
     /// # Errors
-    /// As many administrators' handles were made as there may be.
+    /// [`HandleFault::NoHandle`] where as many administrators' handles were made as there may be.
     pub fn admin(&self, rt: &impl Wait) -> Result<AdminHandle<E>, HandleFault>
         ensures { IfOk result (λ handle. handle ≡ []) }
     {
-        let share = self.desk.lock(rt).admin()?;
+        let share = self.mediator.lock(rt).admin()?;
         Ok(AdminHandle::new(self.alloc, share))
     }
 }

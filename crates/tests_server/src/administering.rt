@@ -5,7 +5,7 @@ use crate::hands::{
 };
 use crate::octets::{FLOW_TO_80, FLOW_TO_443, NOW, ONE_RECORD, TWO_RECORDS};
 use crate::server::Told;
-use crate::stage::{Case, Hands, play};
+use crate::stage::{Case, ReturnedHandles, play};
 use ipfix_reader::FramingFault;
 use mediator_core::SubId;
 use mediator_server::{ServeFault, serve_admin};
@@ -84,7 +84,7 @@ pub(crate) fn administer<E: EntryLedger, H: RecordLedger, R: Wait + Abort>(
     alloc: Global,
     shared: &SharedMediator<E, H>,
     row: Row,
-) -> Result<Hands<E, H>, AllocError> {
+) -> Result<ReturnedHandles<E, H>, AllocError> {
     let (mut admin, mut exporter) = begin(rt, alloc, shared, row.policy, row.offered)?;
     let delivery = if row.with_beta {
         Some(begin_beta(rt, alloc, shared, &mut admin, &mut exporter)?)

@@ -2,13 +2,13 @@
 //! else all that was queued is sent, also what comes while the delivery waits.
 use crate::hands::{Bounds, ENOUGH, PASS, ROOMY, SMALL, begin, hands, limits_of, offer_all};
 use crate::octets::{NOW, ONE_DELIVERED, ONE_RECORD, PART_BY_PART, TWO_RECORDS};
-use crate::stage::{Case, Hands, play};
-use mediator_calls::PullFault;
+use crate::stage::{Case, ReturnedHandles, play};
 use mediator_core::{Fault, SubId, UnknownSub};
 use mediator_server::{Clock, ServeFault, deliver};
 use octet_io::Device;
 use shared_mediator::{
-    AdminHandle, DeliveryHandle, EntryLedger, ExporterHandle, RecordLedger, SharedMediator,
+    AdminHandle, DeliveryHandle, EntryLedger, ExporterHandle, PullFault, RecordLedger,
+    SharedMediator,
 };
 use std::alloc::{AllocError, Global};
 use std::io::ErrorKind::BrokenPipe;
@@ -85,7 +85,7 @@ pub(crate) fn deliver_row<E: EntryLedger, H: RecordLedger, R: Wait + Abort>(
     alloc: Global,
     shared: &SharedMediator<E, H>,
     row: Row,
-) -> Result<Hands<E, H>, AllocError> {
+) -> Result<ReturnedHandles<E, H>, AllocError> {
     let (mut admin, exporter) = begin(rt, alloc, shared, PASS, row.offered)?;
     let delivery = shared.delivery(rt, SubId(1)).expect(rt, "a delivery");
     match row.act {
@@ -289,7 +289,7 @@ pub(crate) fn deliver_meanwhile<
     alloc: Global,
     shared: &SharedMediator<E, H>,
     row: Row,
-) -> Result<Hands<E, H>, AllocError> {
+) -> Result<ReturnedHandles<E, H>, AllocError> {
     let (admin, exporter) = begin(rt, alloc, shared, PASS, &[])?;
     let delivery = shared.delivery(rt, SubId(1)).expect(rt, "a delivery");
     thread::scope(thread::scope_env(), rt, |scope| {

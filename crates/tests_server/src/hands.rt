@@ -1,5 +1,5 @@
 //! Handles, and messages that are offered before a case.
-use crate::stage::Hands;
+use crate::stage::ReturnedHandles;
 use bytes::Bytes;
 use mediator_core::{Limits, SubId};
 use shared_mediator::{
@@ -76,8 +76,8 @@ pub(crate) fn hands<E: EntryLedger, H: RecordLedger>(
     exporter: ExporterHandle<E>,
     admin: AdminHandle<E>,
     delivery: Option<DeliveryHandle<H>>,
-) -> Result<Hands<E, H>, AllocError> {
-    Ok(Hands {
+) -> Result<ReturnedHandles<E, H>, AllocError> {
+    Ok(ReturnedHandles {
         exporters: listed(alloc, Some(exporter))?,
         deliveries: listed(alloc, delivery)?,
         admins: listed(alloc, Some(admin))?,

@@ -3,14 +3,15 @@
 use crate::delivering::{Stands, give_way};
 use crate::hands::{ENOUGH, PASS, SMALL, begin, hands, limits_of, offer_all};
 use crate::octets::{FLOW_TO_80, FLOW_TO_443, NOW, ONE_AND_TWO, ONE_RECORD, TWO_MORE, TWO_RECORDS};
-use crate::stage::{Case, Hands, play};
+use crate::stage::{Case, ReturnedHandles, play};
 use admin_text::Topic;
-use entry_receipts::KeptEntry;
 use mediator_core::SubId;
 use mediator_server::{Control, Patience, Reception, deliver, serve_admin, serve_exporter};
 use mediator_state::Receipt;
 use octet_io::Device;
-use shared_mediator::{AdminHandle, DeliveryHandle, EntryLedger, RecordLedger, SharedMediator};
+use shared_mediator::{
+    AdminHandle, DeliveryHandle, EntryLedger, KeptEntry, RecordLedger, SharedMediator,
+};
 use std::alloc::{AllocError, Global};
 use std::cell::{Cell, RefCell};
 use std::io::ErrorKind::{BrokenPipe, ConnectionReset};
@@ -114,7 +115,7 @@ pub(crate) fn hold_message<E: EntryLedger, H: RecordLedger, R: Threads + Wait + 
     alloc: Global,
     shared: &SharedMediator<E, H>,
     row: Row,
-) -> Result<Hands<E, H>, AllocError> {
+) -> Result<ReturnedHandles<E, H>, AllocError> {
     let (admin, mut exporter) = begin(rt, alloc, shared, PASS, &[ONE_RECORD])?;
     let delivery = shared.delivery(rt, SubId(1)).expect(rt, "a delivery");
     let patient = Patient::new(rt, shared, delivery, row);
@@ -193,7 +194,7 @@ pub(crate) fn hold_advance<E: EntryLedger, H: RecordLedger, R: Wait + Abort>(
     alloc: Global,
     shared: &SharedMediator<E, H>,
     row: Row,
-) -> Result<Hands<E, H>, AllocError> {
+) -> Result<ReturnedHandles<E, H>, AllocError> {
     let (mut admin, exporter) = begin(rt, alloc, shared, MIXED, &[FLOW_TO_80, FLOW_TO_443])?;
     let mut other = shared.exporter(rt).expect(rt, "an exporter");
     offer_all(rt, alloc, shared, &mut other, &[ONE_RECORD])?;
@@ -271,7 +272,11 @@ pub(crate) fn hold_piece<
     E: EntryLedger + Send + Sync,
     H: RecordLedger + Send + Sync,
     R: Threads + Wait + Abort + Sync,
->(rt: &R, alloc: Global, shared: &SharedMediator<E, H>) -> Result<Hands<E, H>, AllocError> {
+>(
+    rt: &R,
+    alloc: Global,
+    shared: &SharedMediator<E, H>,
+) -> Result<ReturnedHandles<E, H>, AllocError> {
     let (admin, mut exporter) = begin(rt, alloc, shared, PASS, &[])?;
     let delivery = shared.delivery(rt, SubId(1)).expect(rt, "a delivery");
     let second = shared.admin(rt).expect(rt, "an administrator");

@@ -1,8 +1,8 @@
 //! What a connection tells and asks its server, noted.
 use admin_text::Topic;
-use entry_receipts::KeptEntry;
 use mediator_server::{Control, Patience, Reception};
 use mediator_state::Receipt;
+use shared_mediator::KeptEntry;
 use std::alloc::{AllocError, Global};
 use std::cell::Cell;
 

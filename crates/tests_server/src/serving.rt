@@ -6,16 +6,15 @@ use crate::octets::{
     VERSION_9,
 };
 use crate::server::Told;
-use crate::stage::{Case, Hands, play};
+use crate::stage::{Case, ReturnedHandles, play};
 use event_journal::Entry;
 use ipfix_message::DecodeError;
 use ipfix_reader::FramingFault;
 use ipfix_session::ReadError;
-use mediator_calls::PullFault;
 use mediator_core::Fault;
 use mediator_server::{ServeFault, Served, serve_exporter};
 use octet_io::Device;
-use shared_mediator::{Closed, EntryLedger, RecordLedger, SharedMediator};
+use shared_mediator::{Closed, EntryLedger, PullFault, RecordLedger, SharedMediator};
 use std::alloc::{AllocError, Global};
 use std::io::ErrorKind::ConnectionReset;
 use std::process::Abort;
@@ -117,7 +116,7 @@ pub(crate) fn serve<E: EntryLedger, H: RecordLedger, R: Threads + Wait + Abort +
     alloc: Global,
     shared: &SharedMediator<E, H>,
     row: Row,
-) -> Result<Hands<E, H>, AllocError> {
+) -> Result<ReturnedHandles<E, H>, AllocError> {
     let (admin, other) = begin(rt, alloc, shared, row.policy, &[])?;
     let mut exporter = shared.exporter(rt).expect(rt, "an exporter");
     if row.was_closed {

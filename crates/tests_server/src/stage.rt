@@ -1,6 +1,6 @@
 //! A case is played on a new shared mediator, which is closed then.
 ghost use Rattle.std.specs.Prelude.{◌≡◌, ◌+◌, ◌*◌};
-ghost use Rattle.mediator_calls.specs.Counted.{handed_live};
+ghost use Rattle.shared_mediator.specs.Counted.{handed_live};
 
 use crate::{administering, delivering, holding, serving};
 use mediator_core::{Limits, Mediator};
@@ -39,7 +39,7 @@ pub(crate) enum Case {
 
 /// The handles that come back.
 #[derive(Drop)]
-pub(crate) struct Hands<E: EntryLedger, H: RecordLedger> {
+pub(crate) struct ReturnedHandles<E: EntryLedger, H: RecordLedger> {
     pub(crate) exporters: Vec<ExporterHandle<E>>,
     pub(crate) deliveries: Vec<DeliveryHandle<H>>,
     pub(crate) admins: Vec<AdminHandle<E>>,
@@ -82,7 +82,7 @@ fn run<
     requires handed_parts { (handed.parts ≡ H.parts) × (H.parts ≡ H.all) × (H.all ≡ handles + 1) }
 {
     let shared = SharedMediator::<E, H>::new(alloc, mediator, handles, entries, handed);
-    let Hands {
+    let ReturnedHandles {
         exporters,
         deliveries,
         admins,
@@ -99,7 +99,7 @@ fn play_case<
     alloc: Global,
     shared: &SharedMediator<E, H>,
     case: Case,
-) -> Result<Hands<E, H>, AllocError> {
+) -> Result<ReturnedHandles<E, H>, AllocError> {
     match case {
         Case::Serve(row) => serving::serve(rt, alloc, shared, row),
         Case::Deliver(row) => delivering::deliver_row(rt, alloc, shared, row),

@@ -2,16 +2,15 @@
 use crate::octets::{
     DISCLOSED, NEXT_RECORD, NOW, ONE_RECORD, PASS, SHORT_HEADER, WITHHOLD, limits,
 };
-use crate::sharing::{Case, Hands, one, share};
+use crate::sharing::{Case, ReturnedHandles, one, share};
 use bytes::Bytes;
 use disclosure_audit::line;
 use ipfix_message::DecodeError;
 use ipfix_session::{ReadError, Skips};
-use mediator_calls::PullFault;
 use mediator_core::{Fault, Finished, Receipt, Status, SubId, UnknownSub};
 use policy_text::{FaultKind, PolicyFault};
 use shared_mediator::{
-    AdminHandle, CloseFault, DeliveryHandle, EntryLedger, ExporterHandle, HandleFault,
+    AdminHandle, CloseFault, DeliveryHandle, EntryLedger, ExporterHandle, HandleFault, PullFault,
     RecordLedger, SharedMediator,
 };
 use std::alloc::{AllocError, Global};
@@ -27,7 +26,7 @@ pub(crate) fn calls<E: EntryLedger, H: RecordLedger, R: Wait + Abort>(
     rt: &R,
     alloc: Global,
     shared: &SharedMediator<E, H>,
-) -> Result<Hands<E, H>, AllocError> {
+) -> Result<ReturnedHandles<E, H>, AllocError> {
     let mut admin = shared.admin(rt).expect(rt, "an administrator");
     let edited = admin.edit(rt, shared, PASS);
     assert!(rt; edited == Ok(1));
@@ -47,7 +46,7 @@ pub(crate) fn calls<E: EntryLedger, H: RecordLedger, R: Wait + Abort>(
     refuse_admin(rt, shared, &mut admin);
     expect_end(rt, alloc, shared, &mut exporter)?;
     expect_gone(rt, shared, &mut admin, &mut delivery);
-    Ok(Hands {
+    Ok(ReturnedHandles {
         exporters: one(alloc, exporter)?,
         deliveries: one(alloc, delivery)?,
         admins: one(alloc, admin)?,

@@ -2,7 +2,7 @@
 //! and advances the clock: each subscriber has what the journal gives it.
 use crate::octets::{NOW, START, flow, limits};
 use crate::replay::replay;
-use crate::sharing::{Case, Hands, one, share};
+use crate::sharing::{Case, ReturnedHandles, one, share};
 use bytes::Bytes;
 use event_journal::{Entry, Journal};
 use shared_mediator::{
@@ -123,7 +123,11 @@ pub(crate) fn crowd<
     E: EntryLedger + Send + Sync,
     H: RecordLedger + Send + Sync,
     R: Threads + Wait + Abort + Sync,
->(rt: &R, alloc: Global, shared: &SharedMediator<E, H>) -> Result<Hands<E, H>, AllocError> {
+>(
+    rt: &R,
+    alloc: Global,
+    shared: &SharedMediator<E, H>,
+) -> Result<ReturnedHandles<E, H>, AllocError> {
     let mut admin = shared.admin(rt).expect(rt, "an administrator");
     admin.edit(rt, shared, ADDED).expect(rt, "an edit");
     let mut deliveries = deliveries(rt, alloc, shared, &mut admin)?;
@@ -144,7 +148,7 @@ pub(crate) fn crowd<
         admin.stop(rt, shared);
         let mut deliveries = join_all(rt, alloc, delivering)?;
         deliveries.push(deliver_all(rt, shared, late))?;
-        Ok(Hands {
+        Ok(ReturnedHandles {
             exporters,
             deliveries,
             admins: one(alloc, admin)?,

@@ -2,7 +2,7 @@
 //! handed out by pieces.
 use crate::calls::{Standing, expect_message, expect_status};
 use crate::octets::{PASS, TEMPLATE, TWO_DISCLOSED, WITHHOLD, hundred, limits, port_record};
-use crate::sharing::{Case, Hands, one, share};
+use crate::sharing::{Case, ReturnedHandles, one, share};
 use bytes::Bytes;
 use disclosure_audit::{AuditEntry, Reason, What};
 use event_journal::{Entry, Journal};
@@ -39,7 +39,7 @@ pub(crate) fn several<E: EntryLedger, H: RecordLedger, R: Wait + Abort>(
     rt: &R,
     alloc: Global,
     shared: &SharedMediator<E, H>,
-) -> Result<Hands<E, H>, AllocError> {
+) -> Result<ReturnedHandles<E, H>, AllocError> {
     let mut admin = shared.admin(rt).expect(rt, "an administrator");
     admin.edit(rt, shared, PASS).expect(rt, "an edit");
     let mut first = shared.exporter(rt).expect(rt, "an exporter");
@@ -61,7 +61,7 @@ pub(crate) fn several<E: EntryLedger, H: RecordLedger, R: Wait + Abort>(
     let mut exporters = one(alloc, first)?;
     exporters.push(second)?;
     exporters.push(third)?;
-    Ok(Hands {
+    Ok(ReturnedHandles {
         exporters,
         deliveries,
         admins: one(alloc, admin)?,
@@ -140,7 +140,7 @@ pub(crate) fn audit<E: EntryLedger, H: RecordLedger, R: Wait + Abort>(
     rt: &R,
     alloc: Global,
     shared: &SharedMediator<E, H>,
-) -> Result<Hands<E, H>, AllocError> {
+) -> Result<ReturnedHandles<E, H>, AllocError> {
     let mut admin = shared.admin(rt).expect(rt, "an administrator");
     admin.edit(rt, shared, WITHHOLD).expect(rt, "an edit");
     admin.subscribe(rt, shared, "ada").expect(rt, "a name");
@@ -152,7 +152,7 @@ pub(crate) fn audit<E: EntryLedger, H: RecordLedger, R: Wait + Abort>(
         let are_due = are_due(entries.as_slice(), *first);
         assert!(rt; entries.len() == *count && are_due, "{first}");
     }
-    Ok(Hands {
+    Ok(ReturnedHandles {
         exporters: one(alloc, exporter)?,
         deliveries: Vec::new(alloc),
         admins: one(alloc, admin)?,

@@ -1,6 +1,6 @@
 //! A case is played through the handles of a new shared mediator, which is closed then.
 ghost use Rattle.std.specs.Prelude.{◌≡◌, ◌+◌, ◌*◌};
-ghost use Rattle.mediator_calls.specs.Counted.{handed_live};
+ghost use Rattle.shared_mediator.specs.Counted.{handed_live};
 
 use crate::calls::calls;
 use crate::crowd::crowd;
@@ -43,7 +43,7 @@ pub(crate) enum Case {
 
 /// The handles that come back.
 #[derive(Drop)]
-pub(crate) struct Hands<E: EntryLedger, H: RecordLedger> {
+pub(crate) struct ReturnedHandles<E: EntryLedger, H: RecordLedger> {
     pub(crate) exporters: Vec<ExporterHandle<E>>,
     pub(crate) deliveries: Vec<DeliveryHandle<H>>,
     pub(crate) admins: Vec<AdminHandle<E>>,
@@ -100,7 +100,7 @@ fn run<
     requires handed_parts { (handed.parts ≡ H.parts) × (H.parts ≡ H.all) × (H.all ≡ handles + 1) }
 {
     let shared = SharedMediator::<E, H>::new(alloc, mediator, handles, entries, handed);
-    let Hands {
+    let ReturnedHandles {
         exporters,
         deliveries,
         admins,
@@ -122,7 +122,7 @@ fn play<
     alloc: Global,
     shared: &SharedMediator<E, H>,
     case: Case,
-) -> Result<Hands<E, H>, AllocError> {
+) -> Result<ReturnedHandles<E, H>, AllocError> {
     match case {
         Case::Waits => waits(rt, alloc, shared),
         Case::Several => several(rt, alloc, shared),
@@ -133,7 +133,10 @@ fn play<
 }
 
 /// The handles but for the one that isn't given back.
-fn without<E: EntryLedger, H: RecordLedger>(mut hands: Hands<E, H>, case: Case) -> Hands<E, H> {
+fn without<E: EntryLedger, H: RecordLedger>(
+    mut hands: ReturnedHandles<E, H>,
+    case: Case,
+) -> ReturnedHandles<E, H> {
     match case {
         Case::NoExporter => hands.exporters.clear(),
         Case::NoDelivery => hands.deliveries.clear(),

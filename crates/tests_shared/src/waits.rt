@@ -3,7 +3,7 @@
 use crate::crowd::ADDED;
 use crate::octets::{ONE_RECORD, START, TEMPLATE, WITHDRAWN, flow, limits, port_record};
 use crate::several::{expect_records, offer_prepared};
-use crate::sharing::{Case, Hands, one, share};
+use crate::sharing::{Case, ReturnedHandles, one, share};
 use bytes::Bytes;
 use mediator_core::SubId;
 use shared_mediator::{
@@ -68,7 +68,11 @@ pub(crate) fn waits<
     E: EntryLedger + Send + Sync,
     H: RecordLedger + Send + Sync,
     R: Threads + Wait + Abort + Clock + Sync,
->(rt: &R, alloc: Global, shared: &SharedMediator<E, H>) -> Result<Hands<E, H>, AllocError> {
+>(
+    rt: &R,
+    alloc: Global,
+    shared: &SharedMediator<E, H>,
+) -> Result<ReturnedHandles<E, H>, AllocError> {
     let mut admin = shared.admin(rt).expect(rt, "an administrator");
     let edited = admin.edit(rt, shared, ADDED);
     assert!(rt; edited == Ok(1));
@@ -90,7 +94,7 @@ pub(crate) fn waits<
         deliveries.push(first)?;
         deliveries.push(second)?;
     }
-    Ok(Hands {
+    Ok(ReturnedHandles {
         exporters,
         deliveries,
         admins: one(alloc, admin)?,

@@ -1,6 +1,6 @@
 use Rattle.std.proofs.Common.{◌≡◌, ◌+◌, ◌<◌, ◌^◌, ◌++◌, List, length, take}
-use Rattle.entry_receipts.specs.declared.kept.KeptEntry.{KeptEntry}
-use Rattle.entry_receipts.specs.Marking.{AreMarked}
+use Rattle.shared_mediator.specs.declared.kept.KeptEntry.{KeptEntry}
+use Rattle.shared_mediator.specs.Marking.{AreMarked}
 use Rattle.std.specs.List.{AllByRecursion}
 use Rattle.shared_mediator.specs.Handles.{HasReceipt}
 use Rattle.shared_mediator.proofs.closing.mark_admins.Given as goal

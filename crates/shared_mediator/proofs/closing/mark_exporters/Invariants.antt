@@ -1,6 +1,6 @@
 use Rattle.std.proofs.Common.{◌≡◌, ◌++◌, List, map, take}
-use Rattle.entry_receipts.specs.declared.kept.KeptEntry.{KeptEntry}
-use Rattle.entry_receipts.specs.Marking.{AreMarked}
+use Rattle.shared_mediator.specs.declared.kept.KeptEntry.{KeptEntry}
+use Rattle.shared_mediator.specs.Marking.{AreMarked}
 use Rattle.std.specs.List.{AllByRecursion}
 use Rattle.shared_mediator.specs.Closing.{KeepsMessages}
 use Rattle.shared_mediator.proofs.closing.mark_exporters.Given as goal

@@ -1,6 +1,6 @@
 use Rattle.std.proofs.Common.{◌∙◌, ◌++◌, ◌∷◌, [], List, ap, length}
 use Rattle.event_journal.specs.declared.entry.Entry.TheVariants.{Message}
-use Rattle.entry_receipts.specs.declared.kept.KeptEntry.{KeptEntry}
+use Rattle.shared_mediator.specs.declared.kept.KeptEntry.{KeptEntry}
 use Rattle.shared_mediator.proofs.HandleLaws.{offered}
 use Rattle.shared_mediator.proofs.exporter.ExporterHandle.offer_judged_silently.Goals as goal
 

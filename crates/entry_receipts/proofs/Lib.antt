@@ -1,3 +1,0 @@
-pub mod MarkLists
-pub mod MarkLaws
-pub mod Complete

@@ -1,0 +1,220 @@
+-- A stream that is read piece by piece, and where it stops.
+use Rattle.std.proofs.Common.{◌≡◌, inl, inr, ℕ, ◌+◌, Bool, false, List, [], ◌∷◌, ◌++◌, length, Option, Some, None, refl, sym, ap, ◌∙◌, subst, append-nil, append_assoc, arith, length-append}
+use Rattle.std.specs.Io.KnownBytes.{Consumes}
+use Rattle.std.proofs.KnownBytes.{Consumes-trans, Consumes-nil}
+use Rattle.ipfix_message.specs.declared.frame_error.FrameError.{FrameError}
+use Rattle.ipfix_message.specs.declared.frame_error.FrameError.TheVariants as frame
+use Rattle.ipfix_message.specs.Framing.{IsFramed}
+use Rattle.ipfix_reader.specs.declared.fault.FramingFault.TheVariants as framing
+use Rattle.ipfix_reader.specs.declared.fault.IntakeFault.{IntakeFault}
+use Rattle.ipfix_reader.specs.declared.fault.IntakeFault.TheVariants as intake
+use Rattle.ipfix_reader.specs.Intake.{IntakeState, nothing_read, Takes, Ends, Stops, HasFault, reader_after as intake_reader}
+use Rattle.shared_mediator.specs.Locked.{Exporting}
+use Rattle.shared_mediator.specs.declared.fault.PullFault.TheVariants as pull
+use Rattle.mediator_connections.specs.declared.fault.ServeFault.{ServeFault}
+use Rattle.mediator_connections.specs.declared.fault.ServeFault.TheVariants.{Read, Write, Framing, Turns, TooWide, TooManyCounts, Core}
+use Rattle.mediator_connections.specs.Faults.{out_of_memory, intake_refusal, reader_after}
+use Rattle.mediator_connections.specs.Serving.{IsRefusalOf, Offers, OffersWhole, OffersBefore, AreRead, RefusesOne, Serves, StopsAt, StopsServing, RefusesAmong, Reaches}
+use Rattle.mediator_connections.proofs.Offering.{offers_none, offers_then, receipts_count}
+
+nothing_framed : IsFramed [] [] None []
+nothing_framed = record {
+  tail = [];
+  joined = refl;
+  each = λ i e lt. absurd (omega arith);
+  ends = (refl, record { version = λ le. absurd (omega arith); least = λ le. absurd (omega arith); short = λ le. absurd (omega arith) });
+}
+
+emptied : (w : FrameError) (octets : List ℕ) (messages : List (List ℕ)) (pending : List ℕ) → IsFramed octets messages (Some w) pending → IsFramed octets messages (Some w) []
+emptied w octets messages pending framed = subst (IsFramed octets messages (Some w)) framed.ends.0 framed
+
+-- a call that read nothing leaves all as it was
+same_read : (given mid left : Option (List ℕ)) (octets : List ℕ) → Consumes given mid octets → Consumes mid left [] → Consumes given left octets
+same_read given mid left octets taken none = subst (Consumes given left) (append-nil octets) (Consumes-trans given mid left octets [] taken none)
+
+-- ---- on the way
+
+pub reading_starts : (turns : ℕ) (i : IntakeState) (given : Option (List ℕ)) (d : Exporting) → i ≡ nothing_read turns → Reaches turns i given given d d
+reading_starts turns i given d new = record {
+  octets = [];
+  messages = [];
+  taken = Consumes-nil given;
+  all = record { framed = subst (λ x. IsFramed [] [] x.framing.fault x.framing.pending) (sym new) nothing_framed; offers = offers_none d };
+  many = omega (arith, ap (λ x. x.turns) new);
+  few = omega (arith, ap (λ x. x.turns) new);
+}
+
+-- a piece was read, and the messages that it made whole were offered
+pub reads_on : (turns : ℕ) (i k : IntakeState) (given mid left : Option (List ℕ)) (old d e : Exporting) (out : List (List ℕ)) → Reaches turns i given mid old d → Takes i mid left out k → Offers d e out → Reaches turns k given left old e
+reads_on turns i k given mid left old d e out so takes offers = record {
+  octets = so.octets ++ takes.piece;
+  messages = so.messages ++ out;
+  taken = Consumes-trans given mid left so.octets takes.piece so.taken takes.is_piece.read;
+  all = record { framed = takes.goes_on.after so.octets so.messages so.all.framed; offers = offers_then old d e so.messages out so.all.offers offers };
+  many = omega (arith, so.many, takes.is_piece.some, takes.turn, length-append so.octets takes.piece);
+  few = omega (arith, so.few, takes.is_piece.few, takes.turn, length-append so.octets takes.piece);
+}
+
+-- ---- where it ends
+
+pub reading_ends : (turns offered : ℕ) (i k : IntakeState) (given mid left : Option (List ℕ)) (old d : Exporting) → Reaches turns i given mid old d → Ends i mid left k → length d.kept ≡ length old.kept + offered → Serves turns offered given left old d
+reading_ends turns offered i k given mid left old d so ends many = record {
+  octets = so.octets;
+  messages = so.messages;
+  taken = same_read given mid left so.octets so.taken ends.read;
+  end = ends.end;
+  turns_made = omega (arith, so.few, ends.turn);
+  all = record { framed = subst (λ x. IsFramed so.octets so.messages x.fault x.pending) ends.whole so.all.framed; offers = so.all.offers };
+  counted = omega (arith, many, receipts_count old d so.messages so.all.offers);
+}
+
+-- ---- where it stops
+
+-- no memory was there before the first read
+pub begins_not : (turns : ℕ) (given : Option (List ℕ)) (d : Exporting) → StopsServing out_of_memory turns given given d d
+begins_not turns given d = record {
+  octets = [];
+  taken = Consumes-nil given;
+  stops = (
+    inr (record {
+      memory = refl;
+      fed = [];
+      piece = [];
+      parts = refl;
+      few = omega arith;
+      pending = [];
+      whole = record { messages = []; all = record { framed = nothing_framed; offers = offers_none d } };
+    }),
+    omega arith,
+  );
+}
+
+-- one of the messages is refused
+refuses_one : (e : ServeFault) (turns : ℕ) (i k : IntakeState) (given mid left : Option (List ℕ)) (old d new : Exporting) (out : List (List ℕ)) → (so : Reaches turns i given mid old d) → (takes : Takes i mid left out k) → RefusesAmong e d new out
+    → RefusesOne (so.octets ++ takes.piece) old new
+refuses_one e turns i k given mid left old d new out so takes stop = record {
+  before = so.messages ++ stop.before;
+  message = stop.message;
+  later = stop.later;
+  faulty = k.framing.fault;
+  pending = k.framing.pending;
+  framed = subst (λ ms. IsFramed (so.octets ++ takes.piece) ms k.framing.fault k.framing.pending) (ap (λ t. so.messages ++ t) stop.parts ∙ sym (append_assoc so.messages stop.before (stop.message ∷ stop.later)))
+      (takes.goes_on.after so.octets so.messages so.all.framed);
+  offers = offers_then old d new so.messages stop.before so.all.offers stop.offers;
+}
+
+stops_there : (e : ServeFault) (turns : ℕ) (octets : List ℕ) (left : Option (List ℕ)) (old new : Exporting) → (one : RefusesOne octets old new) → IsRefusalOf e one.message → AreRead turns octets → StopsAt e turns octets left old new
+stops_there (Core (pull.Core why)) turns octets left old new one is few = (inl one, few)
+stops_there (Core pull.HandedFull) turns octets left old new one is few = absurd is
+stops_there TooWide turns octets left old new one is few = ((one, is), few)
+stops_there TooManyCounts turns octets left old new one is few = ((one, is), few)
+stops_there Read turns octets left old new one is few = absurd is
+stops_there (Write sent) turns octets left old new one is few = absurd is
+stops_there (Framing why) turns octets left old new one is few = absurd is
+stops_there Turns turns octets left old new one is few = absurd is
+
+pub message_stops : (e : ServeFault) (turns : ℕ) (i k : IntakeState) (given mid left : Option (List ℕ)) (old d new : Exporting) (out : List (List ℕ)) → Reaches turns i given mid old d → Takes i mid left out k → RefusesAmong e d new out
+    → StopsServing e turns given left old new
+unfolding refuses_one
+message_stops e turns i k given mid left old d new out so takes stop = record {
+  octets = so.octets ++ takes.piece;
+  taken = Consumes-trans given mid left so.octets takes.piece so.taken takes.is_piece.read;
+  stops = stops_there e turns (so.octets ++ takes.piece) left old new (refuses_one e turns i k given mid left old d new out so takes stop) stop.is
+      (omega (arith, so.few, takes.is_piece.few, takes.turn, length-append so.octets takes.piece));
+}
+
+whole_after : (turns : ℕ) (i : IntakeState) (given left : Option (List ℕ)) (old d : Exporting) → (so : Reaches turns i given left old d) → i.framing.fault ≡ None → OffersWhole so.octets i.framing.pending old d
+whole_after turns i given left old d so sound = record {
+  messages = so.messages;
+  all = record { framed = subst (λ x. IsFramed so.octets so.messages x i.framing.pending) sound so.all.framed; offers = so.all.offers };
+}
+
+-- the octets of a stream with a fault
+record FaultIn (w : FrameError) (turns : ℕ) (given left : Option (List ℕ)) (old d : Exporting) : Type 0 where
+  pub octets : List ℕ
+  pub taken : Consumes given left octets
+  pub before : OffersBefore w octets old d
+  pub few : AreRead turns octets
+
+faulty : (w : FrameError) (turns : ℕ) (i k : IntakeState) (given mid left : Option (List ℕ)) (old d : Exporting) → Reaches turns i given mid old d → HasFault w i mid left k → FaultIn w turns given left old d
+faulty w turns i k given mid left old d so (inl was) = record {
+  octets = so.octets;
+  taken = same_read given mid left so.octets so.taken was.1.read;
+  before = record {
+    messages = so.messages;
+    all = record { framed = emptied w so.octets so.messages i.framing.pending (subst (λ x. IsFramed so.octets so.messages x i.framing.pending) was.0 so.all.framed); offers = so.all.offers };
+  };
+  few = omega (arith, so.few);
+}
+faulty w turns i k given mid left old d so (inr now) = record {
+  octets = so.octets ++ now.piece;
+  taken = Consumes-trans given mid left so.octets now.piece so.taken now.is_piece.read;
+  before = record {
+    messages = so.messages ++ [];
+    all = record {
+      framed = emptied w (so.octets ++ now.piece) (so.messages ++ []) k.framing.pending (subst (λ x. IsFramed (so.octets ++ now.piece) (so.messages ++ []) x k.framing.pending) now.fault_is (now.goes_on.after so.octets so.messages so.all.framed));
+      offers = subst (Offers old d) (sym (append-nil so.messages)) so.all.offers;
+    };
+  };
+  few = omega (arith, so.few, now.is_piece.few, now.turn, length-append so.octets now.piece);
+}
+
+-- the intake hands out nothing more
+pub intake_stops : (w : IntakeFault) (turns : ℕ) (i k : IntakeState) (given mid left : Option (List ℕ)) (old d : Exporting) → Reaches turns i given mid old d → Stops w i mid left k → StopsServing (intake_refusal w) turns given left old d
+intake_stops intake.Read turns i k given mid left old d so stops = record {
+  octets = so.octets;
+  taken = same_read given mid left so.octets so.taken stops.read;
+  stops = ((i.framing.pending, whole_after turns i given mid old d so stops.sound), omega (arith, so.few, stops.turn));
+}
+intake_stops (intake.Framing framing.BadVersion) turns i k given mid left old d so stops =
+    let f = faulty frame.BadVersion turns i k given mid left old d so stops in
+    record { octets = f.octets; taken = f.taken; stops = (f.before, f.few) }
+intake_stops (intake.Framing framing.BadLength) turns i k given mid left old d so stops =
+    let f = faulty frame.BadLength turns i k given mid left old d so stops in
+    record { octets = f.octets; taken = f.taken; stops = (f.before, f.few) }
+intake_stops (intake.Framing framing.CutOff) turns i k given mid left old d so stops = record {
+  octets = so.octets;
+  taken = same_read given mid left so.octets so.taken stops.read;
+  stops = ((i.framing.pending, whole_after turns i given mid old d so stops.sound, stops.pending), omega (arith, so.few, stops.turn), stops.end);
+}
+intake_stops intake.Turns turns i k given mid left old d so stops = record {
+  octets = so.octets;
+  taken = same_read given mid left so.octets so.taken stops.2.read;
+  stops = ((i.framing.pending, whole_after turns i given mid old d so stops.0), omega (arith, so.many, stops.1), omega (arith, so.few, stops.1));
+}
+intake_stops intake.OutOfMemory turns i k given mid left old d so stops = record {
+  octets = so.octets ++ stops.piece;
+  taken = Consumes-trans given mid left so.octets stops.piece so.taken stops.is_piece.read;
+  stops = (
+    inr (record {
+      memory = refl;
+      fed = so.octets;
+      piece = stops.piece;
+      parts = refl;
+      few = stops.is_piece.few;
+      pending = i.framing.pending;
+      whole = whole_after turns i given mid old d so stops.sound;
+    }),
+    omega (arith, so.few, stops.is_piece.few, stops.turn, length-append so.octets stops.piece),
+  );
+}
+
+-- only a failed read leaves a failed reader
+pub intake_reads : (w : IntakeFault) (e : ServeFault) (failed : Bool) → e ≡ intake_refusal w → failed ≡ intake_reader w false → failed ≡ reader_after e
+intake_reads intake.Read e failed is fails = rw is fails
+intake_reads (intake.Framing why) e failed is fails = rw is fails
+intake_reads intake.Turns e failed is fails = rw is fails
+intake_reads intake.OutOfMemory e failed is fails = rw is fails
+
+pub refusal_reads : (e : ServeFault) (message : List ℕ) (failed : Bool) → IsRefusalOf e message → failed ≡ false → failed ≡ reader_after e
+refusal_reads (Core (pull.Core why)) message failed is sound = sound
+refusal_reads (Core pull.HandedFull) message failed is sound = absurd is
+refusal_reads TooWide message failed is sound = sound
+refusal_reads TooManyCounts message failed is sound = sound
+refusal_reads Read message failed is sound = absurd is
+refusal_reads (Write sent) message failed is sound = absurd is
+refusal_reads (Framing why) message failed is sound = absurd is
+refusal_reads Turns message failed is sound = absurd is
+
+pub core_reads : (e : ServeFault) (old new : Exporting) (out : List (List ℕ)) (failed : Bool) → RefusesAmong e old new out → failed ≡ false → failed ≡ reader_after e
+core_reads e old new out failed stop sound = refusal_reads e stop.message failed stop.is sound

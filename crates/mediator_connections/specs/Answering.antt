@@ -1,0 +1,195 @@
+-- The commands of an administrator's connection with their answers, and where serving it stops.
+use Rattle.std.specs.Prelude.{◌≡◌, ◌≢◌, ◌⊎◌, ◌↔◌, IsTrue, ℕ, ◌+◌, ◌≤◌, ◌<◌, ◌^◌, Bool, List, [], ◌∷◌, ◌++◌, length, Option, Some, None, IsSome, IsUtf8}
+use Rattle.std.specs.List.{flat_map, AllByRecursion}
+use Rattle.std.specs.Io.KnownBytes.{Consumes, Appends, IsAtEnd}
+use Rattle.octet_io.specs.Written.{WritesFront}
+use Rattle.event_journal.specs.declared.entry.Entry.TheVariants.{Edit, Subscribe, Unsubscribe, Advance}
+use Rattle.shared_mediator.specs.declared.kept.KeptEntry.{KeptEntry}
+use Rattle.ipfix_reader.specs.declared.fault.FramingFault.TheVariants as framing
+use Rattle.mediator_state.specs.declared.fault.Fault.TheVariants as fault
+use Rattle.shared_mediator.specs.declared.fault.PullFault.TheVariants as pull
+use Rattle.shared_mediator.specs.Handles.{KeepsEntry}
+use Rattle.admin_text.specs.Sayings.{Saying}
+use Rattle.admin_text.specs.Sayings.Saying.{to_edit, to_subscribe, to_unsubscribe, to_advance, to_tell_status, to_drain_audit, to_tell, to_stop}
+use Rattle.admin_text.specs.Reading.{command_of}
+use Rattle.admin_text.specs.Answers.{IsTextOf}
+use Rattle.admin_text.specs.declared.answer.Answer.{Answer}
+use Rattle.admin_text.specs.declared.answer.Answer.TheVariants as answer
+use Rattle.mediator_connections.specs.declared.fault.ServeFault.{ServeFault}
+use Rattle.mediator_connections.specs.declared.fault.ServeFault.TheVariants.{Read, Write, Framing, Turns, Core}
+use Rattle.mediator_connections.specs.CommandInput.{InputState, HandsOut, IsLine, IsBegun, StopsReading}
+
+-- ---- one call
+
+-- what an edit by these octets answers, and what the handle keeps
+abbrev pub Edits : List ℕ → Answer → List KeptEntry → List KeptEntry → Type 0
+Edits text (answer.Edited revision) old new = KeepsEntry old (Edit text) new
+Edits text (answer.Refused why) old new = new ≡ old
+Edits text answer.BadText old new = ¬ (IsUtf8 text) × (new ≡ old)
+Edits text _ old new = ⊥
+
+abbrev pub Subscribes : List ℕ → Answer → List KeptEntry → List KeptEntry → Type 0
+Subscribes name (answer.Subscribed sub) old new = KeepsEntry old (Subscribe sub name) new
+Subscribes name (answer.Refused why) old new = new ≡ old
+Subscribes name _ old new = ⊥
+
+abbrev pub Unsubscribes : ℕ → Answer → List KeptEntry → List KeptEntry → Type 0
+Unsubscribes sub answer.Done old new = KeepsEntry old (Unsubscribe sub) new
+Unsubscribes sub (answer.Refused why) old new = new ≡ old
+Unsubscribes sub _ old new = ⊥
+
+abbrev pub Advances : ℕ → Answer → List KeptEntry → List KeptEntry → Type 0
+Advances t answer.Done old new = KeepsEntry old (Advance t) new
+Advances t (answer.Refused why) old new = new ≡ old
+Advances t _ old new = ⊥
+
+-- no subscription has the number, or this is how it stands
+abbrev pub TellsStatus : Answer → List KeptEntry → List KeptEntry → Type 0
+TellsStatus (answer.Stands status) old new = new ≡ old
+TellsStatus (answer.Refused why) old new = (why ≡ fault.UnknownSub) × (new ≡ old)
+TellsStatus _ old new = ⊥
+
+abbrev pub DrainsAudit : Answer → List KeptEntry → List KeptEntry → Type 0
+DrainsAudit (answer.Drained entries) old new = new ≡ old
+DrainsAudit (answer.Refused why) old new = (why ≡ fault.OutOfMemory) × (new ≡ old)
+DrainsAudit _ old new = ⊥
+
+-- a page was told, or there was no memory for it
+abbrev pub Tells : Answer → List KeptEntry → List KeptEntry → Type 0
+Tells (answer.Told page) old new = new ≡ old
+Tells (answer.Refused why) old new = (why ≡ fault.OutOfMemory) × (new ≡ old)
+Tells _ old new = ⊥
+
+-- what is answered to what a line asks for, with the octets behind the line that belong to it, and what the handle keeps by it
+abbrev pub Answers : Option Saying → List ℕ → Answer → List KeptEntry → List KeptEntry → Type 0
+Answers (Some (to_edit octets)) text reply old new = (length text ≡ octets) × Edits text reply old new
+Answers (Some (to_subscribe name)) text reply old new = (text ≡ []) × Subscribes name reply old new
+Answers (Some (to_unsubscribe sub)) text reply old new = (text ≡ []) × Unsubscribes sub reply old new
+Answers (Some (to_advance t)) text reply old new = (text ≡ []) × Advances t reply old new
+Answers (Some (to_tell_status sub)) text reply old new = (text ≡ []) × TellsStatus reply old new
+Answers (Some (to_drain_audit max)) text reply old new = (text ≡ []) × DrainsAudit reply old new
+Answers (Some (to_tell topic)) text reply old new = (text ≡ []) × Tells reply old new
+Answers (Some to_stop) text reply old new = (text ≡ []) × (reply ≡ answer.Done) × (new ≡ old)
+Answers None text reply old new = (text ≡ []) × (reply ≡ answer.BadLine) × (new ≡ old)
+
+-- ---- one line after another
+
+-- a line with the octets that it was read from, the text behind it, the reply, and the octets that were due for it
+pub record Exchange : Type 0 where
+  pub line : List ℕ
+  pub octets : List ℕ
+  pub text : List ℕ
+  pub reply : Answer
+  pub written : List ℕ
+
+-- the octets of exchanges, as they are read and as they are written
+abbrev pub asked : List Exchange → List ℕ
+asked exchanges = flat_map (λ x. x.octets ++ x.text) exchanges
+
+abbrev pub answered : List Exchange → List ℕ
+answered exchanges = flat_map (λ x. x.written) exchanges
+
+-- the line was read, and its call was made: the handle keeps what the reply says
+pub record IsExchange (x : Exchange) (old new : List KeptEntry) : Type 0 where
+  pub line : IsLine x.line x.octets
+  pub answers : Answers (command_of x.line) x.text x.reply old new
+  pub written : IsTextOf x.reply x.written
+
+abbrev pub AreExchanges : List Exchange → List KeptEntry → List KeptEntry → Type 0
+AreExchanges [] old new = new ≡ old
+AreExchanges (x ∷ xs) old new = (mid : List KeptEntry) × IsExchange x old mid × AreExchanges xs mid new
+
+-- a command, behind which more may come: one that isn't to stop
+abbrev pub GoesOn : Exchange → Type 0
+GoesOn x = IsSome (command_of x.line) × (command_of x.line ≢ Some to_stop)
+
+-- commands were read and their calls were made, in order, and then this line's, if there is one; and these octets behind them were read
+pub record Exchanges (commands last : List Exchange) (rest : List ℕ) (given left : Option (List ℕ)) (old new : List KeptEntry) : Type 0 where
+  pub are : AllByRecursion GoesOn commands
+  pub done : AreExchanges (commands ++ last) old new
+  pub read : Consumes given left (asked (commands ++ last) ++ rest)
+
+-- ---- where it ends
+
+-- the input ended behind the commands; or behind them one line more is no command, or to stop, and this one is counted too
+abbrev pub EndsAt : List Exchange → ℕ → List ℕ → Option (List ℕ) → Type 0
+EndsAt [] more rest left = (more ≡ 0) × (rest ≡ []) × IsAtEnd left
+EndsAt (x ∷ []) more rest left = ((command_of x.line ≡ None) × (more ≡ 0)) ⊎ ((command_of x.line ≡ Some to_stop) × (more ≡ 1))
+EndsAt _ more rest left = ⊥
+
+-- all were answered, and the commands counted
+pub record ServesAdmin (count : ℕ) (given left held holds : Option (List ℕ)) (old new : List KeptEntry) : Type 0 where
+  pub commands : List Exchange
+  pub last : List Exchange
+  pub rest : List ℕ
+  pub exchanges : Exchanges commands last rest given left old new
+  pub written : Appends held holds (answered (commands ++ last))
+  pub more : ℕ
+  pub counted : count ≡ length commands + more
+  pub ends : EndsAt last more rest left
+
+-- ---- where it stops
+
+-- commands were answered, and of the next one these octets were read at least, and no call was made
+pub record StopsInside (commands : List Exchange) (begun : List ℕ) (given left held holds : Option (List ℕ)) (old new : List KeptEntry) : Type 0 where
+  pub exchanges : Exchanges commands [] begun given left old new
+  pub written : Appends held holds (answered commands)
+
+-- commands were answered, and the call of the next line was made
+pub record StopsBehind (commands : List Exchange) (last : Exchange) (given left : Option (List ℕ)) (old new : List KeptEntry) : Type 0 where
+  pub rest : List ℕ
+  pub exchanges : Exchanges commands (last ∷ []) rest given left old new
+
+-- why it stops: the reader failed; no read is left, and each gave some octets; the input ended inside a command; there was no memory
+-- for what was read; the writer failed inside an answer; or with the next answer, the octets could not be counted
+abbrev pub StopsAdmin : ServeFault → ℕ → Option (List ℕ) → Option (List ℕ) → Option (List ℕ) → Option (List ℕ) → Bool → List KeptEntry → List KeptEntry → List Exchange → Type 0
+StopsAdmin Read turns given left held holds has_failed old new commands =
+    (begun : List ℕ) × StopsInside commands begun given left held holds old new
+StopsAdmin Turns turns given left held holds has_failed old new commands =
+    (begun : List ℕ) × StopsInside commands begun given left held holds old new × (turns ≤ length (asked commands ++ begun))
+StopsAdmin (Framing framing.CutOff) turns given left held holds has_failed old new commands =
+    (begun : List ℕ) × StopsInside commands begun given left held holds old new × (0 < length begun) × IsAtEnd left
+StopsAdmin (Core (pull.Core fault.OutOfMemory)) turns given left held holds has_failed old new commands =
+    (begun : List ℕ) × StopsInside commands begun given left held holds old new
+StopsAdmin (Write sent) turns given left held holds has_failed old new commands =
+    (last : Exchange) × StopsBehind commands last given left old new
+    × WritesFront held holds (answered (commands ++ last ∷ [])) sent has_failed × (length (answered commands) ≤ sent)
+StopsAdmin (Core pull.HandedFull) turns given left held holds has_failed old new commands =
+    (last : Exchange) × StopsBehind commands last given left old new
+    × Appends held holds (answered commands) × (2 ^ 64 ≤ length (answered (commands ++ last ∷ [])))
+StopsAdmin _ turns given left held holds has_failed old new commands = ⊥
+
+-- ---- what no public clause cites
+
+-- octets behind a line were handed out, and what the line asks for was answered so
+pub record Performs (read : Option Saying) (reply : Answer) (old : InputState) (given left : Option (List ℕ)) (new : InputState) (before after : List KeptEntry) : Type 0 where
+  pub text : List ℕ
+  pub handed : HandsOut old given left text new
+  pub answers : Answers read text reply before after
+
+-- a line was handed out, with the text behind it, and answered so; and whether it asks to stop
+pub record Hears (reply : Answer) (stops : Bool) (old : InputState) (given left : Option (List ℕ)) (new : InputState) (before after : List KeptEntry) : Type 0 where
+  pub line : List ℕ
+  pub octets : List ℕ
+  pub text : List ℕ
+  pub is_line : IsLine line octets
+  pub handed : HandsOut old given left (octets ++ text) new
+  pub answers : Answers (command_of line) text reply before after
+  pub stop : IsTrue stops ↔ (command_of line ≡ Some to_stop)
+
+-- nothing was answered, behind these octets of a command
+pub record StopsHearing (e : ServeFault) (old : InputState) (given left : Option (List ℕ)) (new : InputState) : Type 0 where
+  pub octets : List ℕ
+  pub stops : StopsReading e old given left octets new
+  pub begun : IsBegun e octets
+
+-- the writer failed inside these octets; or behind so many they can't be counted
+abbrev pub StopsSendingOctets : ServeFault → List ℕ → ℕ → Option (List ℕ) → Option (List ℕ) → Bool → Type 0
+StopsSendingOctets (Write count) octets sent held holds has_failed = (front : ℕ) × (count ≡ sent + front) × WritesFront held holds octets front has_failed
+StopsSendingOctets (Core pull.HandedFull) octets sent held holds has_failed = (holds ≡ held) × (2 ^ 64 ≤ sent + length octets)
+StopsSendingOctets _ octets sent held holds has_failed = ⊥
+
+pub record StopsReplying (e : ServeFault) (reply : Answer) (sent : ℕ) (held holds : Option (List ℕ)) (has_failed : Bool) : Type 0 where
+  pub text : List ℕ
+  pub is : IsTextOf reply text
+  pub stops : StopsSendingOctets e text sent held holds has_failed

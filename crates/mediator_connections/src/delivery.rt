@@ -1,0 +1,210 @@
+//! Delivers a subscription: pulls its messages, and writes them.
+ghost use Rattle.std.specs.Prelude.{◌≡◌, ◌+◌, ◌<◌, ◌^◌, false, length, IfOk, IfErr, OnOk};
+ghost use Rattle.std.specs.Io.KnownBytes.{Appends};
+ghost use Rattle.mediator_connections.specs.Faults.{writer_after};
+ghost use Rattle.mediator_connections.specs.Delivering.{Delivers, FailsToDeliver, Sends, StopsSending, EndsOnWrite, octets_of};
+
+use crate::clock::Clock;
+use crate::fault::ServeFault;
+use mediator_calls::{SubId, UnknownSub};
+use octet_io::{Sink, write_all};
+use shared_mediator::{
+    AdminHandle, DeliveryHandle, EntryLedger, Handed, PullFault, RecordLedger, SharedMediator,
+    Waited,
+};
+use std::alloc::{AllocError, Global};
+use std::sync::Wait;
+
+/// The most octets of a message.
+const LONGEST_MESSAGE: u64 = ipfix_octets::message_format::LONGEST_MESSAGE as u64;
+
+/// How many messages are pulled at once at most.
+const MOST_AT_ONCE: u64 = 32;
+
+/// Delivers the subscription of `handle`, and answers how many octets were sent. It pulls the subscription's messages from the
+/// mediator of `shared`, several at once, and writes them to `writer`, until nothing is queued and nothing will be. A message has
+/// at most `target` octets where it can be so short, and the Export Time that `clock` shows when it is pulled (RFC 7011, section
+/// 3.1). It waits by `rt`.
+///
+/// Where the writer fails, the subscription is ended through `admin`. Where the mediator refuses that, it stays.
+///
+/// # Errors
+/// `Write` where the writer failed: it says how many octets were sent of all that was pulled. Only messages of the last pull were
+/// not sent whole. `Core` where the mediator refuses a pull, or the octets sent, with those of one pull more, might not be
+/// counted in 64 bits: all that was pulled before is sent. Beside the fault stands how many records waited for the subscription
+/// then, before it was ended; 0 where it is no longer live.
+pub fn deliver<E: EntryLedger, H: RecordLedger, W: Sink, C: Clock>(
+    rt: &impl Wait,
+    shared: &SharedMediator<E, H>,
+    handle: &mut DeliveryHandle<H>,
+    admin: &mut AdminHandle<E>,
+    writer: &mut W,
+    target: u16,
+    clock: &C,
+) -> Result<u64, (ServeFault, u64)>
+    requires writer { W.has_failed writer.old ≡ false }
+    // All that was pulled was written.
+    ensures delivers { IfOk result (λ sent. Delivers (C.shows clock.now) target sent
+        handle.old handle.new (W.contents writer.old) (W.contents writer.new)) }
+    ensures sound { OnOk result (W.has_failed writer.new ≡ false) }
+    // Where it stopped, and what was written by then.
+    ensures stops { IfErr result (λ e.
+        FailsToDeliver e.0 (C.shows clock.now) target handle.old handle.new
+        (W.contents writer.old) (W.contents writer.new) (W.has_failed writer.new)) }
+    ensures fails { IfErr result (λ e. W.has_failed writer.new ≡ writer_after e.0) }
+    // The administrator's handle ends the subscription where the writer failed, and does nothing else.
+    ensures same { OnOk result (admin.new ≡ admin.old) }
+    ensures gone { IfErr result (λ e. EndsOnWrite e.0 handle.old.sub admin.old admin.new) }
+{
+    match send_messages(rt, shared, handle, writer, target, clock) {
+        Ok(sent) => Ok(sent),
+        Err(fault) => {
+            let waiting = records_waiting(rt, shared, handle.sub(), admin);
+            end_on_write(rt, shared, handle.sub(), admin, fault);
+            Err((fault, waiting))
+        }
+    }
+}
+
+/// How many records wait for a subscription; 0 where it isn't live.
+fn records_waiting<E: EntryLedger, H: RecordLedger>(
+    rt: &impl Wait,
+    shared: &SharedMediator<E, H>,
+    sub: SubId,
+    admin: &AdminHandle<E>,
+) -> u64 {
+    match admin.status(rt, shared, sub) {
+        Ok(status) => u64::from(status.queued),
+        Err(UnknownSub) => 0,
+    }
+}
+
+/// Ends a subscription where its writer failed. Where the mediator refuses that, it stays.
+fn end_on_write<E: EntryLedger, H: RecordLedger>(
+    rt: &impl Wait,
+    shared: &SharedMediator<E, H>,
+    sub: SubId,
+    admin: &mut AdminHandle<E>,
+    fault: ServeFault,
+)
+    ensures { EndsOnWrite fault sub.0 admin.old admin.new }
+{
+    if let ServeFault::Write { .. } = fault {
+        let _ended = admin.unsubscribe(rt, shared, sub);
+    }
+}
+
+/// Pulls and writes messages until nothing is queued and nothing will be, and answers how many octets were sent.
+///
+/// # Errors
+/// Those of [`deliver`].
+fn send_messages<E: EntryLedger, H: RecordLedger, W: Sink, C: Clock>(
+    rt: &impl Wait,
+    shared: &SharedMediator<E, H>,
+    handle: &mut DeliveryHandle<H>,
+    writer: &mut W,
+    target: u16,
+    clock: &C,
+) -> Result<u64, ServeFault>
+    requires writer { W.has_failed writer.old ≡ false }
+    // All that was pulled was written.
+    ensures delivers { IfOk result (λ sent. Delivers (C.shows clock.now) target sent
+        handle.old handle.new (W.contents writer.old) (W.contents writer.new)) }
+    ensures sound { OnOk result (W.has_failed writer.new ≡ false) }
+    // Where it stopped, and what was written by then.
+    ensures stops { IfErr result (λ e.
+        FailsToDeliver e (C.shows clock.now) target handle.old handle.new
+        (W.contents writer.old) (W.contents writer.new) (W.has_failed writer.new)) }
+    ensures fails { IfErr result (λ e. W.has_failed writer.new ≡ writer_after e) }
+{
+    let mut sent = 0u64;
+    'pulls: for _ in rt.forever() {
+        if sent > u64::MAX - MOST_AT_ONCE * LONGEST_MESSAGE {
+            return Err(ServeFault::Core(PullFault::HandedFull));
+        }
+        let before = handle.kept().len();
+        if handle.pull_some(rt, shared, clock.now(), target, MOST_AT_ONCE)? > 0 {
+            sent = send_all(handle.allocator(), &handle.kept()[before..], writer, sent)?;
+        } else if handle.wait(rt, shared) != Waited::Queued {
+            return Ok(sent);
+        }
+    }
+    unreachable!()
+}
+
+/// Writes `messages` behind the `sent` octets of those before them, in one piece where there is memory for it, and answers how
+/// many octets were sent in all.
+///
+/// # Errors
+/// The writer failed, and the fault says how many octets were sent in all.
+fn send_all<W: Sink>(
+    alloc: Global,
+    messages: &[Handed],
+    writer: &mut W,
+    sent: u64,
+) -> Result<u64, ServeFault>
+    requires fits { sent + length (octets_of messages.now) < 2 ^ 64 }
+    ensures ok { IfOk result (λ n. Sends (octets_of messages.now) sent n
+        (W.contents writer.old) (W.contents writer.new)) }
+    ensures stays { OnOk result (W.has_failed writer.new ≡ W.has_failed writer.old) }
+    ensures err { IfErr result (λ e. StopsSending e (octets_of messages.now) sent
+        (W.contents writer.old) (W.contents writer.new) (W.has_failed writer.new)) }
+{
+    match joined(alloc, messages) {
+        Ok(octets) => send(&octets, writer, sent),
+        Err(_) => send_each(messages, writer, sent),
+    }
+}
+
+/// The octets of messages, one directly after another.
+///
+/// # Errors
+/// Want of memory.
+fn joined(alloc: Global, messages: &[Handed]) -> Result<Vec<u8>, AllocError>
+    ensures { IfOk result (λ octets. octets.items ≡ octets_of messages.now) }
+{
+    let mut octets = Vec::new(alloc);
+    'joins: for handed in messages {
+        octets.extend_from_slice(handed.message.as_slice())?;
+    }
+    Ok(octets)
+}
+
+/// Writes `messages` one after another, behind the `sent` octets of those before them, and answers how many octets were sent in
+/// all.
+///
+/// # Errors
+/// The writer failed, and the fault says how many octets were sent in all.
+fn send_each<W: Sink>(messages: &[Handed], writer: &mut W, mut sent: u64) -> Result<u64, ServeFault>
+    requires fits { sent + length (octets_of messages.now) < 2 ^ 64 }
+    ensures ok { IfOk result (λ n. Sends (octets_of messages.now) sent n
+        (W.contents writer.old) (W.contents writer.new)) }
+    ensures stays { OnOk result (W.has_failed writer.new ≡ W.has_failed writer.old) }
+    ensures err { IfErr result (λ e. StopsSending e (octets_of messages.now) sent
+        (W.contents writer.old) (W.contents writer.new) (W.has_failed writer.new)) }
+{
+    'sends: for handed in messages {
+        sent = send(handed.message.as_slice(), writer, sent)?;
+    }
+    Ok(sent)
+}
+
+/// Writes `message` behind the `sent` octets of those before it, and answers how many octets were sent in all.
+///
+/// # Errors
+/// The writer failed, and the fault says how many octets were sent in all.
+fn send<W: Sink>(message: &[u8], writer: &mut W, sent: u64) -> Result<u64, ServeFault>
+    requires fits { sent + length message.now < 2 ^ 64 }
+    ensures ok { IfOk result (λ n.
+        Sends message.now sent n (W.contents writer.old) (W.contents writer.new)) }
+    ensures stays { OnOk result (W.has_failed writer.new ≡ W.has_failed writer.old) }
+    ensures err { IfErr result (λ e. StopsSending e message.now sent
+        (W.contents writer.old) (W.contents writer.new) (W.has_failed writer.new)) }
+{
+    match write_all(writer, message) {
+        Ok(()) => Ok(sent + message.len() as u64),
+        Err(stopped) => Err(ServeFault::Write {
+            sent: sent + stopped.sent as u64,
+        }),
+    }
+}

@@ -1,0 +1,100 @@
+//! Why a connection is served no more, for exporters, collectors and administrators alike.
+
+use ipfix_reader::{FramingFault, IntakeFault};
+use mediator_state::Fault;
+use shared_mediator::PullFault;
+use std::alloc::AllocError;
+use std::error::Error;
+use std::fmt::{self, Display, Formatter, Write};
+
+/// Why a connection is served no more. Its text is its name.
+#[derive(Clone, Copy, Debug, PartialEq, Eq)]
+pub enum ServeFault {
+    /// The reader failed.
+    Read,
+    /// The writer failed, when `sent` octets in all had been written.
+    Write { sent: u64 },
+    /// What was read is no stream of messages, or ends inside a message or inside a command (`CutOff`).
+    Framing(FramingFault),
+    /// As many reads were made as are allowed, and the end was not read.
+    Turns,
+    /// The Data Sets of a message may have more than [`VALUES_AN_OCTET`](prepared_message::VALUES_AN_OCTET) values for each of its
+    /// octets: it isn't offered.
+    TooWide,
+    /// More records of a message count in aggregates than [`MOST_COUNTS`](prepared_message::MOST_COUNTS), added up over all
+    /// subscriptions: it isn't offered.
+    TooManyCounts,
+    /// The mediator refused a call; or memory ran out; or the octets that were sent can't be counted any further.
+    Core(PullFault),
+}
+
+impl Error for ServeFault {}
+
+impl Display for ServeFault {
+    ghost use Rattle.std.specs.Prelude.{Option, Some};
+    ghost use Rattle.mediator_connections.specs.FaultTexts.{text_of_serve};
+
+    ghost output = { λ fault. Some (text_of_serve fault) };
+
+    fn fmt<W: Write>(&self, f: &mut Formatter<W>) -> fmt::Result {
+        f.write_str(match self {
+            ServeFault::Read => "Read",
+            ServeFault::Write { .. } => "Write",
+            ServeFault::Framing(_) => "Framing",
+            ServeFault::Turns => "Turns",
+            ServeFault::TooWide => "TooWide",
+            ServeFault::TooManyCounts => "TooManyCounts",
+            ServeFault::Core(_) => "Core",
+        })
+    }
+}
+
+impl From<PullFault> for ServeFault {
+    ghost use Rattle.std.specs.Prelude.{◌≡◌};
+    ghost use Rattle.mediator_connections.specs.declared.fault.ServeFault.TheVariants.{Core};
+
+    ghost from_gives = { λ f e. e ≡ Core f };
+
+    fn from(fault: PullFault) -> ServeFault {
+        ServeFault::Core(fault)
+    }
+}
+
+impl From<Fault> for ServeFault {
+    ghost use Rattle.std.specs.Prelude.{◌≡◌};
+    ghost use Rattle.shared_mediator.specs.declared.fault.PullFault.TheVariants as pull;
+    ghost use Rattle.mediator_connections.specs.declared.fault.ServeFault.TheVariants.{Core};
+
+    ghost from_gives = { λ f e. e ≡ Core (pull.Core f) };
+
+    fn from(fault: Fault) -> ServeFault {
+        ServeFault::Core(PullFault::Core(fault))
+    }
+}
+
+impl From<AllocError> for ServeFault {
+    ghost use Rattle.std.specs.Prelude.{◌≡◌};
+    ghost use Rattle.mediator_connections.specs.Faults.{out_of_memory};
+
+    ghost from_gives = { λ _ e. e ≡ out_of_memory };
+
+    fn from(_e: AllocError) -> ServeFault {
+        ServeFault::Core(PullFault::Core(Fault::OutOfMemory))
+    }
+}
+
+impl From<IntakeFault> for ServeFault {
+    ghost use Rattle.std.specs.Prelude.{◌≡◌};
+    ghost use Rattle.mediator_connections.specs.Faults.{intake_refusal};
+
+    ghost from_gives = { λ f e. e ≡ intake_refusal f };
+
+    fn from(fault: IntakeFault) -> ServeFault {
+        match fault {
+            IntakeFault::Read => ServeFault::Read,
+            IntakeFault::Framing(why) => ServeFault::Framing(why),
+            IntakeFault::Turns => ServeFault::Turns,
+            IntakeFault::OutOfMemory => ServeFault::Core(PullFault::Core(Fault::OutOfMemory)),
+        }
+    }
+}

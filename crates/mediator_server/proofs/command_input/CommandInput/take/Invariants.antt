@@ -1,8 +1,0 @@
-use Rattle.std.proofs.Common.{◌≡◌, false, length}
-use Rattle.mediator_server.specs.CommandInput.{HandsOut}
-use Rattle.mediator_server.proofs.command_input.CommandInput.take.Given as goal
-
-abbrev pub invariant-octets : goal.invariant-octets
-invariant-octets g l =
-    HandsOut l.fn.self (g.R.Source.remaining l.fn.reader) (g.R.Source.remaining l.reader) l.text.items l.self
-    × (length l.text.items ≡ l.counter) × (g.R.Source.has_failed l.reader ≡ false)

@@ -1,8 +1,0 @@
-use Rattle.std.proofs.Common.{◌≡◌, false}
-use Rattle.mediator_server.specs.Delivering.{Delivers}
-use Rattle.mediator_server.proofs.delivery.send_messages.Given as goal
-
-abbrev pub invariant-pulls : goal.invariant-pulls
-invariant-pulls g l =
-    (goal.iterator-pulls g).can_next l.iterator' × (goal.iterator-pulls g).is_finite l.iterator'
-    × Delivers (g.C.Clock.shows l.fn.clock) l.fn.target l.sent l.fn.handle l.handle (g.W.Sink.contents l.fn.writer) (g.W.Sink.contents l.writer) × (g.W.Sink.has_failed l.writer ≡ false)
