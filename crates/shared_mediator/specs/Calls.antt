@@ -12,20 +12,25 @@ use Rattle.shared_mediator.specs.declared.fault.HandleFault.TheVariants as handl
 use Rattle.shared_mediator.specs.declared.delivery.Waited.{Waited}
 use Rattle.shared_mediator.specs.declared.delivery.Waited.TheVariants as waited
 
--- so many entries and records more are counted, and so many records are those of subscriptions that have ended; so many handles more
--- of each kind are made
-pub record Makes (entries handed gone exporters deliveries admins : ℕ) (old new : Locked) : Type 0 where
+-- so many entries and records more are counted, and so many records are those of subscriptions that have ended; no handle is made
+pub record Adds (entries handed gone : ℕ) (old new : Locked) : Type 0 where
   pub counts : Counts old.counted entries handed gone new.counted
+  pub handles : new.handles ≡ old.handles
+  pub exporters_are : new.exporters ≡ old.exporters
+  pub deliveries_are : new.deliveries ≡ old.deliveries
+  pub admins_are : new.admins ≡ old.admins
+  pub stopped : new.stopped ≡ old.stopped
+  pub full : new.full ≡ old.full
+
+-- so many handles more of each kind are made, and nothing more is counted
+pub record Makes (exporters deliveries admins : ℕ) (old new : Locked) : Type 0 where
+  pub counts : Counts old.counted 0 0 0 new.counted
   pub handles : new.handles ≡ old.handles
   pub exporters_are : new.exporters ≡ old.exporters + exporters
   pub deliveries_are : new.deliveries ≡ old.deliveries + deliveries
   pub admins_are : new.admins ≡ old.admins + admins
   pub stopped : new.stopped ≡ old.stopped
   pub full : new.full ≡ old.full
-
--- and no handle more
-abbrev pub Adds : ℕ → ℕ → ℕ → Locked → Locked → Type 0
-Adds entries handed gone old new = Makes entries handed gone 0 0 0 old new
 
 -- whether a call was refused since the journal is full
 abbrev pub is_full : Fault → Bool

@@ -125,7 +125,7 @@ impl<E: EntryLedger, H: RecordLedger> LockedMediator<E, H> {
         // A session is opened, and one handle more is made, with a share that counts nothing.
         ensures ok { IfOk result (λ opened.
             Opens self.old.counted.core opened.session.0 self.new.counted.core) }
-        ensures counts { OnOk result (Makes 0 0 0 1 0 0 self.old self.new) }
+        ensures counts { OnOk result (Makes 1 0 0 self.old self.new) }
         ensures share { IfOk result (λ opened. (opened.share.parts ≡ 1)
             × (opened.share.amount ≡ 0)) }
         ensures position { IfOk result (λ opened.
@@ -158,7 +158,7 @@ impl<E: EntryLedger, H: RecordLedger> LockedMediator<E, H> {
     pub(crate) fn delivery(&mut self, sub: SubId) -> Result<Share<H>, HandleFault>
         // One handle more is made, with a share that counts nothing.
         ensures live { OnOk result (is_live sub.0 self.old.counted.core.history ≡ true) }
-        ensures counts { OnOk result (Makes 0 0 0 0 1 0 self.old self.new) }
+        ensures counts { OnOk result (Makes 0 1 0 self.old self.new) }
         ensures share { IfOk result (λ share. (share.parts ≡ 1) × (share.amount ≡ 0)) }
         // A refusal changes nothing.
         ensures same { OnErr result (self.new ≡ self.old) }
@@ -179,7 +179,7 @@ impl<E: EntryLedger, H: RecordLedger> LockedMediator<E, H> {
     /// # Errors
     /// [`HandleFault::NoHandle`] where as many administrators were made as there may be.
     pub(crate) fn admin(&mut self) -> Result<Share<E>, HandleFault>
-        ensures counts { OnOk result (Makes 0 0 0 0 0 1 self.old self.new) }
+        ensures counts { OnOk result (Makes 0 0 1 self.old self.new) }
         ensures share { IfOk result (λ share. (share.parts ≡ 1) × (share.amount ≡ 0)) }
         ensures same { OnErr result (self.new ≡ self.old) }
         ensures err { IfErr result (λ e. RefusesAdmin e self.old) }

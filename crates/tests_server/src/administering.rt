@@ -1,14 +1,14 @@
 //! Administrators' connections: the worked session of the format, single commands and lines, ends inside a command, readers and
 //! writers that do little at a time, or fail, limits that are reached, several subscriptions, and an audit of many entries.
-use crate::hands::{
-    Bounds, ENOUGH, NOTHING, PASS, ROOMY, SMALL, begin, hands, limits_of, offer_all,
-};
 use crate::octets::{FLOW_TO_80, FLOW_TO_443, NOW, ONE_RECORD, TWO_RECORDS};
+use crate::returned_handles::{
+    Bounds, ENOUGH, NOTHING, PASS, ROOMY, SMALL, begin, limits_of, offer_all, returned_handles,
+};
 use crate::server::Told;
 use crate::stage::{Case, ReturnedHandles, play};
 use ipfix_reader::FramingFault;
+use mediator_connections::{ServeFault, serve_admin};
 use mediator_core::SubId;
-use mediator_server::{ServeFault, serve_admin};
 use octet_io::Device;
 use shared_mediator::{
     AdminHandle, DeliveryHandle, EntryLedger, ExporterHandle, RecordLedger, SharedMediator,
@@ -112,7 +112,7 @@ pub(crate) fn administer<E: EntryLedger, H: RecordLedger, R: Wait + Abort>(
     let written = writer.into_inner().octets;
     let answered = answered(alloc, row)?;
     assert!(rt; written.as_slice() == answered.as_slice(), "{written:?}");
-    hands(alloc, exporter, admin, delivery)
+    returned_handles(alloc, exporter, admin, delivery)
 }
 
 /// Behind four records that wait for `acme`: three of them are handed out, behind their template. Then `beta` is subscribed too,

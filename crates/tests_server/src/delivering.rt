@@ -1,10 +1,12 @@
 //! Deliveries: to writers that take all, few octets at a time or none, or fail. After a failure the subscription is gone, and
 //! else all that was queued is sent, also what comes while the delivery waits.
-use crate::hands::{Bounds, ENOUGH, PASS, ROOMY, SMALL, begin, hands, limits_of, offer_all};
 use crate::octets::{NOW, ONE_DELIVERED, ONE_RECORD, PART_BY_PART, TWO_RECORDS};
+use crate::returned_handles::{
+    Bounds, ENOUGH, PASS, ROOMY, SMALL, begin, limits_of, offer_all, returned_handles,
+};
 use crate::stage::{Case, ReturnedHandles, play};
+use mediator_connections::{Clock, ServeFault, deliver};
 use mediator_core::{Fault, SubId, UnknownSub};
-use mediator_server::{Clock, ServeFault, deliver};
 use octet_io::Device;
 use shared_mediator::{
     AdminHandle, DeliveryHandle, EntryLedger, ExporterHandle, PullFault, RecordLedger,
@@ -95,7 +97,7 @@ pub(crate) fn deliver_row<E: EntryLedger, H: RecordLedger, R: Wait + Abort>(
     }
     let mut delivered = deliver_by(rt, alloc, shared, admin, delivery, row)?;
     expect_delivered(rt, shared, &mut delivered, row);
-    hands(alloc, exporter, delivered.admin, Some(delivered.delivery))
+    returned_handles(alloc, exporter, delivered.admin, Some(delivered.delivery))
 }
 
 /// Delivers as the row says.
@@ -297,7 +299,7 @@ pub(crate) fn deliver_meanwhile<
         let mut delivered = deliver_by(rt, alloc, shared, admin, delivery, row)?;
         let (second, exporter) = offering.join(rt);
         expect_delivered(rt, shared, &mut delivered, row);
-        let mut all = hands(alloc, exporter, delivered.admin, Some(delivered.delivery))?;
+        let mut all = returned_handles(alloc, exporter, delivered.admin, Some(delivered.delivery))?;
         all.admins.push(second)?;
         Ok(all)
     })

@@ -1,12 +1,12 @@
 //! Messages and advances that a queue holds up: they wait as long as the server has patience, and only then the subscription is
 //! cut.
 use crate::delivering::{Stands, give_way};
-use crate::hands::{ENOUGH, PASS, SMALL, begin, hands, limits_of, offer_all};
 use crate::octets::{FLOW_TO_80, FLOW_TO_443, NOW, ONE_AND_TWO, ONE_RECORD, TWO_MORE, TWO_RECORDS};
+use crate::returned_handles::{ENOUGH, PASS, SMALL, begin, limits_of, offer_all, returned_handles};
 use crate::stage::{Case, ReturnedHandles, play};
 use admin_text::Topic;
+use mediator_connections::{Control, Patience, Reception, deliver, serve_admin, serve_exporter};
 use mediator_core::SubId;
-use mediator_server::{Control, Patience, Reception, deliver, serve_admin, serve_exporter};
 use mediator_state::Receipt;
 use octet_io::Device;
 use shared_mediator::{
@@ -132,7 +132,7 @@ pub(crate) fn hold_message<E: EntryLedger, H: RecordLedger, R: Threads + Wait + 
     );
     assert!(rt; served.is_ok(), "{served:?}");
     expect_held(rt, shared, &admin, &patient);
-    hands(alloc, exporter, admin, Some(patient.delivery.into_inner()))
+    returned_handles(alloc, exporter, admin, Some(patient.delivery.into_inner()))
 }
 
 /// It waited as often as the row says, and the subscription stands so.
@@ -214,7 +214,7 @@ pub(crate) fn hold_advance<E: EntryLedger, H: RecordLedger, R: Wait + Abort>(
     );
     assert!(rt; served == Ok(1), "{served:?}");
     expect_held(rt, shared, &admin, &patient);
-    let mut all = hands(alloc, exporter, admin, Some(patient.delivery.into_inner()))?;
+    let mut all = returned_handles(alloc, exporter, admin, Some(patient.delivery.into_inner()))?;
     all.exporters.push(other)?;
     Ok(all)
 }
@@ -300,7 +300,7 @@ pub(crate) fn hold_piece<
         let stands = admin.status(rt, shared, SubId(1)).expect(rt, "a status");
         let left = (stands.queued, stands.handed, stands.cut);
         assert!(rt; left == (0, 3, false), "{left:?}");
-        let mut all = hands(alloc, exporter, admin, Some(delivery))?;
+        let mut all = returned_handles(alloc, exporter, admin, Some(delivery))?;
         all.admins.push(second)?;
         Ok(all)
     })

@@ -4,7 +4,7 @@
 //! comes from another thread of the test.
 //!
 //! - `stage`: a case is played on a new shared mediator, which is closed then.
-//! - `octets`: messages and streams; `hands`: the handles, and messages that are offered before.
+//! - `octets`: messages and streams; `returned_handles`: the handles, and messages that are offered before.
 //! - `serving`: of `serve_exporter`. `delivering`: of `deliver`. `administering`: of `serve_admin`. `holding`: what waits for room.
 //! - `server`: what a connection tells and asks its server, noted.
 #![tactic(auto)]
@@ -14,11 +14,11 @@ mod administering;
 #[cfg(test)]
 mod delivering;
 #[cfg(test)]
-mod hands;
-#[cfg(test)]
 mod holding;
 #[cfg(test)]
 mod octets;
+#[cfg(test)]
+mod returned_handles;
 #[cfg(test)]
 mod server;
 #[cfg(test)]

@@ -1,6 +1,6 @@
 //! What a connection tells and asks its server, noted.
 use admin_text::Topic;
-use mediator_server::{Control, Patience, Reception};
+use mediator_connections::{Control, Patience, Reception};
 use mediator_state::Receipt;
 use shared_mediator::KeptEntry;
 use std::alloc::{AllocError, Global};

@@ -1,9 +1,11 @@
 //! Exporters' streams: in pieces, to each fault, and by too few reads. Each time the session is closed then, and no other, behind
 //! the messages that were offered, unless the journal is full.
-use crate::hands::{Bounds, ENOUGH, NOTHING, PASS, ROOMY, begin, hands, limits_of};
 use crate::octets::{
     CUT_OFF, EIGHT_EMPTY, LENGTH_15, LONG_TEMPLATE, ONE_RECORD, SET_OF_3, STREAM, TWO_RECORDS,
     VERSION_9,
+};
+use crate::returned_handles::{
+    Bounds, ENOUGH, NOTHING, PASS, ROOMY, begin, limits_of, returned_handles,
 };
 use crate::server::Told;
 use crate::stage::{Case, ReturnedHandles, play};
@@ -11,8 +13,8 @@ use event_journal::Entry;
 use ipfix_message::DecodeError;
 use ipfix_reader::FramingFault;
 use ipfix_session::ReadError;
+use mediator_connections::{ServeFault, Served, serve_exporter};
 use mediator_core::Fault;
-use mediator_server::{ServeFault, Served, serve_exporter};
 use octet_io::Device;
 use shared_mediator::{Closed, EntryLedger, PullFault, RecordLedger, SharedMediator};
 use std::alloc::{AllocError, Global};
@@ -143,7 +145,7 @@ pub(crate) fn serve<E: EntryLedger, H: RecordLedger, R: Threads + Wait + Abort +
     assert!(rt; told.messages() == Some(row.brought.messages));
     let ended = exporter.end(rt, shared);
     assert!(rt; ended == Err(Fault::UnknownSession) || ended == Err(Fault::JournalFull));
-    let mut all = hands(alloc, exporter, admin, None)?;
+    let mut all = returned_handles(alloc, exporter, admin, None)?;
     all.exporters.push(other)?;
     Ok(all)
 }

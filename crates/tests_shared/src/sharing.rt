@@ -134,16 +134,16 @@ fn play<
 
 /// The handles but for the one that isn't given back.
 fn without<E: EntryLedger, H: RecordLedger>(
-    mut hands: ReturnedHandles<E, H>,
+    mut returned: ReturnedHandles<E, H>,
     case: Case,
 ) -> ReturnedHandles<E, H> {
     match case {
-        Case::NoExporter => hands.exporters.clear(),
-        Case::NoDelivery => hands.deliveries.clear(),
-        Case::NoAdmin => hands.admins.clear(),
+        Case::NoExporter => returned.exporters.clear(),
+        Case::NoDelivery => returned.deliveries.clear(),
+        Case::NoAdmin => returned.admins.clear(),
         _ => {}
     }
-    hands
+    returned
 }
 
 /// One handle in a list.

@@ -71,7 +71,7 @@ pub(crate) fn offer_all<E: EntryLedger, H: RecordLedger, R: Wait + Abort>(
 }
 
 /// All handles: an exporter's, an administrator's, and a delivery's, where there is one.
-pub(crate) fn hands<E: EntryLedger, H: RecordLedger>(
+pub(crate) fn returned_handles<E: EntryLedger, H: RecordLedger>(
     alloc: Global,
     exporter: ExporterHandle<E>,
     admin: AdminHandle<E>,
