@@ -62,7 +62,7 @@ impl Write for Narrow {
         // Each other call fails only for want of memory, and room that is there takes none.
         ensures memory { self.old.schedule.until_failure ≢ 0
             → IfErr result (λ e. error_kind e ≡ ErrorKind.OutOfMemory) }
-        ensures there { self.old.schedule.until_failure ≢ 0
+        ensures no_memory { self.old.schedule.until_failure ≢ 0
             → vec_len self.old.octets + min (length octets.now) self.old.schedule.most
             ≤ vec_capacity self.old.octets → IsOk result }
     {
