@@ -13,7 +13,7 @@
 //! Proved: `be_number` and `write_be` are exact (`value`, `ok`). `read_varlen` answers `None` exactly where no length
 //! and value stand at the front; else it finds the one value whose text stands there, in either form of a length
 //! (`found`, `only`, `exact`, `within`). `write_varlen` writes the shortest form (`ok`). An append that is refused
-//! leaves the `Vec` as it was (`err`), and none is refused where the `Vec` has room (`full`). Law: `one_value`.
+//! leaves the `Vec` as it was (`err`), and none is refused where the `Vec` has room (`memory`). Law: `one_value`.
 #![tactic(auto)]
 
 pub mod message_format;

@@ -38,7 +38,7 @@ pub fn write_be(value: u64, width: usize, out: &mut Vec<u8>) -> Result<(), Alloc
     ensures ok { OnOk result (out.new.items ≡ out.old.items ++ be_octets width value) }
     ensures err { OnErr result (out.new.items ≡ out.old.items) }
     // Room that is there is enough, and is kept.
-    ensures full { OnErr result (vec_capacity out.old < vec_len out.old + width) }
+    ensures memory { OnErr result (vec_capacity out.old < vec_len out.old + width) }
     ensures capacity { vec_capacity out.old ≤ vec_capacity out.new }
 {
     let octets = value.to_be_bytes();

@@ -60,7 +60,7 @@ pub fn write_varlen(value: &[u8], out: &mut Vec<u8>) -> Result<(), AllocError>
     ensures ok { OnOk result (out.new.items ≡ out.old.items ++ shortest_text value.now) }
     ensures err { OnErr result (out.new.items ≡ out.old.items) }
     // Room that is there is enough, and is kept.
-    ensures full { OnErr result
+    ensures memory { OnErr result
         (vec_capacity out.old < vec_len out.old + length (shortest_text value.now)) }
     ensures capacity { vec_capacity out.old ≤ vec_capacity out.new }
 {

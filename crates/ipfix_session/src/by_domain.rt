@@ -85,7 +85,8 @@ impl ByDomain {
         domain: u32,
         changes: &Changes,
     ) -> Result<(), AllocError>
-        ensures same { shown_tables self.new.tables.entries ≡ shown_tables self.old.tables.entries }
+        ensures unchanged { shown_tables self.new.tables.entries
+            ≡ shown_tables self.old.tables.entries }
         ensures room { OnOk result (IsSomeAnd (at_key domain (places_of self.new.tables.entries))
             (λ there. HasPlaces there changes.now.defined.places)) }
     {

@@ -160,7 +160,7 @@ impl Changes {
     /// # Errors
     /// Want of memory. No template is changed, whatever the answer.
     pub(crate) fn make_room(&self, templates: &mut Table) -> Result<(), AllocError>
-        ensures same { templates.new.templates ≡ templates.old.templates }
+        ensures unchanged { templates.new.templates ≡ templates.old.templates }
         ensures room { OnOk result (HasPlaces templates.new.places self.now.defined.places) }
     {
         templates.make_room(&self.defined)

@@ -42,7 +42,7 @@ impl Numbers {
     /// # Errors
     /// Want of memory. No number is changed, whatever the answer.
     pub(crate) fn make_place(&mut self, domain: u32) -> Result<(), AllocError>
-        ensures same { shown_numbers self.new ≡ shown_numbers self.old }
+        ensures unchanged { shown_numbers self.new ≡ shown_numbers self.old }
         ensures made { OnOk result (has_number self.new domain ≡ true) }
     {
         if !self.by_domain.contains_key(&domain) {

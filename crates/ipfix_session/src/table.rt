@@ -138,7 +138,7 @@ impl Table {
     /// # Errors
     /// Want of memory. No template is changed, whatever the answer.
     pub(crate) fn make_room(&mut self, others: &Table) -> Result<(), AllocError>
-        ensures same { self.new.templates ≡ self.old.templates }
+        ensures unchanged { self.new.templates ≡ self.old.templates }
         ensures room { OnOk result (HasPlaces self.new.places others.now.places) }
     {
         self.plain.make_room(&others.plain)?;

@@ -65,7 +65,7 @@ impl Tables {
     /// # Errors
     /// Want of memory. The templates stay, whatever the answer.
     pub(crate) fn share(&mut self, alloc: Global) -> Result<(), AllocError>
-        ensures same { tables_in self.new ≡ tables_in self.old }
+        ensures unchanged { tables_in self.new ≡ tables_in self.old }
         ensures shared { OnOk result (own_places self.new ≡ None) }
     {
         match mem::replace(self, Tables::new(alloc)).into_shared(alloc) {
@@ -99,7 +99,7 @@ impl Tables {
     /// # Errors
     /// Want of memory. The templates stay, whatever the answer.
     fn make_own(&mut self, alloc: Global) -> Result<(), AllocError>
-        ensures same { tables_in self.new ≡ tables_in self.old }
+        ensures unchanged { tables_in self.new ≡ tables_in self.old }
         ensures own { OnOk result (IsSome (own_places self.new)) }
     {
         match mem::replace(self, Tables::new(alloc)).into_own() {
@@ -135,7 +135,7 @@ impl Tables {
         domain: u32,
         changes: &Changes,
     ) -> Result<(), AllocError>
-        ensures same { shown_tables (tables_in self.new) ≡ shown_tables (tables_in self.old) }
+        ensures unchanged { shown_tables (tables_in self.new) ≡ shown_tables (tables_in self.old) }
         ensures room { OnOk result
             (HasTables (own_places self.new) domain (change_of changes.now)) }
     {

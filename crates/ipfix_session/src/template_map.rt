@@ -95,7 +95,7 @@ impl TemplateMap {
     /// # Errors
     /// Want of memory. No template is changed, whatever the answer.
     pub(crate) fn make_room(&mut self, others: &TemplateMap) -> Result<(), AllocError>
-        ensures same { shown_on self.new ≡ shown_on self.old }
+        ensures unchanged { shown_on self.new ≡ shown_on self.old }
         ensures room { OnOk result ((q : ℕ) → has_place others.now q ≡ true
             → has_place self.new q ≡ true) }
     {
@@ -107,7 +107,7 @@ impl TemplateMap {
 
     /// Makes a place for an ID, where it has none.
     fn make_place(&mut self, id: u16) -> Result<(), AllocError>
-        ensures same { shown_on self.new ≡ shown_on self.old }
+        ensures unchanged { shown_on self.new ≡ shown_on self.old }
         ensures made { OnOk result (has_place self.new id ≡ true) }
         ensures stay { OnOk result ((q : ℕ) → has_place self.old q ≡ true
             → has_place self.new q ≡ true) }

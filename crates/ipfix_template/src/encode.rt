@@ -29,7 +29,7 @@ pub fn encode_template(id: u16, template: &Template, out: &mut Vec<u8>) -> Resul
         ≡ out.old.items ++ template_record id (is_options template.now) template.now) }
     ensures err { OnErr result (out.new.items ≡ out.old.items) }
     // Room that is there is enough, and is kept.
-    ensures full { OnErr result (vec_capacity out.old
+    ensures memory { OnErr result (vec_capacity out.old
         < vec_len out.old + length (template_record id (is_options template.now) template.now)) }
     ensures capacity { vec_capacity out.old ≤ vec_capacity out.new }
 {
@@ -51,7 +51,7 @@ pub fn encode_record(whole: &Record, out: &mut Vec<u8>) -> Result<(), AllocError
     ensures ok { OnOk result
         (out.new.items ≡ out.old.items ++ record_text whole.now.template.fields whole.now.values) }
     ensures err { OnErr result (out.new.items ≡ out.old.items) }
-    ensures full { OnErr result (vec_capacity out.old
+    ensures memory { OnErr result (vec_capacity out.old
         < vec_len out.old + length (record_text whole.now.template.fields whole.now.values)) }
     ensures capacity { vec_capacity out.old ≤ vec_capacity out.new }
 {
@@ -63,7 +63,7 @@ fn put_template(id: u16, template: &Template, out: &mut Vec<u8>) -> Result<(), A
     ensures ok { OnOk result (out.new.items
         ≡ out.old.items ++ template_record id (is_options template.now) template.now) }
     ensures err { OnErr result (take (length out.old.items) out.new.items ≡ out.old.items) }
-    ensures full { OnErr result (vec_capacity out.old
+    ensures memory { OnErr result (vec_capacity out.old
         < vec_len out.old + length (template_record id (is_options template.now) template.now)) }
     ensures capacity { vec_capacity out.old ≤ vec_capacity out.new }
 {
@@ -75,7 +75,7 @@ fn put_head(id: u16, template: &Template, out: &mut Vec<u8>) -> Result<(), Alloc
     ensures ok { OnOk result
         (out.new.items ≡ out.old.items ++ record_head id (is_options template.now) template.now) }
     ensures err { OnErr result (out.new.items ≡ out.old.items) }
-    ensures full { OnErr result (vec_capacity out.old
+    ensures memory { OnErr result (vec_capacity out.old
         < vec_len out.old + length (record_head id (is_options template.now) template.now)) }
     ensures capacity { vec_capacity out.old ≤ vec_capacity out.new }
 {
@@ -92,7 +92,7 @@ fn put_head(id: u16, template: &Template, out: &mut Vec<u8>) -> Result<(), Alloc
 fn put_specifiers(fields: &[FieldSpec], out: &mut Vec<u8>) -> Result<(), AllocError>
     ensures ok { OnOk result (out.new.items ≡ out.old.items ++ flat_map specifier fields.now) }
     ensures err { OnErr result (take (length out.old.items) out.new.items ≡ out.old.items) }
-    ensures full { OnErr result
+    ensures memory { OnErr result
         (vec_capacity out.old < vec_len out.old + length (flat_map specifier fields.now)) }
     ensures capacity { vec_capacity out.old ≤ vec_capacity out.new }
 {
@@ -105,7 +105,7 @@ fn put_specifiers(fields: &[FieldSpec], out: &mut Vec<u8>) -> Result<(), AllocEr
 fn put_specifier(field: &FieldSpec, out: &mut Vec<u8>) -> Result<(), AllocError>
     ensures ok { OnOk result (out.new.items ≡ out.old.items ++ specifier field.now) }
     ensures err { OnErr result (out.new.items ≡ out.old.items) }
-    ensures full { OnErr result
+    ensures memory { OnErr result
         (vec_capacity out.old < vec_len out.old + length (specifier field.now)) }
     ensures capacity { vec_capacity out.old ≤ vec_capacity out.new }
 {
@@ -130,7 +130,7 @@ fn put_values(fields: &[FieldSpec], values: &[Bytes], out: &mut Vec<u8>) -> Resu
     ensures ok { OnOk result (out.new.items ≡ out.old.items ++ record_text fields.now values.now) }
     ensures err { OnErr result (take (length out.old.items) out.new.items ≡ out.old.items) }
     // Room that is there is enough, and is kept.
-    ensures full { OnErr result
+    ensures memory { OnErr result
         (vec_capacity out.old < vec_len out.old + length (record_text fields.now values.now)) }
     ensures capacity { vec_capacity out.old ≤ vec_capacity out.new }
 {

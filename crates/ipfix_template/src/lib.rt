@@ -20,7 +20,7 @@
 //! each value's place (`laid`); it needs no memory for `Padding` (`no_memory`). `measure` answers the same without
 //! the values, and whether the record's octets are its values in their shortest texts. `encode_template`,
 //! `encode_record`, `encode_values` and `encode_value` append the exact octets (`ok`) or nothing (`err`), and are not
-//! refused where the `Vec` has room (`full`). A `Record`'s type keeps that its template passes the check, that its
+//! refused where the `Vec` has room (`memory`). A `Record`'s type keeps that its template passes the check, that its
 //! values fit, that each of the two fits one message, and that its octets are its values, each in its shortest text.
 //! `Record::try_new` tests just that, and gives back what it refuses, with the reason; `Record::read` makes a record
 //! of what `measure` found, and takes no memory for a shortest text. `value`, `values` and `entries` show each value

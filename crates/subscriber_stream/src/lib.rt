@@ -12,9 +12,9 @@
 //!
 //! Proved, for every list and place that a stream stands at: `Stream::pull` answers exactly the message built there
 //! for its `now` and `target`, the longest run of announcements and records that fits or one part, and then stands
-//! after it (`ok`); it answers `None` exactly where nothing is queued (`end`), which takes no memory (`quiet`), and a
+//! after it (`ok`); it answers `None` exactly where nothing is queued (`end`), which takes no memory (`no_memory`), and a
 //! refused pull changes nothing (`err`). `room` is exact (`room`, `exact`). `reserve` changes nothing but the
-//! reserved room, and takes no memory where that is enough (`enough`). `push_reserved` takes no memory, and the list
+//! reserved room, and takes no memory where that is enough (`no_memory`). `push_reserved` takes no memory, and the list
 //! is then that list followed by the records (`ok`). `queued`, `handed` and `shapes` are exact. The type keeps that
 //! the octets of each record that waits are its values' (`IsEntry`), so that a copy of them is the record. Laws:
 //! `octets_of_pulls`, `parts_bring_the_list`, `parts_go_on`, `shapes_go_on`, `one_shape`, `sets_are_longest`,

@@ -172,7 +172,7 @@ impl Stream {
         ensures kept { self.old.spare ≤ self.new.spare }
         ensures ok { OnOk result (length records.now ≤ self.new.spare) }
         // Where the room is there already, no memory is taken.
-        ensures enough { length records.now ≤ self.old.spare → IsOk result }
+        ensures no_memory { length records.now ≤ self.old.spare → IsOk result }
     {
         let more = records.len();
         if more <= self.spare {
@@ -285,7 +285,7 @@ impl Stream {
         ensures ok { IfOk result (λ m. Gives self.old.standing now target m self.new.standing) }
         ensures end { IfOk result (λ m. IsNone m ↔ (queued self.old.standing ≡ 0)) }
         // At the end no memory is taken.
-        ensures quiet { queued self.old.standing ≡ 0 → IsOk result }
+        ensures no_memory { queued self.old.standing ≡ 0 → IsOk result }
         ensures limits { self.new.limits ≡ self.old.limits }
         ensures spare { self.new.spare ≡ self.old.spare }
         ensures err { OnErr result (self.new ≡ self.old) }

@@ -26,7 +26,7 @@ pub fn encode_values(
         (out.new.items ≡ out.old.items ++ record_text template.now.fields values.now) }
     ensures err { OnErr result (out.new.items ≡ out.old.items) }
     // Room that is there is enough, and is kept.
-    ensures full { OnErr result (vec_capacity out.old
+    ensures memory { OnErr result (vec_capacity out.old
         < vec_len out.old + length (record_text template.now.fields values.now)) }
     ensures capacity { vec_capacity out.old ≤ vec_capacity out.new }
 {
@@ -50,7 +50,7 @@ pub fn encode_value(field: &FieldSpec, value: &[u8], out: &mut Vec<u8>) -> Resul
     ensures ok { OnOk result (out.new.items ≡ out.old.items ++ value_text field.now value.now) }
     ensures err { OnErr result (out.new.items ≡ out.old.items) }
     // Room that is there is enough, and is kept.
-    ensures full { OnErr result
+    ensures memory { OnErr result
         (vec_capacity out.old < vec_len out.old + length (value_text field.now value.now)) }
     ensures capacity { vec_capacity out.old ≤ vec_capacity out.new }
 {

@@ -44,11 +44,11 @@ returns-clause-capacity c = c.loop-field.invariant.capacity
 pub returns-in_err-encode_value-clause-capacity : goal.returns-in_err-encode_value-clause-capacity
 returns-in_err-encode_value-clause-capacity c = omega (arith, c.loop-field.invariant.capacity, c.encode_value.ensures.capacity)
 
-pub returns-in_err-encode_value-clause-full : goal.returns-in_err-encode_value-clause-full
-returns-in_err-encode_value-clause-full c =
+pub returns-in_err-encode_value-clause-memory : goal.returns-in_err-encode_value-clause-memory
+returns-in_err-encode_value-clause-memory c =
     let t = zip_turn c.args.fields.now c.args.values.now c.loop-field.yielded c.into_iter-field-iterator.result c.loop-field.field-iterator c.next.new.self c.next.result (cc) (cc) c.loop-field.yielded_by (c.in-Some.field, c.in-Some.value) c.in-Some.is c.next.ensures.steps in
     let field = t.2 c.in-Some.field.now in
     let value = t.3 c.in-Some.value.now in
-    let none : vec_capacity c.loop-field.out < length c.loop-field.out.items + length (value_text c.in-Some.field.now c.deref.result.now) = omega (arith, c.in_err-encode_value.ensures.full, c.loop-field.out.ok.0) in
+    let none : vec_capacity c.loop-field.out < length c.loop-field.out.items + length (value_text c.in-Some.field.now c.deref.result.now) = omega (arith, c.in_err-encode_value.ensures.memory, c.loop-field.out.ok.0) in
     let all = no_room_for_values c.args.fields.now c.args.values.now c.in-Some.field.now c.deref.result.now (length c.loop-field.yielded) c.args.out.now.items c.loop-field.out.items (vec_capacity c.args.out.now) (vec_capacity c.loop-field.out) t.0 t.1 (cc) (cc) c.loop-field.invariant.items c.loop-field.invariant.capacity none in
     on_err c.from_residual.result (omega (arith, all, c.args.out.now.ok.0))

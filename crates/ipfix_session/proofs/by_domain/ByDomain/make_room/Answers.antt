@@ -9,11 +9,11 @@ use Rattle.ipfix_session.proofs.PlaceSteps.{shown-room, shown-set}
 use Rattle.ipfix_session.proofs.DomainSteps.{room_there, room_there_or}
 use Rattle.ipfix_session.proofs.by_domain.ByDomain.make_room.Goals as goal
 
-pub returns-in-Some-clause-same : goal.returns-in-Some-clause-same
-returns-in-Some-clause-same c =
+pub returns-in-Some-clause-unchanged : goal.returns-in-Some-clause-unchanged
+returns-in-Some-clause-unchanged c =
     let old : Tabled = c.in-Some.table.now in
     let new : Tabled = c.make_room.new.templates in
-    let same : told new ≡ told old = ap some_of c.make_room.ensures.same in
+    let same : told new ≡ told old = ap some_of c.make_room.ensures.unchanged in
     ap (shown_in told) (c.get_mut.follows.holds new).0 ∙ shown-set told (is_at (nat_cmp c.args.domain)) c.args.self.now.tables.entries old new (sym c.in-Some.ensures.value) same
 
 pub returns-in-Some-clause-room : goal.returns-in-Some-clause-room
@@ -22,11 +22,11 @@ returns-in-Some-clause-room c =
     let there : IsSome (at_key c.args.domain c.args.self.now.tables.entries) = subst (λ (o : Option Tabled). IsSome o) c.in-Some.ensures.value refl in
     room_there_or c.make_room.result c.args.domain (c.get_mut.follows.lender new).entries new c.args.changes.now.defined.places ((c.get_mut.follows.holds new).3 there).1 c.make_room.ensures.room
 
-pub returns-clause-same : goal.returns-clause-same
-returns-clause-same c =
+pub returns-clause-unchanged : goal.returns-clause-unchanged
+returns-clause-unchanged c =
     let place : Tabled = c.make_room-2.new.templates in
     let es = c.get_mut.follows.lender-at-none.entries in
-    let nothing : told place ≡ None = ap some_of (c.make_room-2.ensures.same ∙ c.new-table.ensures) in
+    let nothing : told place ≡ None = ap some_of (c.make_room-2.ensures.unchanged ∙ c.new-table.ensures) in
     let none : at_key c.args.domain es ≡ None = ap (λ (m : BTreeMap ℕ Tabled). at_key c.args.domain m.entries) c.get_mut.follows.holds-at-none ∙ sym c.in_default.ensures.value in
     ap (shown_in told) c.in_ok-insert.ensures.entries ∙ shown-room told c.args.domain place es nothing (ap (λ (o : Option Tabled). is_some o) none)
     ∙ ap (λ (m : BTreeMap ℕ Tabled). shown_in told m.entries) c.get_mut.follows.holds-at-none

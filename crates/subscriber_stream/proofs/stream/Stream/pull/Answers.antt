@@ -21,8 +21,8 @@ pub returns-then-is_empty-clause-end : goal.returns-then-is_empty-clause-end
 returns-then-is_empty-clause-end c =
     rw (← c.self.view_is) (λ _. queued_none c.self.inside.shapes.shapes (items_in c.self.inside.queue.items) (nothing_in _ (none_waits c)), λ _. refl)
 
-pub returns-in_err-message-clause-quiet : goal.returns-in_err-message-clause-quiet
-returns-in_err-message-clause-quiet c =
+pub returns-in_err-message-clause-no_memory : goal.returns-in_err-message-clause-no_memory
+returns-in_err-message-clause-no_memory c =
     rw (← c.self.view_is) (λ none. absurd (omega (arith, something_in _ c.self.invariant.filled (λ e. eqb-false _ 0 (sym c.is_empty.ensures ∙ c.if-is_empty.false) (c.self.inside.queue.ok.0 ∙ e)), none_followed (items_in c.self.inside.queue.items) c.self.invariant.followed (sym (queued_entries c.self.inside.shapes.shapes (items_in c.self.inside.queue.items)) ∙ none))))
 
 pulls : (c : goal.After-hand_out) → Pulls c.args.self.now c.self.inside.shapes.shapes (items_in c.self.inside.queue.items) c.self.inside.handed c.args.target c.fitting-run.result.parts
