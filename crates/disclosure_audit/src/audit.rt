@@ -110,7 +110,7 @@ impl Audit {
         ensures ok { OnOk result (more ≤ self.new.spare) }
         ensures err { OnErr result (self.new ≡ self.old) }
         // Room that is reserved already takes no memory.
-        ensures there { more ≤ self.old.spare → IsOk result }
+        ensures no_memory { more ≤ self.old.spare → IsOk result }
     {
         if more <= self.spare {
             return Ok(());

@@ -98,7 +98,7 @@ impl Running {
     /// # Errors
     /// Want of memory; then nothing is reserved.
     pub fn reserve(&mut self, counts: &[Count]) -> Result<Vec<Addition>, AllocError>
-        ensures same { self.new.groups ≡ self.old.groups }
+        ensures unchanged { self.new.groups ≡ self.old.groups }
         ensures ok { IfOk result (λ additions. AreReady self.new additions.items counts.now) }
         ensures few { length self.new.ready ≤ length counts.now }
         ensures err { OnErr result (self.new.ready ≡ []) }
@@ -213,7 +213,7 @@ impl Running {
     /// Makes ready for all of these to be added, where nothing is reserved.
     fn make_ready(&mut self, counts: &[Count]) -> Result<Vec<Addition>, AllocError>
         requires { self.old.ready ≡ [] }
-        ensures same { self.new.groups ≡ self.old.groups }
+        ensures unchanged { self.new.groups ≡ self.old.groups }
         ensures ok { IfOk result (λ additions. AreReady self.new additions.items counts.now) }
         ensures few { length self.new.ready ≤ length counts.now }
     {
@@ -230,7 +230,7 @@ impl Running {
 
     /// The place of a group, which is made where it is wanting.
     fn place_of(&mut self, group: &Group) -> Result<usize, AllocError>
-        ensures same { self.new.groups ≡ self.old.groups }
+        ensures unchanged { self.new.groups ≡ self.old.groups }
         ensures place { IfOk result (λ place. slice_get (places self.new) place ≡ Some group.now) }
         ensures ready { MakesAtMost group.now self.old.ready self.new.ready }
     {

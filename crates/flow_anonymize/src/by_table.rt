@@ -29,7 +29,7 @@ pub fn disclose_by(
     ensures exact { IfOk result
         (λ d. shown d ≡ disclosure_of name.now domain flow_record.now table.now) }
     // What is said of a record that doesn't pass takes no memory.
-    ensures at_once { (record_verdict_of name.now domain flow_record.now table.now).action
+    ensures no_memory { (record_verdict_of name.now domain flow_record.now table.now).action
         ≢ on_record.Pass
         → IsOk result }
 {
@@ -55,7 +55,7 @@ pub(crate) fn plan_by(
         (record_verdict_of name.now domain flow_record.now table.now)
         (verdicts_of name.now domain flow_record.now table.now) plan) }
     ensures showable { IfOk result (λ plan. IsShowable plan flow_record.now) }
-    ensures at_once { (record_verdict_of name.now domain flow_record.now table.now).action
+    ensures no_memory { (record_verdict_of name.now domain flow_record.now table.now).action
         ≢ on_record.Pass
         → IsOk result }
 {

@@ -19,7 +19,7 @@
 //! Proved: `disclose` answers exactly the disclosure that the rules define: the kept fields in
 //! their order with truncated and degraded values and the scope count, the places and rules of the
 //! removed ones, or why nothing passes, a lost scope field before an empty rest, with the rule that
-//! is named for it (`exact`). For a record whose verdict isn't pass it takes no memory (`at_once`).
+//! is named for it (`exact`). For a record whose verdict isn't pass it takes no memory (`no_memory`).
 //! `disclose_by` answers the same, and `Plans::disclose` gives the same records (`given`) and says
 //! the same of them (`decision`). Laws: `only_permitted_passes` (no field stands in what passes
 //! that its first rule removes, no bit that it cuts off, and no time that is finer than it

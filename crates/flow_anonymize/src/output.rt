@@ -152,7 +152,7 @@ impl Output {
     /// # Errors
     /// Want of memory.
     fn renew_long_run(&mut self) -> Result<(), AllocError>
-        ensures same { OnOk result (self.new ≡ self.old) }
+        ensures unchanged { OnOk result (self.new ≡ self.old) }
     {
         if self.text.len() < LONG_RUN {
             return Ok(());

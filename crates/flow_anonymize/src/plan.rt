@@ -112,7 +112,7 @@ impl Plan {
         requires { IsShowable self.now flow_record.now }
         ensures exact { IfOk result (λ d. shown d ≡ planned self.now flow_record.now.values) }
         // What is said of a record that isn't shown takes no memory.
-        ensures at_once { ShowsNone self.now → IsOk result }
+        ensures no_memory { ShowsNone self.now → IsOk result }
     {
         match self {
             Plan::Pass {
@@ -150,7 +150,7 @@ impl Plan {
         // What is appended is kept as a record is.
         ensures kept { IsKeptAsText (planned self.now flow_record.now.values) }
         // What is said of a record that isn't shown takes no memory.
-        ensures at_once { ShowsNone self.now → IsOk result }
+        ensures no_memory { ShowsNone self.now → IsOk result }
     {
         match self {
             Plan::Pass { steps, .. } => put_by_steps(steps, flow_record.as_octets(), text),

@@ -25,7 +25,7 @@ impl RecordClasses {
     ) -> Option<RecordClasses>
         requires same { flow_record.now.template ≡ places.now }
         ensures value { result ≡ classes_of classes.old flow_record.now }
-        ensures stay { classes.new ≡ classes.old }
+        ensures unchanged { classes.new ≡ classes.old }
     {
         match classes.keys(places, flow_record) {
             (Some(sources), Some(destinations)) => Some(RecordClasses {

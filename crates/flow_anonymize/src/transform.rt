@@ -36,7 +36,7 @@ pub fn disclose(
     ensures exact { IfOk result
         (λ d. shown d ≡ disclosure_of name.now domain flow_record.now policy.now.rules) }
     // What is said of a record that doesn't pass takes no memory.
-    ensures at_once { (record_verdict_of name.now domain flow_record.now policy.now.rules).action
+    ensures no_memory { (record_verdict_of name.now domain flow_record.now policy.now.rules).action
         ≢ on_record.Pass
         → IsOk result }
 {
@@ -59,7 +59,7 @@ fn plan_of(
         (record_verdict_of name.now domain flow_record.now policy.now.rules)
         (verdicts_of name.now domain flow_record.now policy.now.rules) plan) }
     ensures showable { IfOk result (λ plan. IsShowable plan flow_record.now) }
-    ensures at_once { (record_verdict_of name.now domain flow_record.now policy.now.rules).action
+    ensures no_memory { (record_verdict_of name.now domain flow_record.now policy.now.rules).action
         ≢ on_record.Pass
         → IsOk result }
 {

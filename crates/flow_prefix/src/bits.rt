@@ -19,7 +19,7 @@ pub fn keep_bits(octets: &[u8], n: usize, out: &mut Vec<u8>) -> Result<(), Alloc
     ensures ok { OnOk result (out.new.items ≡ out.old.items ++ kept_octets n octets.now) }
     ensures err { OnErr result (out.new.items ≡ out.old.items) }
     // Room that is there already takes no memory.
-    ensures there { vec_len out.old + length octets.now ≤ vec_capacity out.old → IsOk result }
+    ensures no_memory { vec_len out.old + length octets.now ≤ vec_capacity out.old → IsOk result }
 {
     out.reserve(octets.len())?;
     let mut left = n;

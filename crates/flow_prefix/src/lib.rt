@@ -14,7 +14,7 @@
 //! its one relation, `IsReadAs`), and else names the first fault, each exactly where it stands (`bad_text`,
 //! `bad_length`, `host_bits`). `contains` compares the first bits, and is never so for a value of the other family.
 //! `keep_bits` appends the exact octets (`ok`) or nothing (`err`), and takes no memory where the room is there
-//! (`there`). `print` is the canonical text (`text`), which is read back (`reads_back`). The laws are those above.
+//! (`no_memory`). `print` is the canonical text (`text`), which is read back (`reads_back`). The laws are those above.
 #![tactic(auto)]
 
 mod address;

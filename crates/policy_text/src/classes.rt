@@ -51,7 +51,7 @@ fn read_name(alloc: Global, word: &[u8]) -> Result<Name, FaultKind>
 fn read_up_to(word: &[u8], most: u32) -> Result<u32, FaultKind>
     ensures value { Gives (λ n. n) result (number most word.now) }
     ensures bound { IfOk result (λ n. n ≤ most) }
-    ensures sure { IfErr result (λ kind. is_memory kind ≡ false) }
+    ensures no_memory { IfErr result (λ kind. is_memory kind ≡ false) }
 {
     match read_number(word, most) {
         Some(number) => Ok(number),
@@ -76,7 +76,7 @@ pub(crate) fn read_who(alloc: Global, word: &[u8]) -> Result<Option<Name>, Fault
 #[tactic(auto, unfolding(crate::specs::Classes::or_star))]
 pub(crate) fn read_domain(word: &[u8]) -> Result<Option<u32>, FaultKind>
     ensures value { Gives (λ domain. domain) result (or_star (number 4294967295) word.now) }
-    ensures sure { IfErr result (λ kind. is_memory kind ≡ false) }
+    ensures no_memory { IfErr result (λ kind. is_memory kind ≡ false) }
 {
     if is_star(word) {
         return Ok(None);
@@ -88,7 +88,7 @@ pub(crate) fn read_domain(word: &[u8]) -> Result<Option<u32>, FaultKind>
 #[tactic(auto, unfolding(crate::specs::Classes::prefix))]
 fn read_prefix(word: &[u8]) -> Result<Prefix, FaultKind>
     ensures value { Gives (λ p. p) result (prefix word.now) }
-    ensures sure { IfErr result (λ kind. is_memory kind ≡ false) }
+    ensures no_memory { IfErr result (λ kind. is_memory kind ≡ false) }
 {
     match Prefix::parse_ascii(word) {
         Ok(prefix) => Ok(prefix),
@@ -100,7 +100,7 @@ fn read_prefix(word: &[u8]) -> Result<Prefix, FaultKind>
 #[tactic(auto, unfolding(crate::specs::Classes::or_star))]
 pub(crate) fn read_prefix_or_star(word: &[u8]) -> Result<Option<Prefix>, FaultKind>
     ensures value { Gives (λ p. p) result (or_star prefix word.now) }
-    ensures sure { IfErr result (λ kind. is_memory kind ≡ false) }
+    ensures no_memory { IfErr result (λ kind. is_memory kind ≡ false) }
 {
     if is_star(word) {
         return Ok(None);
@@ -122,7 +122,7 @@ fn find_element(word: &[u8]) -> Option<ElementId>
 #[tactic(auto, unfolding(crate::specs::Classes::element))]
 fn read_element(word: &[u8]) -> Result<ElementId, FaultKind>
     ensures value { Gives (λ e. e) result (element word.now) }
-    ensures sure { IfErr result (λ kind. is_memory kind ≡ false) }
+    ensures no_memory { IfErr result (λ kind. is_memory kind ≡ false) }
 {
     match find_element(word) {
         Some(element) => Ok(element),
@@ -134,7 +134,7 @@ fn read_element(word: &[u8]) -> Result<ElementId, FaultKind>
 #[tactic(auto, unfolding(crate::specs::Classes::or_star))]
 pub(crate) fn read_element_or_star(word: &[u8]) -> Result<Option<ElementId>, FaultKind>
     ensures value { Gives (λ e. e) result (or_star element word.now) }
-    ensures sure { IfErr result (λ kind. is_memory kind ≡ false) }
+    ensures no_memory { IfErr result (λ kind. is_memory kind ≡ false) }
 {
     if is_star(word) {
         return Ok(None);
@@ -216,7 +216,7 @@ pub(crate) fn place_of(aggregates: &[AggregateDef], word: &[u8]) -> Option<usize
 #[tactic(auto, unfolding(crate::specs::Classes::aggregate_place))]
 pub(crate) fn read_place(aggregates: &[AggregateDef], word: &[u8]) -> Result<usize, FaultKind>
     ensures value { Gives (λ place. place) result (aggregate_place aggregates.now word.now) }
-    ensures sure { IfErr result (λ kind. is_memory kind ≡ false) }
+    ensures no_memory { IfErr result (λ kind. is_memory kind ≡ false) }
 {
     if !is_name_word(word) {
         return Err(FaultKind::BadName);
@@ -253,7 +253,7 @@ pub(crate) fn read_new_name(
 pub(crate) fn read_interval(word: &[u8]) -> Result<u32, FaultKind>
     ensures value { Gives (λ n. n) result (interval word.now) }
     ensures bound { IfOk result (λ n. (1 ≤ n) × (n ≤ 86400)) }
-    ensures sure { IfErr result (λ kind. is_memory kind ≡ false) }
+    ensures no_memory { IfErr result (λ kind. is_memory kind ≡ false) }
 {
     let seconds = read_up_to(word, MOST_SECONDS)?;
     if seconds < 1 {
@@ -266,7 +266,7 @@ pub(crate) fn read_interval(word: &[u8]) -> Result<u32, FaultKind>
 pub(crate) fn read_grace(word: &[u8]) -> Result<u32, FaultKind>
     ensures value { Gives (λ n. n) result (number 86400 word.now) }
     ensures bound { IfOk result (λ n. n ≤ 86400) }
-    ensures sure { IfErr result (λ kind. is_memory kind ≡ false) }
+    ensures no_memory { IfErr result (λ kind. is_memory kind ≡ false) }
 {
     read_up_to(word, MOST_SECONDS)
 }
@@ -275,7 +275,7 @@ pub(crate) fn read_grace(word: &[u8]) -> Result<u32, FaultKind>
 #[tactic(auto, unfolding(crate::specs::Classes::bits_within))]
 pub(crate) fn read_bits(width: u32, word: &[u8]) -> Result<usize, FaultKind>
     ensures value { Gives (λ n. n) result (bits_within width word.now) }
-    ensures sure { IfErr result (λ kind. is_memory kind ≡ false) }
+    ensures no_memory { IfErr result (λ kind. is_memory kind ≡ false) }
 {
     let bits = read_up_to(word, THREE_DIGITS)?;
     if bits > width {

@@ -37,7 +37,7 @@ impl Words<'_> {
     fn domain(&mut self) -> Result<Option<u32>, FaultKind>
         ensures value { Gives (λ domain. (domain, self.new)) result
             (next (or_star (number 4294967295)) self.old) }
-        ensures sure { IfErr result (λ kind. is_memory kind ≡ false) }
+        ensures no_memory { IfErr result (λ kind. is_memory kind ≡ false) }
     {
         let word = self.word()?;
         read_domain(word)
@@ -47,7 +47,7 @@ impl Words<'_> {
     fn prefix(&mut self) -> Result<Option<Prefix>, FaultKind>
         ensures value { Gives
             (λ prefix. (prefix, self.new)) result (next (or_star prefix) self.old) }
-        ensures sure { IfErr result (λ kind. is_memory kind ≡ false) }
+        ensures no_memory { IfErr result (λ kind. is_memory kind ≡ false) }
     {
         let word = self.word()?;
         read_prefix_or_star(word)
@@ -56,7 +56,7 @@ impl Words<'_> {
     #[tactic(auto, unfolding(crate::specs::Lines::next))]
     fn element(&mut self) -> Result<Option<ElementId>, FaultKind>
         ensures value { Gives (λ e. (e, self.new)) result (next (or_star element) self.old) }
-        ensures sure { IfErr result (λ kind. is_memory kind ≡ false) }
+        ensures no_memory { IfErr result (λ kind. is_memory kind ≡ false) }
     {
         let word = self.word()?;
         read_element_or_star(word)
@@ -66,7 +66,7 @@ impl Words<'_> {
     fn place(&mut self, aggregates: &[AggregateDef]) -> Result<usize, FaultKind>
         ensures value { Gives (λ place. (place, self.new)) result
             (next (aggregate_place aggregates.now) self.old) }
-        ensures sure { IfErr result (λ kind. is_memory kind ≡ false) }
+        ensures no_memory { IfErr result (λ kind. is_memory kind ≡ false) }
     {
         let word = self.word()?;
         read_place(aggregates, word)
@@ -76,7 +76,7 @@ impl Words<'_> {
     fn bits(&mut self, width: u32) -> Result<usize, FaultKind>
         ensures value { Gives
             (λ bits. (bits, self.new)) result (next (bits_within width) self.old) }
-        ensures sure { IfErr result (λ kind. is_memory kind ≡ false) }
+        ensures no_memory { IfErr result (λ kind. is_memory kind ≡ false) }
     {
         let word = self.word()?;
         read_bits(width, word)
@@ -86,7 +86,7 @@ impl Words<'_> {
     #[tactic(auto, unfolding(crate::specs::Lines::truncate_of))]
     fn truncate(&mut self, width: Option<u32>) -> Result<Action, FaultKind>
         ensures value { Gives (λ action. (action, self.new)) result (truncate_of width self.old) }
-        ensures sure { IfErr result (λ kind. is_memory kind ≡ false) }
+        ensures no_memory { IfErr result (λ kind. is_memory kind ≡ false) }
     {
         let Some(width) = width else {
             return Err(FaultKind::BadTruncate);
@@ -99,7 +99,7 @@ impl Words<'_> {
     #[tactic(auto, unfolding(crate::specs::Lines::degrade_of))]
     fn degrade(&mut self, is_time: bool) -> Result<Action, FaultKind>
         ensures value { Gives (λ action. (action, self.new)) result (degrade_of is_time self.old) }
-        ensures sure { IfErr result (λ kind. is_memory kind ≡ false) }
+        ensures no_memory { IfErr result (λ kind. is_memory kind ≡ false) }
     {
         if !is_time {
             return Err(FaultKind::BadDegrade);
@@ -117,7 +117,7 @@ impl Words<'_> {
     ) -> Result<Action, FaultKind>
         ensures value { Gives (λ action. (action, self.new)) result
             (element_action version element.now self.old) }
-        ensures sure { IfErr result (λ kind. is_memory kind ≡ false) }
+        ensures no_memory { IfErr result (λ kind. is_memory kind ≡ false) }
     {
         let word = self.word()?;
         if is_word(word, b"keep") {
@@ -142,7 +142,7 @@ impl Words<'_> {
     ) -> Result<(Option<ElementId>, Action), FaultKind>
         ensures value { Gives (λ done. (done, self.new)) result
             (aggregate_action aggregates.now self.old) }
-        ensures sure { IfErr result (λ kind. is_memory kind ≡ false) }
+        ensures no_memory { IfErr result (λ kind. is_memory kind ≡ false) }
     {
         let place = self.place(aggregates)?;
         Ok((None, Action::Aggregate(place)))
@@ -151,7 +151,7 @@ impl Words<'_> {
     #[tactic(auto, unfolding(crate::specs::Lines::on_element))]
     fn on_element(&mut self, version: Version) -> Result<(Option<ElementId>, Action), FaultKind>
         ensures value { Gives (λ done. (done, self.new)) result (on_element version self.old) }
-        ensures sure { IfErr result (λ kind. is_memory kind ≡ false) }
+        ensures no_memory { IfErr result (λ kind. is_memory kind ≡ false) }
     {
         let element = self.element()?;
         let action = self.element_action(version, &element)?;
@@ -167,7 +167,7 @@ impl Words<'_> {
     ) -> Result<(Option<ElementId>, Action), FaultKind>
         ensures value { Gives (λ done. (done, self.new)) result
             (action_of version aggregates.now self.old) }
-        ensures sure { IfErr result (λ kind. is_memory kind ≡ false) }
+        ensures no_memory { IfErr result (λ kind. is_memory kind ≡ false) }
     {
         let word = self.word()?;
         if is_word(word, b"pass") {
@@ -210,7 +210,7 @@ impl Words<'_> {
     fn interval(&mut self) -> Result<u32, FaultKind>
         ensures value { Gives (λ n. (n, self.new)) result (next interval self.old) }
         ensures bound { IfOk result (λ n. (1 ≤ n) × (n ≤ 86400)) }
-        ensures sure { IfErr result (λ kind. is_memory kind ≡ false) }
+        ensures no_memory { IfErr result (λ kind. is_memory kind ≡ false) }
     {
         let word = self.word()?;
         read_interval(word)
@@ -220,7 +220,7 @@ impl Words<'_> {
     fn grace(&mut self) -> Result<u32, FaultKind>
         ensures value { Gives (λ n. (n, self.new)) result (next (number 86400) self.old) }
         ensures bound { IfOk result (λ n. n ≤ 86400) }
-        ensures sure { IfErr result (λ kind. is_memory kind ≡ false) }
+        ensures no_memory { IfErr result (λ kind. is_memory kind ≡ false) }
     {
         let word = self.word()?;
         read_grace(word)

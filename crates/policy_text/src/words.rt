@@ -45,7 +45,7 @@ impl<'a> Words<'a> {
     #[tactic(auto, unfolding(crate::specs::Lines::next_of))]
     pub(crate) fn word(&mut self) -> Result<&'a [u8], FaultKind>
         ensures value { Gives (λ word. (word.now, self.new)) result (next_of self.old) }
-        ensures sure { IfErr result (λ kind. is_memory kind ≡ false) }
+        ensures no_memory { IfErr result (λ kind. is_memory kind ≡ false) }
     {
         match self.take() {
             Some(word) => Ok(word),
@@ -57,7 +57,7 @@ impl<'a> Words<'a> {
     #[tactic(auto, unfolding(crate::specs::Lines::after))]
     pub(crate) fn keyword(&mut self, keyword: &[u8]) -> Result<(), FaultKind>
         ensures value { Gives (λ _. self.new) result (after keyword.now self.old) }
-        ensures sure { IfErr result (λ kind. is_memory kind ≡ false) }
+        ensures no_memory { IfErr result (λ kind. is_memory kind ≡ false) }
     {
         let word = self.word()?;
         if is_word(word, keyword) {
@@ -71,7 +71,7 @@ impl<'a> Words<'a> {
     #[tactic(auto, unfolding(crate::specs::Lines::ended))]
     pub(crate) fn end(&mut self) -> Result<(), FaultKind>
         ensures value { Gives (λ _. tt) result (ended self.old) }
-        ensures sure { IfErr result (λ kind. is_memory kind ≡ false) }
+        ensures no_memory { IfErr result (λ kind. is_memory kind ≡ false) }
     {
         match self.take() {
             Some(_) => Err(FaultKind::UnknownWord),

@@ -75,7 +75,7 @@ impl RecentClasses {
         ensures sources { result.0 ≡ key_of self.old (values_of (is_of Source) flow_record.now) }
         ensures destinations { result.1
             ≡ key_of self.old (values_of (is_of Destination) flow_record.now) }
-        ensures stay { self.new ≡ self.old }
+        ensures unchanged { self.new ≡ self.old }
     {
         // What is read of the cuts has what their type keeps of them, as `few` says.
         let _count = self.classes.cuts().len();

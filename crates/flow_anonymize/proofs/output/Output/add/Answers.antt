@@ -9,7 +9,7 @@ use Rattle.flow_anonymize.proofs.output.Output.add.Goals as goal
 
 -- the template that is written
 template_is : (c : goal.After-push_reserved) → option_map arc_value c.self.inside.template ≡ c.args.self.now.writing
-template_is c = ap (λ (o : OutputOf). o.writing) (c.self.view_is ∙ c.in_ok-renew_long_run.ensures.same)
+template_is c = ap (λ (o : OutputOf). o.writing) (c.self.view_is ∙ c.in_ok-renew_long_run.ensures.unchanged)
 
 some : (c : goal.After-push_reserved) → IsSome (option_map arc_value c.self.inside.template)
 some c = subst (λ (t : Option Template). IsSome t) (sym (template_is c)) c.requires.begun
@@ -25,4 +25,4 @@ invariant_of-self-in-Ok c =
 pub returns-in-Ok : goal.returns-in-Ok
 returns-in-Ok c =
     add_shows c.args.plan.now c.args.flow_record.now c.args.self.now c.renew_long_run.new.self c.self.inside.done (option_map arc_value c.self.inside.template) c.self.inside.text.items c.self.inside.ends.items c.put_shown.new.text.items c.reserve.new.self.items c.push_reserved.new.self.items c.in-Ok.end
-    c.requires.showable (some c) (same c) c.self.invariant c.in-Ok.ensures.text c.in_ok-reserve.ensures.items c.push_reserved.ensures.items c.in-Ok.ensures.end c.self.view_is c.in_ok-renew_long_run.ensures.same
+    c.requires.showable (some c) (same c) c.self.invariant c.in-Ok.ensures.text c.in_ok-reserve.ensures.items c.push_reserved.ensures.items c.in-Ok.ensures.end c.self.view_is c.in_ok-renew_long_run.ensures.unchanged

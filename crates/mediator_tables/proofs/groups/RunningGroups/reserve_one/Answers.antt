@@ -13,7 +13,7 @@ invariant_of-self-2 c = once_written c.self.inside.by_number.entries c.in_ok-pla
 
 pub returns-in_err-additions-in-Some-clause-same : goal.returns-in_err-additions-in-Some-clause-same
 returns-in_err-additions-in-Some-clause-same c q =
-    groups_held c.place_of.new.self c.self.inside.by_number.entries c.in_ok-place.place c.args.tally.now.sub c.in-Some.groups.now c.reserve.new.self c.self.view_is c.in_ok-place.ensures.ok c.self.invariant (search rules) c.reserve.ensures.same q
+    groups_held c.place_of.new.self c.self.inside.by_number.entries c.in_ok-place.place c.args.tally.now.sub c.in-Some.groups.now c.reserve.new.self c.self.view_is c.in_ok-place.ensures.ok c.self.invariant (search rules) c.reserve.ensures.unchanged q
     ∙ ap (λ (h : Held). h.groups) (c.in_ok-place.ensures.same q)
 
 pub returns-in_err-additions-in-Some-clause-few : goal.returns-in_err-additions-in-Some-clause-few
@@ -38,7 +38,7 @@ unreachable-requires c =
 
 pub returns-clause-same : goal.returns-clause-same
 returns-clause-same c q =
-    groups_held c.place_of.new.self c.self.inside.by_number.entries c.in_ok-place.place c.args.tally.now.sub c.in-Some.groups.now c.reserve.new.self c.self.view_is c.in_ok-place.ensures.ok c.self.invariant (search rules) c.reserve.ensures.same q
+    groups_held c.place_of.new.self c.self.inside.by_number.entries c.in_ok-place.place c.args.tally.now.sub c.in-Some.groups.now c.reserve.new.self c.self.view_is c.in_ok-place.ensures.ok c.self.invariant (search rules) c.reserve.ensures.unchanged q
     ∙ ap (λ (h : Held). h.groups) (c.in_ok-place.ensures.same q)
 
 pub returns-clause-few : goal.returns-clause-few
