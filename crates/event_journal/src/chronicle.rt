@@ -51,7 +51,7 @@ pub trait Chronicle {
         ensures ok { OnOk result (more ≤ spare self.new) }
         ensures err { OnErr result (spare self.new ≡ spare self.old) }
         // Room that is reserved already takes no memory.
-        ensures there { more ≤ spare self.old → IsOk result };
+        ensures no_memory { more ≤ spare self.old → IsOk result };
 
     /// Puts `entry` behind the others, into the reserved room, of which there is then less by one. The caller has seen
     /// to it that the limits allow the entry (`room`) and that there is reserved room (`reserve`). It takes no memory

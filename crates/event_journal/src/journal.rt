@@ -91,7 +91,7 @@ impl Journal {
         ensures ok { OnOk result (more ≤ self.new.spare) }
         ensures err { OnErr result (self.new ≡ self.old) }
         // Room that is reserved already takes no memory.
-        ensures there { more ≤ self.old.spare → IsOk result }
+        ensures no_memory { more ≤ self.old.spare → IsOk result }
     {
         self.entries.reserve(more as usize)?;
         self.tally.reserve(more);

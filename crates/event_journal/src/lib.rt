@@ -12,7 +12,7 @@
 //!
 //! Proved: `room` is true exactly where both limits leave room for all the entries and a journal file can spell each of
 //! them. `reserve` keeps all but the reserved room, fails only for want of memory, and takes none where the room is
-//! reserved already (`there`); `push_reserved` puts its entry behind the others, takes no memory and cannot fail. `len`
+//! reserved already (`no_memory`); `push_reserved` puts its entry behind the others, takes no memory and cannot fail. `len`
 //! and `octets` are those of the entries (`value`), within limits that stand in their ranges (`within`, `limits`), and
 //! `get` answers the entry at its position, or `None` past the last one. `last_edit` is the text of the last edit. A journal
 //! file can spell each entry of every journal (`spelled` of `len`). A [`Tally`] answers as a [`Journal`] of the same

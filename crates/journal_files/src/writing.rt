@@ -96,7 +96,7 @@ impl JournalWriter {
         requires spelled { IsSpelled entry.now }
         // One entry less is left to write, or as many as before.
         ensures left { OnOk result (self.new + 1 ≡ self.old) }
-        ensures same { OnErr result (self.new ≡ self.old) }
+        ensures unchanged { OnErr result (self.new ≡ self.old) }
         // The octets of the entry are written, or it is told how many of them are.
         ensures written { OnOk result (Appends (S.contents sink.old) (S.contents sink.new)
             (octets_of entry.now)) }
