@@ -87,7 +87,7 @@ impl Exporters {
     /// # Errors
     /// Want of memory. Whatever the answer, only reserved room has changed.
     pub fn make_room(&mut self, session: u64, reading: &Reading) -> Result<(), AllocError>
-        ensures same { SameExporters self.old self.new }
+        ensures unchanged { SameExporters self.old self.new }
         ensures room { OnOk result (HasRoomToKeep self.new session reading.now) }
     {
         self.sessions.make_room(session, reading)

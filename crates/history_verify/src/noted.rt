@@ -40,7 +40,8 @@ impl Noted {
     /// # Errors
     /// Want of memory. Whatever the answer, only reserved room has changed.
     pub(crate) fn reserve(&mut self, more: usize) -> Result<(), AllocError>
-        ensures same { (list : List OneEntry) → AreNoted self.old list → AreNoted self.new list }
+        ensures unchanged { (list : List OneEntry) → AreNoted self.old list
+            → AreNoted self.new list }
         ensures room { OnOk result (HasRoomToNote self.new more) }
         ensures wanted { self.new.wanted ≡ self.old.wanted }
     {

@@ -104,7 +104,7 @@ impl Replay {
         ensures ok { OnOk result (TakesNext self.old (Open session) self.new) }
         ensures err { IfErr result (λ e. RefusesNext e self.old (Open session)) }
         // A refused entry changes nothing. Whether the audit is kept stays in any case.
-        ensures same { OnErr result (IsSameReplay self.old self.new) }
+        ensures unchanged { OnErr result (IsSameReplay self.old self.new) }
         ensures wanted { self.new.audit.wanted ≡ self.old.audit.wanted }
     {
         if !self.exporters.is_next(session) {
@@ -125,7 +125,7 @@ impl Replay {
         ensures ok { OnOk result (TakesNext self.old (Close session) self.new) }
         ensures err { IfErr result (λ e. RefusesNext e self.old (Close session)) }
         // A refused entry changes nothing. Whether the audit is kept stays in any case.
-        ensures same { OnErr result (IsSameReplay self.old self.new) }
+        ensures unchanged { OnErr result (IsSameReplay self.old self.new) }
         ensures wanted { self.new.audit.wanted ≡ self.old.audit.wanted }
     {
         if !self.exporters.is_open(session) {
@@ -146,7 +146,7 @@ impl Replay {
         ensures ok { OnOk result (TakesNext self.old (Edit text.now) self.new) }
         ensures err { IfErr result (λ e. RefusesNext e self.old (Edit text.now)) }
         // A refused entry changes nothing. Whether the audit is kept stays in any case.
-        ensures same { OnErr result (IsSameReplay self.old self.new) }
+        ensures unchanged { OnErr result (IsSameReplay self.old self.new) }
         ensures wanted { self.new.audit.wanted ≡ self.old.audit.wanted }
     {
         let policy = self.read_policy(text)?;
@@ -187,7 +187,7 @@ impl Replay {
         ensures ok { OnOk result (TakesNext self.old (Subscribe sub name.now) self.new) }
         ensures err { IfErr result (λ e. RefusesNext e self.old (Subscribe sub name.now)) }
         // A refused entry changes nothing. Whether the audit is kept stays in any case.
-        ensures same { OnErr result (IsSameReplay self.old self.new) }
+        ensures unchanged { OnErr result (IsSameReplay self.old self.new) }
         ensures wanted { self.new.audit.wanted ≡ self.old.audit.wanted }
     {
         if !self.subscribers.is_next(sub) || self.subscribers.is_taken(name.as_str()) {
@@ -208,7 +208,7 @@ impl Replay {
         ensures ok { OnOk result (TakesNext self.old (Unsubscribe sub) self.new) }
         ensures err { IfErr result (λ e. RefusesNext e self.old (Unsubscribe sub)) }
         // A refused entry changes nothing. Whether the audit is kept stays in any case.
-        ensures same { OnErr result (IsSameReplay self.old self.new) }
+        ensures unchanged { OnErr result (IsSameReplay self.old self.new) }
         ensures wanted { self.new.audit.wanted ≡ self.old.audit.wanted }
     {
         if !self.subscribers.is_live(sub) {
@@ -237,7 +237,7 @@ impl Replay {
         requires short { StandsShort self.old }
         ensures ok { OnOk result ((h : List Entry) → Stands self.old h → MayCut h sub
             → Stands self.new (h ++ Cut sub ∷ [])) }
-        ensures same { OnErr result (IsSameReplay self.old self.new) }
+        ensures unchanged { OnErr result (IsSameReplay self.old self.new) }
         ensures wanted { self.new.audit.wanted ≡ self.old.audit.wanted }
     {
         self.waiting.reserve(1)?;
@@ -330,7 +330,7 @@ impl Replay {
         requires short { StandsShort self.old }
         requires few { length reading.now.meaning.records ≤ 2 ^ 32 }
         // Nothing changes.
-        ensures same { self.new ≡ self.old }
+        ensures unchanged { self.new ≡ self.old }
         // The place is that of the first such cut, by the definitions.
         ensures within { IfOk result (λ place. IfSome place
             (λ n. n < length self.old.waiting.items)) }
@@ -353,7 +353,7 @@ impl Replay {
     /// Want of memory.
     pub(crate) fn judge(&mut self, reading: &Reading) -> Result<Judged, AllocError>
         requires few { length reading.now.meaning.records ≤ 2 ^ 32 }
-        ensures same { self.new ≡ self.old }
+        ensures unchanged { self.new ≡ self.old }
         ensures judged { IfOk result (λ j. (h : List Entry) (session number : ℕ) (octets : List ℕ)
             → Stands self.old h → IsReadOf h session number octets reading.now
             → IsJudged self.new.audit.wanted h (Message session number octets) j) }
@@ -394,7 +394,7 @@ impl Replay {
             → IsJudged self.old.audit.wanted h (Message session number octets) judged
             → IsTaken self.new h (Message session number octets)) }
         // Want of memory changes nothing. Whether the audit is kept stays in any case.
-        ensures same { OnErr result (IsSameReplay self.old self.new) }
+        ensures unchanged { OnErr result (IsSameReplay self.old self.new) }
         ensures wanted { self.new.audit.wanted ≡ self.old.audit.wanted }
     {
         let Judged {
@@ -463,7 +463,7 @@ impl Replay {
             → AllByRecursion (λ sub. given_at sub settled (Advance t) ≢ []) self.old.waiting.items
             → IsTaken self.new h (Advance t)) }
         // Want of memory changes nothing. Whether the audit is kept stays in any case.
-        ensures same { OnErr result (IsSameReplay self.old self.new) }
+        ensures unchanged { OnErr result (IsSameReplay self.old self.new) }
         ensures wanted { self.new.audit.wanted ≡ self.old.audit.wanted }
     {
         let shares = self.sums.closing(t)?;

@@ -40,7 +40,7 @@ impl Sums {
     /// # Errors
     /// Want of memory. Whatever the answer, only what is made ready has changed.
     pub(crate) fn reserve(&mut self, tallies: &[Tally]) -> Result<Vec<Reserved>, AllocError>
-        ensures same { SameSums self.old self.new }
+        ensures unchanged { SameSums self.old self.new }
         ensures ready { IfOk result (λ reserved. AreApart (map tallied tallies.now)
             → AllReady self.new.groups (map reserved_for reserved.items)
             (map tallied tallies.now)) }

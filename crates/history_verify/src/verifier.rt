@@ -66,7 +66,8 @@ impl Verifier {
         ensures err { IfErr result (λ e. (h : List OneEntry) → IsFed self.old h
             → NamesFirstOfAny e (h ++ entry.now ∷ [])) }
         // A refused entry changes nothing. Whether the audit is kept stays in any case.
-        ensures same { OnErr result ((h : List OneEntry) → IsFed self.old h → IsFed self.new h) }
+        ensures unchanged { OnErr result ((h : List OneEntry) → IsFed self.old h
+            → IsFed self.new h) }
         ensures wanted { keeps_audit self.new ≡ keeps_audit self.old }
     {
         match entry {
@@ -145,7 +146,8 @@ impl Verifier {
             → IsFed self.new (h ++ Cut sub ∷ [])) }
         ensures err { IfErr result (λ e. e ≡ OutOfMemory) }
         // Want of memory changes nothing. Whether the audit is kept stays in any case.
-        ensures same { OnErr result ((h : List OneEntry) → IsFed self.old h → IsFed self.new h) }
+        ensures unchanged { OnErr result ((h : List OneEntry) → IsFed self.old h
+            → IsFed self.new h) }
         ensures wanted { keeps_audit self.new ≡ keeps_audit self.old }
     {
         if self.behind > 0 || !self.replay.may_cut(sub) {
@@ -170,7 +172,8 @@ impl Verifier {
         ensures err { IfErr result (λ e. (h : List OneEntry) → IsFed self.old h
             → NamesFirstOfAny e (h ++ Message session number octets.now ∷ [])) }
         // A refused entry changes nothing. Whether the audit is kept stays in any case.
-        ensures same { OnErr result ((h : List OneEntry) → IsFed self.old h → IsFed self.new h) }
+        ensures unchanged { OnErr result ((h : List OneEntry) → IsFed self.old h
+            → IsFed self.new h) }
         ensures wanted { keeps_audit self.new ≡ keeps_audit self.old }
     {
         let reading = self.replay.read(session, number, octets)?;
@@ -194,7 +197,8 @@ impl Verifier {
         ensures err { IfErr result (λ e. (h : List OneEntry) → IsFed self.old h
             → NamesFirstOfAny e (h ++ Advance t ∷ [])) }
         // A refused entry changes nothing. Whether the audit is kept stays in any case.
-        ensures same { OnErr result ((h : List OneEntry) → IsFed self.old h → IsFed self.new h) }
+        ensures unchanged { OnErr result ((h : List OneEntry) → IsFed self.old h
+            → IsFed self.new h) }
         ensures wanted { keeps_audit self.new ≡ keeps_audit self.old }
     {
         if !self.replay.may_advance(t) {

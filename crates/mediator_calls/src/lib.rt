@@ -7,7 +7,7 @@
 //!
 //! Proved of each call, by what contracts see of a mediator (its history, the places of its live subscriptions, how
 //! many audit entries were drained, its limits): an accepted call answers what the history says and goes on with just
-//! its entry, behind just the cuts that it makes (`ok`); a refused one changes nothing (`same`), and its fault is the
+//! its entry, behind just the cuts that it makes (`ok`); a refused one changes nothing (`unchanged`), and its fault is the
 //! first cause that stands (`err`). `journal` is the history (`entries`), and so is what `finish` leaves. Every
 //! mediator keeps that what is disclosed can be streamed, that no place or drained count is past its end, that no
 //! number of a session or a subscription comes again and that no more is held than its own limits allow (`sound`): its

@@ -74,7 +74,7 @@ impl Mediator {
     /// on. With secret keys no stranger can choose these so that look-ups take longer and longer. It shows in no
     /// answer.
     pub fn hash_by(&mut self, keys: HashKeys)
-        ensures same { self.new ≡ self.old }
+        ensures unchanged { self.new ≡ self.old }
     {
         self.state.hash_by(keys);
     }
@@ -95,7 +95,7 @@ impl Mediator {
     /// [`Fault::JournalFull`] or [`Fault::OutOfMemory`].
     pub fn open(&mut self) -> Result<SessionId, Fault>
         ensures ok { IfOk result (λ session. Opens self.old session.0 self.new) }
-        ensures same { OnErr result (self.new ≡ self.old) }
+        ensures unchanged { OnErr result (self.new ≡ self.old) }
         ensures err { IfErr result (λ e. RefusesOpen e self.old) }
     {
         match self.state.open() {
@@ -111,7 +111,7 @@ impl Mediator {
     /// stands.
     pub fn close(&mut self, session: SessionId) -> Result<(), Fault>
         ensures ok { OnOk result (Closes self.old session.0 self.new) }
-        ensures same { OnErr result (self.new ≡ self.old) }
+        ensures unchanged { OnErr result (self.new ≡ self.old) }
         ensures err { IfErr result (λ e.
             RefusesClose e (journal_limits self.old.limits) self.old.history session.0) }
     {
@@ -134,7 +134,7 @@ impl Mediator {
     ) -> Result<Receipt, Fault>
         ensures ok { IfOk result (λ receipt.
             Receives self.old session.0 number message receipt self.new) }
-        ensures same { OnErr result (self.new ≡ self.old) }
+        ensures unchanged { OnErr result (self.new ≡ self.old) }
         ensures err { IfErr result (λ e. RefusesReceive e self.old session.0 number message) }
     {
         self.receive_judged(session, number, message, None)
@@ -156,7 +156,7 @@ impl Mediator {
     ) -> Result<Receipt, Fault>
         ensures ok { IfOk result (λ receipt.
             Receives self.old session.0 number message receipt self.new) }
-        ensures same { OnErr result (self.new ≡ self.old) }
+        ensures unchanged { OnErr result (self.new ≡ self.old) }
         ensures err { IfErr result (λ e. RefusesReceive e self.old session.0 number message) }
     {
         self.state.receive_judged(session.0, number, message, ahead)
@@ -169,7 +169,7 @@ impl Mediator {
     /// [`Fault::UnknownSession`] where the session isn't open; or [`Fault::OutOfMemory`].
     pub fn snapshot(&mut self, session: SessionId) -> Result<Snapshot, Fault>
         ensures ok { IfOk result (IsSnapshot self.old.history session.0) }
-        ensures same { self.new ≡ self.old }
+        ensures unchanged { self.new ≡ self.old }
         ensures err { IfErr result (λ e. RefusesSnapshot e self.old.history session.0) }
     {
         self.state.snapshot(session.0)
@@ -191,7 +191,7 @@ impl Mediator {
     ) -> Result<Receipt, (Fault, Prepared)>
         ensures ok { IfOk result (λ receipt.
             Receives self.old session.0 number prepared.message receipt self.new) }
-        ensures same { OnErr result (self.new ≡ self.old) }
+        ensures unchanged { OnErr result (self.new ≡ self.old) }
         ensures err { IfErr result (λ e.
             RefusesReceivePrepared e.0 self.old session.0 number prepared) }
         ensures handed_back { IfErr result (λ e. e.1 ≡ prepared) }
@@ -206,7 +206,7 @@ impl Mediator {
     /// [`Fault::Policy`] where the text is no policy, [`Fault::JournalFull`] or [`Fault::OutOfMemory`].
     pub fn edit(&mut self, text: &str) -> Result<u64, Fault>
         ensures ok { IfOk result (λ edits. Edits self.old text.now edits self.new) }
-        ensures same { OnErr result (self.new ≡ self.old) }
+        ensures unchanged { OnErr result (self.new ≡ self.old) }
         ensures err { IfErr result (λ e.
             RefusesEdit e (journal_limits self.old.limits) self.old.history text.now) }
     {
@@ -220,7 +220,7 @@ impl Mediator {
     /// [`Fault::JournalFull`] or [`Fault::OutOfMemory`].
     pub fn subscribe(&mut self, name: &str) -> Result<SubId, Fault>
         ensures ok { IfOk result (λ sub. Subscribes self.old name.now sub.0 self.new) }
-        ensures same { OnErr result (self.new ≡ self.old) }
+        ensures unchanged { OnErr result (self.new ≡ self.old) }
         ensures err { IfErr result (λ e.
             RefusesSubscribe e (journal_limits self.old.limits) self.old.history name.now) }
     {
@@ -237,7 +237,7 @@ impl Mediator {
     /// [`Fault::UnknownSub`] where it isn't live, [`Fault::JournalFull`] or [`Fault::OutOfMemory`].
     pub fn unsubscribe(&mut self, sub: SubId) -> Result<(), Fault>
         ensures ok { OnOk result (Unsubscribes self.old sub.0 self.new) }
-        ensures same { OnErr result (self.new ≡ self.old) }
+        ensures unchanged { OnErr result (self.new ≡ self.old) }
         ensures err { IfErr result (λ e.
             RefusesUnsubscribe e (journal_limits self.old.limits) self.old.history sub.0) }
     {
@@ -253,7 +253,7 @@ impl Mediator {
     /// that stands; or [`Fault::OutOfMemory`].
     pub fn advance(&mut self, t: u64) -> Result<(), Fault>
         ensures ok { OnOk result (Advances self.old t self.new) }
-        ensures same { OnErr result (self.new ≡ self.old) }
+        ensures unchanged { OnErr result (self.new ≡ self.old) }
         ensures err { IfErr result (λ e. RefusesAdvance e self.old t) }
     {
         self.state.advance(t)
@@ -267,7 +267,7 @@ impl Mediator {
     /// [`Fault::UnknownSub`] where the subscription isn't live; or [`Fault::OutOfMemory`].
     pub fn pull(&mut self, sub: SubId, now: u32, target: u16) -> Result<Option<Bytes>, Fault>
         ensures ok { IfOk result (λ answer. Pulls self.old sub.0 now target answer self.new) }
-        ensures same { OnErr result (self.new ≡ self.old) }
+        ensures unchanged { OnErr result (self.new ≡ self.old) }
         ensures err { IfErr result (λ e. RefusesPull e self.old.history sub.0) }
     {
         self.state.pull(sub.0, now, target)
@@ -319,7 +319,7 @@ impl Mediator {
     /// Want of memory. Where no entry is handed out, there is no error.
     pub fn drain_audit(&mut self, most: u32) -> Result<Vec<AuditEntry>, AllocError>
         ensures ok { IfOk result (λ out. Drains self.old most out.items self.new) }
-        ensures same { OnErr result (self.new ≡ self.old) }
+        ensures unchanged { OnErr result (self.new ≡ self.old) }
         // Nothing to hand out takes no memory.
         ensures none { take most (noted_at self.old) ≡ [] → IsOk result }
     {

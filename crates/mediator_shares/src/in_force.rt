@@ -130,7 +130,7 @@ impl InForce {
     ) -> Result<Judges, AllocError>
         ensures judges { IfOk result (λ judges. JudgesAny judges self.old domain served.now) }
         ensures shares { IfOk result (λ judges. judges.shares ≡ map blank served.now) }
-        ensures stay { self.new ≡ self.old }
+        ensures unchanged { self.new ≡ self.old }
     {
         match self.judges_again(domain, runs, served) {
             Some(judges) => Ok(judges),
@@ -143,7 +143,7 @@ impl InForce {
     fn judges_again(&mut self, domain: u32, runs: &[Run], served: &[Served<'_>]) -> Option<Judges>
         ensures judges { IfSome result (λ judges. JudgesAny judges self.old domain served.now) }
         ensures shares { IfSome result (λ judges. judges.shares ≡ map blank served.now) }
-        ensures stay { self.new ≡ self.old }
+        ensures unchanged { self.new ≡ self.old }
     {
         let place = place_for(&self.judges, domain, runs, served)?;
         Some(self.judges.remove(place))

@@ -133,7 +133,7 @@ impl Judges {
     pub(crate) fn classes_of(&mut self, flow_record: &RecordView<'_>) -> Option<RecordClasses>
         requires { self.old.template ≡ Some flow_record.now.template }
         ensures value { result ≡ classes_of self.old.cuts flow_record.now }
-        ensures stay { self.new ≡ self.old }
+        ensures unchanged { self.new ≡ self.old }
     {
         match &self.places {
             Some(places) => RecordClasses::at(&mut self.classes, places, flow_record),

@@ -14,9 +14,10 @@
 //! Proved: `Shares::of_records` gives each subscription, in their order, the records that the policy discloses to its
 //! subscriber (`shares`) and what counts in its aggregates by the clock (`tallies`), and notes what is kept back or counts
 //! by record and then by subscription (`notes`). What was worked out for a message serves later ones of the same observation
-//! domain to the same subscriptions; that it is for them is looked at each time, and none of it shows in these clauses (`stay`).
-//! `Workspace::judge` gives the same by the terms that it is lent (`judgement`), and `Judgement::shares_by` answers these shares
-//! exactly where its terms are those in force (`due`). `Judgement::counts_more_than` adds up what counts for all of them (`exact`).
+//! domain to the same subscriptions; that it is for them is looked at each time, and none of it shows in these clauses
+//! (`unchanged`). `Workspace::judge` gives the same by the terms that it is lent (`judgement`), and `Judgement::shares_by` answers
+//! these shares exactly where its terms are those in force (`due`). `Judgement::counts_more_than` adds up what counts for all of
+//! them (`exact`).
 #![tactic(auto)]
 
 mod counts;

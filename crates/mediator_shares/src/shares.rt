@@ -59,7 +59,7 @@ impl Shares {
         ensures notes { IfOk result (λ s.
             s.notes ≡ kept_of most (notes_of domain in_force.old records.now served.now)) }
         // The policy and the clock stay.
-        ensures stay { in_force.new ≡ in_force.old }
+        ensures unchanged { in_force.new ≡ in_force.old }
     {
         let mut judges = in_force.judges(alloc, domain, records.runs(), served)?;
         let mut sums = Sums::of_none(alloc, served, most)?;

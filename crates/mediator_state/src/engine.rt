@@ -117,7 +117,7 @@ impl Engine {
 
     /// Hashes by `keys` the groups and templates of subscriptions that begin from now on.
     pub(crate) fn hash_by(&mut self, keys: HashKeys)
-        ensures same { IsSameEngine self.old self.new }
+        ensures unchanged { IsSameEngine self.old self.new }
     {
         self.keys = keys;
         self.groups.hash_by(keys);
@@ -157,7 +157,7 @@ impl Engine {
     pub(crate) fn snapshot(&mut self, number: u64) -> Result<Snapshot, Fault>
         ensures ok { IfOk result (λ snapshot. (h : List Entry) → Stands self.old h
             → IsSnapshot h number snapshot) }
-        ensures same { IsSameEngine self.old self.new }
+        ensures unchanged { IsSameEngine self.old self.new }
         ensures err { IfErr result (λ e. (h : List Entry) → Stands self.old h
             → RefusesSnapshot e h number) }
     {
@@ -178,7 +178,7 @@ impl Engine {
     /// # Errors
     /// Want of memory.
     fn terms(&mut self) -> Result<Arc<Terms>, AllocError>
-        ensures same { IsSameEngine self.old self.new }
+        ensures unchanged { IsSameEngine self.old self.new }
     {
         let served = self.subscriptions.served()?;
         let most = u64::from(self.audit.limit());
@@ -366,7 +366,7 @@ impl Engine {
     pub(crate) fn make_audit_room(&mut self, need: u64, places: usize) -> Result<(), Fault>
         requires few { places ≤ need + 1 }
         // Only reserved room changes; there is enough of it then, or it is told why not.
-        ensures same { IsSameEngine self.old self.new }
+        ensures unchanged { IsSameEngine self.old self.new }
         ensures ok { OnOk result (HasAuditFor self.new.audit need places) }
         ensures err { IfErr result (λ e. LacksAudit e self.old.audit need) }
         // Sessions, subscriptions and groups keep their reserved room.
@@ -388,7 +388,7 @@ impl Engine {
     /// [`Fault::AuditFull`] where the audit has no room for its cuts and notes; or [`Fault::OutOfMemory`]. Only
     /// reserved room has changed then.
     pub(crate) fn make_room(&mut self, plan: &Plan) -> Result<Vec<Reserved>, Fault>
-        ensures same { IsSameEngine self.old self.new }
+        ensures unchanged { IsSameEngine self.old self.new }
         ensures ok { IfOk result (λ reserved.
             HasRoomForPlan self.new plan.now (map reserved_for reserved.items)) }
         ensures err { IfErr result (λ e.
@@ -481,7 +481,7 @@ impl Engine {
     /// [`Fault::AuditFull`] where the audit has no room for its cuts; or [`Fault::OutOfMemory`]. Only reserved room has
     /// changed then.
     pub(crate) fn make_room_to_close(&mut self, closing: &Closing) -> Result<(), Fault>
-        ensures same { IsSameEngine self.old self.new }
+        ensures unchanged { IsSameEngine self.old self.new }
         ensures ok { OnOk result (HasRoomToClose self.new closing.now) }
         ensures err { IfErr result (λ e.
             LacksAudit e self.old.audit (length closing.now.cuts.items)) }

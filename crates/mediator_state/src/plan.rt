@@ -112,7 +112,7 @@ impl Engine {
             → IsNextReading h session number octets reading → IsPlan self.old h number octets p) }
         ensures session { IfOk result (λ p. p.session ≡ session) }
         // Nothing changes.
-        ensures same { self.new ≡ self.old }
+        ensures unchanged { self.new ≡ self.old }
     {
         let judged = self.judge(position, &reading, judgement)?;
         Ok(Plan {
@@ -165,7 +165,7 @@ impl Engine {
         ensures judged { IfOk result (λ j. (h : List Entry) → Stands self.old h
             → length h ≡ position → IsJudgedFor self.old h reading.now.meaning j) }
         // Nothing changes.
-        ensures same { self.new ≡ self.old }
+        ensures unchanged { self.new ≡ self.old }
     {
         let domain = reading.header().domain;
         let records = reading.records();
@@ -227,7 +227,7 @@ fn shares_of_all(
     ensures notes { IfOk result (λ s.
         s.notes ≡ kept_of most (notes_of domain in_force.old records.now served.now)) }
     // The policy and the clock stay.
-    ensures stay { in_force.new ≡ in_force.old }
+    ensures unchanged { in_force.new ≡ in_force.old }
 {
     if let Some(judgement) = judgement {
         if let Some(shares) = judgement.shares_by(in_force, served, most) {
@@ -326,7 +326,7 @@ fn share_left(
     ensures notes { IfOk result (λ s.
         s.notes ≡ kept_of most (notes_of domain in_force.old records.now left.now)) }
     // The policy and the clock stay.
-    ensures stay { in_force.new ≡ in_force.old }
+    ensures unchanged { in_force.new ≡ in_force.old }
 {
     if cuts.is_empty() {
         return Ok(all);

@@ -83,7 +83,7 @@ impl<C: Chronicle + Drop> State<C> {
     /// Hashes by `keys` what exporters choose: the keys of groups, and templates, of subscriptions that begin from now
     /// on. It shows in no answer.
     pub fn hash_by(&mut self, keys: HashKeys)
-        ensures same { (h : List Entry) → StandsFor C.tells self.old h
+        ensures unchanged { (h : List Entry) → StandsFor C.tells self.old h
             → StandsFor C.tells self.new h }
         ensures untouched { IsUntouched self.old.engine self.new.engine }
         ensures journaled { C.limits self.new.chronicle ≡ C.limits self.old.chronicle }
@@ -145,7 +145,7 @@ impl<C: Chronicle + Drop> State<C> {
             → Opens C.tells C.limits self.old h n self.new) }
         ensures untouched { IsUntouched self.old.engine self.new.engine }
         // A refused call changes nothing, and names the first cause. The limits of the journal stay in any case.
-        ensures same { OnErr result ((h : List Entry) → StandsFor C.tells self.old h
+        ensures unchanged { OnErr result ((h : List Entry) → StandsFor C.tells self.old h
             → StandsFor C.tells self.new h) }
         ensures journaled { C.limits self.new.chronicle ≡ C.limits self.old.chronicle }
         ensures err { IfErr result (λ e. (h : List Entry) → StandsFor C.tells self.old h
@@ -172,7 +172,7 @@ impl<C: Chronicle + Drop> State<C> {
             → Closes C.tells C.limits self.old h session self.new) }
         ensures untouched { IsUntouched self.old.engine self.new.engine }
         // A refused call changes nothing, and names the first cause. The limits of the journal stay in any case.
-        ensures same { OnErr result ((h : List Entry) → StandsFor C.tells self.old h
+        ensures unchanged { OnErr result ((h : List Entry) → StandsFor C.tells self.old h
             → StandsFor C.tells self.new h) }
         ensures journaled { C.limits self.new.chronicle ≡ C.limits self.old.chronicle }
         ensures err { IfErr result (λ e. (h : List Entry) → StandsFor C.tells self.old h
@@ -209,7 +209,7 @@ impl<C: Chronicle + Drop> State<C> {
             → Receives C.tells C.limits self.old h session number message r self.new) }
         ensures untouched { IsUntouched self.old.engine self.new.engine }
         // A refused call changes nothing, and names the first cause. The limits of the journal stay in any case.
-        ensures same { OnErr result ((h : List Entry) → StandsFor C.tells self.old h
+        ensures unchanged { OnErr result ((h : List Entry) → StandsFor C.tells self.old h
             → StandsFor C.tells self.new h) }
         ensures journaled { C.limits self.new.chronicle ≡ C.limits self.old.chronicle }
         ensures err { IfErr result (λ e. (h : List Entry) → StandsFor C.tells self.old h
@@ -238,7 +238,7 @@ impl<C: Chronicle + Drop> State<C> {
             → Receives C.tells C.limits self.old h session number message r self.new) }
         ensures untouched { IsUntouched self.old.engine self.new.engine }
         // A refused call changes nothing, and names the first cause. The limits of the journal stay in any case.
-        ensures same { OnErr result ((h : List Entry) → StandsFor C.tells self.old h
+        ensures unchanged { OnErr result ((h : List Entry) → StandsFor C.tells self.old h
             → StandsFor C.tells self.new h) }
         ensures journaled { C.limits self.new.chronicle ≡ C.limits self.old.chronicle }
         ensures err { IfErr result (λ e. (h : List Entry) → StandsFor C.tells self.old h
@@ -260,7 +260,7 @@ impl<C: Chronicle + Drop> State<C> {
         ensures ok { IfOk result (λ snapshot. (h : List Entry) → StandsFor C.tells self.old h
             → IsSnapshot h session snapshot) }
         // Nothing changes.
-        ensures same { (h : List Entry) → StandsFor C.tells self.old h
+        ensures unchanged { (h : List Entry) → StandsFor C.tells self.old h
             → StandsFor C.tells self.new h }
         ensures untouched { IsUntouched self.old.engine self.new.engine }
         ensures journaled { C.limits self.new.chronicle ≡ C.limits self.old.chronicle }
@@ -291,7 +291,7 @@ impl<C: Chronicle + Drop> State<C> {
             → Receives C.tells C.limits self.old h session number prepared.message r self.new) }
         ensures untouched { IsUntouched self.old.engine self.new.engine }
         // A refused call changes nothing, and names the first cause. The limits of the journal stay in any case.
-        ensures same { OnErr result ((h : List Entry) → StandsFor C.tells self.old h
+        ensures unchanged { OnErr result ((h : List Entry) → StandsFor C.tells self.old h
             → StandsFor C.tells self.new h) }
         ensures journaled { C.limits self.new.chronicle ≡ C.limits self.old.chronicle }
         ensures err { IfErr result (λ e. (h : List Entry) → StandsFor C.tells self.old h
@@ -324,7 +324,7 @@ impl<C: Chronicle + Drop> State<C> {
             → Receives C.tells C.limits self.old h session number prepared.old.message r self.new) }
         ensures untouched { IsUntouched self.old.engine self.new.engine }
         // A refused call changes nothing, and names the first cause. The limits of the journal stay in any case.
-        ensures same { OnErr result ((h : List Entry) → StandsFor C.tells self.old h
+        ensures unchanged { OnErr result ((h : List Entry) → StandsFor C.tells self.old h
             → StandsFor C.tells self.new h) }
         ensures journaled { C.limits self.new.chronicle ≡ C.limits self.old.chronicle }
         ensures err { IfErr result (λ e. (h : List Entry) → StandsFor C.tells self.old h
@@ -363,7 +363,7 @@ impl<C: Chronicle + Drop> State<C> {
             → Receives C.tells C.limits self.old h session number message r self.new) }
         ensures untouched { IsUntouched self.old.engine self.new.engine }
         // A refused call changes nothing, and names the first cause. The limits of the journal stay in any case.
-        ensures same { OnErr result ((h : List Entry) → StandsFor C.tells self.old h
+        ensures unchanged { OnErr result ((h : List Entry) → StandsFor C.tells self.old h
             → StandsFor C.tells self.new h) }
         ensures journaled { C.limits self.new.chronicle ≡ C.limits self.old.chronicle }
         ensures err { IfErr result (λ e. (h : List Entry) → StandsFor C.tells self.old h
@@ -401,7 +401,7 @@ impl<C: Chronicle + Drop> State<C> {
             → Edits C.tells C.limits self.old h text.now n self.new) }
         ensures untouched { IsUntouched self.old.engine self.new.engine }
         // A refused call changes nothing, and names the first cause. The limits of the journal stay in any case.
-        ensures same { OnErr result ((h : List Entry) → StandsFor C.tells self.old h
+        ensures unchanged { OnErr result ((h : List Entry) → StandsFor C.tells self.old h
             → StandsFor C.tells self.new h) }
         ensures journaled { C.limits self.new.chronicle ≡ C.limits self.old.chronicle }
         ensures err { IfErr result (λ e. (h : List Entry) → StandsFor C.tells self.old h
@@ -430,7 +430,7 @@ impl<C: Chronicle + Drop> State<C> {
             → Subscribes C.tells C.limits self.old h name.now n self.new) }
         ensures untouched { IsUntouched self.old.engine self.new.engine }
         // A refused call changes nothing, and names the first cause. The limits of the journal stay in any case.
-        ensures same { OnErr result ((h : List Entry) → StandsFor C.tells self.old h
+        ensures unchanged { OnErr result ((h : List Entry) → StandsFor C.tells self.old h
             → StandsFor C.tells self.new h) }
         ensures journaled { C.limits self.new.chronicle ≡ C.limits self.old.chronicle }
         ensures err { IfErr result (λ e. (h : List Entry) → StandsFor C.tells self.old h
@@ -470,7 +470,7 @@ impl<C: Chronicle + Drop> State<C> {
         ensures drained { self.new.engine.audit.standing.drained
             ≡ self.old.engine.audit.standing.drained }
         // A refused call changes nothing, and names the first cause. The limits of the journal stay in any case.
-        ensures same { OnErr result ((h : List Entry) → StandsFor C.tells self.old h
+        ensures unchanged { OnErr result ((h : List Entry) → StandsFor C.tells self.old h
             → StandsFor C.tells self.new h) }
         ensures untouched { OnErr result (IsUntouched self.old.engine self.new.engine) }
         ensures journaled { C.limits self.new.chronicle ≡ C.limits self.old.chronicle }
@@ -501,7 +501,7 @@ impl<C: Chronicle + Drop> State<C> {
             → Advances C.tells C.limits self.old h t self.new) }
         ensures untouched { IsUntouched self.old.engine self.new.engine }
         // A refused call changes nothing, and names the first cause. The limits of the journal stay in any case.
-        ensures same { OnErr result ((h : List Entry) → StandsFor C.tells self.old h
+        ensures unchanged { OnErr result ((h : List Entry) → StandsFor C.tells self.old h
             → StandsFor C.tells self.new h) }
         ensures journaled { C.limits self.new.chronicle ≡ C.limits self.old.chronicle }
         ensures err { IfErr result (λ e. (h : List Entry) → StandsFor C.tells self.old h
@@ -564,7 +564,7 @@ impl<C: Chronicle + Drop> State<C> {
         ensures drained { self.new.engine.audit.standing.drained
             ≡ self.old.engine.audit.standing.drained }
         // A refused call changes nothing, and names the first cause. The limits of the journal stay in any case.
-        ensures same { OnErr result ((h : List Entry) → StandsFor C.tells self.old h
+        ensures unchanged { OnErr result ((h : List Entry) → StandsFor C.tells self.old h
             → StandsFor C.tells self.new h) }
         ensures untouched { OnErr result (IsUntouched self.old.engine self.new.engine) }
         ensures journaled { C.limits self.new.chronicle ≡ C.limits self.old.chronicle }

@@ -107,7 +107,7 @@ impl RunningGroups {
     /// # Errors
     /// Want of memory; then nothing is reserved. No sum changes, whatever the answer.
     pub fn reserve(&mut self, tallies: &[Tally]) -> Result<Vec<Reserved>, AllocError>
-        ensures same { (q : ℕ) → groups_at self.new q ≡ groups_at self.old q }
+        ensures unchanged { (q : ℕ) → groups_at self.new q ≡ groups_at self.old q }
         ensures ok { IfOk result (λ reserved. AreApart (map tallied tallies.now)
             → AllReady self.new (map reserved_for reserved.items) (map tallied tallies.now)) }
         ensures few { (q : ℕ)
@@ -212,7 +212,7 @@ impl RunningGroups {
     /// Makes ready for each of these, where nothing is reserved yet.
     fn reserve_each(&mut self, tallies: &[Tally]) -> Result<Vec<Reserved>, AllocError>
         requires { (q : ℕ) → (held_at self.old q).ready ≡ [] }
-        ensures same { (q : ℕ) → groups_at self.new q ≡ groups_at self.old q }
+        ensures unchanged { (q : ℕ) → groups_at self.new q ≡ groups_at self.old q }
         ensures ok { IfOk result (λ reserved. AreApart (map tallied tallies.now)
             → AllReady self.new (map reserved_for reserved.items) (map tallied tallies.now)) }
         ensures few { (q : ℕ)
@@ -227,7 +227,7 @@ impl RunningGroups {
 
     /// Makes ready for what is added to the groups of one subscription. What was reserved for it before is so no more.
     fn reserve_one(&mut self, tally: &Tally) -> Result<Reserved, AllocError>
-        ensures same { (q : ℕ) → groups_at self.new q ≡ groups_at self.old q }
+        ensures unchanged { (q : ℕ) → groups_at self.new q ≡ groups_at self.old q }
         // What it adds has its place, and no more groups are made than it has counts.
         ensures ok { IfOk result
             (λ reserved. IsReadyFor self.new (reserved_for reserved) (tallied tally.now)) }
@@ -249,7 +249,7 @@ impl RunningGroups {
 
     /// The place of a subscription's groups, which is made where it has none yet.
     fn place_of(&mut self, sub: u64) -> Result<usize, AllocError>
-        ensures same { (q : ℕ) → held_at self.new q ≡ held_at self.old q }
+        ensures unchanged { (q : ℕ) → held_at self.new q ≡ held_at self.old q }
         ensures ok { IfOk result (λ place. StandsAt self.new place sub) }
         ensures err { OnErr result (held_at self.new sub ≡ nothing_held) }
         ensures places { (place q : ℕ) → StandsAt self.old place q → StandsAt self.new place q }

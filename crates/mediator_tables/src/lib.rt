@@ -9,7 +9,7 @@
 //!
 //! Proved: `open` puts a session under its number that stands for no message (`ok`), and where memory is refused
 //! nothing changes (`err`). `close` takes one out. `share` and `make_room` change nothing that a session means, whatever they
-//! answer (`same`), and `keep` then takes no memory: the session stands for one message more and counts it
+//! answer (`unchanged`), and `keep` then takes no memory: the session stands for one message more and counts it
 //! (`keeps`). Each leaves the other numbers as they are.
 //!
 //! Groups, for each subscription by its number:

@@ -88,7 +88,7 @@ impl Live {
     /// # Errors
     /// Want of memory. Whatever the answer, only reserved room has changed.
     pub(crate) fn reserve(&mut self, shares: &[Share]) -> Result<(), AllocError>
-        ensures same { SameLive self.old.by_number.entries self.new.by_number.entries }
+        ensures unchanged { SameLive self.old.by_number.entries self.new.by_number.entries }
         ensures ok { OnOk result (AllByRecursion (HasSpare self.new.by_number.entries)
             (map shown shares.now)) }
     {
@@ -100,7 +100,7 @@ impl Live {
 
     /// Makes room in the stream of the subscription that `share` names for the records of `share`.
     fn reserve_one(&mut self, share: &Share) -> Result<(), AllocError>
-        ensures same { SameLive self.old.by_number.entries self.new.by_number.entries }
+        ensures unchanged { SameLive self.old.by_number.entries self.new.by_number.entries }
         ensures kept { KeepsSpare self.old.by_number.entries self.new.by_number.entries }
         ensures ok { OnOk result (HasSpare self.new.by_number.entries (shown share.now)) }
     {

@@ -84,7 +84,7 @@ impl Sessions {
     /// # Errors
     /// Want of memory. The sessions stand for the same messages, whatever the answer.
     pub fn share(&mut self, number: u64) -> Result<(), AllocError>
-        ensures same { (q : ℕ)
+        ensures unchanged { (q : ℕ)
             → option_map seen (at_key q self.new) ≡ option_map seen (at_key q self.old) }
     {
         if let Some(open) = self.by_number.get_mut(&number) {
@@ -99,7 +99,7 @@ impl Sessions {
     /// # Errors
     /// Want of memory. The sessions stand for the same messages, whatever the answer.
     pub fn make_room(&mut self, number: u64, reading: &Reading) -> Result<(), AllocError>
-        ensures same { (q : ℕ)
+        ensures unchanged { (q : ℕ)
             → option_map seen (at_key q self.new) ≡ option_map seen (at_key q self.old) }
         ensures room { OnOk result
             (IfSome (at_key number self.new) (λ o. HasRoomFor o.session reading.now)) }

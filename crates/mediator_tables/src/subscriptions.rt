@@ -109,7 +109,7 @@ impl Subscriptions {
     /// # Errors
     /// Want of memory. Whatever the answer, only reserved room has changed.
     pub fn reserve(&mut self, shares: &[Share]) -> Result<(), AllocError>
-        ensures same { SameTable self.old self.new }
+        ensures unchanged { SameTable self.old self.new }
         ensures ok { OnOk result (AllByRecursion (λ s. IfSome (at self.new s.0)
             (λ x. length s.1 ≤ x.stream.spare)) (map shown shares.now)) }
     {

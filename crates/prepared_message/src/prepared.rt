@@ -164,7 +164,7 @@ impl Prepared {
     pub fn take_judgement(&mut self) -> Option<Judgement>
         ensures judgement { IfSome result
             (IsJudgementOf (domain_of self.old.message) self.old.contents.records) }
-        ensures same { self.new ≡ self.old }
+        ensures unchanged { self.new ≡ self.old }
     {
         self.judgement.take()
     }

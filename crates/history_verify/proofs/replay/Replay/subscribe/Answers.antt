@@ -15,8 +15,8 @@ returns-then-not-is_next-clause-err c = λ h s. c.bad.ensures (Subscribe c.args.
       (ap (λ (n : List ℕ). is_some (number_of c.args.self.now.subscribers n)) (sym w.as_str.ensures) ∙ sym w.is_taken.ensures ∙ w.if-is_taken.true) is.free
 ])
 
-pub returns-in_err-begin-clause-same : goal.returns-in_err-begin-clause-same
-returns-in_err-begin-clause-same c = on_err c.from_residual.result (same_subscribers c.args.self.now c.begin.new.self c.in_err-begin.ensures.err)
+pub returns-in_err-begin-clause-unchanged : goal.returns-in_err-begin-clause-unchanged
+returns-in_err-begin-clause-unchanged c = on_err c.from_residual.result (same_subscribers c.args.self.now c.begin.new.self c.in_err-begin.ensures.err)
 
 pub returns-clause-ok : goal.returns-clause-ok
 returns-clause-ok c = λ h s none.

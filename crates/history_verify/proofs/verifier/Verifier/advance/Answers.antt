@@ -20,8 +20,8 @@ returns-in_err-borne_out-clause-err c =
     (where_true c.may_advance.result (c.may_advance.ensures fed.front fed.over.stands) c.if-not-may_advance.false)
     (c.in_ok-unborne.ensures.first fed.over.stands.settled fed.front fed.over.stands.over))
 
-pub returns-in_err-advance-clause-same : goal.returns-in_err-advance-clause-same
-returns-in_err-advance-clause-same c = on_err c.from_residual-in_err-advance.result (λ h fed. fed_same c.args.self.now _ h refl c.in_err-advance.ensures.same.stands fed)
+pub returns-in_err-advance-clause-unchanged : goal.returns-in_err-advance-clause-unchanged
+returns-in_err-advance-clause-unchanged c = on_err c.from_residual-in_err-advance.result (λ h fed. fed_same c.args.self.now _ h refl c.in_err-advance.ensures.unchanged.stands fed)
 
 pub returns-clause-ok : goal.returns-clause-ok
 returns-clause-ok c = λ h fed. fed_more c.args.self.now _ h (Advance c.args.t) fed c.in_ok-borne_out.ensures.behind refl

@@ -15,8 +15,8 @@ pub returns-in_ok-none_wait-in-Open-clause-err : goal.returns-in_ok-none_wait-in
 returns-in_ok-none_wait-in-Open-clause-err c =
     err_map c.open.result c.open.ensures.err (λ e names h fed. refused c.args.self.now _ c.args.entry.now e (c.in-Open.is) refl names h fed)
 
-pub returns-in_ok-none_wait-in-Open-clause-same : goal.returns-in_ok-none_wait-in-Open-clause-same
-returns-in_ok-none_wait-in-Open-clause-same c = on_err_map c.open.result c.open.ensures.same (λ same h fed. fed_same c.args.self.now _ h refl same.stands fed)
+pub returns-in_ok-none_wait-in-Open-clause-unchanged : goal.returns-in_ok-none_wait-in-Open-clause-unchanged
+returns-in_ok-none_wait-in-Open-clause-unchanged c = on_err_map c.open.result c.open.ensures.unchanged (λ same h fed. fed_same c.args.self.now _ h refl same.stands fed)
 
 pub returns-in_err-none_wait-in-Close-clause-err : goal.returns-in_err-none_wait-in-Close-clause-err
 returns-in_err-none_wait-in-Close-clause-err c =
@@ -30,8 +30,8 @@ pub returns-in_ok-none_wait-in-Close-clause-err : goal.returns-in_ok-none_wait-i
 returns-in_ok-none_wait-in-Close-clause-err c =
     err_map c.close.result c.close.ensures.err (λ e names h fed. refused c.args.self.now _ c.args.entry.now e (c.in-Close.is) refl names h fed)
 
-pub returns-in_ok-none_wait-in-Close-clause-same : goal.returns-in_ok-none_wait-in-Close-clause-same
-returns-in_ok-none_wait-in-Close-clause-same c = on_err_map c.close.result c.close.ensures.same (λ same h fed. fed_same c.args.self.now _ h refl same.stands fed)
+pub returns-in_ok-none_wait-in-Close-clause-unchanged : goal.returns-in_ok-none_wait-in-Close-clause-unchanged
+returns-in_ok-none_wait-in-Close-clause-unchanged c = on_err_map c.close.result c.close.ensures.unchanged (λ same h fed. fed_same c.args.self.now _ h refl same.stands fed)
 
 pub returns-in_err-none_wait-in-Edit-clause-err : goal.returns-in_err-none_wait-in-Edit-clause-err
 returns-in_err-none_wait-in-Edit-clause-err c =
@@ -45,8 +45,8 @@ pub returns-in_ok-none_wait-in-Edit-clause-err : goal.returns-in_ok-none_wait-in
 returns-in_ok-none_wait-in-Edit-clause-err c =
     err_map c.edit.result c.edit.ensures.err (λ e names h fed. refused c.args.self.now _ c.args.entry.now e (c.in-Edit.is ∙ ap (λ (t : List ℕ). Edit t) (sym c.as_str.ensures)) refl names h fed)
 
-pub returns-in_ok-none_wait-in-Edit-clause-same : goal.returns-in_ok-none_wait-in-Edit-clause-same
-returns-in_ok-none_wait-in-Edit-clause-same c = on_err_map c.edit.result c.edit.ensures.same (λ same h fed. fed_same c.args.self.now _ h refl same.stands fed)
+pub returns-in_ok-none_wait-in-Edit-clause-unchanged : goal.returns-in_ok-none_wait-in-Edit-clause-unchanged
+returns-in_ok-none_wait-in-Edit-clause-unchanged c = on_err_map c.edit.result c.edit.ensures.unchanged (λ same h fed. fed_same c.args.self.now _ h refl same.stands fed)
 
 pub returns-in_err-none_wait-in-Subscribe-clause-err : goal.returns-in_err-none_wait-in-Subscribe-clause-err
 returns-in_err-none_wait-in-Subscribe-clause-err c =
@@ -60,8 +60,8 @@ pub returns-in_ok-none_wait-in-Subscribe-clause-err : goal.returns-in_ok-none_wa
 returns-in_ok-none_wait-in-Subscribe-clause-err c =
     err_map c.subscribe.result c.subscribe.ensures.err (λ e names h fed. refused c.args.self.now _ c.args.entry.now e (c.in-Subscribe.is) refl names h fed)
 
-pub returns-in_ok-none_wait-in-Subscribe-clause-same : goal.returns-in_ok-none_wait-in-Subscribe-clause-same
-returns-in_ok-none_wait-in-Subscribe-clause-same c = on_err_map c.subscribe.result c.subscribe.ensures.same (λ same h fed. fed_same c.args.self.now _ h refl same.stands fed)
+pub returns-in_ok-none_wait-in-Subscribe-clause-unchanged : goal.returns-in_ok-none_wait-in-Subscribe-clause-unchanged
+returns-in_ok-none_wait-in-Subscribe-clause-unchanged c = on_err_map c.subscribe.result c.subscribe.ensures.unchanged (λ same h fed. fed_same c.args.self.now _ h refl same.stands fed)
 
 pub returns-in_err-none_wait-in-Unsubscribe-clause-err : goal.returns-in_err-none_wait-in-Unsubscribe-clause-err
 returns-in_err-none_wait-in-Unsubscribe-clause-err c =
@@ -75,5 +75,5 @@ pub returns-in_ok-none_wait-in-Unsubscribe-clause-err : goal.returns-in_ok-none_
 returns-in_ok-none_wait-in-Unsubscribe-clause-err c =
     err_map c.unsubscribe.result c.unsubscribe.ensures.err (λ e names h fed. refused c.args.self.now _ c.args.entry.now e (c.in-Unsubscribe.is) refl names h fed)
 
-pub returns-in_ok-none_wait-in-Unsubscribe-clause-same : goal.returns-in_ok-none_wait-in-Unsubscribe-clause-same
-returns-in_ok-none_wait-in-Unsubscribe-clause-same c = on_err_map c.unsubscribe.result c.unsubscribe.ensures.same (λ same h fed. fed_same c.args.self.now _ h refl same.stands fed)
+pub returns-in_ok-none_wait-in-Unsubscribe-clause-unchanged : goal.returns-in_ok-none_wait-in-Unsubscribe-clause-unchanged
+returns-in_ok-none_wait-in-Unsubscribe-clause-unchanged c = on_err_map c.unsubscribe.result c.unsubscribe.ensures.unchanged (λ same h fed. fed_same c.args.self.now _ h refl same.stands fed)

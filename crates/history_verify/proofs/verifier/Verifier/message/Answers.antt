@@ -20,7 +20,7 @@ pub unborne_by-requires : goal.unborne_by-requires
 unborne_by-requires c = record { short = short_front c.args.self.now c.requires.short; few = c.in_ok-reading.ensures.few }
 
 pub borne_out-requires-clause-within : goal.borne_out-requires-clause-within
-borne_out-requires-clause-within c = subst (λ (r : Replay). IfSome c.in_ok-unborne.unborne (λ place. place < length r.waiting.items)) (sym c.unborne_by.ensures.same) c.in_ok-unborne.ensures.within
+borne_out-requires-clause-within c = subst (λ (r : Replay). IfSome c.in_ok-unborne.unborne (λ place. place < length r.waiting.items)) (sym c.unborne_by.ensures.unchanged) c.in_ok-unborne.ensures.within
 
 pub returns-in_err-borne_out-clause-err : goal.returns-in_err-borne_out-clause-err
 returns-in_err-borne_out-clause-err c =
@@ -29,7 +29,7 @@ returns-in_err-borne_out-clause-err c =
     let is = c.in_ok-reading.ensures.ok fed.front fed.over.stands in
     names_unborne c.args.self.now h (Message c.args.session c.args.number c.args.octets.now) e c.in_ok-unborne.unborne fed
     (subst (λ (w : VerifyFault). NamesUnborne w c.args.self.now c.in_ok-unborne.unborne) (sym same)
-    (subst (λ (r : Replay). NamesUnborne c.in_err-borne_out.field-0.0 (record { replay = r; behind = c.args.self.now.behind }) c.in_ok-unborne.unborne) c.unborne_by.ensures.same c.in_err-borne_out.ensures.err)) refl
+    (subst (λ (r : Replay). NamesUnborne c.in_err-borne_out.field-0.0 (record { replay = r; behind = c.args.self.now.behind }) c.in_ok-unborne.unborne) c.unborne_by.ensures.unchanged c.in_err-borne_out.ensures.err)) refl
     (read_accepted fed.front c.args.session c.args.number c.args.octets.now c.in_ok-reading.reading is)
     (c.in_ok-unborne.ensures.first fed.over.stands.settled fed.front c.args.session c.args.number c.args.octets.now fed.over.stands.over is))
 
@@ -39,8 +39,8 @@ judge-requires c = record { few = c.in_ok-reading.ensures.few }
 pub message-requires : goal.message-requires
 message-requires c =
     let fed = c.requires.short.fed in
-    let same : c.unborne_by.new.self ≡ c.args.self.now.replay = c.unborne_by.ensures.same in
-    let now : c.judge.new.self ≡ c.args.self.now.replay = c.judge.ensures.same ∙ c.unborne_by.ensures.same in
+    let same : c.unborne_by.new.self ≡ c.args.self.now.replay = c.unborne_by.ensures.unchanged in
+    let now : c.judge.new.self ≡ c.args.self.now.replay = c.judge.ensures.unchanged ∙ c.unborne_by.ensures.unchanged in
     let is = c.in_ok-reading.ensures.ok fed.front fed.over.stands in
     record {
       short = subst StandsShort (sym now) (short_front c.args.self.now c.requires.short);
@@ -58,8 +58,8 @@ message-requires c =
 
 pub returns-clause-ok : goal.returns-clause-ok
 returns-clause-ok c = λ h fed.
-    let same : c.unborne_by.new.self ≡ c.args.self.now.replay = c.unborne_by.ensures.same in
-    let now : c.judge.new.self ≡ c.args.self.now.replay = c.judge.ensures.same ∙ c.unborne_by.ensures.same in
+    let same : c.unborne_by.new.self ≡ c.args.self.now.replay = c.unborne_by.ensures.unchanged in
+    let now : c.judge.new.self ≡ c.args.self.now.replay = c.judge.ensures.unchanged ∙ c.unborne_by.ensures.unchanged in
     let is = c.in_ok-reading.ensures.ok fed.front fed.over.stands in
     fed_more c.args.self.now _ h (Message c.args.session c.args.number c.args.octets.now) fed c.in_ok-borne_out.ensures.behind refl
     (c.in_ok-message.ensures.ok fed.over.stands.settled fed.front c.args.number c.args.octets.now (subst (λ (r : Replay). StandsOver r fed.over.stands.settled fed.front) (sym now) fed.over.stands.over) is

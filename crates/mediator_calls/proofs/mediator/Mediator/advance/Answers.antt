@@ -8,7 +8,7 @@ use Rattle.mediator_calls.proofs.mediator.Mediator.advance.Goals as goal
 pub invariant_of-self : goal.invariant_of-self
 invariant_of-self c = kept_done c.advance.result c.self.inside.state c.advance.new.self c.self.invariant c.advance.ensures.ok
     (λ ok. kept_advance c.self.inside.state c.advance.new.self c.args.t c.self.invariant (ok c.self.inside.state.chronicle.entries c.self.invariant.stands) c.advance.ensures.untouched c.advance.ensures.journaled)
-    c.advance.ensures.same (either_way c.advance.result c.advance.ensures.untouched) c.advance.ensures.journaled
+    c.advance.ensures.unchanged (either_way c.advance.result c.advance.ensures.untouched) c.advance.ensures.journaled
 
 pub returns-clause-ok : goal.returns-clause-ok
 returns-clause-ok c = on_ok_gives c.advance.result c.advance.ensures.ok

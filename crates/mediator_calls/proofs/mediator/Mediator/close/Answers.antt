@@ -8,7 +8,7 @@ use Rattle.mediator_calls.proofs.mediator.Mediator.close.Goals as goal
 pub invariant_of-self : goal.invariant_of-self
 invariant_of-self c = kept_done c.close.result c.self.inside.state c.close.new.self c.self.invariant c.close.ensures.ok
     (λ ok. kept_close c.self.inside.state c.close.new.self c.args.session.0 c.self.invariant (ok c.self.inside.state.chronicle.entries c.self.invariant.stands) c.close.ensures.untouched c.close.ensures.journaled)
-    c.close.ensures.same (either_way c.close.result c.close.ensures.untouched) c.close.ensures.journaled
+    c.close.ensures.unchanged (either_way c.close.result c.close.ensures.untouched) c.close.ensures.journaled
 
 pub returns-clause-ok : goal.returns-clause-ok
 returns-clause-ok c = on_ok_gives c.close.result c.close.ensures.ok

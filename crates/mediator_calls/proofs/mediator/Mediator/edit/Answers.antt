@@ -8,7 +8,7 @@ use Rattle.mediator_calls.proofs.mediator.Mediator.edit.Goals as goal
 pub invariant_of-self : goal.invariant_of-self
 invariant_of-self c = kept_by c.edit.result c.self.inside.state c.edit.new.self c.self.invariant c.edit.ensures.ok
     (λ x ok. kept_edit c.self.inside.state c.edit.new.self c.args.text.now x c.self.invariant (ok c.self.inside.state.chronicle.entries c.self.invariant.stands) c.edit.ensures.untouched c.edit.ensures.journaled)
-    c.edit.ensures.same (either_way c.edit.result c.edit.ensures.untouched) c.edit.ensures.journaled
+    c.edit.ensures.unchanged (either_way c.edit.result c.edit.ensures.untouched) c.edit.ensures.journaled
 
 pub returns-clause-ok : goal.returns-clause-ok
 returns-clause-ok c = if_ok_gives c.edit.result c.edit.ensures.ok

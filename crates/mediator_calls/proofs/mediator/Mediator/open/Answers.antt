@@ -9,7 +9,7 @@ use Rattle.mediator_calls.proofs.mediator.Mediator.open.Goals as goal
 pub invariant_of-self : goal.invariant_of-self
 invariant_of-self c = elim c.match-open.branch [
   | in-Ok w ↦ kept_open c.self.inside.state c.open.new.self w.in-Ok.session c.self.invariant (w.in-Ok.ensures.ok c.self.inside.state.chronicle.entries c.self.invariant.stands) w.in-Ok.ensures.untouched w.in-Ok.ensures.journaled
-  | in-Err w ↦ kept_same c.self.inside.state c.open.new.self c.self.invariant w.in-Err.ensures.same w.in-Err.ensures.untouched w.in-Err.ensures.journaled
+  | in-Err w ↦ kept_same c.self.inside.state c.open.new.self c.self.invariant w.in-Err.ensures.unchanged w.in-Err.ensures.untouched w.in-Err.ensures.journaled
 ]
 
 pub returns-clause-ok : goal.returns-clause-ok

@@ -8,7 +8,7 @@ use Rattle.mediator_calls.proofs.mediator.Mediator.pull.Goals as goal
 pub invariant_of-self : goal.invariant_of-self
 invariant_of-self c = kept_by c.pull.result c.self.inside.state c.pull.new.self c.self.invariant c.pull.ensures.ok
     (λ x ok. kept_pull c.self.inside.state c.pull.new.self c.args.sub.0 c.args.now c.args.target x c.self.invariant c.ranges.now.fits c.ranges.target.fits (ok c.self.inside.state.chronicle.entries c.self.invariant.stands) c.pull.ensures.others c.pull.ensures.drained c.pull.ensures.limits c.pull.ensures.audit_limit c.pull.ensures.journaled)
-    c.pull.ensures.same c.pull.ensures.untouched c.pull.ensures.journaled
+    c.pull.ensures.unchanged c.pull.ensures.untouched c.pull.ensures.journaled
 
 pub returns-clause-ok : goal.returns-clause-ok
 returns-clause-ok c = if_ok_gives c.pull.result c.pull.ensures.ok

@@ -8,7 +8,7 @@ use Rattle.mediator_calls.proofs.mediator.Mediator.receive_judged.Goals as goal
 pub invariant_of-self : goal.invariant_of-self
 invariant_of-self c = kept_by c.receive_judged.result c.self.inside.state c.receive_judged.new.self c.self.invariant c.receive_judged.ensures.ok
     (λ x ok. kept_receive c.self.inside.state c.receive_judged.new.self c.args.session.0 c.args.number c.args.message x c.self.invariant (ok c.self.inside.state.chronicle.entries c.self.invariant.stands) c.receive_judged.ensures.untouched c.receive_judged.ensures.journaled)
-    c.receive_judged.ensures.same (either_way c.receive_judged.result c.receive_judged.ensures.untouched) c.receive_judged.ensures.journaled
+    c.receive_judged.ensures.unchanged (either_way c.receive_judged.result c.receive_judged.ensures.untouched) c.receive_judged.ensures.journaled
 
 pub returns-clause-ok : goal.returns-clause-ok
 returns-clause-ok c = if_ok_gives c.receive_judged.result c.receive_judged.ensures.ok

@@ -8,7 +8,7 @@ use Rattle.mediator_calls.proofs.mediator.Mediator.receive_prepared.Goals as goa
 pub invariant_of-self : goal.invariant_of-self
 invariant_of-self c = kept_by c.receive_prepared.result c.self.inside.state c.receive_prepared.new.self c.self.invariant c.receive_prepared.ensures.ok
     (λ x ok. kept_receive c.self.inside.state c.receive_prepared.new.self c.args.session.0 c.args.number c.args.prepared.message x c.self.invariant (ok c.self.inside.state.chronicle.entries c.self.invariant.stands) c.receive_prepared.ensures.untouched c.receive_prepared.ensures.journaled)
-    c.receive_prepared.ensures.same (either_way c.receive_prepared.result c.receive_prepared.ensures.untouched) c.receive_prepared.ensures.journaled
+    c.receive_prepared.ensures.unchanged (either_way c.receive_prepared.result c.receive_prepared.ensures.untouched) c.receive_prepared.ensures.journaled
 
 pub returns-clause-ok : goal.returns-clause-ok
 returns-clause-ok c = if_ok_gives c.receive_prepared.result c.receive_prepared.ensures.ok

@@ -9,7 +9,7 @@ use Rattle.mediator_calls.proofs.mediator.Mediator.subscribe.Goals as goal
 pub invariant_of-self : goal.invariant_of-self
 invariant_of-self c = elim c.match-subscribe.branch [
   | in-Ok w ↦ kept_subscribe c.self.inside.state c.subscribe.new.self c.args.name.now w.in-Ok.sub c.self.invariant (w.in-Ok.ensures.ok c.self.inside.state.chronicle.entries c.self.invariant.stands) w.in-Ok.ensures.untouched w.in-Ok.ensures.journaled
-  | in-Err w ↦ kept_same c.self.inside.state c.subscribe.new.self c.self.invariant w.in-Err.ensures.same w.in-Err.ensures.untouched w.in-Err.ensures.journaled
+  | in-Err w ↦ kept_same c.self.inside.state c.subscribe.new.self c.self.invariant w.in-Err.ensures.unchanged w.in-Err.ensures.untouched w.in-Err.ensures.journaled
 ]
 
 pub returns-clause-ok : goal.returns-clause-ok

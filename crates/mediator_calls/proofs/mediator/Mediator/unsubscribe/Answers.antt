@@ -8,7 +8,7 @@ use Rattle.mediator_calls.proofs.mediator.Mediator.unsubscribe.Goals as goal
 pub invariant_of-self : goal.invariant_of-self
 invariant_of-self c = kept_done c.unsubscribe.result c.self.inside.state c.unsubscribe.new.self c.self.invariant c.unsubscribe.ensures.ok
     (λ ok. kept_unsubscribe c.self.inside.state c.unsubscribe.new.self c.args.sub.0 c.self.invariant (ok c.self.inside.state.chronicle.entries c.self.invariant.stands) c.unsubscribe.ensures.others c.unsubscribe.ensures.drained c.unsubscribe.ensures.limits c.unsubscribe.ensures.audit_limit c.unsubscribe.ensures.journaled)
-    c.unsubscribe.ensures.same c.unsubscribe.ensures.untouched c.unsubscribe.ensures.journaled
+    c.unsubscribe.ensures.unchanged c.unsubscribe.ensures.untouched c.unsubscribe.ensures.journaled
 
 pub returns-clause-ok : goal.returns-clause-ok
 returns-clause-ok c = on_ok_gives c.unsubscribe.result c.unsubscribe.ensures.ok

@@ -7,7 +7,7 @@ use Rattle.mediator_shares.proofs.shares.Sums.add_record.Goals as goal
 
 pub served-init : goal.served-init
 served-init c =
-    let stay = c.classes_of-classes.ensures.stay in (
+    let stay = c.classes_of-classes.ensures.unchanged in (
       subst (λ (j : Judges). IsAdding c.args.judges.now.shares j.shares c.args.self.now.tallies.items c.args.self.now.tallies.items c.args.self.now.notes c.args.self.now.notes c.args.domain c.args.in_force.now c.args.index c.args.flow_record.now c.args.served.now 0) (sym stay)
           (adding_start c.args.judges.now.shares c.args.self.now.tallies.items c.args.self.now.notes c.args.domain c.args.in_force.now c.args.index c.args.flow_record.now c.args.served.now c.requires.each c.requires.each_tally),
       subst (λ (j : Judges). JudgeFor j c.args.in_force.now c.args.domain (Some c.args.flow_record.now.template) c.args.served.now) (sym stay) c.requires.judges,

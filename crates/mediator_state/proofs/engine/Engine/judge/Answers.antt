@@ -13,7 +13,7 @@ share_left-requires-clause-shares c none =
     (split_of c.args.self.now.subscriptions c.header-domain.result.domain c.args.self.now.in_force c.records-records.result.now c.in_ok-served.served.items c.deref.result.now c.deref-2.result.now c.in_ok-all.all.shares.items c.deref-3.result.now c.in_ok-split.split.cuts.items c.in_ok-split.split.left.items
     c.deref.ensures.value c.deref-2.ensures.value c.deref-3.ensures.value c.in_ok-all.ensures.shares c.in_ok-split.ensures.cuts c.in_ok-split.ensures.left)
     c.deref.ensures.value c.deref-4.ensures.value c.deref-5.ensures.value none)
-    ∙ ap (λ (f : InForce). shares_of c.header-domain.result.domain f c.records-records.result.now c.deref-5.result.now) (sym c.shares_of_all.ensures.stay)
+    ∙ ap (λ (f : InForce). shares_of c.header-domain.result.domain f c.records-records.result.now c.deref-5.result.now) (sym c.shares_of_all.ensures.unchanged)
 
 pub share_left-requires-clause-tallies : goal.share_left-requires-clause-tallies
 share_left-requires-clause-tallies c none =
@@ -23,7 +23,7 @@ share_left-requires-clause-tallies c none =
     (split_of c.args.self.now.subscriptions c.header-domain.result.domain c.args.self.now.in_force c.records-records.result.now c.in_ok-served.served.items c.deref.result.now c.deref-2.result.now c.in_ok-all.all.shares.items c.deref-3.result.now c.in_ok-split.split.cuts.items c.in_ok-split.split.left.items
     c.deref.ensures.value c.deref-2.ensures.value c.deref-3.ensures.value c.in_ok-all.ensures.shares c.in_ok-split.ensures.cuts c.in_ok-split.ensures.left)
     c.deref.ensures.value c.deref-4.ensures.value c.deref-5.ensures.value none)
-    ∙ ap (λ (f : InForce). tallies_of c.header-domain.result.domain f c.records-records.result.now c.deref-5.result.now) (sym c.shares_of_all.ensures.stay)
+    ∙ ap (λ (f : InForce). tallies_of c.header-domain.result.domain f c.records-records.result.now c.deref-5.result.now) (sym c.shares_of_all.ensures.unchanged)
 
 pub share_left-requires-clause-notes : goal.share_left-requires-clause-notes
 share_left-requires-clause-notes c none =
@@ -33,7 +33,7 @@ share_left-requires-clause-notes c none =
     (split_of c.args.self.now.subscriptions c.header-domain.result.domain c.args.self.now.in_force c.records-records.result.now c.in_ok-served.served.items c.deref.result.now c.deref-2.result.now c.in_ok-all.all.shares.items c.deref-3.result.now c.in_ok-split.split.cuts.items c.in_ok-split.split.left.items
     c.deref.ensures.value c.deref-2.ensures.value c.deref-3.ensures.value c.in_ok-all.ensures.shares c.in_ok-split.ensures.cuts c.in_ok-split.ensures.left)
     c.deref.ensures.value c.deref-4.ensures.value c.deref-5.ensures.value none)
-    ∙ ap (λ (f : InForce). kept_of c.from-most.result (notes_of c.header-domain.result.domain f c.records-records.result.now c.deref-5.result.now)) (sym c.shares_of_all.ensures.stay)
+    ∙ ap (λ (f : InForce). kept_of c.from-most.result (notes_of c.header-domain.result.domain f c.records-records.result.now c.deref-5.result.now)) (sym c.shares_of_all.ensures.unchanged)
 
 pub returns-clause-judged : goal.returns-clause-judged
 returns-clause-judged c =
@@ -41,4 +41,4 @@ returns-clause-judged c =
     (ap (λ x. x.domain) c.header-domain.ensures) c.records-records.ensures c.in_ok-served.ensures
     (split_of c.args.self.now.subscriptions c.header-domain.result.domain c.args.self.now.in_force c.records-records.result.now c.in_ok-served.served.items c.deref.result.now c.deref-2.result.now c.in_ok-all.all.shares.items c.deref-3.result.now c.in_ok-split.split.cuts.items c.in_ok-split.split.left.items
     c.deref.ensures.value c.deref-2.ensures.value c.deref-3.ensures.value c.in_ok-all.ensures.shares c.in_ok-split.ensures.cuts c.in_ok-split.ensures.left)
-    c.deref-5.ensures.value (c.in_ok-left.ensures.shares ∙ ap (λ (f : InForce). shares_of c.header-domain.result.domain f c.records-records.result.now c.deref-5.result.now) c.shares_of_all.ensures.stay) (c.in_ok-left.ensures.tallies ∙ ap (λ (f : InForce). tallies_of c.header-domain.result.domain f c.records-records.result.now c.deref-5.result.now) c.shares_of_all.ensures.stay) (c.in_ok-left.ensures.notes ∙ ap (λ (f : InForce). kept_of c.from-most.result (notes_of c.header-domain.result.domain f c.records-records.result.now c.deref-5.result.now)) c.shares_of_all.ensures.stay ∙ ap (λ n. kept_of n (notes_of c.header-domain.result.domain c.args.self.now.in_force c.records-records.result.now c.deref-5.result.now)) (c.from-most.ensures ∙ c.limit.ensures)) c.judged_at.ensures.cuts c.judged_at.ensures.shares c.judged_at.ensures.tallies c.judged_at.ensures.position c.judged_at.ensures.notes c.judged_at.ensures.streamable
+    c.deref-5.ensures.value (c.in_ok-left.ensures.shares ∙ ap (λ (f : InForce). shares_of c.header-domain.result.domain f c.records-records.result.now c.deref-5.result.now) c.shares_of_all.ensures.unchanged) (c.in_ok-left.ensures.tallies ∙ ap (λ (f : InForce). tallies_of c.header-domain.result.domain f c.records-records.result.now c.deref-5.result.now) c.shares_of_all.ensures.unchanged) (c.in_ok-left.ensures.notes ∙ ap (λ (f : InForce). kept_of c.from-most.result (notes_of c.header-domain.result.domain f c.records-records.result.now c.deref-5.result.now)) c.shares_of_all.ensures.unchanged ∙ ap (λ n. kept_of n (notes_of c.header-domain.result.domain c.args.self.now.in_force c.records-records.result.now c.deref-5.result.now)) (c.from-most.ensures ∙ c.limit.ensures)) c.judged_at.ensures.cuts c.judged_at.ensures.shares c.judged_at.ensures.tallies c.judged_at.ensures.position c.judged_at.ensures.notes c.judged_at.ensures.streamable

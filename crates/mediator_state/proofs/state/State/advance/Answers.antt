@@ -28,8 +28,8 @@ returns-then-not-room-clause-err g c = λ h s.
     (closing_found c.args.self.now.engine h c.args.t c.in_ok-closing.closing c.in_ok-entries.entries.items c.deref.result.now (ahead_of c.args.self.now.engine h c.args.t c.clock-last.result s.stands c.clock-last.ensures (omega (arith, c.if-t-last.false))) (c.in_ok-closing.ensures h s.stands) c.in_ok-entries.ensures c.deref.ensures.value)
     (full_where c.room.result (g.C.Chronicle.limits c.args.self.now.chronicle) (g.C.Chronicle.count c.args.self.now.chronicle) (g.C.Chronicle.octets c.args.self.now.chronicle) c.deref-2.result.now c.in_ok-entries.entries.items c.room.ensures c.deref-2.ensures.value c.if-not-room.true)
 
-pub returns-in_err-make_room_to_close-clause-same : goal.returns-in_err-make_room_to_close-clause-same
-returns-in_err-make_room_to_close-clause-same g c = on_err c.from_residual-in_err-make_room_to_close.result (λ h s. record { told = s.told; stands = stands_same c.args.self.now.engine c.make_room_to_close.new.self h c.make_room_to_close.ensures.same s.stands })
+pub returns-in_err-make_room_to_close-clause-unchanged : goal.returns-in_err-make_room_to_close-clause-unchanged
+returns-in_err-make_room_to_close-clause-unchanged g c = on_err c.from_residual-in_err-make_room_to_close.result (λ h s. record { told = s.told; stands = stands_same c.args.self.now.engine c.make_room_to_close.new.self h c.make_room_to_close.ensures.unchanged s.stands })
 
 pub returns-in_err-make_room_to_close-clause-err : goal.returns-in_err-make_room_to_close-clause-err
 returns-in_err-make_room_to_close-clause-err g c =
@@ -41,8 +41,8 @@ returns-in_err-make_room_to_close-clause-err g c =
     (room_where c.room.result (g.C.Chronicle.limits c.args.self.now.chronicle) (g.C.Chronicle.count c.args.self.now.chronicle) (g.C.Chronicle.octets c.args.self.now.chronicle) c.deref-2.result.now c.in_ok-entries.entries.items c.room.ensures c.deref-2.ensures.value c.if-not-room.false)
     c.in_err-make_room_to_close.ensures.err))
 
-pub returns-in_err-reserve-clause-same : goal.returns-in_err-reserve-clause-same
-returns-in_err-reserve-clause-same g c = on_err c.from_residual-in_err-reserve.result (λ h s. record { told = c.reserve.ensures.tells h s.told; stands = stands_same c.args.self.now.engine c.make_room_to_close.new.self h c.make_room_to_close.ensures.same s.stands })
+pub returns-in_err-reserve-clause-unchanged : goal.returns-in_err-reserve-clause-unchanged
+returns-in_err-reserve-clause-unchanged g c = on_err c.from_residual-in_err-reserve.result (λ h s. record { told = c.reserve.ensures.tells h s.told; stands = stands_same c.args.self.now.engine c.make_room_to_close.new.self h c.make_room_to_close.ensures.unchanged s.stands })
 
 pub returns-in_err-reserve-clause-err : goal.returns-in_err-reserve-clause-err
 returns-in_err-reserve-clause-err g c =
@@ -57,7 +57,7 @@ advance-requires-clause-planned g c =
     let counts = g.met.C.Chronicle.counted c.args.self.now.chronicle h s.told in
     let counted = sym (c.len-position.ensures.value ∙ counts.entries) in
     subst (λ (e : Engine). IsClosingFor e c.len-position.result c.args.t c.in_ok-closing.closing) (sym c.append.ensures.engine)
-    (closing_for c.args.self.now.engine c.make_room_to_close.new.self h c.args.t c.len-position.result c.in_ok-closing.closing c.make_room_to_close.ensures.same s.stands counted
+    (closing_for c.args.self.now.engine c.make_room_to_close.new.self h c.args.t c.len-position.result c.in_ok-closing.closing c.make_room_to_close.ensures.unchanged s.stands counted
     (omega (arith, c.len-position.ensures.within, c.len-position.ensures.limits.most_entries)) (c.in_ok-closing.ensures h s.stands))
 
 pub returns-clause-ok : goal.returns-clause-ok
@@ -66,8 +66,8 @@ returns-clause-ok g c = λ h s.
     s (g.met.C.Chronicle.counted c.args.self.now.chronicle h s.told) c.len-position.ensures.value
     (closing_found c.args.self.now.engine h c.args.t c.in_ok-closing.closing c.in_ok-entries.entries.items c.deref.result.now (ahead_of c.args.self.now.engine h c.args.t c.clock-last.result s.stands c.clock-last.ensures (omega (arith, c.if-t-last.false))) (c.in_ok-closing.ensures h s.stands) c.in_ok-entries.ensures c.deref.ensures.value)
     (room_where c.room.result (g.C.Chronicle.limits c.args.self.now.chronicle) (g.C.Chronicle.count c.args.self.now.chronicle) (g.C.Chronicle.octets c.args.self.now.chronicle) c.deref-2.result.now c.in_ok-entries.entries.items c.room.ensures c.deref-2.ensures.value c.if-not-room.false)
-    (subst (λ (e : Engine). IsSameEngine c.args.self.now.engine e) (sym c.append.ensures.engine) c.make_room_to_close.ensures.same)
-    (closing_held c.args.self.now.engine c.make_room_to_close.new.self h c.args.t c.in_ok-closing.closing c.in_ok-entries.entries.items c.make_room_to_close.ensures.same s.stands
+    (subst (λ (e : Engine). IsSameEngine c.args.self.now.engine e) (sym c.append.ensures.engine) c.make_room_to_close.ensures.unchanged)
+    (closing_held c.args.self.now.engine c.make_room_to_close.new.self h c.args.t c.in_ok-closing.closing c.in_ok-entries.entries.items c.make_room_to_close.ensures.unchanged s.stands
     (closing_found c.args.self.now.engine h c.args.t c.in_ok-closing.closing c.in_ok-entries.entries.items c.deref.result.now (ahead_of c.args.self.now.engine h c.args.t c.clock-last.result s.stands c.clock-last.ensures (omega (arith, c.if-t-last.false))) (c.in_ok-closing.ensures h s.stands) c.in_ok-entries.ensures c.deref.ensures.value)
     c.in_ok-make_room_to_close.ensures.ok)
     (c.append.ensures.tells h (c.reserve.ensures.tells h s.told)) c.advance.ensures.stands

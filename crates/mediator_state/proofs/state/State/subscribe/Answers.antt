@@ -35,7 +35,7 @@ returns-clause-ok g c = λ h s. record {
       c.make_room.ensures.tells c.push_reserved.ensures.tells c.make_room.ensures.engine c.in_ok-subscribe.ensures.ok;
 }
 
-pub returns-in_err-subscribe-clause-same : goal.returns-in_err-subscribe-clause-same
-returns-in_err-subscribe-clause-same g c =
+pub returns-in_err-subscribe-clause-unchanged : goal.returns-in_err-subscribe-clause-unchanged
+returns-in_err-subscribe-clause-unchanged g c =
     on_err c.from_residual-in_err-subscribe.result
     (λ h s. record { told = c.make_room.ensures.tells h s.told; stands = stands_same c.make_room.new.self.engine c.subscribe.new.self h c.in_err-subscribe.ensures.err (subst (λ e. Stands e h) (sym c.make_room.ensures.engine) s.stands) })

@@ -26,8 +26,8 @@ returns-in_err-entries-clause-err g c =
     (next_of c.args.self.now.engine h c.args.session c.args.number c.args.message c.in_ok-plan.plan c.in_ok-plan.ensures.session
     (c.in_ok-plan.ensures.ok h c.args.number c.args.message s.stands (sym (c.len-position.ensures.value ∙ (g.met.C.Chronicle.counted c.args.self.now.chronicle h s.told).entries)) (c.requires.read h s))))
 
-pub returns-in_err-reserved-clause-same : goal.returns-in_err-reserved-clause-same
-returns-in_err-reserved-clause-same g c = on_err c.from_residual-in_err-reserved.result (λ h s. record { told = s.told; stands = stands_same c.args.self.now.engine c.make_room.new.self h (subst (λ (e : Engine). IsSameEngine e c.make_room.new.self) c.plan.ensures.same c.make_room.ensures.same) s.stands })
+pub returns-in_err-reserved-clause-unchanged : goal.returns-in_err-reserved-clause-unchanged
+returns-in_err-reserved-clause-unchanged g c = on_err c.from_residual-in_err-reserved.result (λ h s. record { told = s.told; stands = stands_same c.args.self.now.engine c.make_room.new.self h (subst (λ (e : Engine). IsSameEngine e c.make_room.new.self) c.plan.ensures.unchanged c.make_room.ensures.unchanged) s.stands })
 
 pub returns-in_err-reserved-clause-err : goal.returns-in_err-reserved-clause-err
 returns-in_err-reserved-clause-err g c =
@@ -38,10 +38,10 @@ returns-in_err-reserved-clause-err g c =
     (refused_audit c.in_err-reserved.field-0.0 (g.C.Chronicle.limits c.args.self.now.chronicle) (g.C.Chronicle.count c.args.self.now.chronicle) (g.C.Chronicle.octets c.args.self.now.chronicle) c.args.self.now.engine h c.args.session c.args.number c.args.message c.in_ok-plan.plan c.in_ok-entries.entries.items counts
     (found c.args.self.now.engine h c.args.session c.args.number c.args.message c.in_ok-plan.plan c.in_ok-entries.entries.items c.deref-2.result.now (c.in_ok-plan.ensures.ok h c.args.number c.args.message s.stands (sym (c.len-position.ensures.value ∙ counts.entries)) (c.requires.read h s)) c.in_ok-plan.ensures.session c.in_ok-entries.ensures c.deref-2.ensures.value)
     (room_where c.room.result (g.C.Chronicle.limits c.args.self.now.chronicle) (g.C.Chronicle.count c.args.self.now.chronicle) (g.C.Chronicle.octets c.args.self.now.chronicle) c.deref-3.result.now c.in_ok-entries.entries.items c.room.ensures c.deref-3.ensures.value c.if-not-room.false)
-    (subst (λ (e : Engine). LacksAudit c.in_err-reserved.field-0.0 e.audit (length c.in_ok-plan.plan.cuts.items + c.in_ok-plan.plan.notes.count)) c.plan.ensures.same c.in_err-reserved.ensures.err)))
+    (subst (λ (e : Engine). LacksAudit c.in_err-reserved.field-0.0 e.audit (length c.in_ok-plan.plan.cuts.items + c.in_ok-plan.plan.notes.count)) c.plan.ensures.unchanged c.in_err-reserved.ensures.err)))
 
-pub returns-in_err-reserve-clause-same : goal.returns-in_err-reserve-clause-same
-returns-in_err-reserve-clause-same g c = on_err c.from_residual-in_err-reserve.result (λ h s. record { told = c.reserve.ensures.tells h s.told; stands = stands_same c.args.self.now.engine c.make_room.new.self h (subst (λ (e : Engine). IsSameEngine e c.make_room.new.self) c.plan.ensures.same c.make_room.ensures.same) s.stands })
+pub returns-in_err-reserve-clause-unchanged : goal.returns-in_err-reserve-clause-unchanged
+returns-in_err-reserve-clause-unchanged g c = on_err c.from_residual-in_err-reserve.result (λ h s. record { told = c.reserve.ensures.tells h s.told; stands = stands_same c.args.self.now.engine c.make_room.new.self h (subst (λ (e : Engine). IsSameEngine e c.make_room.new.self) c.plan.ensures.unchanged c.make_room.ensures.unchanged) s.stands })
 
 pub returns-in_err-reserve-clause-err : goal.returns-in_err-reserve-clause-err
 returns-in_err-reserve-clause-err g c =
@@ -70,7 +70,7 @@ accept-requires-clause-planned g c =
     let counts = g.met.C.Chronicle.counted c.args.self.now.chronicle h s.told in
     let counted = sym (c.len-position.ensures.value ∙ counts.entries) in
     subst (λ (e : Engine). IsPlannedFor e c.len-position.result c.in_ok-plan.plan) (sym c.append.ensures.engine)
-    (planned_for c.args.self.now.engine c.make_room.new.self h c.args.number c.args.message c.len-position.result c.in_ok-plan.plan (subst (λ (e : Engine). IsSameEngine e c.make_room.new.self) c.plan.ensures.same c.make_room.ensures.same) s.stands counted
+    (planned_for c.args.self.now.engine c.make_room.new.self h c.args.number c.args.message c.len-position.result c.in_ok-plan.plan (subst (λ (e : Engine). IsSameEngine e c.make_room.new.self) c.plan.ensures.unchanged c.make_room.ensures.unchanged) s.stands counted
     (omega (arith, c.len-position.ensures.within, c.len-position.ensures.limits.most_entries)) (c.in_ok-plan.ensures.ok h c.args.number c.args.message s.stands counted (c.requires.read h s)))
 
 pub returns-clause-ok : goal.returns-clause-ok
@@ -80,8 +80,8 @@ returns-clause-ok g c = λ h s.
     s counts c.len-position.ensures.value
     (found c.args.self.now.engine h c.args.session c.args.number c.args.message c.in_ok-plan.plan c.in_ok-entries.entries.items c.deref-2.result.now (c.in_ok-plan.ensures.ok h c.args.number c.args.message s.stands (sym (c.len-position.ensures.value ∙ counts.entries)) (c.requires.read h s)) c.in_ok-plan.ensures.session c.in_ok-entries.ensures c.deref-2.ensures.value)
     (room_where c.room.result (g.C.Chronicle.limits c.args.self.now.chronicle) (g.C.Chronicle.count c.args.self.now.chronicle) (g.C.Chronicle.octets c.args.self.now.chronicle) c.deref-3.result.now c.in_ok-entries.entries.items c.room.ensures c.deref-3.ensures.value c.if-not-room.false)
-    (subst (λ (e : Engine). IsSameEngine c.args.self.now.engine e) (sym c.append.ensures.engine) (subst (λ (e : Engine). IsSameEngine e c.make_room.new.self) c.plan.ensures.same c.make_room.ensures.same))
-    (message_held c.args.self.now.engine c.make_room.new.self h c.args.session c.args.number c.args.message c.in_ok-plan.plan c.in_ok-entries.entries.items _ (subst (λ (e : Engine). IsSameEngine e c.make_room.new.self) c.plan.ensures.same c.make_room.ensures.same) s.stands
+    (subst (λ (e : Engine). IsSameEngine c.args.self.now.engine e) (sym c.append.ensures.engine) (subst (λ (e : Engine). IsSameEngine e c.make_room.new.self) c.plan.ensures.unchanged c.make_room.ensures.unchanged))
+    (message_held c.args.self.now.engine c.make_room.new.self h c.args.session c.args.number c.args.message c.in_ok-plan.plan c.in_ok-entries.entries.items _ (subst (λ (e : Engine). IsSameEngine e c.make_room.new.self) c.plan.ensures.unchanged c.make_room.ensures.unchanged) s.stands
     (found c.args.self.now.engine h c.args.session c.args.number c.args.message c.in_ok-plan.plan c.in_ok-entries.entries.items c.deref-2.result.now (c.in_ok-plan.ensures.ok h c.args.number c.args.message s.stands (sym (c.len-position.ensures.value ∙ counts.entries)) (c.requires.read h s)) c.in_ok-plan.ensures.session c.in_ok-entries.ensures c.deref-2.ensures.value)
     c.in_ok-reserved.ensures.ok)
     (c.append.ensures.tells h (c.reserve.ensures.tells h s.told)) c.accept.ensures.stands c.accept.ensures.receipt

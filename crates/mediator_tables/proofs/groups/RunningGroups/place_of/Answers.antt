@@ -6,8 +6,8 @@ use Rattle.mediator_tables.proofs.groups.RunningGroups.place_of.Goals as goal
 pub returns-in-Some-clause-ok : goal.returns-in-Some-clause-ok
 returns-in-Some-clause-ok c = placed_found c.args.self.now c.self.inside.by_number.entries c.args.sub c.in-Some.place c.self.view_is (sym c.get_index_of.ensures.index ∙ c.in-Some.is)
 
-pub returns-in_ok-insert-in-None-clause-same : goal.returns-in_ok-insert-in-None-clause-same
-returns-in_ok-insert-in-None-clause-same c q =
+pub returns-in_ok-insert-in-None-clause-unchanged : goal.returns-in_ok-insert-in-None-clause-unchanged
+returns-in_ok-insert-in-None-clause-unchanged c q =
     let none = not_found _ (sym c.get_index_of.ensures.found ∙ ap is_some c.in-None.is) in
     held_pushed c.args.self.now c.self.inside.by_number.entries c.insert.new.self.entries c.args.sub q c.hashed.result c.self.view_is c.hashed.ensures
     (c.in_ok-insert-in-None.ensures.entries ∙ insert_entry-new _ c.self.inside.by_number c.args.sub c.hashed.result none)

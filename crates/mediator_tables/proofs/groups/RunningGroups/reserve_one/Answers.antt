@@ -11,10 +11,10 @@ invariant_of-self c = once_written c.self.inside.by_number.entries c.in_ok-place
 pub invariant_of-self-2 : goal.invariant_of-self-2
 invariant_of-self-2 c = once_written c.self.inside.by_number.entries c.in_ok-place.place c.reserve.new.self c.self.invariant
 
-pub returns-in_err-additions-in-Some-clause-same : goal.returns-in_err-additions-in-Some-clause-same
-returns-in_err-additions-in-Some-clause-same c q =
+pub returns-in_err-additions-in-Some-clause-unchanged : goal.returns-in_err-additions-in-Some-clause-unchanged
+returns-in_err-additions-in-Some-clause-unchanged c q =
     groups_held c.place_of.new.self c.self.inside.by_number.entries c.in_ok-place.place c.args.tally.now.sub c.in-Some.groups.now c.reserve.new.self c.self.view_is c.in_ok-place.ensures.ok c.self.invariant (search rules) c.reserve.ensures.unchanged q
-    ∙ ap (λ (h : Held). h.groups) (c.in_ok-place.ensures.same q)
+    ∙ ap (λ (h : Held). h.groups) (c.in_ok-place.ensures.unchanged q)
 
 pub returns-in_err-additions-in-Some-clause-few : goal.returns-in_err-additions-in-Some-clause-few
 returns-in_err-additions-in-Some-clause-few c =
@@ -24,7 +24,7 @@ returns-in_err-additions-in-Some-clause-few c =
 pub returns-in_err-additions-in-Some-clause-others : goal.returns-in_err-additions-in-Some-clause-others
 returns-in_err-additions-in-Some-clause-others c q other =
     others_held c.place_of.new.self c.self.inside.by_number.entries c.in_ok-place.place c.args.tally.now.sub c.in-Some.groups.now c.reserve.new.self c.self.view_is c.in_ok-place.ensures.ok c.self.invariant (search rules) q other
-    ∙ c.in_ok-place.ensures.same q
+    ∙ c.in_ok-place.ensures.unchanged q
 
 pub returns-in_err-additions-in-Some-clause-places : goal.returns-in_err-additions-in-Some-clause-places
 returns-in_err-additions-in-Some-clause-places c place q at =
@@ -36,10 +36,10 @@ unreachable-requires c =
     nowhere c.self.inside.by_number.entries c.in_ok-place.place c.args.tally.now.sub (search rules)
     (at_table c.place_of.new.self c.self.inside.by_number.entries c.in_ok-place.place c.args.tally.now.sub c.self.view_is c.in_ok-place.ensures.ok)
 
-pub returns-clause-same : goal.returns-clause-same
-returns-clause-same c q =
+pub returns-clause-unchanged : goal.returns-clause-unchanged
+returns-clause-unchanged c q =
     groups_held c.place_of.new.self c.self.inside.by_number.entries c.in_ok-place.place c.args.tally.now.sub c.in-Some.groups.now c.reserve.new.self c.self.view_is c.in_ok-place.ensures.ok c.self.invariant (search rules) c.reserve.ensures.unchanged q
-    ∙ ap (λ (h : Held). h.groups) (c.in_ok-place.ensures.same q)
+    ∙ ap (λ (h : Held). h.groups) (c.in_ok-place.ensures.unchanged q)
 
 pub returns-clause-few : goal.returns-clause-few
 returns-clause-few c =
@@ -49,7 +49,7 @@ returns-clause-few c =
 pub returns-clause-others : goal.returns-clause-others
 returns-clause-others c q other =
     others_held c.place_of.new.self c.self.inside.by_number.entries c.in_ok-place.place c.args.tally.now.sub c.in-Some.groups.now c.reserve.new.self c.self.view_is c.in_ok-place.ensures.ok c.self.invariant (search rules) q other
-    ∙ c.in_ok-place.ensures.same q
+    ∙ c.in_ok-place.ensures.unchanged q
 
 pub returns-clause-places : goal.returns-clause-places
 returns-clause-places c place q at =

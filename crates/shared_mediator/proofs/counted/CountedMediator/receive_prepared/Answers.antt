@@ -2,7 +2,7 @@ use Rattle.shared_mediator.proofs.Moving.{after_receive, still, counts}
 use Rattle.shared_mediator.proofs.counted.CountedMediator.receive_prepared.Goals as goal
 
 pub invariant_of-self : goal.invariant_of-self
-invariant_of-self c = still c.receive_prepared.result c.self.inside.mediator c.receive_prepared.new.self c.self.inside.from c.self.inside.gone c.self.inside.handed 1 c.self.invariant c.receive_prepared.ensures.ok c.receive_prepared.ensures.same
+invariant_of-self c = still c.receive_prepared.result c.self.inside.mediator c.receive_prepared.new.self c.self.inside.from c.self.inside.gone c.self.inside.handed 1 c.self.invariant c.receive_prepared.ensures.ok c.receive_prepared.ensures.unchanged
     (λ receipt is. after_receive c.self.inside.mediator c.receive_prepared.new.self c.self.inside.from c.self.inside.gone c.self.inside.handed c.args.session.0 c.args.number c.args.prepared.message receipt c.journal-journal.ensures.sound c.self.invariant is)
 
 pub returns-clause-counts : goal.returns-clause-counts
