@@ -129,7 +129,7 @@ fn hear<E: EntryLedger, H: RecordLedger, R: Source, C: Control>(
     // Behind which octets of the command it stopped. No call was made.
     ensures err { IfErr result (λ e.
         StopsHearing e input.old (R.remaining reader.old) (R.remaining reader.new) input.new) }
-    ensures same { OnErr result (handle.new ≡ handle.old) }
+    ensures unchanged { OnErr result (handle.new ≡ handle.old) }
 {
     let Some(line) = input.next_line(alloc, reader)? else {
         return Ok(None);
@@ -166,7 +166,7 @@ fn answer_line<E: EntryLedger, H: RecordLedger, R: Source, C: Control>(
     // Behind which octets of the command's text it stopped. No call was made.
     ensures err { IfErr result (λ e. (octets : List ℕ) × StopsReading e input.old
         (R.remaining reader.old) (R.remaining reader.new) octets input.new) }
-    ensures same { OnErr result (handle.new ≡ handle.old) }
+    ensures unchanged { OnErr result (handle.new ≡ handle.old) }
 {
     match read_command(alloc, line) {
         Ok(Some(command)) => {
@@ -236,7 +236,7 @@ fn perform<E: EntryLedger, H: RecordLedger, R: Source, C: Control>(
     // Behind which octets of the command's text it stopped. No call was made.
     ensures err { IfErr result (λ e. (octets : List ℕ) × StopsReading e input.old
         (R.remaining reader.old) (R.remaining reader.new) octets input.new) }
-    ensures same { OnErr result (handle.new ≡ handle.old) }
+    ensures unchanged { OnErr result (handle.new ≡ handle.old) }
 {
     match command {
         Command::Edit { octets } => {

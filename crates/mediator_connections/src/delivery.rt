@@ -53,7 +53,7 @@ pub fn deliver<E: EntryLedger, H: RecordLedger, W: Sink, C: Clock>(
         (W.contents writer.old) (W.contents writer.new) (W.has_failed writer.new)) }
     ensures fails { IfErr result (λ e. W.has_failed writer.new ≡ writer_after e.0) }
     // The administrator's handle ends the subscription where the writer failed, and does nothing else.
-    ensures same { OnOk result (admin.new ≡ admin.old) }
+    ensures unchanged { OnOk result (admin.new ≡ admin.old) }
     ensures gone { IfErr result (λ e. EndsOnWrite e.0 handle.old.sub admin.old admin.new) }
 {
     match send_messages(rt, shared, handle, writer, target, clock) {

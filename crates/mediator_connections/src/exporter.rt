@@ -321,7 +321,7 @@ fn offer_one<E: EntryLedger, H: RecordLedger, P: Patience>(
         } ∷ []) }
     ensures session { handle.new.session ≡ handle.old.session }
     // It was refused, and nothing has changed.
-    ensures same { OnErr result (handle.new ≡ handle.old) }
+    ensures unchanged { OnErr result (handle.new ≡ handle.old) }
     ensures refuses { IfErr result (λ e. IsRefusalOf e message) }
 {
     let Some(prepared) = prepared else {
@@ -361,7 +361,7 @@ fn offer_judged<E: EntryLedger, H: RecordLedger, P: Patience>(
           entry = Message handle.old.session (length handle.old.kept) message;
         } ∷ []) }
     ensures session { handle.new.session ≡ handle.old.session }
-    ensures same { OnErr result (handle.new ≡ handle.old) }
+    ensures unchanged { OnErr result (handle.new ≡ handle.old) }
     ensures refuses { IfErr result (λ e. IsRefusalOf e message) }
 {
     let snapshot = handle.snapshot(rt, shared)?;

@@ -23,7 +23,7 @@
 //! Time that the clock may show and for the target; all of them where the answer is `Ok` or a refusal, with their octets counted,
 //! and at `Write` exactly the first `sent` octets of them, which end inside those of the last pull (`delivers`, `stops`). `Write`
 //! stands only where the writer has failed (`fails`). The administrator's handle keeps nothing more but, at `Write`, the end of
-//! this subscription (`same`, `gone`).
+//! this subscription (`unchanged`, `gone`).
 //!
 //! Proved of `serve_admin`: the octets that it read are lines with the texts behind them, and the octets that it wrote are their
 //! answers, one for each line in order. Each answer is one that the line's call may give, and says what the handle kept: an `ok`

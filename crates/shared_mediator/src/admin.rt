@@ -74,7 +74,7 @@ impl<E: EntryLedger> AdminHandle<E> {
         text: &str,
     ) -> Result<u64, Fault>
         ensures kept { OnOk result (KeepsEntry self.old (Edit text.now) self.new) }
-        ensures same { OnErr result (self.new ≡ self.old) }
+        ensures unchanged { OnErr result (self.new ≡ self.old) }
     {
         let copy = PolicyText::new(self.alloc, text)?;
         self.kept.reserve(1)?;
@@ -99,7 +99,7 @@ impl<E: EntryLedger> AdminHandle<E> {
     ) -> Result<SubId, Fault>
         ensures kept { IfOk result (λ sub.
             KeepsEntry self.old (Subscribe sub.0 name.now) self.new) }
-        ensures same { OnErr result (self.new ≡ self.old) }
+        ensures unchanged { OnErr result (self.new ≡ self.old) }
     {
         if !is_name(name) {
             return Err(Fault::BadName);
@@ -129,7 +129,7 @@ impl<E: EntryLedger> AdminHandle<E> {
         sub: SubId,
     ) -> Result<(), Fault>
         ensures kept { OnOk result (KeepsEntry self.old (Unsubscribe sub.0) self.new) }
-        ensures same { OnErr result (self.new ≡ self.old) }
+        ensures unchanged { OnErr result (self.new ≡ self.old) }
     {
         self.kept.reserve(1)?;
         let position = shared.mediator.lock(rt).unsubscribe(&mut self.share, sub)?;
@@ -153,7 +153,7 @@ impl<E: EntryLedger> AdminHandle<E> {
         t: u64,
     ) -> Result<(), Fault>
         ensures kept { OnOk result (KeepsEntry self.old (Advance t) self.new) }
-        ensures same { OnErr result (self.new ≡ self.old) }
+        ensures unchanged { OnErr result (self.new ≡ self.old) }
     {
         self.kept.reserve(1)?;
         let position = shared.mediator.lock(rt).advance(&mut self.share, t)?;

@@ -120,7 +120,7 @@ impl CountedMediator {
     pub fn open(&mut self) -> Result<SessionId, Fault>
         ensures ok { IfOk result (λ session. Opens self.old.core session.0 self.new.core) }
         ensures counts { OnOk result (Counts self.old 0 0 0 self.new) }
-        ensures same { OnErr result (self.new ≡ self.old) }
+        ensures unchanged { OnErr result (self.new ≡ self.old) }
         ensures err { IfErr result (λ e. RefusesOpen e self.old.core) }
     {
         let _journal = self.mediator.journal();
@@ -134,7 +134,7 @@ impl CountedMediator {
     pub fn close(&mut self, session: SessionId) -> Result<(), Fault>
         ensures ok { OnOk result (Closes self.old.core session.0 self.new.core) }
         ensures counts { OnOk result (Counts self.old 0 0 0 self.new) }
-        ensures same { OnErr result (self.new ≡ self.old) }
+        ensures unchanged { OnErr result (self.new ≡ self.old) }
         ensures err { IfErr result (λ e.
             RefusesClose e (journal_limits self.old.core.limits) self.old.core.history session.0) }
     {
@@ -156,7 +156,7 @@ impl CountedMediator {
         ensures ok { IfOk result (λ receipt.
             Receives self.old.core session.0 number message receipt self.new.core) }
         ensures counts { OnOk result (Counts self.old 1 0 0 self.new) }
-        ensures same { OnErr result (self.new ≡ self.old) }
+        ensures unchanged { OnErr result (self.new ≡ self.old) }
         ensures err { IfErr result (λ e. RefusesReceive e self.old.core session.0 number message) }
     {
         self.receive_judged(session, number, message, None)
@@ -178,7 +178,7 @@ impl CountedMediator {
         ensures ok { IfOk result (λ receipt.
             Receives self.old.core session.0 number message receipt self.new.core) }
         ensures counts { OnOk result (Counts self.old 1 0 0 self.new) }
-        ensures same { OnErr result (self.new ≡ self.old) }
+        ensures unchanged { OnErr result (self.new ≡ self.old) }
         ensures err { IfErr result (λ e. RefusesReceive e self.old.core session.0 number message) }
     {
         let _journal = self.mediator.journal();
@@ -193,7 +193,7 @@ impl CountedMediator {
     /// Those of [`Mediator::snapshot`].
     pub fn snapshot(&mut self, session: SessionId) -> Result<Snapshot, Fault>
         ensures ok { IfOk result (IsSnapshot self.old.core.history session.0) }
-        ensures same { self.new ≡ self.old }
+        ensures unchanged { self.new ≡ self.old }
         ensures err { IfErr result (λ e. RefusesSnapshot e self.old.core.history session.0) }
     {
         self.mediator.snapshot(session)
@@ -214,7 +214,7 @@ impl CountedMediator {
             Receives self.old.core session.0 number prepared.message receipt self.new.core) }
         ensures counts { OnOk result (Counts self.old 1 0 0 self.new) }
         // A refused call changes nothing, names the first cause and hands the message back.
-        ensures same { OnErr result (self.new ≡ self.old) }
+        ensures unchanged { OnErr result (self.new ≡ self.old) }
         ensures err { IfErr result (λ e.
             RefusesReceivePrepared e.0 self.old.core session.0 number prepared) }
         ensures handed_back { IfErr result (λ e. e.1 ≡ prepared) }
@@ -231,7 +231,7 @@ impl CountedMediator {
     pub fn edit(&mut self, text: &str) -> Result<u64, Fault>
         ensures ok { IfOk result (λ edits. Edits self.old.core text.now edits self.new.core) }
         ensures counts { OnOk result (Counts self.old 1 0 0 self.new) }
-        ensures same { OnErr result (self.new ≡ self.old) }
+        ensures unchanged { OnErr result (self.new ≡ self.old) }
         ensures err { IfErr result (λ e.
             RefusesEdit e (journal_limits self.old.core.limits) self.old.core.history text.now) }
     {
@@ -247,7 +247,7 @@ impl CountedMediator {
     pub fn subscribe(&mut self, name: &str) -> Result<SubId, Fault>
         ensures ok { IfOk result (λ sub. Subscribes self.old.core name.now sub.0 self.new.core) }
         ensures counts { OnOk result (Counts self.old 1 0 0 self.new) }
-        ensures same { OnErr result (self.new ≡ self.old) }
+        ensures unchanged { OnErr result (self.new ≡ self.old) }
         ensures err { IfErr result (λ e. RefusesSubscribe e (journal_limits self.old.core.limits)
             self.old.core.history name.now) }
     {
@@ -264,7 +264,7 @@ impl CountedMediator {
         ensures ok { OnOk result (Unsubscribes self.old.core sub.0 self.new.core) }
         ensures counts { OnOk result
             (Counts self.old 1 0 (handed_at self.old.core sub.0) self.new) }
-        ensures same { OnErr result (self.new ≡ self.old) }
+        ensures unchanged { OnErr result (self.new ≡ self.old) }
         ensures err { IfErr result (λ e. RefusesUnsubscribe e (journal_limits self.old.core.limits)
             self.old.core.history sub.0) }
     {
@@ -285,7 +285,7 @@ impl CountedMediator {
     pub fn advance(&mut self, t: u64) -> Result<(), Fault>
         ensures ok { OnOk result (Advances self.old.core t self.new.core) }
         ensures counts { OnOk result (Counts self.old 1 0 0 self.new) }
-        ensures same { OnErr result (self.new ≡ self.old) }
+        ensures unchanged { OnErr result (self.new ≡ self.old) }
         ensures err { IfErr result (λ e. RefusesAdvance e self.old.core t) }
     {
         let _journal = self.mediator.journal();
@@ -301,7 +301,7 @@ impl CountedMediator {
     /// Nothing has changed then.
     pub fn pull(&mut self, sub: SubId, now: u32, target: u16) -> Result<Option<Handed>, PullFault>
         ensures ok { IfOk result (λ answer. HandsOut self.old sub.0 now target answer self.new) }
-        ensures same { OnErr result (self.new ≡ self.old) }
+        ensures unchanged { OnErr result (self.new ≡ self.old) }
         ensures err { IfErr result (λ e. RefusesHanding e self.old sub.0) }
     {
         let _journal = self.mediator.journal();
@@ -364,7 +364,7 @@ impl CountedMediator {
     pub fn drain_audit(&mut self, most: u32) -> Result<Vec<AuditEntry>, AllocError>
         ensures ok { IfOk result (λ out. Drains self.old.core most out.items self.new.core) }
         ensures counts { OnOk result (Counts self.old 0 0 0 self.new) }
-        ensures same { OnErr result (self.new ≡ self.old) }
+        ensures unchanged { OnErr result (self.new ≡ self.old) }
         // Nothing to hand out takes no memory.
         ensures none { take most (noted_at self.old.core) ≡ [] → IsOk result }
     {

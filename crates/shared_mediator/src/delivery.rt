@@ -110,7 +110,7 @@ impl<H: RecordLedger> DeliveryHandle<H> {
         ensures kept { IfOk result (λ some_message.
             KeepsHanded self.old.kept now target some_message self.new.kept) }
         ensures sub { self.new.sub ≡ self.old.sub }
-        ensures same { OnErr result (self.new ≡ self.old) }
+        ensures unchanged { OnErr result (self.new ≡ self.old) }
     {
         self.pull_next(&mut shared.locked(rt), now, target)
     }
@@ -134,7 +134,7 @@ impl<H: RecordLedger> DeliveryHandle<H> {
             KeepsSome self.old.kept now target count self.new.kept) }
         ensures most { IfOk result (λ count. count ≤ most) }
         ensures sub { self.new.sub ≡ self.old.sub }
-        ensures same { OnErr result (self.new ≡ self.old) }
+        ensures unchanged { OnErr result (self.new ≡ self.old) }
     {
         let mut locked = shared.locked(rt);
         let mut count = 0;
@@ -162,7 +162,7 @@ impl<H: RecordLedger> DeliveryHandle<H> {
         ensures kept { IfOk result (λ some_message.
             KeepsHanded self.old.kept now target some_message self.new.kept) }
         ensures sub { self.new.sub ≡ self.old.sub }
-        ensures same { OnErr result (self.new ≡ self.old) }
+        ensures unchanged { OnErr result (self.new ≡ self.old) }
     {
         if self.kept.reserve(1).is_err() {
             return Err(PullFault::Core(Fault::OutOfMemory));

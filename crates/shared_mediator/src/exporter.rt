@@ -101,7 +101,7 @@ impl<E: EntryLedger> ExporterHandle<E> {
               entry = Message self.old.session (length self.old.kept) message;
             } ∷ []) }
         ensures session { self.new.session ≡ self.old.session }
-        ensures same { OnErr result (self.new ≡ self.old) }
+        ensures unchanged { OnErr result (self.new ≡ self.old) }
     {
         let receipt = self.offer_silently(rt, shared, message)?;
         shared.wake();
@@ -125,7 +125,7 @@ impl<E: EntryLedger> ExporterHandle<E> {
               entry = Message self.old.session (length self.old.kept) message;
             } ∷ []) }
         ensures session { self.new.session ≡ self.old.session }
-        ensures same { OnErr result (self.new ≡ self.old) }
+        ensures unchanged { OnErr result (self.new ≡ self.old) }
     {
         self.offer_judged_silently(rt, shared, message, None)
     }
@@ -149,7 +149,7 @@ impl<E: EntryLedger> ExporterHandle<E> {
               entry = Message self.old.session (length self.old.kept) message;
             } ∷ []) }
         ensures session { self.new.session ≡ self.old.session }
-        ensures same { OnErr result (self.new ≡ self.old) }
+        ensures unchanged { OnErr result (self.new ≡ self.old) }
     {
         let octets = message.clone()?;
         self.kept.reserve(1)?;
@@ -201,7 +201,7 @@ impl<E: EntryLedger> ExporterHandle<E> {
               entry = Message self.old.session (length self.old.kept) prepared.message;
             } ∷ []) }
         ensures session { self.new.session ≡ self.old.session }
-        ensures same { OnErr result (self.new ≡ self.old) }
+        ensures unchanged { OnErr result (self.new ≡ self.old) }
         ensures handed_back { IfErr result (λ e. e.1 ≡ prepared) }
     {
         let receipt = self.offer_prepared_silently(rt, shared, prepared)?;
@@ -226,7 +226,7 @@ impl<E: EntryLedger> ExporterHandle<E> {
               entry = Message self.old.session (length self.old.kept) prepared.message;
             } ∷ []) }
         ensures session { self.new.session ≡ self.old.session }
-        ensures same { OnErr result (self.new ≡ self.old) }
+        ensures unchanged { OnErr result (self.new ≡ self.old) }
         ensures handed_back { IfErr result (λ e. e.1 ≡ prepared) }
     {
         let octets = match prepared.message().clone() {

@@ -15,12 +15,12 @@
 //! Proved: whenever the lock is taken, its mediator's state stands for its journal (`mediator_calls`), one book's total is the
 //! number of messages, edits, begins and ends of subscriptions and advances of the clock that came since `new`, and the
 //! other's is the number of records handed to the subscriptions that have ended and to those that are live (the type that
-//! lies under the lock keeps it). Each call under the lock answers and leaves what the mediator's does (`ok`, `same`,
-//! `err`), and adds to its handle's share just what it added to the mediator (`counts`, `share`). A call that is refused since
-//! the journal is full notes that there, and nothing else notes it (`same`, `counts`).
+//! lies under the lock keeps it). Each call under the lock answers and leaves what the mediator's does (`ok`, `unchanged`,
+//! `noted`, `err`), and adds to its handle's share just what it added to the mediator (`counts`, `share`). A call that is refused
+//! since the journal is full notes that there, and nothing else notes it (`noted`, `counts`).
 //!
-//! Of each call of a counted mediator: what the mediator's call answers, leaves and refuses (`ok`, `same`, `err`), and what
-//! it adds to the counts (`counts`): an accepted message, edit, begin or end of a subscription and advance of the clock is one
+//! Of each call of a counted mediator: what the mediator's call answers, leaves and refuses (`ok`, `unchanged`, `err`), and
+//! what it adds to the counts (`counts`): an accepted message, edit, begin or end of a subscription and advance of the clock is one
 //! entry more since the value was made; a pull hands out as many records as stand in its message, and that many are told; what a
 //! subscription was handed stays counted when it ends. `handed` is what all subscriptions were handed, those that have ended and
 //! those that are live. A pull is refused before that count could come to 2^64, and then alone (`ok`, `err`, and the law
@@ -29,7 +29,7 @@
 //! Of a handle's calls (`kept`): `offer` keeps the message, under the handle's session and with its number, at the position
 //! of the receipt that it answers; an administrator's edit, subscribe, unsubscribe and advance keep the entry of their own
 //! argument with a position; `pull` keeps a message that is built for its Export Time and target at some place of some list,
-//! and its share rises by the records in that; `pull_some` keeps several. A refusal keeps nothing more (`same`).
+//! and its share rises by the records in that; `pull_some` keeps several. A refusal keeps nothing more (`unchanged`).
 //!
 //! `close` answers Ok only where each receipt stands in the journal at its position, none from before `new`, no two at one
 //! position, each handle's own in their order, and where each entry since `new` that is to have a receipt has one

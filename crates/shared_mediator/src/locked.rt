@@ -131,7 +131,7 @@ impl<E: EntryLedger, H: RecordLedger> LockedMediator<E, H> {
         ensures position { IfOk result (λ opened.
             opened.position ≡ length self.old.counted.core.history) }
         // A refusal changes nothing, but may note that the journal is full.
-        ensures same { IfErr result (λ e. self.new ≡ noted (is_full_handle e) self.old) }
+        ensures noted { IfErr result (λ e. self.new ≡ noted (is_full_handle e) self.old) }
         ensures err { IfErr result (λ e. RefusesExporter e self.old) }
     {
         if self.exporters == self.handles {
@@ -161,7 +161,7 @@ impl<E: EntryLedger, H: RecordLedger> LockedMediator<E, H> {
         ensures counts { OnOk result (Makes 0 1 0 self.old self.new) }
         ensures share { IfOk result (λ share. (share.parts ≡ 1) × (share.amount ≡ 0)) }
         // A refusal changes nothing.
-        ensures same { OnErr result (self.new ≡ self.old) }
+        ensures unchanged { OnErr result (self.new ≡ self.old) }
         ensures err { IfErr result (λ e. RefusesDelivery e self.old sub.0) }
     {
         if self.counted.status(sub).is_err() {
@@ -181,7 +181,7 @@ impl<E: EntryLedger, H: RecordLedger> LockedMediator<E, H> {
     pub(crate) fn admin(&mut self) -> Result<Share<E>, HandleFault>
         ensures counts { OnOk result (Makes 0 0 1 self.old self.new) }
         ensures share { IfOk result (λ share. (share.parts ≡ 1) × (share.amount ≡ 0)) }
-        ensures same { OnErr result (self.new ≡ self.old) }
+        ensures unchanged { OnErr result (self.new ≡ self.old) }
         ensures err { IfErr result (λ e. RefusesAdmin e self.old) }
     {
         if self.admins == self.handles {
@@ -212,7 +212,7 @@ impl<E: EntryLedger, H: RecordLedger> LockedMediator<E, H> {
         ensures share { OnOk result (share.new.amount ≡ share.old.amount + 1) }
         ensures part { share.new.parts ≡ share.old.parts }
         // A refusal changes nothing, but may note that the journal is full.
-        ensures same { IfErr result (λ e. (self.new ≡ noted (is_full e) self.old)
+        ensures noted { IfErr result (λ e. (self.new ≡ noted (is_full e) self.old)
             × (share.new ≡ share.old)) }
         ensures err { IfErr result (λ e.
             RefusesReceive e self.old.counted.core session.0 number message) }
@@ -232,7 +232,7 @@ impl<E: EntryLedger, H: RecordLedger> LockedMediator<E, H> {
     /// Those of [`CountedMediator::snapshot`].
     pub(crate) fn snapshot(&mut self, session: SessionId) -> Result<Snapshot, Fault>
         ensures ok { IfOk result (IsSnapshot self.old.counted.core.history session.0) }
-        ensures same { self.new ≡ self.old }
+        ensures unchanged { self.new ≡ self.old }
         ensures err { IfErr result (λ e.
             RefusesSnapshot e self.old.counted.core.history session.0) }
     {
@@ -259,7 +259,7 @@ impl<E: EntryLedger, H: RecordLedger> LockedMediator<E, H> {
         ensures share { OnOk result (share.new.amount ≡ share.old.amount + 1) }
         ensures part { share.new.parts ≡ share.old.parts }
         // A refusal changes nothing, but may note that the journal is full. The message is handed back.
-        ensures same { IfErr result (λ e. (self.new ≡ noted (is_full e.0) self.old)
+        ensures noted { IfErr result (λ e. (self.new ≡ noted (is_full e.0) self.old)
             × (share.new ≡ share.old)) }
         ensures err { IfErr result (λ e.
             RefusesReceivePrepared e.0 self.old.counted.core session.0 number prepared) }
@@ -281,7 +281,7 @@ impl<E: EntryLedger, H: RecordLedger> LockedMediator<E, H> {
     pub(crate) fn close(&mut self, session: SessionId) -> Result<(), Fault>
         ensures ok { OnOk result (Closes self.old.counted.core session.0 self.new.counted.core) }
         ensures counts { OnOk result (Adds 0 0 0 self.old self.new) }
-        ensures same { IfErr result (λ e. self.new ≡ noted (is_full e) self.old) }
+        ensures noted { IfErr result (λ e. self.new ≡ noted (is_full e) self.old) }
         ensures err { IfErr result (λ e. RefusesClose e
             (journal_limits self.old.counted.core.limits) self.old.counted.core.history session.0) }
     {
@@ -313,7 +313,7 @@ impl<E: EntryLedger, H: RecordLedger> LockedMediator<E, H> {
             share.new.amount ≡ share.old.amount + records_of answer) }
         ensures part { share.new.parts ≡ share.old.parts }
         // A refusal changes nothing.
-        ensures same { OnErr result ((self.new ≡ self.old) × (share.new ≡ share.old)) }
+        ensures unchanged { OnErr result ((self.new ≡ self.old) × (share.new ≡ share.old)) }
         ensures err { IfErr result (λ e. RefusesHanding e self.old.counted sub.0) }
     {
         let _journal = self.counted.mediator().journal();
@@ -356,7 +356,7 @@ impl<E: EntryLedger, H: RecordLedger> LockedMediator<E, H> {
         ensures share { OnOk result (share.new.amount ≡ share.old.amount + 1) }
         ensures part { share.new.parts ≡ share.old.parts }
         // A refusal changes nothing, but may note that the journal is full.
-        ensures same { IfErr result (λ e. (self.new ≡ noted (is_full e) self.old)
+        ensures noted { IfErr result (λ e. (self.new ≡ noted (is_full e) self.old)
             × (share.new ≡ share.old)) }
         ensures err { IfErr result (λ e. RefusesEdit e (journal_limits self.old.counted.core.limits)
             self.old.counted.core.history text.now) }
@@ -387,7 +387,7 @@ impl<E: EntryLedger, H: RecordLedger> LockedMediator<E, H> {
         ensures share { OnOk result (share.new.amount ≡ share.old.amount + 1) }
         ensures part { share.new.parts ≡ share.old.parts }
         // A refusal changes nothing, but may note that the journal is full.
-        ensures same { IfErr result (λ e. (self.new ≡ noted (is_full e) self.old)
+        ensures noted { IfErr result (λ e. (self.new ≡ noted (is_full e) self.old)
             × (share.new ≡ share.old)) }
         ensures err { IfErr result (λ e. RefusesSubscribe e
             (journal_limits self.old.counted.core.limits) self.old.counted.core.history name.now) }
@@ -418,7 +418,7 @@ impl<E: EntryLedger, H: RecordLedger> LockedMediator<E, H> {
         ensures share { OnOk result (share.new.amount ≡ share.old.amount + 1) }
         ensures part { share.new.parts ≡ share.old.parts }
         // A refusal changes nothing, but may note that the journal is full.
-        ensures same { IfErr result (λ e. (self.new ≡ noted (is_full e) self.old)
+        ensures noted { IfErr result (λ e. (self.new ≡ noted (is_full e) self.old)
             × (share.new ≡ share.old)) }
         ensures err { IfErr result (λ e. RefusesUnsubscribe e
             (journal_limits self.old.counted.core.limits) self.old.counted.core.history sub.0) }
@@ -448,7 +448,7 @@ impl<E: EntryLedger, H: RecordLedger> LockedMediator<E, H> {
         ensures share { OnOk result (share.new.amount ≡ share.old.amount + 1) }
         ensures part { share.new.parts ≡ share.old.parts }
         // A refusal changes nothing, but may note that the journal is full.
-        ensures same { IfErr result (λ e. (self.new ≡ noted (is_full e) self.old)
+        ensures noted { IfErr result (λ e. (self.new ≡ noted (is_full e) self.old)
             × (share.new ≡ share.old)) }
         ensures err { IfErr result (λ e. RefusesAdvance e self.old.counted.core t) }
     {
@@ -469,7 +469,7 @@ impl<E: EntryLedger, H: RecordLedger> LockedMediator<E, H> {
         ensures ok { IfOk result (λ out.
             Drains self.old.counted.core most out.items self.new.counted.core) }
         ensures counts { OnOk result (Adds 0 0 0 self.old self.new) }
-        ensures same { OnErr result (self.new ≡ self.old) }
+        ensures unchanged { OnErr result (self.new ≡ self.old) }
         ensures none { take most (noted_at self.old.counted.core) ≡ [] → IsOk result }
     {
         self.counted.drain_audit(most)

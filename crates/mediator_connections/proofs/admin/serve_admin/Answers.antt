@@ -32,7 +32,7 @@ commands-init g c =
 pub returns-in_err-heard-clause-stops : goal.returns-in_err-heard-clause-stops
 returns-in_err-heard-clause-stops g c =
     err_gives c.from_residual-in_err-heard.result c.from_residual-in_err-heard.ensures
-    (λ e is. stopped_hearing e c.in_err-heard.field-0.0 c.args.turns c.commands.input c.hear.new.input c.commands.count c.commands.sent (g.R.Source.remaining c.args.reader.now) (g.R.Source.remaining c.commands.reader) (g.R.Source.remaining c.hear.new.reader) (g.W.Sink.contents c.args.writer.now) (g.W.Sink.contents c.commands.writer) (g.W.Sink.has_failed c.commands.writer) c.args.handle.now c.commands.handle c.hear.new.handle is c.commands.invariant.2 c.in_err-heard.ensures.err c.in_err-heard.ensures.same)
+    (λ e is. stopped_hearing e c.in_err-heard.field-0.0 c.args.turns c.commands.input c.hear.new.input c.commands.count c.commands.sent (g.R.Source.remaining c.args.reader.now) (g.R.Source.remaining c.commands.reader) (g.R.Source.remaining c.hear.new.reader) (g.W.Sink.contents c.args.writer.now) (g.W.Sink.contents c.commands.writer) (g.W.Sink.has_failed c.commands.writer) c.args.handle.now c.commands.handle c.hear.new.handle is c.commands.invariant.2 c.in_err-heard.ensures.err c.in_err-heard.ensures.unchanged)
 
 pub returns-in_default-clause-serves : goal.returns-in_default-clause-serves
 returns-in_default-clause-serves g c =
