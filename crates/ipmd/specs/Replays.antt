@@ -1,14 +1,12 @@
 -- What `ipmd replay` does: the calls that a text lists are made on a new mediator, and the answer to each is written.
 use Rattle.std.specs.Prelude.{◌≡◌, ◌⊎◌, ℕ, List, Option, Some, IfSome, Ok, Err}
 use Rattle.std.specs.Io.KnownBytes.{Appends, Keeps}
-use Rattle.mediator_calls.specs.declared.call.Reply.{Reply}
 use Rattle.mediator_calls.specs.Limited.{AreAllowed}
 use Rattle.replay_text.specs.declared.call_list.CallList.{CallList}
 use Rattle.replay_text.specs.Lists.{asked, list_of}
 use Rattle.replay_text.specs.Answers.{answers_text}
-use Rattle.mediator_calls.specs.Mediation.{Mediation, started}
-use Rattle.mediator_core.specs.Runs.{Runs}
-use Rattle.mediator_core.specs.Headline.{HistoryIsTheCalls, HandedIsDisclosed, HandedIsFront, DrainedIsAudited, IsBuiltFromDisclosed}
+use Rattle.mediator_core.specs.declared.transcript.Transcript.{Transcript}
+use Rattle.mediator_core.specs.Headline.{IsRunOf, HistoryIsTheCalls, HandedIsDisclosed, HandedIsFront, DrainedIsAudited, AnsweredIsFromDisclosed}
 use Rattle.ipmd_commands.specs.declared.fault.ProgramFault.{ProgramFault}
 use Rattle.ipmd_commands.specs.declared.fault.ProgramFault.TheVariants.{CommandLine, Settings, Policy, Hex, Framing, Core, Cut, Calls, BadLimits, Journal, History, Absent, Close, OutOfMemory, Device}
 use Rattle.ipmd_command_line.specs.declared.task.ReplayOptions.{ReplayOptions}
@@ -16,18 +14,17 @@ use Rattle.ipmd_commands.specs.declared.failure.Place.TheVariants.{Output}
 use Rattle.ipmd_commands.specs.Failures.{FailedAt, FailedAtFile}
 use Rattle.ipmd_commands.specs.HexText.{WritesSome}
 
--- These are the replies to the calls that the text lists, made one after another on a new mediator; and all that is promised of a
--- run holds of them.
-pub record RunsText (text : List ℕ) (replies : List Reply) : Type 0 where
+-- This is the transcript of the calls that the text lists, made one after another on a new mediator; and all that is promised of a
+-- run holds of it.
+pub record RunsText (text : List ℕ) (t : Transcript) : Type 0 where
   pub list : CallList
   pub read : list_of text ≡ Ok (asked list)
-  pub after : Mediation
-  pub steps : Runs (started list.limits) list.calls.items replies after
-  pub history : HistoryIsTheCalls list.calls.items replies after
-  pub disclosed : HandedIsDisclosed list.calls.items replies after
-  pub front : HandedIsFront list.calls.items replies after
-  pub audited : DrainedIsAudited list.calls.items replies after
-  pub secret : (sub : ℕ) → IsBuiltFromDisclosed sub (started list.limits) list.calls.items replies after
+  pub steps : IsRunOf list.limits list.calls.items t
+  pub history : HistoryIsTheCalls list.calls.items t
+  pub disclosed : HandedIsDisclosed list.calls.items t
+  pub front : HandedIsFront list.calls.items t
+  pub audited : DrainedIsAudited list.calls.items t
+  pub secret : AnsweredIsFromDisclosed list.limits list.calls.items t
 
 -- the text lists calls whose limits no mediator may have
 pub record HasBadLimits (text : List ℕ) : Type 0 where
@@ -56,16 +53,16 @@ RefusesText (Device which) text = ⊥
 -- the calls of a text were made, and the answers were written; what a file holds isn't told here
 pub record Replays (held holds : Option (List ℕ)) : Type 0 where
   pub text : List ℕ
-  pub replies : List Reply
-  pub runs : RunsText text replies
-  pub written : Appends held holds (answers_text replies)
+  pub transcript : Transcript
+  pub runs : RunsText text transcript
+  pub written : Appends held holds (answers_text transcript.replies.items)
 
 -- the same, and a front of the answers was written, or all of them
 pub record BeginsToAnswer (held holds : Option (List ℕ)) : Type 0 where
   pub text : List ℕ
-  pub replies : List Reply
-  pub runs : RunsText text replies
-  pub written : WritesSome (answers_text replies) held holds
+  pub transcript : Transcript
+  pub runs : RunsText text transcript
+  pub written : WritesSome (answers_text transcript.replies.items) held holds
 
 -- the file of the calls can't be read, or that of the journal can't be kept
 abbrev pub IsFileOf : ReplayOptions → ProgramFault → Type 0

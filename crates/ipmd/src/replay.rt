@@ -71,7 +71,7 @@ fn keep_journal<R: Files + AllocGlobal>(
 
 /// Makes the calls that a text lists, on a new mediator.
 fn run_text(alloc: Global, text: &str) -> Result<Transcript, ProgramFault>
-    ensures ok { IfOk result (λ t. RunsText text.now t.replies.items) }
+    ensures ok { IfOk result (RunsText text.now) }
     ensures err { IfErr result (λ e. RefusesText e text.now) }
 {
     let list = read_call_list(alloc, text)?;

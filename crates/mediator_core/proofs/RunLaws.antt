@@ -30,7 +30,7 @@ use Rattle.mediator_calls.specs.declared.call.Reply.TheVariants as reply
 use Rattle.mediator_calls.specs.Mediation.{Mediation, started, place_at, waiting_at, noted_at, stream_limits}
 use Rattle.mediator_calls.specs.Calls.{GoesOn, with_cuts, Drains}
 use Rattle.mediator_core.specs.Runs.{Answers, Runs, entry_in, entries_of, is_of_call, answer_in, answers_to, handed_to, GiveUntilNone, MeanFront, drained_in, drained_by, asked_in, Ask}
-use Rattle.mediator_core.specs.Headline.{HistoryIsTheCalls, HandedIsDisclosed, HandedIsFront, DrainedIsAudited, IsBuiltFromDisclosed}
+use Rattle.mediator_core.specs.Headline.{IsBuiltFromDisclosed}
 use Rattle.mediator_calls.specs.Sound.{IsSound}
 use Rattle.mediator_core.proofs.Holding.{Holds, holds_first, HoldsAfter, holds_after}
 
@@ -106,7 +106,9 @@ until_none (turn ∷ turns) (message ∷ more) messages records p may ranges are
     subst (λ (ms : List (List ℕ)). Means ms records) (append_assoc messages (message ∷ []) more)
     (until_none turns more (messages ++ message ∷ []) records (place_after records p turn.1) may ranges.1 (handed_answer messages some records p turn.0 turn.1 ranges.0.0 ranges.0.1 are (sym give.0)) give.1)
 
-pub handed_is_disclosed : (limits : Limits) (calls : List Call) (replies : List Reply) (new : Mediation) → Runs (started limits) calls replies new → IsSound new → HandedIsDisclosed calls replies new
+pub handed_is_disclosed : (limits : Limits) (calls : List Call) (replies : List Reply) (new : Mediation) → Runs (started limits) calls replies new → IsSound new
+    → (sub : ℕ) (turns : List (ℕ × ℕ)) (more : List (List ℕ)) → is_live sub new.history ≡ true → AreInRange (pulls turns) → GiveUntilNone (disclosed sub new.history) (place_at new sub) turns more
+    → Means (handed_to sub calls replies ++ more) (disclosed sub new.history)
 handed_is_disclosed limits calls replies new run sound sub turns more live ranges give =
     let all = at_end sub limits calls replies new run in
     let place : place_from 0 all.asked ≡ place_at new sub = all.after.place live in
@@ -121,7 +123,7 @@ mean_front messages records p are may = record {
   means = handed_means messages records p are may;
 }
 
-pub handed_is_front : (limits : Limits) (calls : List Call) (replies : List Reply) (new : Mediation) → Runs (started limits) calls replies new → IsSound new → HandedIsFront calls replies new
+pub handed_is_front : (limits : Limits) (calls : List Call) (replies : List Reply) (new : Mediation) → Runs (started limits) calls replies new → IsSound new → (sub : ℕ) → MeanFront (handed_to sub calls replies) (disclosed sub new.history)
 handed_is_front limits calls replies new run sound sub =
     let all = at_end sub limits calls replies new run in
     mean_front (handed_to sub calls replies) (disclosed sub new.history) (place_from 0 all.asked) all.after.handed (sound.streamable sub)
@@ -176,7 +178,7 @@ entries_added (c ∷ calls) (r ∷ replies) old new run =
     ∙ ap (λ (es : List Entry). es ++ entries_of calls replies) (entry_added old c r run.0 run.1)
     ∙ append_assoc (filter is_of_call old.history) (entry_in c r) (entries_of calls replies)
 
-pub history_is_the_calls : (limits : Limits) (calls : List Call) (replies : List Reply) (new : Mediation) → Runs (started limits) calls replies new → HistoryIsTheCalls calls replies new
+pub history_is_the_calls : (limits : Limits) (calls : List Call) (replies : List Reply) (new : Mediation) → Runs (started limits) calls replies new → filter is_of_call new.history ≡ entries_of calls replies
 history_is_the_calls limits calls replies new run = entries_added calls replies (started limits) new run
 
 -- ---- what was drained
@@ -271,7 +273,7 @@ drained_at_end (c ∷ calls) (r ∷ replies) old new out run d =
     subst (IsDrained new) (append_assoc out (drained_in c r) (drained_by calls replies))
     (drained_at_end calls replies run.0 new (out ++ drained_in c r) run.2 (drained_after old c r run.0 out run.1 d))
 
-pub drained_is_audited : (limits : Limits) (calls : List Call) (replies : List Reply) (new : Mediation) → Runs (started limits) calls replies new → DrainedIsAudited calls replies new
+pub drained_is_audited : (limits : Limits) (calls : List Call) (replies : List Reply) (new : Mediation) → Runs (started limits) calls replies new → drained_by calls replies ++ noted_at new ≡ audit_list new.history
 drained_is_audited limits calls replies new run = (drained_at_end calls replies (started limits) new [] run (record { whole = refl; within = omega arith })).whole
 
 -- ---- a run in turns

@@ -1,10 +1,9 @@
 //! A run: calls in a row on a new mediator, with the reply to each.
-ghost use Rattle.std.specs.Prelude.{◌≡◌, ◌++◌, ◌≤◌, ℕ, List, length, IfOk, IfErr};
-ghost use Rattle.mediator_calls.specs.Mediation.{started};
+ghost use Rattle.std.specs.Prelude.{IfOk, IfErr};
 ghost use Rattle.mediator_calls.specs.Limited.{RefusesLimits};
 ghost use Rattle.mediator_calls.specs.declared.call.Call.TheVariants as asked;
-ghost use Rattle.mediator_core.specs.Runs.{Answers, Runs};
-ghost use Rattle.mediator_core.specs.Headline.{HistoryIsTheCalls, HandedIsDisclosed, HandedIsFront, DrainedIsAudited, IsBuiltFromDisclosed};
+ghost use Rattle.mediator_core.specs.Runs.{Answers};
+ghost use Rattle.mediator_core.specs.Headline.{IsRunOf, HistoryIsTheCalls, HandedIsDisclosed, HandedIsFront, DrainedIsAudited, AnsweredIsFromDisclosed};
 
 use bytes::Bytes;
 use mediator_calls::{Call, Limits, Mediator, Reply, RunFault, SessionId, SubId};
@@ -94,16 +93,13 @@ fn answer_pull(mediator: &mut Mediator, sub: SubId, now: u32, target: u16) -> Re
 /// A limit is out of its range, or want of memory before the first call. No call was made then.
 pub fn run(alloc: Global, limits: Limits, calls: Vec<Call>) -> Result<Transcript, RunFault>
     // Each reply is that of its call, and the history has the entries of those that were accepted.
-    ensures steps { IfOk result (λ t.
-        Runs (started limits) calls.items t.replies.items t.mediator) }
-    ensures history { IfOk result (λ t. HistoryIsTheCalls calls.items t.replies.items t.mediator) }
+    ensures steps { IfOk result (IsRunOf limits calls.items) }
+    ensures history { IfOk result (HistoryIsTheCalls calls.items) }
     // What was handed out and drained is what the history discloses and names.
-    ensures disclosed { IfOk result (λ t.
-        HandedIsDisclosed calls.items t.replies.items t.mediator) }
-    ensures front { IfOk result (λ t. HandedIsFront calls.items t.replies.items t.mediator) }
-    ensures audited { IfOk result (λ t. DrainedIsAudited calls.items t.replies.items t.mediator) }
-    ensures secret { IfOk result (λ t. (sub : ℕ)
-        → IsBuiltFromDisclosed sub (started limits) calls.items t.replies.items t.mediator) }
+    ensures disclosed { IfOk result (HandedIsDisclosed calls.items) }
+    ensures front { IfOk result (HandedIsFront calls.items) }
+    ensures audited { IfOk result (DrainedIsAudited calls.items) }
+    ensures secret { IfOk result (AnsweredIsFromDisclosed limits calls.items) }
     // A run that is not begun had a limit out of its range, or no memory.
     ensures err { IfErr result (λ e. RefusesLimits e limits) }
 {
