@@ -9,7 +9,7 @@ use Rattle.subscriber_stream.specs.declared.limits.Limits.{Limits}
 use Rattle.subscriber_stream.specs.declared.waiting.Waiting.{Waiting}
 use Rattle.subscriber_stream.specs.Table.{Table}
 use Rattle.subscriber_stream.specs.Waiting.{items_of, items_in, AreFilled}
-use Rattle.subscriber_stream.specs.Steps.{IsConsistent}
+use Rattle.subscriber_stream.specs.Steps.{Counts, IsConsistent}
 use Rattle.subscriber_stream.specs.Standing.{Kept}
 use Rattle.subscriber_stream.proofs.Messages.{run_length-waiting}
 use Rattle.subscriber_stream.proofs.Standings.{next_some, queued_entries}
@@ -60,8 +60,8 @@ length_items [] = refl
 length_items (Announced id octets ∷ ws) = omega (arith, length_items ws)
 length_items (Brought id octets ∷ ws) = omega (arith, length_items ws)
 
-pub few_wait : (table : Table) (queue : List Waiting) (capacity : ℕ) (limits : Limits) (waiting handed announced spare : ℕ) → IsConsistent table queue capacity limits waiting handed announced spare → length (items_in queue) ≤ limits.queue + MOST_SHAPES
-few_wait table queue capacity limits waiting handed announced spare is =
+pub few_wait : (table : Table) (queue : List Waiting) (capacity : ℕ) (limits : Limits) (counts : Counts) (spare : ℕ) → IsConsistent table queue capacity limits counts spare → length (items_in queue) ≤ limits.queue + MOST_SHAPES
+few_wait table queue capacity limits counts spare is =
     omega (arith, length_items (items_in queue), is.counted, is.few_waiting, is.announced_before, is.few_shapes, is.few_ids)
 
 -- one part alone fits a message

@@ -20,7 +20,7 @@ use Rattle.subscriber_stream.specs.Table.{Table}
 use Rattle.subscriber_stream.specs.Items.{Item, Announced, Brought, shape_at, part_of, parts_of, AreKept, AreFollowed, announcements, entries}
 use Rattle.subscriber_stream.specs.Waiting.{items_in, AreFilled, new_waiting}
 use Rattle.subscriber_stream.specs.Standing.{Kept}
-use Rattle.subscriber_stream.specs.Steps.{given_one, given, IsConsistent}
+use Rattle.subscriber_stream.specs.Steps.{given_one, given, Counts, IsConsistent}
 use Rattle.subscriber_stream.proofs.Pieces.{kept_append}
 use Rattle.subscriber_stream.proofs.RunLaws.{brings}
 use Rattle.subscriber_stream.proofs.Queues.{items_in-append, filled_append}
@@ -232,10 +232,10 @@ pub record Takes (table grown : Table) (limits : Limits) (waiting handed spare :
 abbrev pub new_run : List Template → Template → List (List ℕ) → ℕ → List Waiting
 new_run shapes t texts announced = new_waiting (256 + position_or_len (same_template t) shapes) (cond (is_among t shapes) None (Some announced)) texts
 
-pub taken : (table grown : Table) (queue : List Waiting) (capacity : ℕ) (limits : Limits) (waiting handed announced spare : ℕ) (t : Template) (texts : List (List ℕ)) (announced_octets : ℕ)
-    → IsConsistent table queue capacity limits waiting handed announced spare → Takes table grown limits waiting handed spare t texts announced_octets
-    → IsConsistent grown (queue ++ new_run table.shapes t texts announced_octets) capacity limits (waiting + length texts) handed announced (spare - length texts) × (parts_of grown.shapes (items_in (queue ++ new_run table.shapes t texts announced_octets)) ≡ parts_of table.shapes (items_in queue) ++ run_parts table.shapes t texts)
-taken table grown queue capacity limits waiting handed announced spare t texts announced_octets is takes =
+pub taken : (table grown : Table) (queue : List Waiting) (capacity : ℕ) (limits : Limits) (counts : Counts) (spare : ℕ) (t : Template) (texts : List (List ℕ)) (announced_octets : ℕ)
+    → IsConsistent table queue capacity limits counts spare → Takes table grown limits counts.waiting counts.handed spare t texts announced_octets
+    → IsConsistent grown (queue ++ new_run table.shapes t texts announced_octets) capacity limits (record { waiting = counts.waiting + length texts; handed = counts.handed; announced = counts.announced }) (spare - length texts) × (parts_of grown.shapes (items_in (queue ++ new_run table.shapes t texts announced_octets)) ≡ parts_of table.shapes (items_in queue) ++ run_parts table.shapes t texts)
+taken table grown queue capacity limits counts spare t texts announced_octets is takes =
     let id = 256 + position_or_len (same_template t) table.shapes in
     let announcement = cond (is_among t table.shapes) None (Some announced_octets) in
     let new = new_waiting id announcement texts in

@@ -37,16 +37,22 @@ abbrev pub handed_parts : ℕ → Kept → Kept
 handed_parts zero k = k
 handed_parts (suc n) k = handed_parts n (handed_one k)
 
--- what a stream keeps of itself, by its parts: the table, the queue and its capacity, the counts and the reserved room
-pub record IsConsistent (table : Table) (queue : List Waiting) (capacity : ℕ) (limits : Limits) (waiting handed announced spare : ℕ) : Type 0 where
+-- how many records wait, how many were handed out, and how many announcements
+pub record Counts : Type 0 where
+  pub waiting : ℕ
+  pub handed : ℕ
+  pub announced : ℕ
+
+-- what a stream keeps of itself, by its parts: the table, the queue and its capacity, the limits, the counts and the reserved room
+pub record IsConsistent (table : Table) (queue : List Waiting) (capacity : ℕ) (limits : Limits) (counts : Counts) (spare : ℕ) : Type 0 where
   pub filled : AreFilled queue
   pub kept : AreKept table.shapes (items_in queue)
   pub followed : AreFollowed (items_in queue)
-  pub counted : waiting ≡ entries (items_in queue)
-  pub announced_before : announced + announcements (items_in queue) ≡ length table.shapes
+  pub counted : counts.waiting ≡ entries (items_in queue)
+  pub announced_before : counts.announced + announcements (items_in queue) ≡ length table.shapes
   pub few_shapes : length table.shapes ≤ limits.shapes
   pub few_ids : limits.shapes ≤ MOST_SHAPES
-  pub few_waiting : waiting ≤ limits.queue
-  pub below : handed + waiting < 2 ^ 64
+  pub few_waiting : counts.waiting ≤ limits.queue
+  pub below : counts.handed + counts.waiting < 2 ^ 64
   pub room : length queue + 2 * spare ≤ capacity
   pub table_room : spare ≤ table.spare

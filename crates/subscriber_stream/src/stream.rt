@@ -68,8 +68,8 @@ impl Model for Stream {
 
     ghost view = { λ s. record { standing = record { shapes = s.shapes.shapes; handed = s.handed; announced = s.announced; waiting = parts_of s.shapes.shapes (items_in s.queue.items) }; limits = s.limits; spare = s.spare } };
 
-    ghost invariant = { λ s. IsConsistent s.shapes s.queue.items
-        (deque_capacity s.queue) s.limits s.waiting s.handed s.announced s.spare };
+    ghost invariant = { λ s. IsConsistent s.shapes s.queue.items (deque_capacity s.queue) s.limits
+        (record { waiting = s.waiting; handed = s.handed; announced = s.announced }) s.spare };
 }
 
 impl Stream {

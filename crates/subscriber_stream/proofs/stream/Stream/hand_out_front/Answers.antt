@@ -5,21 +5,21 @@ use Rattle.subscriber_stream.proofs.stream.Stream.hand_out_front.Goals as goal
 
 pub overflow_add-self-in-Some-Bring : goal.overflow_add-self-in-Some-Bring
 overflow_add-self-in-Some-Bring c =
-    let few = few_out _ _ _ _ _ _ _ _ _ _ c.min-count.result _ c.self.invariant (rw c.in-Some-Bring.field-0-is at c.in-Some-Bring.ensures.items) (omega (arith, c.min-count.ensures, c.len.ensures)) in
+    let few = few_out _ _ _ _ _ _ _ _ c.min-count.result _ c.self.invariant (rw c.in-Some-Bring.field-0-is at c.in-Some-Bring.ensures.items) (omega (arith, c.min-count.ensures, c.len.ensures)) in
     omega (arith, few, c.self.invariant.below)
 
 pub overflow_cast-self : goal.overflow_cast-self
 overflow_cast-self c =
-    let few = few_out _ _ _ _ _ _ _ _ _ _ c.min-count.result _ c.self.invariant (rw c.in-Some-Bring.field-0-is at c.in-Some-Bring.ensures.items) (omega (arith, c.min-count.ensures, c.len.ensures)) in
+    let few = few_out _ _ _ _ _ _ _ _ c.min-count.result _ c.self.invariant (rw c.in-Some-Bring.field-0-is at c.in-Some-Bring.ensures.items) (omega (arith, c.min-count.ensures, c.len.ensures)) in
     omega (arith, few, c.self.invariant.few_waiting)
 
 pub overflow_sub-self : goal.overflow_sub-self
 overflow_sub-self c =
-    few_out _ _ _ _ _ _ _ _ _ _ c.min-count.result _ c.self.invariant (rw c.in-Some-Bring.field-0-is at c.in-Some-Bring.ensures.items) (omega (arith, c.min-count.ensures, c.len.ensures))
+    few_out _ _ _ _ _ _ _ _ c.min-count.result _ c.self.invariant (rw c.in-Some-Bring.field-0-is at c.in-Some-Bring.ensures.items) (omega (arith, c.min-count.ensures, c.len.ensures))
 
 pub invariant_of-self-in-Some-Bring : goal.invariant_of-self-in-Some-Bring
 invariant_of-self-in-Some-Bring c =
-    rw (c.keep_rest.ensures.capacity, c.pop_front.ensures.capacity) (records_out _ _ _ _ _ _ _ _ _ _ _ c.min-count.result _ c.self.invariant (rw c.in-Some-Bring.field-0-is at c.in-Some-Bring.ensures.items) c.keep_rest.ensures.items (omega (arith, c.min-count.ensures, c.len.ensures)))
+    rw (c.keep_rest.ensures.capacity, c.pop_front.ensures.capacity) (records_out _ _ _ _ _ _ _ _ _ c.min-count.result _ c.self.invariant (rw c.in-Some-Bring.field-0-is at c.in-Some-Bring.ensures.items) c.keep_rest.ensures.items (omega (arith, c.min-count.ensures, c.len.ensures)))
 
 pub returns-in-Some-Announce-clause-handed : goal.returns-in-Some-Announce-clause-handed
 returns-in-Some-Announce-clause-handed c =

@@ -52,7 +52,7 @@ pub returns-clause-spare : goal.returns-clause-spare
 returns-clause-spare c = rw c.hand_out.ensures (kept_after c.fitting-run.result.parts c.args.self.now).1
 
 pub fitting-run-requires-clause-few : goal.fitting-run-requires-clause-few
-fitting-run-requires-clause-few c = omega (arith, few_wait _ _ _ _ _ _ _ _ c.self.invariant)
+fitting-run-requires-clause-few c = omega (arith, few_wait _ _ _ _ _ _ c.self.invariant)
 
 pub fitting-run-requires-clause-first : goal.fitting-run-requires-clause-first
 fitting-run-requires-clause-first c = first_small _ _ c.self.invariant.kept

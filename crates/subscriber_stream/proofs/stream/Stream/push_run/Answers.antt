@@ -79,8 +79,8 @@ queue_is c =
 
 pub invariant_of-self : goal.invariant_of-self
 invariant_of-self c =
-    rw (queue_is c, c.put_waiting.ensures.capacity, c.len-count.ensures.value) (taken c.self.inside.shapes c.place_reserved-place.new.self c.self.inside.queue.items _ _ _ _ _ _ _ _ _ c.self.invariant (takes c)).0
+    rw (queue_is c, c.put_waiting.ensures.capacity, c.len-count.ensures.value) (taken c.self.inside.shapes c.place_reserved-place.new.self c.self.inside.queue.items _ _ _ _ _ _ _ c.self.invariant (takes c)).0
 
 pub returns : goal.returns
 returns c =
-    rw c.len-count.ensures.value (given_run-view c.args.self.now c.args.next _ _ _ _ _ _ _ _ (sym c.self.view_is) (takes c).some (takes c).shapes (ap (λ (ws : List Waiting). parts_of c.place_reserved-place.new.self.shapes (items_in ws)) (queue_is c) ∙ (taken c.self.inside.shapes c.place_reserved-place.new.self c.self.inside.queue.items _ _ _ _ _ _ _ _ _ c.self.invariant (takes c)).1))
+    rw c.len-count.ensures.value (given_run-view c.args.self.now c.args.next _ _ _ _ _ _ _ _ (sym c.self.view_is) (takes c).some (takes c).shapes (ap (λ (ws : List Waiting). parts_of c.place_reserved-place.new.self.shapes (items_in ws)) (queue_is c) ∙ (taken c.self.inside.shapes c.place_reserved-place.new.self c.self.inside.queue.items _ _ _ _ _ _ _ c.self.invariant (takes c)).1))
