@@ -194,7 +194,7 @@ all_kept e h number octets p plan few =
 
 -- behind the cuts the message is what the plan says
 pub is_message : (d e : Engine) (h : List Entry) (number : ℕ) (octets : List ℕ) (p : Plan) (reserved : List (ℕ × List Addition)) → IsPlan d h number octets p → HasRoomForPlan d p reserved → CutsInARow p.cuts.items d e
-    → IsMessage e (after_cuts h p.cuts.items) p.session number octets p.reading (map shown p.shares.items) (map tallied p.tallies.items) (map (stamp p.position) p.notes.notes)
+    → IsMessage e (after_cuts h p.cuts.items) p.session number octets (record { reading = p.reading; shares = map shown p.shares.items; tallies = map tallied p.tallies.items; entries = map (stamp p.position) p.notes.notes })
 is_message d e h number octets p reserved plan room row = record {
   opened = is_open-cuts p.session h p.cuts.items ∙ plan.opened;
   read = subst (λ ms. IsReadingOf ms octets p.reading) (sym (messages-cuts p.session h p.cuts.items)) plan.read;

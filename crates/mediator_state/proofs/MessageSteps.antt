@@ -275,7 +275,7 @@ pub record TakesMessage (d e : Engine) (session : ℕ) (reading : Ahead) (shares
   pub takes : Takes d.audit.standing entries e.audit.standing
 
 pub message_step : (d e : Engine) (h : List Entry) (session number : ℕ) (octets : List ℕ) (reading : Ahead) (shares : List (ℕ × List DataRecord)) (tallies : List (ℕ × List Count)) (entries : List AuditEntry)
-    → Stands d h → IsMessage d h session number octets reading shares tallies entries → TakesMessage d e session reading shares tallies entries → Stands e (h ++ Message session number octets ∷ [])
+    → Stands d h → IsMessage d h session number octets (record { reading = reading; shares = shares; tallies = tallies; entries = entries }) → TakesMessage d e session reading shares tallies entries → Stands e (h ++ Message session number octets ∷ [])
 message_step d e h session number octets reading shares tallies entries so is did = record {
   policy = ap (λ (f : InForce). f.policy) did.in_force ∙ so.policy ∙ sym (policy-message h session number octets);
   clock = clock_kept d e h (Message session number octets) so did.in_force refl;

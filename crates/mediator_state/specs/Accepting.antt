@@ -75,13 +75,20 @@ pub record IsReadyToTake (e : Engine) (session : ℕ) (reading : Ahead) (shares 
   pub reserved : 0 < e.audit.spare
   pub count : e.audit.standing.drained + length e.audit.standing.entries + entries < 2 ^ 64
 
--- this is what a message brings, gives, counts and keeps back behind a history
-pub record IsMessage (e : Engine) (h : List Entry) (session number : ℕ) (octets : List ℕ) (reading : Ahead) (shares : List (ℕ × List DataRecord)) (tallies : List (ℕ × List Count)) (entries : List AuditEntry) : Type 0 where
+-- what was read of a message, what it gives to each that is served and adds to its aggregates, and what the audit names of it
+pub record Brought : Type 0 where
+  pub reading : Ahead
+  pub shares : List (ℕ × List DataRecord)
+  pub tallies : List (ℕ × List Count)
+  pub entries : List AuditEntry
+
+-- this is what a message brings behind a history
+pub record IsMessage (e : Engine) (h : List Entry) (session number : ℕ) (octets : List ℕ) (b : Brought) : Type 0 where
   pub opened : is_open session h ≡ true
-  pub read : IsReadingOf (messages_of session h) octets reading
-  pub shares_are : shares ≡ map (share_at h (Message session number octets)) (served h)
-  pub tallies_are : AreTallied h (Message session number octets) tallies
-  pub entries_are : entries ≡ audit_at h (Message session number octets)
-  pub room : AllByRecursion (HasRoomIn e.subscriptions) shares
-  pub streamable : AllByRecursion AreStreamed shares
-  pub few : length entries ≤ MOST_AUDITED
+  pub read : IsReadingOf (messages_of session h) octets b.reading
+  pub shares_are : b.shares ≡ map (share_at h (Message session number octets)) (served h)
+  pub tallies_are : AreTallied h (Message session number octets) b.tallies
+  pub entries_are : b.entries ≡ audit_at h (Message session number octets)
+  pub room : AllByRecursion (HasRoomIn e.subscriptions) b.shares
+  pub streamable : AllByRecursion AreStreamed b.shares
+  pub few : length b.entries ≤ MOST_AUDITED

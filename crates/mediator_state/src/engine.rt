@@ -452,8 +452,12 @@ impl Engine {
         ensures stands { (h : List Entry) (number : ℕ) (octets : List ℕ)
             (tallies : List (ℕ × List Count)) → Stands self.old h
             → AllReady self.old.groups (map reserved_for reserved.items) tallies
-            → AreApart tallies → IsMessage self.old h session number octets reading
-            (map shown shares.items) tallies (map (stamp position) notes.items)
+            → AreApart tallies → IsMessage self.old h session number octets (record {
+              reading = reading;
+              shares = map shown shares.items;
+              tallies = tallies;
+              entries = map (stamp position) notes.items;
+            })
             → Stands self.new (h ++ Message session number octets ∷ []) }
         ensures untouched { IsUntouched self.old self.new }
     {
